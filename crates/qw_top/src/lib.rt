@@ -1,0 +1,4 @@
+//! From the bytes of the files to the bytes of the report.
+#![tactic(auto)]
+
+pub mod meaning;

@@ -1,0 +1,23 @@
+-- What a list of columns or of tables keeps (ISO/IEC 9075:1992, 11.3 and 11.4).
+use Rattle.std.specs.Prelude.{◌≢◌, ◌≤◌, ℕ, List, [], ◌∷◌, length, map}
+use Rattle.std.specs.List.{AllByRecursion}
+use Rattle.qw_types.specs.declared.schema.Column.{Column}
+use Rattle.qw_types.specs.declared.schema.Table.{Table}
+use Rattle.qw_types.specs.declared.schema.TheConstants.{MAX_COLUMNS, MAX_TABLES}
+
+-- no name comes twice
+abbrev pub AreDistinct : List (List ℕ) → Type 0
+AreDistinct [] = Unit {0}
+AreDistinct (name ∷ names) = AllByRecursion (λ other. name ≢ other) names × AreDistinct names
+
+-- the columns of a table
+pub record AreColumns (columns : List Column) : Type 0 where
+  pub some : 1 ≤ length columns
+  pub few : length columns ≤ MAX_COLUMNS
+  pub distinct : AreDistinct (map (λ (c : Column). c.name) columns)
+
+-- the tables of a schema
+pub record AreTables (tables : List Table) : Type 0 where
+  pub some : 1 ≤ length tables
+  pub few : length tables ≤ MAX_TABLES
+  pub distinct : AreDistinct (map (λ (t : Table). t.name) tables)

@@ -1,0 +1,21 @@
+//! The values, rows and schemas that every other crate speaks of.
+//!
+//! - [`value::Ty`] and [`value::Val`]: a column's type, and a value of a row.
+//! - [`text::Text`]: a text, which contracts see as its octets.
+//! - [`row::Row`]: the values of one row, which contracts see as a list.
+//! - [`schema::Schema`]: the declared tables, each with its columns.
+//!
+//! The limits on counts and the rule that names differ are kept by the types.
+#![tactic(auto)]
+
+pub mod memory;
+pub mod row;
+pub mod schema;
+pub mod text;
+pub mod value;
+
+pub use memory::NoMemory;
+pub use row::Row;
+pub use schema::{Column, Columns, Schema, Table};
+pub use text::Text;
+pub use value::{Ty, Val};
