@@ -1,0 +1,138 @@
+-- Execution as a relation, one rule an instruction (WebAssembly Core Specification 1.0, 4.4).
+use Rattle.std.specs.Prelude.{◌≡◌, ◌≢◌, ℕ, zero, suc, ◌+◌, ◌<◌, ◌≤◌, nat_le, if◌then◌else◌, Bool, List, [], ◌∷◌, ◌++◌, length, take, Option, Some, None, slice_get, slice_set}
+use Rattle.qw_module.specs.declared.instruction.ValType.{ValType}
+use Rattle.qw_module.specs.declared.instruction.Op.TheVariants.{LocalGet, LocalSet, LocalTee}
+use Rattle.qw_module.specs.declared.instruction.Op.TheVariants as o
+use Rattle.qw_module.specs.declared.instruction.Const.{Const}
+use Rattle.qw_module.specs.declared.instruction.Binary.{Binary}
+use Rattle.qw_module.specs.declared.instruction.Relation.{Relation}
+use Rattle.qw_module.specs.declared.instruction.Load.{Load}
+use Rattle.qw_module.specs.declared.instruction.Store.{Store}
+use Rattle.qw_module.specs.declared.instruction.MemArg.{MemArg}
+use Rattle.qw_module.specs.Syntax.{Code, done, op, block, loop, if_else, br, br_if}
+use Rattle.qw_module.specs.Numbers.{constant, binary, relation, load_width, loaded_value, store_width}
+use Rattle.qw_module.specs.Memory.{number_at, with_number}
+
+-- What awaits the end of the sequence that runs (4.4.7 to 4.4.9; the standard's evaluation contexts, written
+-- from the innermost out). A label has the code that a branch to it goes on with, how many operands
+-- the branch takes there, the operands below, and the code after the label's end. A frame has its
+-- caller's locals, its number of results, and the operands and the code of the caller.
+pub data Context : Type 0 where
+  label : (target : Code) → (arity : ℕ) → (below : List ℕ) → (after : Code) → Context
+  frame : (locals : List ℕ) → (arity : ℕ) → (below : List ℕ) → (after : Code) → Context
+
+-- An instance's own part of a configuration (4.2.13): its globals, the code that runs, the operands
+-- above the innermost label, the last one first, the locals of the innermost frame, and what awaits.
+pub record Config : Type 0 where
+  pub globals : List ℕ
+  pub code : Code
+  pub operands : List ℕ
+  pub locals : List ℕ
+  pub contexts : List Context
+
+-- where a step leads
+pub data State : Type 0 where
+  Running : Config → State
+  Returned : State
+  Raised : (code : ℕ) → State
+  Trapped : State
+
+-- what a step does outside the instance: a growth is granted or refused, `raise` is the imported function
+pub data Event : Type 0 where
+  Silent : Event
+  Loads : (address width : ℕ) → Event
+  Stores : (address width : ℕ) → Event
+  Grows : (pages : ℕ) → (granted : Bool) → Event
+  Raises : (code : ℕ) → Event
+  Traps : Event
+
+-- how many results a block's type has (2.4.5)
+abbrev pub arity_of : Option ValType → ℕ
+arity_of None = 0
+arity_of (Some type) = 1
+
+-- Leaving what is finished, as part of the step before: a label's end leaves its operands on those below
+-- (4.4.7, exit), a frame's end its results on the caller's (4.4.9), and the end of the last is the return.
+abbrev pub settled : List ℕ → List Context → Code → List ℕ → List ℕ → State
+settled globals [] done operands locals = Returned
+settled globals (label target arity below after ∷ contexts) done operands locals =
+    settled globals contexts after (operands ++ below) locals
+settled globals (frame outer arity below after ∷ contexts) done operands locals =
+    settled globals contexts after (operands ++ below) outer
+settled globals contexts code operands locals =
+    Running (record { globals = globals; code = code; operands = operands; locals = locals; contexts = contexts })
+
+-- A branch to the label of an index, counted from the innermost: the operands that the label takes stay,
+-- those between are dropped, and the label's target goes on (4.4.7, br). None where there is no such label in
+-- the frame, or too few operands.
+abbrev pub branched : List ℕ → ℕ → List Context → List ℕ → List ℕ → Option State
+branched globals index [] operands locals = None
+branched globals zero (label target arity below after ∷ contexts) operands locals =
+    if nat_le arity (length operands) then Some (settled globals contexts target (take arity operands ++ below) locals) else None
+branched globals (suc index) (label target arity below after ∷ contexts) operands locals =
+    branched globals index contexts operands locals
+branched globals index (frame outer arity below after ∷ contexts) operands locals = None
+
+-- going on with the rest of the sequence that runs
+abbrev pub goes_on : Config → Code → List ℕ → List ℕ → State
+goes_on c rest operands locals = settled c.globals c.contexts rest operands locals
+
+-- entering a block whose branches go to `target` with `arity` operands, and which is followed by `rest`
+abbrev pub enters : Config → Code → ℕ → Code → List ℕ → Code → State
+enters c target arity inner below rest =
+    settled c.globals (label target arity below rest ∷ c.contexts) inner [] c.locals
+
+-- where an access begins: the address operand and the offset are added without wrapping (4.4.4)
+abbrev pub effective : ℕ → MemArg → ℕ
+effective address arg = address + arg.offset
+
+-- Step c m e s m': the configuration c over the memory m makes a step with the event e to s over m'.
+pub data Step : Config → List ℕ → Event → State → List ℕ → Type 0 where
+  -- 4.4.3
+  local_get : (c : Config) (m : List ℕ) (x v : ℕ) (rest : Code) → c.code ≡ op (LocalGet x) rest →
+      slice_get c.locals x ≡ Some v → Step c m Silent (goes_on c rest (v ∷ c.operands) c.locals) m
+  local_set : (c : Config) (m : List ℕ) (x v : ℕ) (operands : List ℕ) (rest : Code) → c.code ≡ op (LocalSet x) rest →
+      c.operands ≡ v ∷ operands → x < length c.locals → Step c m Silent (goes_on c rest operands (slice_set c.locals x v)) m
+  local_tee : (c : Config) (m : List ℕ) (x v : ℕ) (operands : List ℕ) (rest : Code) → c.code ≡ op (LocalTee x) rest →
+      c.operands ≡ v ∷ operands → x < length c.locals → Step c m Silent (goes_on c rest c.operands (slice_set c.locals x v)) m
+  -- 4.4.1
+  const : (c : Config) (m : List ℕ) (n : Const) (rest : Code) → c.code ≡ op (o.Const n) rest →
+      Step c m Silent (goes_on c rest (constant n ∷ c.operands) c.locals) m
+  binop : (c : Config) (m : List ℕ) (b : Binary) (y x : ℕ) (operands : List ℕ) (rest : Code) → c.code ≡ op (o.Binary b) rest →
+      c.operands ≡ y ∷ x ∷ operands → Step c m Silent (goes_on c rest (binary b x y ∷ operands) c.locals) m
+  relop : (c : Config) (m : List ℕ) (r : Relation) (y x : ℕ) (operands : List ℕ) (rest : Code) → c.code ≡ op (o.Relation r) rest →
+      c.operands ≡ y ∷ x ∷ operands → Step c m Silent (goes_on c rest (relation r x y ∷ operands) c.locals) m
+  -- 4.4.4
+  load : (c : Config) (m : List ℕ) (l : Load) (arg : MemArg) (address : ℕ) (operands : List ℕ) (rest : Code) →
+      c.code ≡ op (o.Load l arg) rest → c.operands ≡ address ∷ operands →
+      effective address arg + load_width l ≤ length m →
+      Step c m (Loads (effective address arg) (load_width l))
+      (goes_on c rest (loaded_value l (number_at m (effective address arg) (load_width l)) ∷ operands) c.locals) m
+  load_outside : (c : Config) (m : List ℕ) (l : Load) (arg : MemArg) (address : ℕ) (operands : List ℕ) (rest : Code) →
+      c.code ≡ op (o.Load l arg) rest → c.operands ≡ address ∷ operands →
+      length m < effective address arg + load_width l → Step c m Traps Trapped m
+  store : (c : Config) (m : List ℕ) (s : Store) (arg : MemArg) (address v : ℕ) (operands : List ℕ) (rest : Code) →
+      c.code ≡ op (o.Store s arg) rest → c.operands ≡ v ∷ address ∷ operands →
+      effective address arg + store_width s ≤ length m →
+      Step c m (Stores (effective address arg) (store_width s)) (goes_on c rest operands c.locals)
+      (with_number m (effective address arg) (store_width s) v)
+  store_outside : (c : Config) (m : List ℕ) (s : Store) (arg : MemArg) (address v : ℕ) (operands : List ℕ) (rest : Code) →
+      c.code ≡ op (o.Store s arg) rest → c.operands ≡ v ∷ address ∷ operands →
+      length m < effective address arg + store_width s → Step c m Traps Trapped m
+  -- 4.4.5; a branch to a loop begins the loop again
+  enter_block : (c : Config) (m : List ℕ) (result : Option ValType) (inner rest : Code) → c.code ≡ block result inner rest →
+      Step c m Silent (enters c rest (arity_of result) inner c.operands rest) m
+  enter_loop : (c : Config) (m : List ℕ) (result : Option ValType) (inner rest : Code) → c.code ≡ loop result inner rest →
+      Step c m Silent (enters c (loop result inner rest) 0 inner c.operands rest) m
+  if_true : (c : Config) (m : List ℕ) (result : Option ValType) (inner other rest : Code) (n : ℕ) (operands : List ℕ) →
+      c.code ≡ if_else result inner other rest → c.operands ≡ n ∷ operands → n ≢ 0 →
+      Step c m Silent (enters c rest (arity_of result) inner operands rest) m
+  if_false : (c : Config) (m : List ℕ) (result : Option ValType) (inner other rest : Code) (operands : List ℕ) →
+      c.code ≡ if_else result inner other rest → c.operands ≡ 0 ∷ operands →
+      Step c m Silent (enters c rest (arity_of result) other operands rest) m
+  branch : (c : Config) (m : List ℕ) (index : ℕ) (rest : Code) (s : State) → c.code ≡ br index rest →
+      branched c.globals index c.contexts c.operands c.locals ≡ Some s → Step c m Silent s m
+  branch_taken : (c : Config) (m : List ℕ) (index n : ℕ) (rest : Code) (operands : List ℕ) (s : State) → c.code ≡ br_if index rest →
+      c.operands ≡ n ∷ operands → n ≢ 0 → branched c.globals index c.contexts operands c.locals ≡ Some s → Step c m Silent s m
+  branch_passed : (c : Config) (m : List ℕ) (index : ℕ) (rest : Code) (operands : List ℕ) → c.code ≡ br_if index rest →
+      c.operands ≡ 0 ∷ operands → Step c m Silent (goes_on c rest operands c.locals) m

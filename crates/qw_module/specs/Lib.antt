@@ -1,0 +1,7 @@
+pub mod Syntax
+pub mod Numbers
+pub mod Memory
+pub mod Execution
+pub mod Step
+pub mod Typing
+pub mod Soundness

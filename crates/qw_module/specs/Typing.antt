@@ -1,0 +1,71 @@
+-- Validity (WebAssembly Core Specification 1.0, 3): the typing rules of instruction sequences.
+use Rattle.std.specs.Prelude.{◌≡◌, ℕ, ◌≤◌, ◌^◌, List, [], ◌∷◌, ◌++◌, Option, Some, None, slice_get}
+use Rattle.qw_module.specs.declared.instruction.ValType.{ValType}
+use Rattle.qw_module.specs.declared.instruction.ValType.TheVariants.{I32}
+use Rattle.qw_module.specs.declared.instruction.Op.{Op}
+use Rattle.qw_module.specs.declared.instruction.Op.TheVariants.{LocalGet, LocalSet, LocalTee}
+use Rattle.qw_module.specs.declared.instruction.Op.TheVariants as o
+use Rattle.qw_module.specs.declared.instruction.Const.{Const}
+use Rattle.qw_module.specs.declared.instruction.Binary.{Binary}
+use Rattle.qw_module.specs.declared.instruction.Relation.{Relation}
+use Rattle.qw_module.specs.declared.instruction.Load.{Load}
+use Rattle.qw_module.specs.declared.instruction.Store.{Store}
+use Rattle.qw_module.specs.declared.instruction.MemArg.{MemArg}
+use Rattle.qw_module.specs.Syntax.{Code, done, op, block, loop, if_else, br, br_if}
+use Rattle.qw_module.specs.Numbers.{type_of_constant, type_of_binary, type_of_relation, type_of_load, load_width, type_of_store, store_width}
+
+-- the types of a block's results (3.2.2)
+abbrev pub types_of : Option ValType → List ValType
+types_of None = []
+types_of (Some type) = type ∷ []
+
+-- What a sequence is typed under (3.1.1): the types of the locals, and for each label, from the innermost
+-- out, the types of the operands that a branch to it takes.
+pub record Scope : Type 0 where
+  pub locals : List ValType
+  pub labels : List (List ValType)
+
+-- with one more label
+abbrev pub within : Scope → List ValType → Scope
+within scope types = record { locals = scope.locals; labels = types ∷ scope.labels }
+
+-- OpTyped locals o before after: the types of the operands before the instruction and after it, the last one first.
+pub data OpTyped : List ValType → Op → List ValType → List ValType → Type 0 where
+  -- 3.3.3
+  typed-local_get : (locals types : List ValType) (x : ℕ) (t : ValType) → slice_get locals x ≡ Some t →
+      OpTyped locals (LocalGet x) types (t ∷ types)
+  typed-local_set : (locals types : List ValType) (x : ℕ) (t : ValType) → slice_get locals x ≡ Some t →
+      OpTyped locals (LocalSet x) (t ∷ types) types
+  typed-local_tee : (locals types : List ValType) (x : ℕ) (t : ValType) → slice_get locals x ≡ Some t →
+      OpTyped locals (LocalTee x) (t ∷ types) (t ∷ types)
+  -- 3.3.1
+  typed-const : (locals types : List ValType) (c : Const) → OpTyped locals (o.Const c) types (type_of_constant c ∷ types)
+  typed-binary : (locals types : List ValType) (b : Binary) →
+      OpTyped locals (o.Binary b) (type_of_binary b ∷ type_of_binary b ∷ types) (type_of_binary b ∷ types)
+  typed-relation : (locals types : List ValType) (r : Relation) →
+      OpTyped locals (o.Relation r) (type_of_relation r ∷ type_of_relation r ∷ types) (I32 ∷ types)
+  -- 3.3.4; the alignment is at most the access's octets
+  typed-load : (locals types : List ValType) (l : Load) (arg : MemArg) → 2 ^ arg.align ≤ load_width l →
+      OpTyped locals (o.Load l arg) (I32 ∷ types) (type_of_load l ∷ types)
+  typed-store : (locals types : List ValType) (s : Store) (arg : MemArg) → 2 ^ arg.align ≤ store_width s →
+      OpTyped locals (o.Store s arg) (type_of_store s ∷ I32 ∷ types) types
+
+-- Typed scope code before after: the sequence leads from operands of these types to operands of those (3.3.6).
+-- After an unconditional branch the operands may have any types (3.3.5, br).
+pub data Typed : Scope → Code → List ValType → List ValType → Type 0 where
+  typed-done : (scope : Scope) (types : List ValType) → Typed scope done types types
+  typed-op : (scope : Scope) (o : Op) (rest : Code) (before middle after : List ValType) → OpTyped scope.locals o before middle →
+      Typed scope rest middle after → Typed scope (op o rest) before after
+  typed-block : (scope : Scope) (result : Option ValType) (inner rest : Code) (before after : List ValType) →
+      Typed (within scope (types_of result)) inner [] (types_of result) → Typed scope rest (types_of result ++ before) after →
+      Typed scope (block result inner rest) before after
+  typed-loop : (scope : Scope) (result : Option ValType) (inner rest : Code) (before after : List ValType) →
+      Typed (within scope []) inner [] (types_of result) → Typed scope rest (types_of result ++ before) after →
+      Typed scope (loop result inner rest) before after
+  typed-if_else : (scope : Scope) (result : Option ValType) (inner other rest : Code) (before after : List ValType) →
+      Typed (within scope (types_of result)) inner [] (types_of result) → Typed (within scope (types_of result)) other [] (types_of result) →
+      Typed scope rest (types_of result ++ before) after → Typed scope (if_else result inner other rest) (I32 ∷ before) after
+  typed-br : (scope : Scope) (index : ℕ) (rest : Code) (taken below any after : List ValType) → slice_get scope.labels index ≡ Some taken →
+      Typed scope rest any after → Typed scope (br index rest) (taken ++ below) after
+  typed-br_if : (scope : Scope) (index : ℕ) (rest : Code) (taken below after : List ValType) → slice_get scope.labels index ≡ Some taken →
+      Typed scope rest (taken ++ below) after → Typed scope (br_if index rest) (I32 ∷ taken ++ below) after

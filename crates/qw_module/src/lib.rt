@@ -1,0 +1,6 @@
+//! WebAssembly Core Specification 1.0 as far as compiled queries use it: the syntax of modules, the
+//! definitions of validity and execution (in `specs/`), and the machine that executes a module.
+#![tactic(auto)]
+
+pub mod instruction;
+pub mod module;
