@@ -1,1 +1,2 @@
 pub mod MemoryFacts
+pub mod Numbered
