@@ -82,7 +82,8 @@ OpWantTyped (Leaves operands values) types locals = AreOf operands types × AreO
 OpWantTyped (Reads address width make) types locals = (n : ℕ) → n < 2 ^ (8 * width) → AreOf (make n) types
 OpWantTyped (Writes address width value operands) types locals = AreOf operands types
 
-local_there : (values : List ℕ) (locals : List ValType) (x : ℕ) (t : ValType) → AreOf values locals → slice_get locals x ≡ Some t → x < length values
+-- a typed local is there
+pub local_there : (values : List ℕ) (locals : List ValType) (x : ℕ) (t : ValType) → AreOf values locals → slice_get locals x ≡ Some t → x < length values
 local_there values locals x t are found =
     let same : length values ≡ length locals = AreOf-length values locals are in
     let inside : x < length locals = slice_get_within locals x t found in

@@ -1,6 +1,6 @@
 -- What a typed configuration has for the instruction that it begins with.
 use Rattle.std.proofs.Common.{◌≡◌, ℕ, zero, suc, ◌^◌, ◌<◌, List, [], ◌∷◌, ◌++◌, length, Option, Some, slice_get, refl, subst, arith}
-use Rattle.std.proofs.lemmas.Option.{none-some, slice_get_within}
+use Rattle.std.proofs.lemmas.Option.{none-some}
 use Rattle.qw_module.specs.declared.instruction.ValType.{ValType}
 use Rattle.qw_module.specs.declared.instruction.ValType.TheVariants.{I32}
 use Rattle.qw_module.specs.declared.instruction.Op.{Op}
@@ -11,7 +11,7 @@ use Rattle.qw_module.specs.Syntax.{Code, done, op, if_else, br, br_if}
 use Rattle.qw_module.specs.Execution.{Context, label, frame, Config, State, branched, settled}
 use Rattle.qw_module.specs.Typing.{Scope, OpTyped, typed-local_get, typed-local_set, typed-local_tee, typed-const, typed-binary, typed-relation, typed-load, typed-store, Typed, typed-done, typed-op, typed-if_else, typed-br, typed-br_if}
 use Rattle.qw_module.specs.Soundness.{AreOf, scope_of, IsTyped, IsTypedState}
-use Rattle.qw_module.proofs.Sound.{AreOf-length, branched-typed, settled-typed}
+use Rattle.qw_module.proofs.Sound.{local_there, branched-typed, settled-typed}
 
 -- values of one type and more
 pub first_of_types : (values : List ℕ) (t : ValType) (types : List ValType) → AreOf values (t ∷ types) →
@@ -35,12 +35,6 @@ begins : (c : Config) (typed : IsTyped c) (operator : Op) (rest : Code) → c.co
 begins c typed operator rest code = op_typed (scope_of typed.locals typed.labels) operator rest typed.before typed.ends
     (subst (λ (x : Code). Typed (scope_of typed.locals typed.labels) x typed.before typed.ends) code typed.code_typed)
 
-there : (values : List ℕ) (locals : List ValType) (x : ℕ) (t : ValType) → AreOf values locals → slice_get locals x ≡ Some t → x < length values
-there values locals x t are found =
-    let same : length values ≡ length locals = AreOf-length values locals are in
-    let inside : x < length locals = slice_get_within locals x t found in
-    omega arith
-
 -- The facts of an instruction, over the operands and locals alone.
 abbrev pub HasFor : Op → List ℕ → List ℕ → Type 0
 HasFor (LocalGet x) operands locals = x < length locals
@@ -54,13 +48,13 @@ HasFor (o.Store s arg) operands locals = (v address : ℕ) × (rest : List ℕ) 
 
 has_for : (locals : List ValType) (operator : Op) (before middle : List ValType) → OpTyped locals operator before middle →
     (operands values : List ℕ) → AreOf operands before → AreOf values locals → HasFor operator operands values
-has_for _ _ _ _ (typed-local_get locals types x t found) operands values are are_locals = there values locals x t are_locals found
+has_for _ _ _ _ (typed-local_get locals types x t found) operands values are are_locals = local_there values locals x t are_locals found
 has_for _ _ _ _ (typed-local_set locals types x t found) operands values are are_locals =
     let first = first_of_types operands t types are in
-    (first.0, first.1, first.2, there values locals x t are_locals found)
+    (first.0, first.1, first.2, local_there values locals x t are_locals found)
 has_for _ _ _ _ (typed-local_tee locals types x t found) operands values are are_locals =
     let first = first_of_types operands t types are in
-    (first.0, first.1, first.2, there values locals x t are_locals found)
+    (first.0, first.1, first.2, local_there values locals x t are_locals found)
 has_for _ _ _ _ (typed-const locals types k value) operands values are are_locals = value
 has_for _ _ _ _ (typed-binary locals types b) operands values are are_locals =
     let first = first_two_of_types operands (type_of_binary b) (type_of_binary b) types are in
