@@ -1,0 +1,5 @@
+pub mod MemoryFacts
+pub mod Numbered
+pub mod Steps
+pub mod Sound
+pub mod TypedOperands
