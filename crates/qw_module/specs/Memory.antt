@@ -1,6 +1,6 @@
 -- A memory is its octets; numbers in it are little endian (WebAssembly Core Specification 1.0, 4.2.8 and
 -- 4.3, "Storage").
-use Rattle.std.specs.Prelude.{ℕ, zero, suc, ◌+◌, ◌*◌, ◌/◌, ◌%◌, List, slice_index, slice_set}
+use Rattle.std.specs.Prelude.{ℕ, zero, suc, ◌+◌, ◌*◌, ◌/◌, ◌%◌, ◌<◌, List, All, slice_index, slice_set}
 
 -- the number that so many octets from a place on stand for
 unfoldable pub number_at : List ℕ → ℕ → ℕ → ℕ
@@ -11,3 +11,7 @@ number_at octets at (suc width) = slice_index octets at + 256 * number_at octets
 unfoldable pub with_number : List ℕ → ℕ → ℕ → ℕ → List ℕ
 with_number octets at zero number = octets
 with_number octets at (suc width) number = with_number (slice_set octets at (number % 256)) (at + 1) width (number / 256)
+
+-- each number is an octet
+abbrev pub AreOctets : List ℕ → Type 0
+AreOctets octets = All (λ octet. octet < 256) octets

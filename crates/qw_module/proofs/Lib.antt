@@ -1,0 +1,3 @@
+pub mod MemoryFacts
+pub mod Numbered
+pub mod Steps
