@@ -1,3 +1,4 @@
 pub mod MemoryFacts
 pub mod Numbered
 pub mod Steps
+pub mod OpenRuns
