@@ -2,3 +2,4 @@ pub mod MemoryFacts
 pub mod Numbered
 pub mod Steps
 pub mod OpenRuns
+pub mod RunRules
