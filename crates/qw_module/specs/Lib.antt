@@ -5,3 +5,5 @@ pub mod Execution
 pub mod Step
 pub mod Typing
 pub mod Soundness
+pub mod Map
+pub mod Runs
