@@ -5,3 +5,4 @@ pub mod Execution
 pub mod Step
 pub mod Typing
 pub mod Soundness
+pub mod Validity
