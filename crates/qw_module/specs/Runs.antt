@@ -1,7 +1,7 @@
 -- Open runs: an instance's steps over a memory that others change between them.
 use Rattle.std.specs.Prelude.{◌≡◌, ℕ, zero, suc, ◌<◌, ◌≤◌, List, [], ◌∷◌, Option, Some, None}
 use Rattle.qw_module.specs.Syntax.{Code, done}
-use Rattle.qw_module.specs.Execution.{Context, label, Config, State, Running, Returned, Raised, Trapped, Event, Step, settled}
+use Rattle.qw_module.specs.Execution.{label, Config, State, Running, Returned, Raised, Trapped, Event, Step, settled}
 use Rattle.qw_module.specs.Step.{Next, next}
 use Rattle.qw_module.specs.Map.{World, Others, IsFine, IsAnswered, world_after}
 
