@@ -5,3 +5,5 @@ pub mod RunRules
 pub mod Sound
 pub mod Steps
 pub mod TypedOperands
+pub mod TurnFacts
+pub mod TurnSteps
