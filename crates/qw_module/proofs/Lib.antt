@@ -7,3 +7,5 @@ pub mod Steps
 pub mod TypedOperands
 pub mod TurnFacts
 pub mod TurnSteps
+pub mod Separate
+pub mod NoTrap

@@ -1,11 +1,11 @@
 -- What every list of turns keeps, by one step at a time.
-use Rattle.std.proofs.Common.{◌≡◌, ◌≢◌, ℕ, zero, suc, ◌+◌, ◌<◌, ◌≤◌, nat_le, Bool, true, false, List, [], ◌∷◌, length, Option, Some, None, slice_get, slice_set, is_some, IsSome, ◌⊎◌, inl, inr, refl, sym, ap, ◌∙◌, subst, ⊎_elim, arith}
+use Rattle.std.proofs.Common.{◌≡◌, ◌≢◌, ℕ, zero, suc, ◌<◌, false, List, [], ◌∷◌, length, Option, Some, None, slice_get, slice_set, is_some, refl, sym, ap, subst, ⊎_elim, arith}
 use Rattle.std.proofs.lemmas.Bool.{cases_Bool}
 use Rattle.std.proofs.lemmas.List.{set-set}
 use Rattle.std.proofs.lemmas.Option.{same_Some, none-some, slice_get_within}
 use Rattle.qw_module.specs.Execution.{Config, State, Running, Returned, Raised, Trapped}
 use Rattle.qw_module.specs.Step.{Next, next}
-use Rattle.qw_module.specs.Map.{World, world_after}
+use Rattle.qw_module.specs.Map.{world_after}
 use Rattle.qw_module.specs.Turns.{Instance, Shared, moved, after_next, stepped_from, stepped, steps_of, with_instance, turn_at, turn, turns}
 
 -- ---- an element that was put

@@ -1,7 +1,7 @@
 -- How many steps turns take, and what stays where an instance has ended.
-use Rattle.std.proofs.Common.{◌≡◌, ◌≢◌, ℕ, zero, suc, ◌+◌, ◌<◌, ◌≤◌, nat_eq, nat_le, Bool, true, false, ◌==◌, ◌||◌, List, [], ◌∷◌, length, Option, Some, None, slice_get, slice_set, is_some, IsSome, ◌⊎◌, inl, inr, refl, sym, ap, ◌∙◌, subst, ⊎_elim, arith, length-set}
+use Rattle.std.proofs.Common.{◌≡◌, ◌≢◌, ℕ, zero, suc, ◌+◌, ◌<◌, ◌≤◌, nat_le, true, false, ◌==◌, ◌||◌, List, length, Option, Some, None, slice_get, is_some, IsSome, ◌⊎◌, inl, inr, refl, sym, ap, ◌∙◌, subst, ⊎_elim, arith, length-set}
 use Rattle.std.proofs.lemmas.Bool.{cases_Bool, cases_eq, leb-false, false≢true}
-use Rattle.std.proofs.lemmas.Option.{same_Some, none-some, slice_get_within}
+use Rattle.std.proofs.lemmas.Option.{same_Some, slice_get_within}
 use Rattle.qw_module.specs.Execution.{Config, State, Running, Returned, Raised, Trapped}
 use Rattle.qw_module.specs.Memory.{AreOctets}
 use Rattle.qw_module.specs.Step.{Next, next}
@@ -9,7 +9,7 @@ use Rattle.qw_module.specs.Map.{World, world_after}
 use Rattle.qw_module.specs.Soundness.{IsTyped, IsTypedState}
 use Rattle.qw_module.specs.Turns.{Instance, Shared, end_of_refusal, end_of_raise, end_at, moved, after_next, stepped_from, stepped, steps_of, with_instance, turn_at, turn, turns, IsWhole}
 use Rattle.qw_module.proofs.Sound.{progress, preservation, octets_stay}
-use Rattle.qw_module.proofs.TurnFacts.{slice_get-set_same, slice_get-set_other, changed_twice, after_step, turns-keep}
+use Rattle.qw_module.proofs.TurnFacts.{slice_get-set_same, slice_get-set_other, changed_twice, turns-keep}
 
 -- ---- an instance that has ended
 ended : (i : Instance) → IsSome i.end → is_some i.end ≡ false → ⊥
@@ -176,3 +176,16 @@ steps_of-some (suc q) i m whole typed octets none given =
     let after : Instance = moved i (world_after i.world m one.0.event) one.0.state in
     let rest : (i.ran + 1 ≤ (steps_of q after one.0.memory).0.ran) × ((steps_of q after one.0.memory).0.ran ≤ i.ran + 1 + q) = steps_of-at_most q after one.0.memory in
     rw (unended, one.2) (omega (arith, rest.0))
+
+-- what an instance may run stays
+pub limits-turns : (s : Shared) (ts : List (ℕ × ℕ)) (k : ℕ) (i later : Instance) → slice_get s.instances k ≡ Some i →
+    slice_get (turns ts s).instances k ≡ Some later → later.most_steps ≡ i.most_steps
+limits-turns s ts k i later found = turns-keep (λ (now : Shared). (x : Instance) → slice_get now.instances k ≡ Some x → x.most_steps ≡ i.most_steps)
+    (λ now j one c t there unended running made h x found_x. ⊎_elim
+    (λ here.
+    let put : Instance = moved one (world_after one.world now.memory t.event) t.state in
+    let is : put ≡ x = same_Some put x (sym (slice_get-set_same now.instances j put (slice_get_within now.instances j one there)) ∙ rw here at found_x) in
+    subst (λ (y : Instance). y.most_steps ≡ i.most_steps) is (h one (rw here there)))
+    (λ elsewhere. h x (sym (slice_get-set_other now.instances j k (moved one (world_after one.world now.memory t.event) t.state) elsewhere) ∙ found_x))
+    (cases_eq k j))
+    ts s (λ x found_x. ap (λ (y : Instance). y.most_steps) (same_Some x i (sym found_x ∙ found))) later

@@ -1,9 +1,14 @@
 //! What holds of instances that share one memory, for every list of turns. No function here computes anything.
 
-ghost use Rattle.std.specs.Prelude.{◌≡◌, ◌≢◌, ℕ, ◌+◌, ◌<◌, ◌≤◌, ◌⊎◌, List, Some, None, IsSome, length, slice_get};
+ghost use Rattle.std.specs.Prelude.{◌≡◌, ◌≢◌, ℕ, ◌+◌, ◌-◌, ◌<◌, ◌≤◌, ◌⊎◌, List, Some, None, IsSome, length, slice_get};
+ghost use Rattle.std.specs.List.{AllByRecursion};
+ghost use Rattle.qw_module.specs.Execution.{Config, Running};
 ghost use Rattle.qw_module.specs.Memory.{AreOctets};
+ghost use Rattle.qw_module.specs.Step.{Next, next};
 ghost use Rattle.qw_module.specs.Soundness.{IsTypedState};
-ghost use Rattle.qw_module.specs.Turns.{Instance, Shared, steps_of, turn, turns, IsWhole};
+ghost use Rattle.qw_module.specs.Map.{SameIn, IsFine};
+ghost use Rattle.qw_module.specs.Runs.{Moment, OpenRun};
+ghost use Rattle.qw_module.specs.Turns.{Instance, Shared, Trap, steps_of, turn, turns, IsWhole, AreSafe, moment_of, LeadsTo};
 
 /// Whatever turns follow, an instance that has ended stays as it is.
 pub fn ended_stays_ended()
@@ -27,4 +32,26 @@ pub fn turns_count_steps()
     ensures all { (quantum : ℕ) (i : Instance) (m : List ℕ) → IsWhole i → IsTypedState i.state → AreOctets m → ((steps_of quantum i m).0.ran ≡ i.ran + quantum) ⊎ IsSome (steps_of quantum i m).0.end }
     ensures some { (quantum : ℕ) (i : Instance) (m : List ℕ) → IsWhole i → IsTypedState i.state → AreOctets m → i.end ≡ None → quantum ≢ 0 → i.ran < (steps_of quantum i m).0.ran }
     ensures whole { (s : Shared) (ts : List (ℕ × ℕ)) → ((k : ℕ) (i : Instance) → slice_get s.instances k ≡ Some i → IsWhole i) → (k : ℕ) (i : Instance) → slice_get (turns ts s).instances k ≡ Some i → IsWhole i }
+{}
+
+/// Instances lie apart in one memory, and each does only what it may in its open runs. Whatever turns they are given, that is
+/// so after them, and what an instance went through is one of its open runs, with a step for each instruction that it
+/// ran: the steps of the others are only what others may do to it.
+pub fn turns_are_open_runs()
+    ensures safe { (s : Shared) (ts : List (ℕ × ℕ)) → AreSafe s → AreSafe (turns ts s) }
+    ensures runs { (s : Shared) (ts : List (ℕ × ℕ)) → AreSafe s → (k : ℕ) (i later : Instance) → slice_get s.instances k ≡ Some i → slice_get (turns ts s).instances k ≡ Some later → (i.ran ≤ later.ran) × LeadsTo (later.ran - i.ran) (moment_of i s.memory) (moment_of later (turns ts s).memory) }
+    ensures onwards { (n k : ℕ) (a b c : Moment) → LeadsTo n a b → k ≢ 0 → OpenRun k b c → OpenRun (k + n) a c }
+{}
+
+/// In the same setting, whatever turns came before, the next step of an instance is fine: it loads from the columns that it
+/// maps and its own areas, stores in its own areas, and does not trap. So no instance ends with a trap.
+pub fn steps_in_turns_are_fine()
+    ensures fine { (s : Shared) (ts : List (ℕ × ℕ)) → AreSafe s → (k : ℕ) (i : Instance) (c : Config) (t : Next) → slice_get (turns ts s).instances k ≡ Some i → i.state ≡ Running c → next c (turns ts s).memory ≡ Some t → IsFine i.world t.event }
+    ensures no_trap { (s : Shared) (ts : List (ℕ × ℕ)) → AreSafe s → ((k : ℕ) (i : Instance) → slice_get s.instances k ≡ Some i → i.end ≢ Some Trap) → (k : ℕ) (i : Instance) → slice_get (turns ts s).instances k ≡ Some i → i.end ≢ Some Trap }
+{}
+
+/// In the same setting turns leave each octet of the mapped columns as it was, and the columns and limits of each instance.
+pub fn columns_stay()
+    ensures octets { (s : Shared) (ts : List (ℕ × ℕ)) → AreSafe s → (k : ℕ) (i : Instance) → slice_get s.instances k ≡ Some i → AllByRecursion (SameIn s.memory (turns ts s).memory) i.world.mapped }
+    ensures maps { (s : Shared) (ts : List (ℕ × ℕ)) → AreSafe s → (k : ℕ) (i later : Instance) → slice_get s.instances k ≡ Some i → slice_get (turns ts s).instances k ≡ Some later → (later.world.mapped ≡ i.world.mapped) × (later.world.limit ≡ i.world.limit) × (later.most_steps ≡ i.most_steps) }
 {}
