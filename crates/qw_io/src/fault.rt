@@ -1,4 +1,4 @@
-ghost use Rattle.std.specs.Prelude.{◌≡◌, ◌≤◌, IfErr, OnErr, OnOk};
+ghost use Rattle.std.specs.Prelude.{◌≡◌, ◌↔◌, ◌≤◌, Contains, IfErr, IsErr, OnErr, OnOk};
 ghost use Rattle.qw_io.specs.Faults.{IsCounted};
 
 use std::io;
@@ -73,6 +73,7 @@ impl FaultPlan {
         ensures only_failed { IfErr result (λ fault. fault ≡ IoFault.Failed) }
         ensures counted { OnErr result (IsCounted self.old.faults.count self.new.faults.count) }
         ensures never_falls { self.old.faults.count ≤ self.new.faults.count }
+        ensures listed { IsErr result ↔ Contains self.old.failing.items self.old.next_call }
     {
         let call = self.next_call;
         self.next_call = call.saturating_add(1);

@@ -29,3 +29,5 @@ pub use shelf::Shelf;
 pub use sink::Sink;
 pub use std_sink::StdSink;
 
+#[cfg(test)]
+mod tests;
