@@ -33,12 +33,14 @@ impl MemoryShelf {
 }
 
 impl Shelf for MemoryShelf {
-    ghost use Rattle.std.specs.Prelude.{Some};
+    ghost use Rattle.std.specs.Prelude.{Some, false};
     ghost use Rattle.qw_io.specs.Memory.{bytes_of};
 
     ghost files = { λ s. Some (bytes_of s.files.items) };
 
     ghost faults = { λ s. s.plan.faults.count };
+
+    ghost takes_memory = { false };
 
     fn fetch(&mut self, name: &str, at: u64, into: &mut [u8]) -> Result<usize, IoFault> {
         self.plan.begin_call()?;

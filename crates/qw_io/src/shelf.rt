@@ -1,4 +1,4 @@
-ghost use Rattle.std.specs.Prelude.{◌≡◌, ◌↔◌, ◌⊎◌, ℕ, ◌≤◌, List, Option, length, take, drop, IfOk, OnOk, IsErrOf, ⊤};
+ghost use Rattle.std.specs.Prelude.{◌≡◌, ◌↔◌, ◌⊎◌, ℕ, ◌≤◌, Bool, true, List, Option, length, take, drop, IfOk, OnOk, IsErrOf, IsTrue, ⊤};
 ghost use Rattle.qw_io.specs.Faults.{IsCounted};
 ghost use Rattle.qw_io.specs.Files.{OfFile};
 
@@ -12,6 +12,9 @@ pub trait Shelf {
     /// How many faults were counted. The count never falls, and stays at 2^64 - 1.
     ghost faults: { Self → ℕ };
 
+    /// Whether a call may take memory. Only then may it answer want of memory.
+    ghost takes_memory: { Bool } = { true };
+
     /// Reads octets of the file `name` from place `at` into the front of `into`, and answers how many.
     /// Of what stands behind them in `into` nothing is said, nor of `into` after an `Err`.
     /// `Ok(0)` at an `into` that isn't empty is the end of the file.
@@ -19,6 +22,7 @@ pub trait Shelf {
         ensures never_falls { faults self.old ≤ faults self.new }
         ensures failed_is_counted { IsErrOf result IoFault.Failed → IsCounted (faults self.old) (faults self.new) }
         ensures no_memory_is_not { IsErrOf result IoFault.NoMemory → faults self.new ≡ faults self.old }
+        ensures memory_is_taken { IsErrOf result IoFault.NoMemory → IsTrue takes_memory }
         ensures ok_is_not { OnOk result (faults self.new ≡ faults self.old) }
 
         ensures same_files { files self.new ≡ files self.old }

@@ -1,4 +1,4 @@
-ghost use Rattle.std.specs.Prelude.{◌≡◌, ℕ, ◌≤◌, ◌<◌, List, Option, ◌++◌, length, take, IfOk, OnOk, OnErr, IsErrOf};
+ghost use Rattle.std.specs.Prelude.{◌≡◌, ℕ, ◌≤◌, ◌<◌, Bool, true, List, Option, ◌++◌, length, take, IfOk, OnOk, OnErr, IsErrOf, IsTrue};
 ghost use Rattle.std.specs.Option.{option_map};
 ghost use Rattle.qw_io.specs.Faults.{IsCounted};
 
@@ -12,12 +12,16 @@ pub trait Sink {
     /// How many faults were counted. The count never falls, and stays at 2^64 - 1.
     ghost faults: { Self → ℕ };
 
+    /// Whether a call may take memory. Only then may it answer want of memory.
+    ghost takes_memory: { Bool } = { true };
+
     /// Takes octets from the front of `piece`, and answers how many: of an empty piece none, of any
     /// other at least one.
     fn put(&mut self, piece: &[u8]) -> Result<usize, IoFault>
         ensures never_falls { faults self.old ≤ faults self.new }
         ensures failed_is_counted { IsErrOf result IoFault.Failed → IsCounted (faults self.old) (faults self.new) }
         ensures no_memory_is_not { IsErrOf result IoFault.NoMemory → faults self.new ≡ faults self.old }
+        ensures memory_is_taken { IsErrOf result IoFault.NoMemory → IsTrue takes_memory }
         ensures ok_is_not { OnOk result (faults self.new ≡ faults self.old) }
 
         ensures within { IfOk result (λ n. n ≤ length piece.now) }

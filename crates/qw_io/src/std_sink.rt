@@ -5,7 +5,7 @@ use crate::sink::Sink;
 use std::io::Write;
 
 /// A stream of the system, as standard output or standard error. Nothing is told of what it took. A
-/// write that takes no octet is a fault.
+/// write that takes no octet is a fault, as is every error of the stream.
 #[derive(Drop)]
 pub struct StdSink<W> {
     stream: W,
@@ -22,20 +22,21 @@ impl<W: Write> StdSink<W> {
 }
 
 impl<W: Write> Sink for StdSink<W> {
-    ghost use Rattle.std.specs.Prelude.{None};
+    ghost use Rattle.std.specs.Prelude.{None, false};
 
     ghost taken = { λ _. None };
 
     ghost faults = { λ s. s.faults.count };
+
+    ghost takes_memory = { false };
 
     fn put(&mut self, piece: &[u8]) -> Result<usize, IoFault> {
         if piece.is_empty() {
             return Ok(0);
         }
         match self.stream.write(piece) {
-            Ok(0) => Err(self.faults.failed()),
+            Ok(0) | Err(_) => Err(self.faults.failed()),
             Ok(count) => Ok(count),
-            Err(error) => Err(self.faults.fault_of(&error)),
         }
     }
 }
