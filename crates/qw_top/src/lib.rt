@@ -1,4 +1,10 @@
 //! From the bytes of the files to the bytes of the report.
 #![tactic(auto)]
 
+pub mod files;
 pub mod meaning;
+pub mod output;
+pub mod status;
+#[cfg(test)]
+mod tests;
+pub mod words;
