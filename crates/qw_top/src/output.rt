@@ -14,7 +14,8 @@ pub fn write_whole<O: Sink>(out: &mut O, text: &[u8]) -> Result<(), IoFault>
 {
     let mut written = 0;
     while written < text.len() {
-        written += out.put(&text[written..])?;
+        let count = out.put(&text[written..])?;
+        written += count;
     }
     Ok(())
 }
