@@ -1,1 +1,3 @@
 pub mod Nesting
+pub mod OutputLemmas
+pub mod ReadingLemmas

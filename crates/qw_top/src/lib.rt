@@ -2,4 +2,10 @@
 #![tactic(auto)]
 
 pub mod emit;
+pub mod files;
 pub mod meaning;
+pub mod output;
+pub mod status;
+#[cfg(test)]
+mod tests;
+pub mod words;
