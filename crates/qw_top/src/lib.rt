@@ -1,4 +1,5 @@
 //! From the bytes of the files to the bytes of the report.
 #![tactic(auto)]
 
+pub mod loading;
 pub mod meaning;

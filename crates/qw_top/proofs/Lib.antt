@@ -1,0 +1,4 @@
+pub mod NumberLemmas
+pub mod ReaderLemmas
+pub mod RecordLemmas
+pub mod RowLemmas
