@@ -1,3 +1,4 @@
+pub mod LoadingLaws
 pub mod NumberLemmas
 pub mod ReaderLemmas
 pub mod RecordLemmas

@@ -7,8 +7,11 @@ ghost use Rattle.csv.specs.Reading.{AreRecords, default_config, strip_bom};
 ghost use Rattle.csv.specs.Records.{fields_of};
 ghost use Rattle.csv.specs.declared.parser.State.TheVariants.{StartRecord};
 ghost use Rattle.qw_types.specs.declared.schema.Column.{Column};
+ghost use Rattle.qw_types.specs.declared.schema.Table.{Table};
+ghost use Rattle.qw_types.specs.declared.value.Val.{Val};
 ghost use Rattle.qw_types.specs.declared.value.Val.TheVariants.{Num};
 ghost use Rattle.qw_types.specs.declared.value.Ty.TheVariants.{Integer};
+ghost use Rattle.qw_top.specs.declared.loading.LoadFault.{LoadFault};
 ghost use Rattle.qw_top.specs.Loading.{AreDigits, AreLoaded, HasRead, IsFieldFault, IsFieldOf, IsFirstFault, IsHeader, IsOneInteger, IsRecordFault, IsRecordOf, Loads, integer_rows};
 
 use csv::{ByteRecord, Reader, ReaderBuilder};
@@ -113,6 +116,27 @@ pub fn load(alloc: Global, table: &Table, bytes: &[u8]) -> Result<Loaded, LoadFa
         .flexible(true)
         .from_reader(alloc, bytes);
     load_from(alloc, table, &mut reader)
+}
+
+/// A file stands for one list of rows at most.
+pub fn one_list_of_rows()
+    ensures { (table : Table) (bytes : List ℕ) (a b : List (List Val))
+        → Loads table bytes a → Loads table bytes b → a ≡ b }
+{
+}
+
+/// A file that stands for rows has no fault.
+pub fn no_fault_beside_rows()
+    ensures { (table : Table) (bytes : List ℕ) (rows : List (List Val)) (e : LoadFault)
+        → Loads table bytes rows → IsFirstFault table bytes e → ⊥ }
+{
+}
+
+/// A file has one first fault at most.
+pub fn one_first_fault()
+    ensures { (table : Table) (bytes : List ℕ) (a b : LoadFault)
+        → IsFirstFault table bytes a → IsFirstFault table bytes b → a ≡ b }
+{
 }
 
 // Works through a reference, so that no return leaves a reader behind.
