@@ -247,6 +247,7 @@ same_later table bytes a b rows later x y h k wrong wrong' = meet h.first k.firs
     decide (inr (inr s)) =
         let place = fault_place table.columns (length rows + 1) x a wrong in
         absurd (sound_record table.columns (length later + 1) y s.row b (omega (arith, s.before, place)) s.stands wrong')
+
     meet : AreFirstRecords bytes (h.header ∷ (h.records ++ x ∷ [])) → AreFirstRecords bytes (k.header ∷ (k.records ++ y ∷ [])) → a ≡ b
     meet (s, z, (p, read, first, rest)) (s', z', (p', read', first', rest')) =
         let same = same_read _ p p' read read' in

@@ -77,9 +77,11 @@ number_text text h = IsUtf8-from_ascii text (ascii text h)
     digits_ascii [] h i = omega arith
     digits_ascii (d ∷ ds) h zero = omega (arith, All-head IsAsciiDigit d ds h)
     digits_ascii (d ∷ ds) h (suc i) = digits_ascii ds (All-tail IsAsciiDigit d ds h) i
+
     behind : (d : ℕ) (ds : List ℕ) → d < 128 → All IsAsciiDigit ds → IsAscii (d ∷ ds)
     behind d ds small h zero = small
     behind d ds small h (suc i) = digits_ascii ds h i
+
     ascii : (text : List ℕ) → AreDigits (without_leading_sign text) → IsAscii text
     ascii text h = elim (parts_shown text h).2 [
       | inl (e, v) ↦ rw e (digits_ascii _ (parts_shown text h).1.all)

@@ -122,29 +122,22 @@ pub fn load(alloc: Global, table: &Table, bytes: &[u8]) -> Result<Loaded, LoadFa
 pub fn one_list_of_rows()
     ensures { (table : Table) (bytes : List ℕ) (a b : List (List Val))
         → Loads table bytes a → Loads table bytes b → a ≡ b }
-{
-}
+{}
 
 /// A file that stands for rows has no fault.
 pub fn no_fault_beside_rows()
     ensures { (table : Table) (bytes : List ℕ) (rows : List (List Val)) (e : LoadFault)
         → Loads table bytes rows → IsFirstFault table bytes e → ⊥ }
-{
-}
+{}
 
 /// A file has one first fault at most.
 pub fn one_first_fault()
     ensures { (table : Table) (bytes : List ℕ) (a b : LoadFault)
         → IsFirstFault table bytes a → IsFirstFault table bytes b → a ≡ b }
-{
-}
+{}
 
 // Works through a reference, so that no return leaves a reader behind.
-fn load_from(
-    alloc: Global,
-    table: &Table,
-    reader: &mut Reader<&[u8]>,
-) -> Result<Loaded, LoadFault>
+fn load_from(alloc: Global, table: &Table, reader: &mut Reader<&[u8]>) -> Result<Loaded, LoadFault>
     requires { IsOneInteger table.now.columns }
     ensures rows { IfOk result (λ loaded. (bytes : List ℕ) → HasRead reader.old (strip_bom bytes) []
         → Loads table.now bytes loaded) }
@@ -263,3 +256,6 @@ fn are_digits(text: &[u8]) -> bool
 {
     !text.is_empty() && text.iter().all(|octet| octet.is_ascii_digit())
 }
+
+#[cfg(test)]
+mod tests;

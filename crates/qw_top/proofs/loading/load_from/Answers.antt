@@ -13,8 +13,11 @@ returns-then-not-branch-clause-fault c bytes start _ =
       | then-not-branch-via-then-not-branch w ↦ inl (rw w.if-not-branch.true at read)
       | then-not-branch-via-else-not-branch+then-not-is_header w ↦
           let first = rw w.if-not-branch.false at read in
-          inr (fields_of c.next_record.new.row, (c.next_record.new.reader.state, first.rest, first.reached),
-            (λ named. false≢true (sym w.if-not-is_header.true ∙ w.is_header.ensures.1 (rw w.as_slice.ensures.same named))))
+          inr (
+            fields_of c.next_record.new.row,
+            (c.next_record.new.reader.state, first.rest, first.reached),
+            (λ named. false≢true (sym w.if-not-is_header.true ∙ w.is_header.ensures.1 (rw w.as_slice.ensures.same named))),
+          )
     ]
 
 pub returns-in_err-values-clause-fault : goal.returns-in_err-values-clause-fault
@@ -22,8 +25,8 @@ returns-in_err-values-clause-fault c =
     let p = err_from_is_err_and c.from_residual-in_err-values.result c.from_residual-in_err-values.ensures.1 in
     let named = rw c.as_slice.ensures.same at (c.is_header.ensures.0 c.if-not-is_header.false) in
     rw (p.1, p.2) (λ bytes start.
-      c.in_err-values.ensures.fault bytes (fields_of c.next_record.new.row)
-      (rw c.if-not-branch.false at (c.in_ok-next_record.ensures.read (strip_bom bytes) [] start)) named)
+    c.in_err-values.ensures.fault bytes (fields_of c.next_record.new.row)
+    (rw c.if-not-branch.false at (c.in_ok-next_record.ensures.read (strip_bom bytes) [] start)) named)
 
 pub returns-clause-rows : goal.returns-clause-rows
 returns-clause-rows c bytes start =

@@ -7,6 +7,6 @@ returns-clause-read c =
     elim c.match-read_byte_record.branch [
       | in-Ok w ↦
           rw w.result-is (λ text records h.
-            read_on _ _ w.in-Ok.found _ text records h (w.in-Ok.ensures.reads h.untrimmed h.ready) (w.in-Ok.ensures.ready h.untrimmed))
+          read_on _ _ w.in-Ok.found _ text records h (w.in-Ok.ensures.reads h.untrimmed h.ready) (w.in-Ok.ensures.ready h.untrimmed))
       | in-Err w ↦ rw w.result-is tt
     ]

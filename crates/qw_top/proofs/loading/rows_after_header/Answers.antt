@@ -21,10 +21,10 @@ pub returns-in_err-value-clause-fault : goal.returns-in_err-value-clause-fault
 returns-in_err-value-clause-fault c =
     let p = err_from_is_err_and c.from_residual-in_err-value.result c.from_residual-in_err-value.ensures.1 in
     rw (p.1, p.2) (λ bytes header start named _.
-      let (records, read, each) = c.loop-number.invariant.read bytes header start in
-      fails_at c.args.table.now bytes header records c.loop-number.values.items c.next_record.new.reader (fields_of c.next_record.new.row) c.loop-number.number _
-      (rw c.if-not-branch.false at (c.in_ok-next_record.ensures.read (strip_bom bytes) (header ∷ records) read)) named each c.loop-number.invariant.counted
-      (rw c.as_slice-columns.ensures.same at c.in_err-value.ensures))
+    let (records, read, each) = c.loop-number.invariant.read bytes header start in
+    fails_at c.args.table.now bytes header records c.loop-number.values.items c.next_record.new.reader (fields_of c.next_record.new.row) c.loop-number.number _
+    (rw c.if-not-branch.false at (c.in_ok-next_record.ensures.read (strip_bom bytes) (header ∷ records) read)) named each c.loop-number.invariant.counted
+    (rw c.as_slice-columns.ensures.same at c.in_err-value.ensures))
 
 pub loop-number-preserved : goal.loop-number-preserved
 loop-number-preserved c =
@@ -34,9 +34,11 @@ loop-number-preserved c =
       counted = simp length-append (omega arith);
       typed = typed_push c.args.table.now.columns c.loop-number.values.items (fields_of c.next_record.new.row) c.in_ok-value.value c.requires stands c.loop-number.invariant.typed;
       read = λ bytes header start.
-        let (records, read, each) = c.loop-number.invariant.read bytes header start in
-        (_, rw c.if-not-branch.false at (c.in_ok-next_record.ensures.read (strip_bom bytes) (header ∷ records) read),
-          integers_push c.args.table.now.columns records c.loop-number.values.items (fields_of c.next_record.new.row) c.in_ok-value.value each stands)
+          let (records, read, each) = c.loop-number.invariant.read bytes header start in (
+            _,
+            rw c.if-not-branch.false at (c.in_ok-next_record.ensures.read (strip_bom bytes) (header ∷ records) read),
+            integers_push c.args.table.now.columns records c.loop-number.values.items (fields_of c.next_record.new.row) c.in_ok-value.value each stands,
+          );
     }
 
 pub returns-then-branch-clause-fault : goal.returns-then-branch-clause-fault

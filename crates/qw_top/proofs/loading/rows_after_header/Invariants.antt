@@ -10,5 +10,5 @@ invariant-loop-number l = record {
   typed : All IsIntegerRow (integer_rows l.values.items);
   read : (bytes : List ℕ) (header : List (List ℕ)) → HasRead l.fn.reader (strip_bom bytes) (header ∷ [])
       → (records : List (List (List ℕ))) × HasRead l.reader (strip_bom bytes) (header ∷ records)
-      × AreRecordsOf l.fn.table.columns records (integer_rows l.values.items)
+      × AreRecordsOf l.fn.table.columns records (integer_rows l.values.items);
 }

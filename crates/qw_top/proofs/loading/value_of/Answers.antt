@@ -10,7 +10,7 @@ returns-in-Ok c =
     let h = c.in-Ok.ensures in
     let range : FitsSigned w32 c.in-Ok.value = fits c.in-Ok.value h.1 in
     rw (to_z-of_z w32 c.in-Ok.value range)
-        (stands _ _ c.in-Some.field.now c.in-Ok.value c.requires.one c.in-Some.ensures.value (sym c.len.ensures ∙ c.if-len-eq1.true) h)
+    (stands _ _ c.in-Some.field.now c.in-Ok.value c.requires.one c.in-Some.ensures.value (sym c.len.ensures ∙ c.if-len-eq1.true) h)
 
 pub returns-in-Err : goal.returns-in-Err
 returns-in-Err c =
