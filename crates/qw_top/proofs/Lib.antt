@@ -1,3 +1,4 @@
+pub mod ColumnLemmas
 pub mod LoadingLaws
 pub mod NumberLemmas
 pub mod ReaderLemmas

@@ -1,5 +1,6 @@
 //! From the bytes of the files to the bytes of the report.
 #![tactic(auto)]
 
+pub mod columns;
 pub mod loading;
 pub mod meaning;
