@@ -4,3 +4,4 @@
 pub mod columns;
 pub mod loading;
 pub mod meaning;
+pub mod sink;
