@@ -1,6 +1,6 @@
 -- The octets of a column of INTEGERs.
-use Rattle.std.proofs.Common.{◌≡◌, ◌≤◌, ◌<◌, ◌+◌, ◌*◌, ◌∙◌, ℕ, ℤ, List, [], ◌∷◌, ◌++◌, Some, None, length, take, drop, get_or, zero, suc, refl, sym, ap, arith, w32, append_assoc, length-take, pos, to_z, of_z}
-use Rattle.std.specs.Prelude.{All, FitsSigned, min}
+use Rattle.std.proofs.Common.{◌≡◌, ◌≤◌, ◌<◌, ◌+◌, ◌*◌, ◌∙◌, ℕ, ℤ, List, [], ◌∷◌, ◌++◌, Some, length, take, drop, get_or, zero, suc, refl, sym, ap, arith, w32, append_assoc, length-take, pos, to_z, of_z}
+use Rattle.std.specs.Prelude.{All, FitsSigned}
 use Rattle.std.specs.Int.{cast_signed, cast_unsigned, from_le_bytes, to_le_bytes}
 use Rattle.std.proofs.Math.Facts.{Fits-of_z}
 use Rattle.std.proofs.Math.Seq.{drop-append-add, take-append_seam}
@@ -12,7 +12,7 @@ use Rattle.std.proofs.lemmas.List.Elements.{All-cons, All-get_or, All-head, All-
 use Rattle.std.proofs.lemmas.Nat.{from_le_bytes-to_le_bytes_4}
 use Rattle.qw_types.specs.declared.value.Val.{Val}
 use Rattle.qw_types.specs.declared.value.Val.TheVariants.{Num}
-use Rattle.qw_top.specs.Columns.{HoldsColumn, Holds, SameOutside, StandsAt, columns_end, columns_start, integer_at, value_of}
+use Rattle.qw_top.specs.Columns.{Holds, SameOutside, StandsAt, columns_end, columns_start, value_of}
 use Rattle.qw_top.specs.Loading.{AreLoaded, IsIntegerRow, integer_rows}
 use Rattle.qw_top.proofs.NumberLemmas.{fits}
 

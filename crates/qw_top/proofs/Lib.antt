@@ -4,3 +4,4 @@ pub mod NumberLemmas
 pub mod ReaderLemmas
 pub mod RecordLemmas
 pub mod RowLemmas
+pub mod SinkLemmas

@@ -1,5 +1,5 @@
 -- A file stands for one list of rows at most, or has one first fault at most.
-use Rattle.std.proofs.Common.{List, ℕ, ℤ, ◌≡◌, ◌≢◌, ◌<◌, ◌≤◌, ◌⊎◌, ◌+◌, ◌∙◌, ◌∷◌, ◌++◌, [], length, inl, inr, refl, sym, ap, arith, Option, Some, None}
+use Rattle.std.proofs.Common.{List, ℕ, ℤ, ◌≡◌, ◌<◌, ◌≤◌, ◌⊎◌, ◌+◌, ◌∙◌, ◌∷◌, ◌++◌, [], length, inl, inr, refl, sym, ap, arith, Option, Some, None}
 use Rattle.csv.specs.Machine.{Read, next_record}
 use Rattle.csv.specs.Reading.{AreRecords, Reached, default_config, strip_bom}
 use Rattle.csv.specs.declared.parser.State.{State}

@@ -1,5 +1,5 @@
 -- A record of a table of one column.
-use Rattle.std.proofs.Common.{List, ℕ, ℤ, ◌≡◌, ◌≢◌, ◌∙◌, ◌∷◌, [], Bool, Some, None, inl, inr, length, get_or, map, refl, sym, ap, arith, zero, suc}
+use Rattle.std.proofs.Common.{List, ℕ, ℤ, ◌≡◌, ◌≢◌, ◌∷◌, [], Bool, Some, None, inl, length, get_or, map, refl, ap, arith}
 use Rattle.std.specs.Prelude.{IsTrue, ◌↔◌}
 use Rattle.std.specs.Char.{to_ascii_lowercase}
 use Rattle.csv.specs.Records.{field_at}

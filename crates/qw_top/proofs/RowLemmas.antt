@@ -1,5 +1,5 @@
 -- The rows that the records read so far stand for.
-use Rattle.std.proofs.Common.{Bor, List, ℕ, ℤ, ◌≡◌, ◌≤◌, ◌+◌, ◌∙◌, ◌∷◌, ◌++◌, [], length, map, refl, sym, ap, arith}
+use Rattle.std.proofs.Common.{Bor, List, ℕ, ℤ, ◌≡◌, ◌≤◌, ◌+◌, ◌∷◌, ◌++◌, [], length, sym}
 use Rattle.std.specs.Prelude.{All}
 use Rattle.std.proofs.lemmas.List.{length-map, map-append}
 use Rattle.std.proofs.lemmas.List.Elements.{All-push}

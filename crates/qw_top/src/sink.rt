@@ -113,3 +113,6 @@ fn write_line(writer: &mut Writer<Vec<u8>>, line: &ByteRecord) -> Result<(), NoM
         Err(_) => Err(NoMemory),
     }
 }
+
+#[cfg(test)]
+mod tests;
