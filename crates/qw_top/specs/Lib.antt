@@ -5,3 +5,6 @@ pub mod Output
 pub mod Reading
 pub mod Status
 pub mod Words
+pub mod Columns
+pub mod Loading
+pub mod Sink

@@ -9,3 +9,7 @@ pub mod status;
 #[cfg(test)]
 mod tests;
 pub mod words;
+pub mod columns;
+pub mod loading;
+pub mod meaning;
+pub mod sink;
