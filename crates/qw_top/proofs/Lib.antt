@@ -1,6 +1,6 @@
 pub mod Nesting
 pub mod OutputLemmas
-pub mod ReadingLemmas
+pub mod WholeFileLemmas
 pub mod ColumnLemmas
 pub mod LoadingLaws
 pub mod NumberLemmas

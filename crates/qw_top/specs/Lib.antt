@@ -2,7 +2,7 @@ pub mod Emit
 pub mod Counts
 pub mod FileNames
 pub mod Output
-pub mod Reading
+pub mod WholeFiles
 pub mod Status
 pub mod Words
 pub mod Columns

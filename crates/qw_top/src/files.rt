@@ -3,7 +3,7 @@ ghost use Rattle.std.specs.String.{string_bytes};
 ghost use Rattle.qw_io.specs.Files.{OfFile};
 ghost use Rattle.qw_top.specs.Counts.{CountsRead};
 ghost use Rattle.qw_top.specs.FileNames.{table_file_of};
-ghost use Rattle.qw_top.specs.Reading.{IsFront};
+ghost use Rattle.qw_top.specs.WholeFiles.{IsFront};
 
 use qw_io::{IoFault, Shelf};
 use std::alloc::{AllocError, Global};

@@ -1,7 +1,7 @@
 use Rattle.std.proofs.Common.{◌≡◌, ◌≤◌, ◌++◌, length, take, drop, arith}
 use Rattle.std.proofs.lemmas.Grind.{common_steps}
 use Rattle.qw_io.specs.Files.{OfFile}
-use Rattle.qw_top.proofs.ReadingLemmas.{IsFront-more}
+use Rattle.qw_top.proofs.WholeFileLemmas.{IsFront-more}
 use Rattle.qw_top.proofs.files.read_more.Goals as goal
 
 pub returns-clause-front : goal.returns-clause-front

@@ -1,5 +1,5 @@
 use Rattle.std.proofs.Common.{arith}
-use Rattle.qw_top.proofs.ReadingLemmas.{IsFront-whole, IsFront-longer}
+use Rattle.qw_top.proofs.WholeFileLemmas.{IsFront-whole, IsFront-longer}
 use Rattle.qw_top.proofs.files.read_pieces.Goals as goal
 
 pub returns-then-count-eq0-clause-whole : goal.returns-then-count-eq0-clause-whole

@@ -1,5 +1,5 @@
 use Rattle.std.proofs.Common.{length, ◌-◌, ◌+◌}
-use Rattle.qw_top.proofs.ReadingLemmas.{Reads}
+use Rattle.qw_top.proofs.WholeFileLemmas.{Reads}
 use Rattle.qw_top.proofs.files.read_pieces.Given as goal
 
 abbrev pub invariant-loop-bytes : goal.invariant-loop-bytes
