@@ -1,13 +1,13 @@
 -- Where each step is fine, no instance ends with a trap.
-use Rattle.std.proofs.Common.{◌≡◌, ◌≢◌, ℕ, zero, suc, nat_le, List, [], ◌∷◌, ◌++◌, length, take, Some, slice_get, sym, ◌∙◌, subst, ⊎_elim}
-use Rattle.std.proofs.lemmas.Bool.{cases_Bool, cases_eq}
-use Rattle.std.proofs.lemmas.Option.{same_Some, none-some, slice_get_within}
+use Rattle.std.proofs.Common.{◌≡◌, ◌≢◌, ℕ, zero, suc, ◌+◌, nat_le, List, [], ◌∷◌, ◌++◌, length, take, Some, subst, ⊎_elim}
+use Rattle.std.proofs.lemmas.Bool.{cases_Bool}
+use Rattle.std.proofs.lemmas.Option.{same_Some, none-some}
 use Rattle.qw_module.specs.Syntax.{Code, done}
 use Rattle.qw_module.specs.Execution.{Context, label, frame, Config, State, Running, Returned, Raised, Trapped, Event, Step, local_get, local_set, local_tee, const, binop, relop, load, load_outside, store, store_outside, enter_block, enter_loop, if_true, if_false, branch, branch_taken, branch_passed, settled, branched}
 use Rattle.qw_module.specs.Map.{World, IsFine, world_after}
-use Rattle.qw_module.specs.Turns.{Instance, Shared, Trap, end_at, moved, turns, AreSafe}
+use Rattle.qw_module.specs.Turns.{Shared, Trap, end_at, turns, EachInstance, AreSafe}
 use Rattle.qw_module.proofs.Steps.{rule_from_next}
-use Rattle.qw_module.proofs.TurnFacts.{slice_get-set_same, slice_get-set_other, turns-keep}
+use Rattle.qw_module.proofs.TurnFacts.{each-step, turns-keep}
 use Rattle.qw_module.proofs.Separate.{safe-step, fine-now}
 
 -- a state in which nothing was raised and nothing trapped
@@ -62,21 +62,16 @@ end-untrapped (Raised code) w ran most goes e = absurd goes
 end-untrapped Trapped w ran most goes e = absurd goes
 
 abbrev Untrapped : Shared → Type 0
-Untrapped s = (k : ℕ) (i : Instance) → slice_get s.instances k ≡ Some i → i.end ≢ Some Trap
+Untrapped s = EachInstance (λ i. i.end ≢ Some Trap) s
 
 pub untrapped-turns : (s : Shared) (ts : List (ℕ × ℕ)) → AreSafe s → Untrapped s → Untrapped (turns ts s)
 untrapped-turns s ts safe untrapped = (turns-keep (λ (now : Shared). AreSafe now × Untrapped now)
     (λ now j one c t there unended running made h.
-    let put : Instance = moved one (world_after one.world now.memory t.event) t.state in
-    let fine : IsFine one.world t.event = fine-now now h.0 j one c t there running made in (
+    let after : World = world_after one.world now.memory t.event in
+    let fine : IsFine one.world t.event = fine-now now h.0 j one c t there running made in
+    let goes : Goes t.state = step-goes one.world c now.memory t.event t.state t.memory (rule_from_next c now.memory t made) fine in (
       safe-step now j one c t there running made h.0,
-      λ k i found. ⊎_elim
-          (λ here.
-          let is : put ≡ i = same_Some put i (sym (slice_get-set_same now.instances j put (slice_get_within now.instances j one there)) ∙ rw here at found) in
-          subst (λ (x : Instance). x.end ≢ Some Trap) is
-          (end-untrapped t.state (world_after one.world now.memory t.event) put.ran one.most_steps
-          (step-goes one.world c now.memory t.event t.state t.memory (rule_from_next c now.memory t made) fine)))
-          (λ elsewhere. h.1 k i (sym (slice_get-set_other now.instances j k put elsewhere) ∙ found))
-          (cases_eq k j),
+      each-step (λ k i. i.end ≢ Some Trap) now j one t there (end-untrapped t.state after (one.ran + 1) one.most_steps goes)
+          (λ k i elsewhere found. h.1 k i found),
     ))
     ts s (safe, untrapped)).1

@@ -1,19 +1,19 @@
 -- Instances that share a memory: a step of one is what others may do to the rest, so turns are open runs.
 use Rattle.std.proofs.Common.{◌≡◌, ◌≢◌, ℕ, zero, suc, ◌+◌, ◌-◌, ◌<◌, ◌≤◌, nat_le, Bool, true, false, IsTrue, ◌&&◌, List, [], ◌∷◌, length, Some, slice_get, slice_set, ◌⊎◌, inl, inr, refl, sym, ap, ◌∙◌, subst, ⊎_elim, arith, length-set}
 use Rattle.std.specs.List.{AllByRecursion}
-use Rattle.std.proofs.lemmas.Bool.{cases_Bool, cases_eq, leb-true, false≢true}
+use Rattle.std.proofs.lemmas.Bool.{cases_Bool, leb-true, false≢true}
 use Rattle.std.proofs.lemmas.Option.{same_Some, none-some, slice_get_within}
 use Rattle.qw_module.specs.Execution.{Config, State, Running, Event, Stores}
 use Rattle.qw_module.specs.Memory.{with_number}
 use Rattle.qw_module.specs.Step.{Want, Stuck, Goes, Asks, Puts, wants, answered, Next, next}
 use Rattle.qw_module.specs.Map.{Area, World, SameIn, Others, lies_in, lies_in_one, IsFine, world_after}
 use Rattle.qw_module.specs.Runs.{Moment, moment_after, OpenStep, OpenRun, begins, goes_on, Behaves}
-use Rattle.qw_module.specs.Turns.{Instance, Shared, moved, turns, AreApart, AllApart, may_ask, AreSeparate, moment_of, StaysFine, AreSafe, LeadsTo}
+use Rattle.qw_module.specs.Turns.{Instance, Shared, moved, turns, EachInstance, EachAfter, AreApart, AllApart, may_ask, AreSeparate, moment_of, StaysFine, AreSafe, LeadsTo}
 use Rattle.qw_module.proofs.MemoryFacts.{with_number-below, with_number-above}
 use Rattle.qw_module.proofs.OpenRuns.{unasked}
 use Rattle.qw_module.proofs.Sound.{octets_stay, length_stays}
 use Rattle.qw_module.proofs.Steps.{rule_from_next}
-use Rattle.qw_module.proofs.TurnFacts.{slice_get-set_same, slice_get-set_other, after_step, turns-keep}
+use Rattle.qw_module.proofs.TurnFacts.{slice_get-set_same, after_step, each-step, turns-keep}
 
 -- ---- what a step does to the memory
 -- it is left as it is, or a number is put in it
@@ -239,12 +239,9 @@ module _ (s : Shared) (separate : AreSeparate s) (j : ℕ) (one : Instance) (c :
   -- each instance was there before, with the same areas
   pub before_step : (k : ℕ) (i : Instance) → slice_get (after_step s j one t).instances k ≡ Some i →
       (old : Instance) × (slice_get s.instances k ≡ Some old) × (i.world ≡ old.world)
-  before_step k i found = ⊎_elim
-      (λ here.
-      let same : put ≡ i = same_Some put i (sym put_there ∙ rw here at found) in
-      (one, rw here there, ap (λ (x : Instance). x.world) (sym same) ∙ world-put))
-      (λ elsewhere. (i, sym (slice_get-set_other s.instances j k put elsewhere) ∙ found, refl))
-      (cases_eq k j)
+  before_step = each-step (λ k i. (old : Instance) × (slice_get s.instances k ≡ Some old) × (i.world ≡ old.world)) s j one t there
+      (one, there, world-put)
+      (λ k i elsewhere found. (i, found, refl))
 
   pub separate-step : AreSeparate (after_step s j one t)
   separate-step = record {
@@ -284,14 +281,17 @@ module _ (s : Shared) (separate : AreSeparate s) (j : ℕ) (one : Instance) (c :
   }
 
 -- ---- every list of turns
+-- an open run with a step for each instruction that it ran leads an instance to what it is now
+abbrev IsReached : (s now : Shared) (i later : Instance) → Type 0
+IsReached s now i later = (steps : ℕ) × (later.ran ≡ i.ran + steps) × LeadsTo steps (moment_of i s.memory) (moment_of later now.memory)
+
 -- what holds of the instances after turns, beside those before
 record Follows (s now : Shared) : Type 0 where
   separate : AreSeparate now
   many : length now.instances ≡ length s.instances
-  reached : (k : ℕ) (i later : Instance) → slice_get s.instances k ≡ Some i → slice_get now.instances k ≡ Some later →
-      (steps : ℕ) × (later.ran ≡ i.ran + steps) × LeadsTo steps (moment_of i s.memory) (moment_of later now.memory)
-  worlds : (k : ℕ) (i later : Instance) → slice_get s.instances k ≡ Some i → slice_get now.instances k ≡ Some later → later.world ≡ i.world
-  columns : (k : ℕ) (i : Instance) → slice_get s.instances k ≡ Some i → AllByRecursion (SameIn s.memory now.memory) i.world.mapped
+  reached : EachAfter (IsReached s now) s now
+  worlds : EachAfter (λ i later. later.world ≡ i.world) s now
+  columns : EachInstance (λ i. AllByRecursion (SameIn s.memory now.memory) i.world.mapped) s
 
 found-in : {A : Type 0} (xs : List A) (k : ℕ) → k < length xs → (x : A) × (slice_get xs k ≡ Some x)
 found-in [] k inside = absurd (omega arith)
@@ -313,11 +313,10 @@ follows-step s safe now j one c t there running made follows =
     record {
       separate = after;
       many = length-set now.instances j new ∙ follows.many;
-      reached = λ k i later found found_later. ⊎_elim
-          (λ here.
-          let is : new ≡ later = same_Some new later (sym new_there ∙ rw here at found_later) in
-          let led = follows.reached k i one found (rw here there) in
-          subst (λ (x : Instance). (steps : ℕ) × (x.ran ≡ i.ran + steps) × LeadsTo steps (moment_of i s.memory) (moment_of x t.memory)) is (
+      reached = λ k i later found found_later. each-step
+          (λ l x. (i : Instance) → slice_get s.instances l ≡ Some i → IsReached s (after_step now j one t) i x) now j one t there
+          (λ i found.
+          let led = follows.reached j i one found there in (
             suc led.0,
             omega (arith, led.1),
             record {
@@ -326,15 +325,14 @@ follows-step s safe now j one c t there running made follows =
               others = others-none (after_step now j one t) after j new new_there;
             },
           ))
-          (λ elsewhere.
-          let before : slice_get now.instances k ≡ Some later = sym (slice_get-set_other now.instances j k new elsewhere) ∙ found_later in
-          let led = follows.reached k i later found before in (
+          (λ l x elsewhere before i found.
+          let led = follows.reached l i x found before in (
             led.0,
             led.1,
-            LeadsTo-others led.0 (moment_of i s.memory) later.world later.state now.memory t.memory
-                (others-step now follows.separate j one c t there running made fine k later elsewhere before) led.2,
+            LeadsTo-others led.0 (moment_of i s.memory) x.world x.state now.memory t.memory
+                (others-step now follows.separate j one c t there running made fine l x elsewhere before) led.2,
           ))
-          (cases_eq k j);
+          k later found_later i found;
       worlds = λ k i later found found_later.
           let before = before_step now follows.separate j one c t there running made k later found_later in
           before.2 ∙ follows.worlds k i before.0 found before.1;
@@ -353,7 +351,7 @@ follows-none s safe = record {
   many = refl;
   reached = λ k i later found found_later.
       let is : i ≡ later = same_Some i later (sym found ∙ found_later) in
-      subst (λ (x : Instance). (steps : ℕ) × (x.ran ≡ i.ran + steps) × LeadsTo steps (moment_of i s.memory) (moment_of x s.memory)) is (
+      subst (IsReached s s i) is (
         0,
         omega arith,
         record { left = s.memory; run = begins (moment_of i s.memory); others = others-none s safe.separate k i found },
@@ -401,12 +399,11 @@ runs-turns s ts safe k i later found found_later =
       subst (λ (n : ℕ). LeadsTo n (moment_of i s.memory) (moment_of later (turns ts s).memory)) count led.2,
     )
 
-pub worlds-turns : (s : Shared) (ts : List (ℕ × ℕ)) → AreSafe s → (k : ℕ) (i later : Instance) → slice_get s.instances k ≡ Some i →
-    slice_get (turns ts s).instances k ≡ Some later → later.world ≡ i.world
+pub worlds-turns : (s : Shared) (ts : List (ℕ × ℕ)) → AreSafe s → EachAfter (λ i later. later.world ≡ i.world) s (turns ts s)
 worlds-turns s ts safe k i later found found_later = (follows-turns s safe ts).worlds k i later found found_later
 
-pub columns-turns : (s : Shared) (ts : List (ℕ × ℕ)) → AreSafe s → (k : ℕ) (i : Instance) → slice_get s.instances k ≡ Some i →
-    AllByRecursion (SameIn s.memory (turns ts s).memory) i.world.mapped
+pub columns-turns : (s : Shared) (ts : List (ℕ × ℕ)) → AreSafe s →
+    EachInstance (λ i. AllByRecursion (SameIn s.memory (turns ts s).memory) i.world.mapped) s
 columns-turns s ts safe k i found = (follows-turns s safe ts).columns k i found
 
 -- an instance that behaves goes on to behave, whatever turns there are

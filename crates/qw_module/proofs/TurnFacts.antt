@@ -1,6 +1,6 @@
 -- What every list of turns keeps, by one step at a time.
-use Rattle.std.proofs.Common.{◌≡◌, ◌≢◌, ℕ, zero, suc, ◌<◌, false, List, [], ◌∷◌, length, Option, Some, None, slice_get, slice_set, is_some, refl, sym, ap, subst, ⊎_elim, arith}
-use Rattle.std.proofs.lemmas.Bool.{cases_Bool}
+use Rattle.std.proofs.Common.{◌≡◌, ◌≢◌, ℕ, zero, suc, ◌<◌, false, List, [], ◌∷◌, length, Option, Some, None, slice_get, slice_set, is_some, refl, sym, ap, ◌∙◌, subst, ⊎_elim, arith}
+use Rattle.std.proofs.lemmas.Bool.{cases_Bool, cases_eq}
 use Rattle.std.proofs.lemmas.List.{set-set}
 use Rattle.std.proofs.lemmas.Option.{same_Some, none-some, slice_get_within}
 use Rattle.qw_module.specs.Execution.{Config, State, Running, Returned, Raised, Trapped}
@@ -36,6 +36,22 @@ changed_twice s j one other = ap (λ (instances : List Instance). record { memor
 -- the shared state after a step of one instance
 abbrev pub after_step : Shared → ℕ → Instance → Next → Shared
 after_step s j i t = with_instance s j (moved i (world_after i.world s.memory t.event) t.state, t.memory)
+
+-- what holds of the instance that was put, and of the others, holds of each
+pub each-step : (P : ℕ → Instance → Type 0) (s : Shared) (j : ℕ) (one : Instance) (t : Next) → slice_get s.instances j ≡ Some one →
+    P j (moved one (world_after one.world s.memory t.event) t.state) →
+    ((k : ℕ) (i : Instance) → k ≢ j → slice_get s.instances k ≡ Some i → P k i) →
+    (k : ℕ) (i : Instance) → slice_get (after_step s j one t).instances k ≡ Some i → P k i
+each-step P s j one t there new others k i found =
+    let put : Instance = moved one (world_after one.world s.memory t.event) t.state in
+    ⊎_elim
+    (λ here.
+    let put_there : slice_get (slice_set s.instances j put) j ≡ Some put =
+    slice_get-set_same s.instances j put (slice_get_within s.instances j one there) in
+    let is : put ≡ i = same_Some put i (sym put_there ∙ rw here at found) in
+    rw here (subst (P j) is new))
+    (λ elsewhere. others k i elsewhere (sym (slice_get-set_other s.instances j k put elsewhere) ∙ found))
+    (cases_eq k j)
 
 -- P stays at each step that an instance makes which has not ended
 abbrev pub StaysAtSteps : (Shared → Type 0) → Type 0

@@ -1,15 +1,15 @@
 -- How many steps turns take, and what stays where an instance has ended.
-use Rattle.std.proofs.Common.{◌≡◌, ◌≢◌, ℕ, zero, suc, ◌+◌, ◌<◌, ◌≤◌, nat_le, true, false, ◌==◌, ◌||◌, List, length, Option, Some, None, slice_get, is_some, IsSome, ◌⊎◌, inl, inr, refl, sym, ap, ◌∙◌, subst, ⊎_elim, arith, length-set}
-use Rattle.std.proofs.lemmas.Bool.{cases_Bool, cases_eq, leb-false, false≢true}
+use Rattle.std.proofs.Common.{◌≡◌, ◌≢◌, ℕ, zero, suc, ◌+◌, ◌<◌, ◌≤◌, nat_le, true, false, ◌==◌, ◌||◌, List, length, Option, Some, None, slice_get, is_some, IsSome, ◌⊎◌, inl, inr, refl, sym, ap, ◌∙◌, ⊎_elim, arith, length-set}
+use Rattle.std.proofs.lemmas.Bool.{cases_Bool, leb-false, false≢true}
 use Rattle.std.proofs.lemmas.Option.{same_Some, slice_get_within}
 use Rattle.qw_module.specs.Execution.{Config, State, Running, Returned, Raised, Trapped}
 use Rattle.qw_module.specs.Memory.{AreOctets}
 use Rattle.qw_module.specs.Step.{Next, next}
 use Rattle.qw_module.specs.Map.{World, world_after}
 use Rattle.qw_module.specs.Soundness.{IsTyped, IsTypedState}
-use Rattle.qw_module.specs.Turns.{Instance, Shared, end_of_refusal, end_of_raise, end_at, moved, after_next, stepped_from, stepped, steps_of, with_instance, turn_at, turn, turns, IsWhole}
+use Rattle.qw_module.specs.Turns.{Instance, Shared, end_of_refusal, end_of_raise, end_at, moved, after_next, stepped_from, stepped, steps_of, with_instance, turn_at, turn, turns, EachInstance, IsWhole}
 use Rattle.qw_module.proofs.Sound.{progress, preservation, octets_stay}
-use Rattle.qw_module.proofs.TurnFacts.{slice_get-set_same, slice_get-set_other, changed_twice, turns-keep}
+use Rattle.qw_module.proofs.TurnFacts.{slice_get-set_same, slice_get-set_other, changed_twice, each-step, turns-keep}
 
 -- ---- an instance that has ended
 ended : (i : Instance) → IsSome i.end → is_some i.end ≡ false → ⊥
@@ -125,16 +125,11 @@ unended-runs i whole unended Trapped is = absurd (let e = whole.end_is in false�
 moved-whole : (i : Instance) (w : World) (state : State) → i.ran < i.most_steps → IsWhole (moved i w state)
 moved-whole i w state more = record { within = omega arith; end_is = refl }
 
-pub turns-whole : (s : Shared) (ts : List (ℕ × ℕ)) → ((k : ℕ) (i : Instance) → slice_get s.instances k ≡ Some i → IsWhole i) →
-    (k : ℕ) (i : Instance) → slice_get (turns ts s).instances k ≡ Some i → IsWhole i
-turns-whole s ts = turns-keep (λ (now : Shared). (k : ℕ) (i : Instance) → slice_get now.instances k ≡ Some i → IsWhole i)
-    (λ now j one c t there unended running made h k i found. ⊎_elim
-    (λ here.
-    let put : Instance = moved one (world_after one.world now.memory t.event) t.state in
-    let is : put ≡ i = same_Some put i (sym (slice_get-set_same now.instances j put (slice_get_within now.instances j one there)) ∙ rw here at found) in
-    subst IsWhole is (moved-whole one (world_after one.world now.memory t.event) t.state (unended-runs one (h j one there) unended one.state refl).2))
-    (λ elsewhere. h k i (sym (slice_get-set_other now.instances j k (moved one (world_after one.world now.memory t.event) t.state) elsewhere) ∙ found))
-    (cases_eq k j))
+pub turns-whole : (s : Shared) (ts : List (ℕ × ℕ)) → EachInstance IsWhole s → EachInstance IsWhole (turns ts s)
+turns-whole s ts = turns-keep (EachInstance IsWhole)
+    (λ now j one c t there unended running made h. each-step (λ k i. IsWhole i) now j one t there
+    (moved-whole one (world_after one.world now.memory t.event) t.state (unended-runs one (h j one there) unended one.state refl).2)
+    (λ k i elsewhere found. h k i found))
     ts s
 
 -- ---- an instance with a typed configuration goes on
@@ -181,11 +176,18 @@ steps_of-some (suc q) i m whole typed octets none given =
 pub limits-turns : (s : Shared) (ts : List (ℕ × ℕ)) (k : ℕ) (i later : Instance) → slice_get s.instances k ≡ Some i →
     slice_get (turns ts s).instances k ≡ Some later → later.most_steps ≡ i.most_steps
 limits-turns s ts k i later found = turns-keep (λ (now : Shared). (x : Instance) → slice_get now.instances k ≡ Some x → x.most_steps ≡ i.most_steps)
-    (λ now j one c t there unended running made h x found_x. ⊎_elim
-    (λ here.
-    let put : Instance = moved one (world_after one.world now.memory t.event) t.state in
-    let is : put ≡ x = same_Some put x (sym (slice_get-set_same now.instances j put (slice_get_within now.instances j one there)) ∙ rw here at found_x) in
-    subst (λ (y : Instance). y.most_steps ≡ i.most_steps) is (h one (rw here there)))
-    (λ elsewhere. h x (sym (slice_get-set_other now.instances j k (moved one (world_after one.world now.memory t.event) t.state) elsewhere) ∙ found_x))
-    (cases_eq k j))
+    (λ now j one c t there unended running made h x found_x. each-step (λ l y. l ≡ k → y.most_steps ≡ i.most_steps) now j one t there
+    (λ is. h one (rw (← is) there))
+    (λ l y elsewhere found is. h y (rw (← is) found)) k x found_x refl)
     ts s (λ x found_x. ap (λ (y : Instance). y.most_steps) (same_Some x i (sym found_x ∙ found))) later
+
+-- and what it does is typed
+pub turns-typed : (s : Shared) (ts : List (ℕ × ℕ)) → AreOctets s.memory → EachInstance (λ i. IsTypedState i.state) s →
+    AreOctets (turns ts s).memory × EachInstance (λ i. IsTypedState i.state) (turns ts s)
+turns-typed s ts octets typed = turns-keep (λ (now : Shared). AreOctets now.memory × EachInstance (λ i. IsTypedState i.state) now)
+    (λ now j one c t there unended running made h.
+    let here : IsTyped c = rw running at (h.1 j one there) in (
+      octets_stay c now.memory t h.0 made,
+      each-step (λ k i. IsTypedState i.state) now j one t there (preservation c now.memory t here h.0 made) (λ k i elsewhere found. h.1 k i found),
+    ))
+    ts s (octets, typed)

@@ -94,6 +94,15 @@ abbrev pub turns : List (ℕ × ℕ) → Shared → Shared
 turns [] s = s
 turns (t ∷ ts) s = turns ts (turn s t)
 
+-- P holds of each instance
+abbrev pub EachInstance : (Instance → Type 0) → Shared → Type 0
+EachInstance P s = (k : ℕ) (i : Instance) → slice_get s.instances k ≡ Some i → P i
+
+-- R holds between each instance and what it has become
+abbrev pub EachAfter : (Instance → Instance → Type 0) → (before after : Shared) → Type 0
+EachAfter R before after = (k : ℕ) (i later : Instance) → slice_get before.instances k ≡ Some i →
+    slice_get after.instances k ≡ Some later → R i later
+
 -- An instance's count and its end go with where it is: it ran at most what it may, and its end is the one at its state.
 pub record IsWhole (i : Instance) : Type 0 where
   pub within : i.ran ≤ i.most_steps
@@ -120,8 +129,7 @@ may_ask (i ∷ instances) = (i.world.limit - i.world.held) + may_ask instances
 -- and the memory has room for all that the instances may still ask for.
 pub record AreSeparate (s : Shared) : Type 0 where
   pub octets : AreOctets s.memory
-  pub inside : (k : ℕ) (i : Instance) → slice_get s.instances k ≡ Some i →
-      AllByRecursion (LiesWithin (length s.memory)) (i.world.mapped ++ i.world.own)
+  pub inside : EachInstance (λ i. AllByRecursion (LiesWithin (length s.memory)) (i.world.mapped ++ i.world.own)) s
   pub own_apart : (j k : ℕ) (one other : Instance) → j ≢ k → slice_get s.instances j ≡ Some one → slice_get s.instances k ≡ Some other →
       AllApart one.world.own other.world.own
   pub columns_apart : (j k : ℕ) (one other : Instance) → slice_get s.instances j ≡ Some one → slice_get s.instances k ≡ Some other →
@@ -140,7 +148,7 @@ StaysFine a = (k : ℕ) (b : Moment) (c : Config) (before : List ℕ) (event : E
 -- instances that lie apart, and of which each does only what it may
 pub record AreSafe (s : Shared) : Type 0 where
   pub separate : AreSeparate s
-  pub fine : (k : ℕ) (i : Instance) → slice_get s.instances k ≡ Some i → StaysFine (moment_of i s.memory)
+  pub fine : EachInstance (λ i. StaysFine (moment_of i s.memory)) s
 
 -- An open run of so many steps leads from one moment to another, but for what others make of the memory after the last.
 pub record LeadsTo (steps : ℕ) (a b : Moment) : Type 0 where

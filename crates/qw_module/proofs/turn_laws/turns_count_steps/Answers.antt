@@ -1,4 +1,4 @@
-use Rattle.qw_module.proofs.TurnSteps.{steps_of-ended, steps_of-at_most, steps_of-all, steps_of-some, turns-whole}
+use Rattle.qw_module.proofs.TurnSteps.{steps_of-ended, steps_of-at_most, steps_of-all, steps_of-some}
 use Rattle.qw_module.proofs.turn_laws.turns_count_steps.Goals as goal
 
 pub returns-clause-at_most : goal.returns-clause-at_most
@@ -12,6 +12,3 @@ returns-clause-all c = steps_of-all
 
 pub returns-clause-some : goal.returns-clause-some
 returns-clause-some c = steps_of-some
-
-pub returns-clause-whole : goal.returns-clause-whole
-returns-clause-whole c = turns-whole
