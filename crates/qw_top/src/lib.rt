@@ -2,3 +2,4 @@
 #![tactic(auto)]
 
 pub mod meaning;
+pub mod token;
