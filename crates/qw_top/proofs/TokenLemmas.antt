@@ -430,3 +430,52 @@ IsAfter-symbol (b ∷ c ∷ bs) e =
         ]
       ]
     ]
+
+-- ---- there is one token at the front of a text
+
+abbrev after_kind_of : Kind → List ℕ → Option (List ℕ)
+after_kind_of Word text = Some (after_run is_word_octet text)
+after_kind_of DelimitedIdentifier text = after_quote 34 (drop 1 text)
+after_kind_of CharacterString text = after_quote 39 (drop 1 text)
+after_kind_of Number text = Some (after_run is_word_octet_or_point text)
+after_kind_of Symbol text = after_symbol text
+
+word_passes : (octets : List ℕ) → IsWord octets → AllByRecursion (λ b. is_word_octet b ≡ true) octets
+word_passes [] w = absurd w
+word_passes (b ∷ bs) w = (rw w.0 refl, w.1)
+
+behind_opening : (quote : ℕ) (octets value rest : List ℕ) → octets ≡ quoted quote value → drop 1 (octets ++ rest) ≡ doubled quote value ++ (quote ∷ rest)
+behind_opening quote octets value rest form = rw form (append_assoc (doubled quote value) (quote ∷ []) rest)
+
+after_symbol_of : (octets rest : List ℕ) → IsSymbol octets → begins_with (symbol_goes_on octets) rest ≡ false → after_symbol (octets ++ rest) ≡ Some rest
+after_symbol_of [] rest s ends = absurd s
+after_symbol_of (b ∷ []) [] s ends = rw s refl
+after_symbol_of (b ∷ []) (c ∷ rest) s ends =
+    let parts = or_parts (is_double_symbol b c || ((eqb b 46) && is_ascii_digit c)) ((eqb b 45) && (eqb c 45)) ends in
+    let two = or_parts (is_double_symbol b c) ((eqb b 46) && is_ascii_digit c) parts.0 in
+    rw (two.0, parts.1, s) refl
+after_symbol_of (b ∷ c ∷ []) rest s ends = rw s refl
+after_symbol_of (b ∷ c ∷ d ∷ bs) rest s ends = absurd s
+
+after_kind_is : (kind : Kind) (octets rest : List ℕ) → HasForm kind octets → begins_with (goes_on kind octets) rest ≡ false → after_kind_of kind (octets ++ rest) ≡ Some rest
+after_kind_is Word octets rest form ends = ap (λ x. Some x) (after_run_of is_word_octet octets rest (word_passes octets form) ends)
+after_kind_is DelimitedIdentifier octets rest form ends = ap (after_quote 34) (behind_opening 34 octets form.0 rest form.2) ∙ after_quote_of 34 form.0 rest ends
+after_kind_is CharacterString octets rest form ends = ap (after_quote 39) (behind_opening 39 octets form.0 rest form.1) ∙ after_quote_of 39 form.0 rest ends
+after_kind_is Number octets rest form ends = ap (λ x. Some x) (number_is_run octets rest form ends)
+after_kind_is Symbol octets rest form ends = after_symbol_of octets rest form ends
+
+begins_after : (text : List ℕ) (t : Lexeme) (rest : List ℕ) → Begins text t rest → after_kind_of (kind_at text) text ≡ Some rest
+begins_after text t rest b =
+    ap (λ k. after_kind_of k text) (begins_kind text t rest b)
+    ∙ ap (after_kind_of t.kind) b.parts ∙ after_kind_is t.kind t.octets rest b.form b.ends
+
+lexeme_is : (t u : Lexeme) → t.kind ≡ u.kind → t.octets ≡ u.octets → t ≡ u
+lexeme_is t u k o = λ i. record { kind = k i; octets = o i }
+
+pub Begins-unique : (text : List ℕ) (t u : Lexeme) (r s : List ℕ) → Begins text t r → Begins text u s → (t ≡ u) × (r ≡ s)
+Begins-unique text t u r s b c =
+    let both : Some r ≡ Some s = sym (begins_after text t r b) ∙ begins_after text u s c in
+    let rests : r ≡ s = cc in
+    let cut : text ≡ u.octets ++ r = rw rests c.parts in
+    let octets = sym (front_of text t.octets r b.parts) ∙ front_of text u.octets r cut in
+    (lexeme_is t u (sym (begins_kind text t r b) ∙ begins_kind text u s c) octets, rests)
