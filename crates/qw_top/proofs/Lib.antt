@@ -1,2 +1,4 @@
 pub mod TokenLemmas
 pub mod TokenRun
+pub mod ParseLemmas
+pub mod GrammarLemmas

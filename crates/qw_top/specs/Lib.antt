@@ -1,2 +1,5 @@
 pub mod Token
 pub mod Scan
+pub mod Grammar
+pub mod Parse
+pub mod Reading

@@ -2,4 +2,5 @@
 #![tactic(auto)]
 
 pub mod meaning;
+pub mod parse;
 pub mod token;
