@@ -15,7 +15,7 @@ use Rattle.qw_top.specs.Token.{Lexeme}
 use Rattle.qw_top.specs.Grammar.{folded, reserved, IsReserved, Place, key_word, regular, symbol, unsigned, Fills, create_table, select_above}
 use Rattle.qw_top.specs.Reading.{◌>>=◌, is_word, is_reserved, key_word_at, symbol_at, regular_at, literal_of, literal_at, is_end, create_table_of, select_above_of}
 
-bind_some : {A B : Type 0} (r : Option A) (f : A → Option B) (y : B) → (r >>= f) ≡ Some y → (x : A) × (r ≡ Some x) × (f x ≡ Some y)
+pub bind_some : {A B : Type 0} (r : Option A) (f : A → Option B) (y : B) → (r >>= f) ≡ Some y → (x : A) × (r ≡ Some x) × (f x ≡ Some y)
 bind_some (Some x) f y e = (x, refl, e)
 bind_some None f y e = absurd cc
 
@@ -99,7 +99,7 @@ unfolding regular_at
 regular_again t rest name h = rw (h.0, h.1, not_reserved name h.2) refl
 
 -- z is the literal n
-abbrev IsLiteral : ℤ → ℕ → Type 0
+abbrev pub IsLiteral : ℤ → ℕ → Type 0
 IsLiteral z n = (z ≡ pos n) × (n < 10 ^ 18)
 
 literal_takes : (ts rest : List Lexeme) (z : ℤ) → literal_at ts ≡ Some (z, rest) → (n : ℕ) × TakesOne (Fills (unsigned n)) ts rest × IsLiteral z n
@@ -114,8 +114,7 @@ literal_takes (t ∷ ts) rest z e =
     let digits = and_parts (ltb 0 (length octets)) (list_all is_ascii_digit octets) tests.0 in
     let both : (a.0, ts) ≡ (z, rest) = (let got : Some (a.0, ts) ≡ Some (z, rest) = a.2 in cc) in
     let number : a.0 ≡ z = ap (λ (x : ℤ × List Lexeme). x.0) both in
-    let left : ts ≡ rest = ap (λ (x : ℤ × List Lexeme). x.1) both in
-    (
+    let left : ts ≡ rest = ap (λ (x : ℤ × List Lexeme). x.1) both in (
       n,
       record {
         token = t;
@@ -159,7 +158,7 @@ end_again places ts (inr e) h = one_end ts (subst (λ x. AllZip Fills x ts) e h)
 first_place : (p : Place) (ps : List Place) (ts rest : List Lexeme) → TakesOne (Fills p) ts rest → AllZip Fills ps rest → AllZip Fills (p ∷ ps) ts
 first_place p ps ts rest one more = rw one.parts (one.fills, more)
 
-split_place : (p : Place) (ps : List Place) (ts : List Lexeme) → AllZip Fills (p ∷ ps) ts → (rest : List Lexeme) × TakesOne (Fills p) ts rest × AllZip Fills ps rest
+pub split_place : (p : Place) (ps : List Place) (ts : List Lexeme) → AllZip Fills (p ∷ ps) ts → (rest : List Lexeme) × TakesOne (Fills p) ts rest × AllZip Fills ps rest
 split_place p ps [] h = absurd h
 split_place p ps (t ∷ ts) h = (ts, record { token = t; parts = refl; fills = h.0 }, h.1)
 
@@ -227,15 +226,15 @@ create_table_takes ts names e =
     let last = end_takes j.0 k.0 in
     let form = create_table c.0.0 f.0.0 in
     let all : AllZip Fills (form ++ last.0) ts =
-      first_place (key_word (codes "CREATE")) (drop 1 (form ++ last.0)) ts a.0 (key_word_takes (codes "CREATE") ts a.0 a.1)
-      (first_place (key_word (codes "TABLE")) (drop 2 (form ++ last.0)) a.0 b.0 (key_word_takes (codes "TABLE") a.0 b.0 b.1)
-      (first_place (regular c.0.0) (drop 3 (form ++ last.0)) b.0 c.0.1 (regular_takes b.0 c.0.1 c.0.0 c.1)
-      (first_place (symbol (codes "(")) (drop 4 (form ++ last.0)) c.0.1 d.0 (symbol_takes (codes "(") c.0.1 d.0 d.1)
-      (first_place (regular f.0.0) (drop 5 (form ++ last.0)) d.0 f.0.1 (regular_takes d.0 f.0.1 f.0.0 f.1)
-      (first_place (key_word (codes "INTEGER")) (drop 6 (form ++ last.0)) f.0.1 g.0 (key_word_takes (codes "INTEGER") f.0.1 g.0 g.1)
-      (first_place (key_word (codes "NOT")) (drop 7 (form ++ last.0)) g.0 h.0 (key_word_takes (codes "NOT") g.0 h.0 h.1)
-      (first_place (key_word (codes "NULL")) (drop 8 (form ++ last.0)) h.0 i.0 (key_word_takes (codes "NULL") h.0 i.0 i.1)
-      (first_place (symbol (codes ")")) last.0 i.0 j.0 (symbol_takes (codes ")") i.0 j.0 j.1) last.2))))))))
+    first_place (key_word (codes "CREATE")) (drop 1 (form ++ last.0)) ts a.0 (key_word_takes (codes "CREATE") ts a.0 a.1)
+    (first_place (key_word (codes "TABLE")) (drop 2 (form ++ last.0)) a.0 b.0 (key_word_takes (codes "TABLE") a.0 b.0 b.1)
+    (first_place (regular c.0.0) (drop 3 (form ++ last.0)) b.0 c.0.1 (regular_takes b.0 c.0.1 c.0.0 c.1)
+    (first_place (symbol (codes "(")) (drop 4 (form ++ last.0)) c.0.1 d.0 (symbol_takes (codes "(") c.0.1 d.0 d.1)
+    (first_place (regular f.0.0) (drop 5 (form ++ last.0)) d.0 f.0.1 (regular_takes d.0 f.0.1 f.0.0 f.1)
+    (first_place (key_word (codes "INTEGER")) (drop 6 (form ++ last.0)) f.0.1 g.0 (key_word_takes (codes "INTEGER") f.0.1 g.0 g.1)
+    (first_place (key_word (codes "NOT")) (drop 7 (form ++ last.0)) g.0 h.0 (key_word_takes (codes "NOT") g.0 h.0 h.1)
+    (first_place (key_word (codes "NULL")) (drop 8 (form ++ last.0)) h.0 i.0 (key_word_takes (codes "NULL") h.0 i.0 i.1)
+    (first_place (symbol (codes ")")) last.0 i.0 j.0 (symbol_takes (codes ")") i.0 j.0 j.1) last.2))))))))
     in
     subst (λ (x : List ℕ × List ℕ). FollowsOne (create_table x.0 x.1) ts) k.1 (record { places = last.0; end = last.1; fills = all })
 
@@ -316,14 +315,14 @@ select_above_takes ts parts e =
     let form = select_above b.0.0 d.0.0 bound.0 in
     let tested = regular_takes f.0 g.0.1 b.0.0 (g.1 ∙ ap (λ (x : List ℕ). Some (x, g.0.1)) same) in
     let all : AllZip Fills (form ++ last.0) ts =
-      first_place (key_word (codes "SELECT")) (drop 1 (form ++ last.0)) ts a.0 (key_word_takes (codes "SELECT") ts a.0 a.1)
-      (first_place (regular b.0.0) (drop 2 (form ++ last.0)) a.0 b.0.1 (regular_takes a.0 b.0.1 b.0.0 b.1)
-      (first_place (key_word (codes "FROM")) (drop 3 (form ++ last.0)) b.0.1 c.0 (key_word_takes (codes "FROM") b.0.1 c.0 c.1)
-      (first_place (regular d.0.0) (drop 4 (form ++ last.0)) c.0 d.0.1 (regular_takes c.0 d.0.1 d.0.0 d.1)
-      (first_place (key_word (codes "WHERE")) (drop 5 (form ++ last.0)) d.0.1 f.0 (key_word_takes (codes "WHERE") d.0.1 f.0 f.1)
-      (first_place (regular b.0.0) (drop 6 (form ++ last.0)) f.0 g.0.1 tested
-      (first_place (symbol (codes ">")) (drop 7 (form ++ last.0)) g.0.1 h.0 (symbol_takes (codes ">") g.0.1 h.0 h.1)
-      (first_place (unsigned bound.0) last.0 h.0 i.0.1 bound.1 last.2)))))))
+    first_place (key_word (codes "SELECT")) (drop 1 (form ++ last.0)) ts a.0 (key_word_takes (codes "SELECT") ts a.0 a.1)
+    (first_place (regular b.0.0) (drop 2 (form ++ last.0)) a.0 b.0.1 (regular_takes a.0 b.0.1 b.0.0 b.1)
+    (first_place (key_word (codes "FROM")) (drop 3 (form ++ last.0)) b.0.1 c.0 (key_word_takes (codes "FROM") b.0.1 c.0 c.1)
+    (first_place (regular d.0.0) (drop 4 (form ++ last.0)) c.0 d.0.1 (regular_takes c.0 d.0.1 d.0.0 d.1)
+    (first_place (key_word (codes "WHERE")) (drop 5 (form ++ last.0)) d.0.1 f.0 (key_word_takes (codes "WHERE") d.0.1 f.0 f.1)
+    (first_place (regular b.0.0) (drop 6 (form ++ last.0)) f.0 g.0.1 tested
+    (first_place (symbol (codes ">")) (drop 7 (form ++ last.0)) g.0.1 h.0 (symbol_takes (codes ">") g.0.1 h.0 h.1)
+    (first_place (unsigned bound.0) last.0 h.0 i.0.1 bound.1 last.2)))))))
     in
     subst (λ (x : List ℕ × List ℕ × ℤ). FollowsSelect x ts) k.1
     (record { bound = bound.0; is_bound = bound.2; follows = record { places = last.0; end = last.1; fills = all } })

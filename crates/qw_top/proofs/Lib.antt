@@ -2,3 +2,4 @@ pub mod TokenLemmas
 pub mod TokenRun
 pub mod ParseLemmas
 pub mod GrammarLemmas
+pub mod ReadLemmas

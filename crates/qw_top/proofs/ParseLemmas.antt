@@ -30,8 +30,7 @@ lowercase-folded (b ∷ bs) = rw (lowercase-uppercase b, lowercase-folded bs) re
 
 pub same_name : (name other : List ℕ) (r : Bool) → (IsTrue r ↔ (map to_ascii_lowercase name ≡ map to_ascii_lowercase other)) → r ≡ bytes_eq (folded name) (folded other)
 same_name name other r h =
-    same_from_decides r (bytes_eq (folded name) (folded other))
-    (
+    same_from_decides r (bytes_eq (folded name) (folded other)) (
       λ e. sym (folded-lowercase name) ∙ ap folded (h.0 e) ∙ folded-lowercase other,
       λ e. h.1 (sym (lowercase-folded name) ∙ ap (map to_ascii_lowercase) e ∙ lowercase-folded other),
     )

@@ -22,12 +22,16 @@ parse_fault_of token_faults.NoMemory = NoMemory
 abbrev pub integer_column : List ℕ → Column
 integer_column name = record { name = name; ty = Integer; not_null = true }
 
+-- a schema of one table of one such column
+abbrev pub one_table : List ℕ → List ℕ → List Table
+one_table table column = record { name = table; columns = integer_column column ∷ [] } ∷ []
+
 -- The text declares these tables: one table of one column (ISO/IEC 9075:1992, 11.3).
 pub record ReadsSchema (text : List ℕ) (tables : List Table) : Type 0 where
   pub table : List ℕ
   pub column : List ℕ
   pub statement : IsStatement (create_table table column) text
-  pub declares : tables ≡ record { name = table; columns = integer_column column ∷ [] } ∷ []
+  pub declares : tables ≡ one_table table column
 
 -- the table of this name
 abbrev pub table_of : List Table → List ℕ → Option Table

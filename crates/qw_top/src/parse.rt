@@ -1,13 +1,13 @@
 //! The schema and the query that the two texts say.
 
-ghost use Rattle.std.specs.Prelude.{◌≡◌, ℕ, ◌<◌, ◌^◌, List, IfOk, IsErrOf, map, option_map, true};
+ghost use Rattle.std.specs.Prelude.{◌≡◌, ℕ, ◌<◌, ◌^◌, List, IfOk, IsErrOf, option_map, true};
 ghost use Rattle.std.specs.Str.{bytes_eq, IsAscii};
 ghost use Rattle.std.specs.List.{list_any, list_all};
 ghost use Rattle.std.specs.Char.{is_ascii_digit};
 ghost use Rattle.qw_types.specs.declared.schema.Table.{Table};
 ghost use Rattle.qw_top.specs.declared.meaning.Query.{Query};
 ghost use Rattle.qw_top.specs.Grammar.{folded};
-ghost use Rattle.qw_top.specs.Parse.{ReadsSchema, ReadsQuery, parse_fault_of, table_of, place_of};
+ghost use Rattle.qw_top.specs.Parse.{ReadsSchema, ReadsQuery, parse_fault_of, one_table, table_of, place_of};
 ghost use Rattle.qw_top.specs.Reading.{is_reserved, key_word_at, symbol_at, regular_at, literal_of, literal_at, is_end, create_table_of, select_above_of, query_in};
 ghost use Rattle.qw_top.specs.Token.{lexemes};
 
@@ -38,12 +38,121 @@ impl From<TokenFault> for ParseFault {
     }
 }
 
+impl From<NoMemory> for ParseFault {
+    ghost use Rattle.qw_top.specs.declared.parse.ParseFault.TheVariants.{NoMemory};
+
+    ghost from_gives = { λ _ e. e ≡ NoMemory };
+
+    fn from(_e: NoMemory) -> ParseFault {
+        ParseFault::NoMemory
+    }
+}
+
+/// The schema that the text declares, with its names in upper case: one table of one column, INTEGER
+/// NOT NULL.
+///
+/// # Errors
+///
+/// `Refused` where the text declares none, and `NoMemory`.
+pub fn schema_of(alloc: Global, text: &[u8]) -> Result<Schema, ParseFault>
+    ensures read { IfOk result (λ schema. ReadsSchema text.now schema) }
+    ensures refused { IsErrOf result ParseFault.Refused → (tables : List Table) → ReadsSchema text.now tables → ⊥ }
+{
+    let tokens = token::tokens(alloc, text)?;
+    let Some((table, column)) = create_table(&tokens) else {
+        return Err(ParseFault::Refused);
+    };
+    Ok(one_table(alloc, table, column)?)
+}
+
+/// The query that the text is over the schema's tables.
+///
+/// # Errors
+///
+/// `Refused` where the text is none, and `NoMemory`.
+pub fn query_of(alloc: Global, schema: &Schema, text: &[u8]) -> Result<Query, ParseFault>
+    ensures read { IfOk result (λ query. ReadsQuery schema.now text.now query) }
+    ensures refused { IsErrOf result ParseFault.Refused → (query : Query) → ReadsQuery schema.now text.now query → ⊥ }
+{
+    let tokens = token::tokens(alloc, text)?;
+    query_in(schema, &tokens).ok_or(ParseFault::Refused)
+}
+
+/// A text declares one schema at most. So `schema_of` answers it, unless memory runs out.
+pub fn one_schema()
+    ensures { (text : List ℕ) (tables others : List Table) → ReadsSchema text tables → ReadsSchema text others → tables ≡ others }
+{}
+
+/// A text is one query over a schema at most. So `query_of` answers it, unless memory runs out.
+pub fn one_query()
+    ensures { (schema : List Table) (text : List ℕ) (query other : Query) → ReadsQuery schema text query → ReadsQuery schema text other → query ≡ other }
+{}
+
 /// The greatest literal.
 const MAX_LITERAL: i64 = 999_999_999_999_999_999;
 
 /// The words that are no regular identifiers (ISO/IEC 9075:1992, 5.2 "reserved word", as far as this language has them).
 const RESERVED: [&str; 60] = [
-    "ALL", "AND", "AS", "ASC", "AVG", "BETWEEN", "BY", "CASE", "COALESCE", "COUNT", "CREATE", "CROSS", "DATE", "DEC", "DECIMAL", "DESC", "DISTINCT", "ELSE", "END", "EXCEPT", "EXISTS", "EXTRACT", "FALSE", "FROM", "FULL", "GROUP", "HAVING", "IN", "INNER", "INT", "INTEGER", "INTERSECT", "INTERVAL", "IS", "JOIN", "LEFT", "LIKE", "MAX", "MIN", "NATURAL", "NOT", "NULL", "NULLIF", "NUMERIC", "ON", "OR", "ORDER", "OUTER", "RIGHT", "SELECT", "SUM", "TABLE", "THEN", "TRUE", "UNION", "UNKNOWN", "USING", "VARCHAR", "WHEN", "WHERE",
+    "ALL",
+    "AND",
+    "AS",
+    "ASC",
+    "AVG",
+    "BETWEEN",
+    "BY",
+    "CASE",
+    "COALESCE",
+    "COUNT",
+    "CREATE",
+    "CROSS",
+    "DATE",
+    "DEC",
+    "DECIMAL",
+    "DESC",
+    "DISTINCT",
+    "ELSE",
+    "END",
+    "EXCEPT",
+    "EXISTS",
+    "EXTRACT",
+    "FALSE",
+    "FROM",
+    "FULL",
+    "GROUP",
+    "HAVING",
+    "IN",
+    "INNER",
+    "INT",
+    "INTEGER",
+    "INTERSECT",
+    "INTERVAL",
+    "IS",
+    "JOIN",
+    "LEFT",
+    "LIKE",
+    "MAX",
+    "MIN",
+    "NATURAL",
+    "NOT",
+    "NULL",
+    "NULLIF",
+    "NUMERIC",
+    "ON",
+    "OR",
+    "ORDER",
+    "OUTER",
+    "RIGHT",
+    "SELECT",
+    "SUM",
+    "TABLE",
+    "THEN",
+    "TRUE",
+    "UNION",
+    "UNKNOWN",
+    "USING",
+    "VARCHAR",
+    "WHEN",
+    "WHERE",
 ];
 
 /// Whether the octets in upper case are the word.
@@ -245,4 +354,23 @@ fn folded_text(alloc: Global, name: &[u8]) -> Result<Text, NoMemory>
         text.push(char::from(octet.to_ascii_uppercase()))?;
     }
     Ok(Text::new(text))
+}
+
+/// A schema of one table of one column, under these names in upper case.
+fn one_table(alloc: Global, table: &[u8], column: &[u8]) -> Result<Schema, NoMemory>
+    requires table_ascii { IsAscii table.now }
+    requires column_ascii { IsAscii column.now }
+    ensures { IfOk result (λ schema. schema ≡ one_table (folded table.now) (folded column.now)) }
+{
+    let column = Column {
+        name: folded_text(alloc, column)?,
+        ty: Ty::Integer,
+        not_null: true,
+    };
+    let columns = Columns::new(vec![in alloc; column]?);
+    let table = Table {
+        name: folded_text(alloc, table)?,
+        columns,
+    };
+    Ok(Schema::new(vec![in alloc; table]?))
 }
