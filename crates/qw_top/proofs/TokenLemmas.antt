@@ -44,10 +44,10 @@ pub record Closes (quote : ℕ) (text rest : List ℕ) : Type 0 where
   pub parts : text ≡ doubled quote value ++ (quote ∷ rest)
   pub stops : begins_with (λ c. eqb c quote) rest ≡ false
 
-same_quote : (quote : ℕ) → eqb quote quote ≡ true
+pub same_quote : (quote : ℕ) → eqb quote quote ≡ true
 same_quote quote = eq-eqb quote quote refl
 
-skip_octet : (quote b : ℕ) (bs : List ℕ) → eqb b quote ≡ false → after_quote quote (b ∷ bs) ≡ after_quote quote bs
+pub skip_octet : (quote b : ℕ) (bs : List ℕ) → eqb b quote ≡ false → after_quote quote (b ∷ bs) ≡ after_quote quote bs
 skip_octet quote b [] e = rw e refl
 skip_octet quote b (c ∷ bs) e = rw e refl
 
@@ -108,7 +108,7 @@ from_any P (c ∷ bs) b e all =
       | inr h ↦ from_any P bs b h all.1
     ]
 
-symbol_is_plain : (b : ℕ) → is_single_symbol b ≡ true → IsPlain b × (is_ascii_digit b ≡ false)
+pub symbol_is_plain : (b : ℕ) → is_single_symbol b ≡ true → IsPlain b × (is_ascii_digit b ≡ false)
 symbol_is_plain b e =
     from_any (λ c. IsPlain c × (is_ascii_digit c ≡ false)) (codes "(),.;*+-/=<>") b e (
       ((refl, refl, refl), refl),
@@ -136,17 +136,17 @@ symbol_is_plain b e =
       ),
     )
 
-double_is_single : (b c : ℕ) → is_double_symbol b c ≡ true → is_single_symbol b ≡ true
+pub double_is_single : (b c : ℕ) → is_double_symbol b c ≡ true → is_single_symbol b ≡ true
 double_is_single b c e =
     elim (or_cases ((eqb b 60) && ((eqb c 61) || (eqb c 62))) ((eqb b 62) && (eqb c 61)) e) [
       | inl h ↦ rw (eqb-true b 60 (and_parts (eqb b 60) ((eqb c 61) || (eqb c 62)) h).0) refl
       | inr h ↦ rw (eqb-true b 62 (and_parts (eqb b 62) (eqb c 61) h).0) refl
     ]
 
-plain_kind : (b : ℕ) (bs : List ℕ) → IsPlain b → kind_at (b ∷ bs) ≡ cond (is_ascii_digit b || ((eqb b 46) && begins_with is_ascii_digit bs)) Number Symbol
+pub plain_kind : (b : ℕ) (bs : List ℕ) → IsPlain b → kind_at (b ∷ bs) ≡ cond (is_ascii_digit b || ((eqb b 46) && begins_with is_ascii_digit bs)) Number Symbol
 plain_kind b bs p = rw (p.0, p.1, p.2) refl
 
-number_kind : (octets rest : List ℕ) → IsNumber octets → kind_at (octets ++ rest) ≡ Number
+pub number_kind : (octets rest : List ℕ) → IsNumber octets → kind_at (octets ++ rest) ≡ Number
 number_kind [] rest n = absurd (omega (arith, n.some_digit))
 number_kind (b ∷ []) rest n =
     let each = recursion_from_All (λ c. IsTrue (is_number_octet c)) (b ∷ []) n.digits_and_point in
@@ -186,7 +186,7 @@ symbol_kind (b ∷ c ∷ []) rest s ends =
     ]
 symbol_kind (b ∷ c ∷ d ∷ bs) rest s ends = absurd s
 
-word_kind : (octets rest : List ℕ) → IsWord octets → kind_at (octets ++ rest) ≡ Word
+pub word_kind : (octets rest : List ℕ) → IsWord octets → kind_at (octets ++ rest) ≡ Word
 word_kind [] rest w = absurd w
 word_kind (b ∷ bs) rest w = rw w.0 refl
 
@@ -332,14 +332,14 @@ front_of text front rest parts = rw parts (front_is front rest)
 pub after_run-shorter : (test : ℕ → Bool) (text : List ℕ) → length (after_run test text) ≤ length text
 after_run-shorter test text = let run = after_run_is test text in omega (arith, ap length run.parts, length-append run.front (after_run test text))
 
-number_octet_is_word : (b : ℕ) → is_number_octet b ≡ true → is_word_octet_or_point b ≡ true
+pub number_octet_is_word : (b : ℕ) → is_number_octet b ≡ true → is_word_octet_or_point b ≡ true
 number_octet_is_word b e =
     elim (or_cases (is_ascii_digit b) (eqb b 46) e) [
       | inl h ↦ or_left (is_word_octet b) (eqb b 46) (or_left (is_ascii_alphabetic b || is_ascii_digit b) (eqb b 95) (or_right (is_ascii_alphabetic b) (is_ascii_digit b) h))
       | inr h ↦ or_right (is_word_octet b) (eqb b 46) h
     ]
 
-all_weaker : (P Q : ℕ → Type 0) → ((b : ℕ) → P b → Q b) → (bs : List ℕ) → AllByRecursion P bs → AllByRecursion Q bs
+pub all_weaker : (P Q : ℕ → Type 0) → ((b : ℕ) → P b → Q b) → (bs : List ℕ) → AllByRecursion P bs → AllByRecursion Q bs
 all_weaker P Q h [] all = tt
 all_weaker P Q h (b ∷ bs) all = (h b all.0, all_weaker P Q h bs all.1)
 
@@ -433,18 +433,18 @@ IsAfter-symbol (b ∷ c ∷ bs) e =
 
 -- ---- there is one token at the front of a text
 
-abbrev after_kind_of : Kind → List ℕ → Option (List ℕ)
+abbrev pub after_kind_of : Kind → List ℕ → Option (List ℕ)
 after_kind_of Word text = Some (after_run is_word_octet text)
 after_kind_of DelimitedIdentifier text = after_quote 34 (drop 1 text)
 after_kind_of CharacterString text = after_quote 39 (drop 1 text)
 after_kind_of Number text = Some (after_run is_word_octet_or_point text)
 after_kind_of Symbol text = after_symbol text
 
-word_passes : (octets : List ℕ) → IsWord octets → AllByRecursion (λ b. is_word_octet b ≡ true) octets
+pub word_passes : (octets : List ℕ) → IsWord octets → AllByRecursion (λ b. is_word_octet b ≡ true) octets
 word_passes [] w = absurd w
 word_passes (b ∷ bs) w = (rw w.0 refl, w.1)
 
-behind_opening : (quote : ℕ) (octets value rest : List ℕ) → octets ≡ quoted quote value → drop 1 (octets ++ rest) ≡ doubled quote value ++ (quote ∷ rest)
+pub behind_opening : (quote : ℕ) (octets value rest : List ℕ) → octets ≡ quoted quote value → drop 1 (octets ++ rest) ≡ doubled quote value ++ (quote ∷ rest)
 behind_opening quote octets value rest form = rw form (append_assoc (doubled quote value) (quote ∷ []) rest)
 
 after_symbol_of : (octets rest : List ℕ) → IsSymbol octets → begins_with (symbol_goes_on octets) rest ≡ false → after_symbol (octets ++ rest) ≡ Some rest
@@ -457,14 +457,14 @@ after_symbol_of (b ∷ []) (c ∷ rest) s ends =
 after_symbol_of (b ∷ c ∷ []) rest s ends = rw s refl
 after_symbol_of (b ∷ c ∷ d ∷ bs) rest s ends = absurd s
 
-after_kind_is : (kind : Kind) (octets rest : List ℕ) → HasForm kind octets → begins_with (goes_on kind octets) rest ≡ false → after_kind_of kind (octets ++ rest) ≡ Some rest
+pub after_kind_is : (kind : Kind) (octets rest : List ℕ) → HasForm kind octets → begins_with (goes_on kind octets) rest ≡ false → after_kind_of kind (octets ++ rest) ≡ Some rest
 after_kind_is Word octets rest form ends = ap (λ x. Some x) (after_run_of is_word_octet octets rest (word_passes octets form) ends)
 after_kind_is DelimitedIdentifier octets rest form ends = ap (after_quote 34) (behind_opening 34 octets form.0 rest form.2) ∙ after_quote_of 34 form.0 rest ends
 after_kind_is CharacterString octets rest form ends = ap (after_quote 39) (behind_opening 39 octets form.0 rest form.1) ∙ after_quote_of 39 form.0 rest ends
 after_kind_is Number octets rest form ends = ap (λ x. Some x) (number_is_run octets rest form ends)
 after_kind_is Symbol octets rest form ends = after_symbol_of octets rest form ends
 
-begins_after : (text : List ℕ) (t : Lexeme) (rest : List ℕ) → Begins text t rest → after_kind_of (kind_at text) text ≡ Some rest
+pub begins_after : (text : List ℕ) (t : Lexeme) (rest : List ℕ) → Begins text t rest → after_kind_of (kind_at text) text ≡ Some rest
 begins_after text t rest b =
     ap (λ k. after_kind_of k text) (begins_kind text t rest b)
     ∙ ap (after_kind_of t.kind) b.parts ∙ after_kind_is t.kind t.octets rest b.form b.ends

@@ -34,7 +34,7 @@ HasRead-push text ts t rest after h b = record {
   shorter = omega (arith, h.shorter, after_run-shorter is_separator after, ap length b.parts, length-append t.octets after);
 }
 
-not_empty : (kind : Kind) (octets : List ℕ) → HasForm kind octets → 0 < length octets
+pub not_empty : (kind : Kind) (octets : List ℕ) → HasForm kind octets → 0 < length octets
 not_empty Word [] form = absurd form
 not_empty Word (b ∷ bs) form = omega arith
 not_empty DelimitedIdentifier octets form = rw form.2 (omega arith)
