@@ -150,3 +150,6 @@ fn one_table(alloc: Global, table: &[u8], column: &[u8]) -> Result<Schema, NoMem
     };
     Ok(Schema::new(vec![in alloc; table]?))
 }
+
+#[cfg(test)]
+mod tests;

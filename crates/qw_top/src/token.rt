@@ -77,3 +77,6 @@ pub fn one_reading()
 pub fn longest_token()
     ensures { (text : List ℕ) (t other : Lexeme) (rest more : List ℕ) → Begins text t rest → HasForm other.kind other.octets → text ≡ other.octets ++ more → length other.octets ≤ length t.octets }
 {}
+
+#[cfg(test)]
+mod tests;
