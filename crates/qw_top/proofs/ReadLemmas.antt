@@ -1,7 +1,7 @@
 -- What the two texts say, by what is read of their tokens.
-use Rattle.std.proofs.Common.{◌≡◌, ℕ, suc, Result, Err, ◌<◌, ◌^◌, Bool, true, false, cond, List, [], ◌∷◌, ◌++◌, length, drop, get_or, Option, Some, None, refl, sym, ap, subst, ◌∙◌, append_assoc, arith, inl, inr}
-use Rattle.std.specs.Prelude.{◌⊎◌, ℤ, pos, codes, IsErrOf, IfOk}
-use Rattle.std.specs.List.{AllByRecursion, AllZip}
+use Rattle.std.proofs.Common.{◌≡◌, ℕ, suc, Err, ◌<◌, true, List, [], ◌∷◌, ◌++◌, drop, Option, Some, None, refl, sym, ap, subst, ◌∙◌, arith}
+use Rattle.std.specs.Prelude.{ℤ, pos, codes, IsErrOf, IfOk}
+use Rattle.std.specs.List.{AllByRecursion}
 use Rattle.std.specs.Option.{ok_or}
 use Rattle.std.specs.Char.{is_ascii_alphabetic, to_ascii_uppercase}
 use Rattle.std.specs.Str.{IsAscii, IsUtf8}
@@ -9,19 +9,16 @@ use Rattle.std.proofs.lemmas.Bool.Decides.{nat_tests}
 use Rattle.std.proofs.lemmas.Str.Ascii.{IsAscii-nil, IsAscii-cons, IsAscii-map, uppercase_ascii}
 use Rattle.qw_types.specs.declared.schema.Table.{Table}
 use Rattle.qw_top.specs.declared.meaning.Query.{Query}
-use Rattle.qw_top.specs.declared.parse.ParseFault.{ParseFault}
-use Rattle.qw_top.specs.declared.parse.ParseFault.TheVariants.{Refused, NoMemory}
-use Rattle.qw_top.specs.declared.token.Kind.{Kind}
-use Rattle.qw_top.specs.declared.token.Kind.TheVariants.{Word, DelimitedIdentifier, CharacterString, Number, Symbol}
+use Rattle.qw_top.specs.declared.parse.ParseFault.TheVariants.{Refused}
 use Rattle.qw_top.specs.declared.token.TokenFault.{TokenFault}
 use Rattle.qw_top.specs.declared.token.TokenFault.TheVariants.{NotUtf8, NotToken}
 use Rattle.qw_top.specs.declared.token.TokenFault.TheVariants as token_faults
-use Rattle.qw_top.specs.Token.{Lexeme, is_separator, is_word_octet, after_run, after_mark, IsWord, HasForm, Reads, AreTokens, StopsAt}
-use Rattle.qw_top.specs.Grammar.{folded, Place, key_word, regular, symbol, unsigned, Fills, create_table, select_above, IsStatement}
+use Rattle.qw_top.specs.Token.{Lexeme, is_word_octet, after_mark, IsWord, HasForm, Reads, AreTokens, StopsAt}
+use Rattle.qw_top.specs.Grammar.{folded, key_word, regular, symbol, Fills, create_table, select_above}
 use Rattle.qw_top.specs.Reading.{◌>>=◌, create_table_of, select_above_of, query_in}
 use Rattle.qw_top.specs.Parse.{parse_fault_of, one_table, ReadsSchema, ReadsQuery, table_of, place_of}
 use Rattle.qw_top.proofs.TokenRun.{AreTokens-unique, AreTokens-no_stop}
-use Rattle.qw_top.proofs.GrammarLemmas.{bind_some, TakesOne, split_place, FollowsOne, follows_one, one_follows, create_table_takes, create_table_again, select_above_takes, select_above_again}
+use Rattle.qw_top.proofs.GrammarLemmas.{bind_some, TakesOne, split_place, follows_one, one_follows, create_table_takes, create_table_again, select_above_takes, select_above_again}
 
 -- ---- the schema
 

@@ -1,16 +1,15 @@
 -- No token's form that stands where a token begins is longer than the token.
-use Rattle.std.proofs.Common.{◌≡◌, ℕ, ◌+◌, ◌<◌, ◌≤◌, Bool, true, false, cond, eqb, ◌||◌, ◌&&◌, List, [], ◌∷◌, ◌++◌, length, drop, Option, Some, None, refl, sym, ap, subst, ◌∙◌, append_assoc, arith, inl, inr}
+use Rattle.std.proofs.Common.{◌≡◌, ℕ, ◌<◌, ◌≤◌, Bool, true, eqb, ◌&&◌, List, [], ◌∷◌, ◌++◌, length, Some, None, refl, sym, ap, subst, ◌∙◌, arith, inl, inr}
 use Rattle.std.specs.Prelude.{IsTrue, ◌⊎◌}
 use Rattle.std.specs.List.{AllByRecursion}
-use Rattle.std.specs.Char.{is_ascii_alphabetic, is_ascii_digit}
-use Rattle.std.proofs.lemmas.Bool.{cases_Bool, cases_eq, ne_eqb, eqb-true, eqb-false, or_parts, and_parts, false≢true}
+use Rattle.std.proofs.lemmas.Bool.{cases_Bool, cases_eq, ne_eqb, false≢true}
 use Rattle.std.proofs.lemmas.List.{length-append}
 use Rattle.std.proofs.lemmas.List.Elements.{recursion_from_All}
 use Rattle.qw_top.specs.declared.token.Kind.{Kind}
 use Rattle.qw_top.specs.declared.token.Kind.TheVariants.{Word, DelimitedIdentifier, CharacterString, Number, Symbol}
-use Rattle.qw_top.specs.Token.{Lexeme, after_run, is_word_octet, doubled, quoted, is_number_octet, is_word_octet_or_point, IsNumber, is_single_symbol, is_double_symbol, IsSymbol, HasForm, symbol_goes_on, begins_with, Begins}
+use Rattle.qw_top.specs.Token.{Lexeme, after_run, is_word_octet, doubled, is_number_octet, is_word_octet_or_point, is_double_symbol, IsSymbol, HasForm, Begins}
 use Rattle.qw_top.specs.Scan.{kind_at, after_quote, after_symbol}
-use Rattle.qw_top.proofs.TokenLemmas.{after_run-shorter, skip_octet, same_quote, after_quote_is, symbol_is_plain, double_is_single, plain_kind, word_kind, number_kind, number_octet_is_word, all_weaker, word_passes, after_kind_of, begins_after, begins_kind, behind_opening}
+use Rattle.qw_top.proofs.TokenLemmas.{after_run-shorter, skip_octet, same_quote, after_quote_is, symbol_is_plain, double_is_single, plain_kind, word_kind, number_kind, number_octet_is_word, all_weaker, word_passes, after_kind_of, begins_after, behind_opening}
 use Rattle.qw_top.proofs.TokenRun.{not_empty}
 
 -- ---- what is left is no longer than what follows a shorter form

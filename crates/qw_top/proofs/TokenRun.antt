@@ -1,13 +1,12 @@
 -- Reading one token after another.
-use Rattle.std.proofs.Common.{◌≡◌, ℕ, ◌+◌, ◌-◌, ◌<◌, ◌≤◌, Bool, true, false, cond, eqb, List, [], ◌∷◌, ◌++◌, length, take, drop, refl, sym, ap, subst, ◌∙◌, append_assoc, arith, inl, inr}
-use Rattle.std.specs.Str.{IsUtf8, bytes_eq}
+use Rattle.std.proofs.Common.{◌≡◌, ℕ, ◌<◌, ◌≤◌, List, [], ◌∷◌, ◌++◌, length, take, refl, sym, ap, subst, ◌∙◌, arith, inl, inr}
+use Rattle.std.specs.Str.{bytes_eq}
 use Rattle.std.proofs.lemmas.Bool.{cases_Bool}
 use Rattle.std.proofs.lemmas.List.{length-append, length-drop}
 use Rattle.qw_top.specs.declared.token.Kind.{Kind}
 use Rattle.qw_top.specs.declared.token.Kind.TheVariants.{Word, DelimitedIdentifier, CharacterString, Number, Symbol}
-use Rattle.qw_top.specs.Token.{Lexeme, is_separator, after_run, after_mark, HasForm, IsWord, quoted, IsNumber, IsSymbol, Begins, Reads, AreTokens, StopsAt}
-use Rattle.qw_top.specs.Scan.{kind_at, IsAfter}
-use Rattle.qw_top.proofs.TokenLemmas.{after_run_is, after_run-shorter, Begins-unique}
+use Rattle.qw_top.specs.Token.{Lexeme, is_separator, after_run, after_mark, HasForm, Begins, Reads, AreTokens, StopsAt}
+use Rattle.qw_top.proofs.TokenLemmas.{after_run-shorter, Begins-unique}
 
 -- what the loop keeps: the tokens so far, and that the rest is behind them
 pub record HasRead (text : List ℕ) (ts : List Lexeme) (rest : List ℕ) : Type 0 where

@@ -1,9 +1,9 @@
 -- What the functions that read one token answer.
-use Rattle.std.specs.Prelude.{◌≡◌, ℕ, ◌==◌, Bool, false, ◌||◌, ◌&&◌, List, [], ◌∷◌, Option, Some, None, MatchOption, if◌then◌else◌}
+use Rattle.std.specs.Prelude.{ℕ, ◌==◌, ◌||◌, ◌&&◌, List, [], ◌∷◌, Option, Some, None, if◌then◌else◌}
 use Rattle.std.specs.Char.{is_ascii_alphabetic, is_ascii_digit}
 use Rattle.qw_top.specs.declared.token.Kind.{Kind}
 use Rattle.qw_top.specs.declared.token.Kind.TheVariants.{Word, DelimitedIdentifier, CharacterString, Number, Symbol}
-use Rattle.qw_top.specs.Token.{Lexeme, Begins, begins_with, is_single_symbol, is_double_symbol}
+use Rattle.qw_top.specs.Token.{Begins, begins_with, is_single_symbol, is_double_symbol}
 
 -- the only kind of token that can begin the text
 abbrev pub kind_at : List ℕ → Kind

@@ -1,5 +1,5 @@
-use Rattle.std.proofs.Common.{◌≡◌, length}
-use Rattle.qw_top.specs.Token.{lexemes, after_mark}
+use Rattle.std.proofs.Common.{length}
+use Rattle.qw_top.specs.Token.{lexemes}
 use Rattle.qw_top.proofs.TokenRun.{HasRead}
 use Rattle.qw_top.proofs.token.tokens.Given as goal
 

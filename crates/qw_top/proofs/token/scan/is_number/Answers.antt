@@ -1,4 +1,4 @@
-use Rattle.std.proofs.Common.{◌≡◌, ◌≤◌, eqb, arith, rules, lt-ltb}
+use Rattle.std.proofs.Common.{◌≡◌, eqb, arith, rules, lt-ltb}
 use Rattle.std.specs.Prelude.{All, IsTrue, count_by}
 use Rattle.std.specs.Char.{is_ascii_digit}
 use Rattle.std.proofs.lemmas.Bool.{ltb-true}
