@@ -7,7 +7,7 @@ use Rattle.std.specs.Str.Parse.{digits_value}
 use Rattle.qw_top.specs.declared.token.Kind.TheVariants.{Word}
 use Rattle.qw_top.specs.Token.{Lexeme, AreTokens}
 
--- with each letter in upper case
+-- with each ASCII letter in upper case
 abbrev pub folded : List ℕ → List ℕ
 folded octets = map to_ascii_uppercase octets
 
@@ -24,6 +24,7 @@ reserved =
     codes "SUM" ∷ codes "TABLE" ∷ codes "THEN" ∷ codes "TRUE" ∷ codes "UNION" ∷ codes "UNKNOWN" ∷ codes "USING" ∷
     codes "VARCHAR" ∷ codes "WHEN" ∷ codes "WHERE" ∷ []
 
+-- one of the reserved words
 abbrev pub IsReserved : List ℕ → Type 0
 IsReserved name = Contains reserved name
 

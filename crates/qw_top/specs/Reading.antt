@@ -12,22 +12,27 @@ use Rattle.qw_types.specs.declared.schema.Table.{Table}
 use Rattle.qw_top.specs.declared.meaning.Query.{Query}
 use Rattle.qw_top.specs.Parse.{table_of, place_of}
 
+-- the next step, where there is a value
 infixl 10 ◌>>=◌
 abbrev pub ◌>>=◌ : {A B : Type 0} → Option A → (A → Option B) → Option B
 (Some x) >>= f = f x
 None >>= f = None
 
+-- whether the kind is that of words
 abbrev pub is_word : Kind → Bool
 is_word Word = true
 is_word _ = false
 
+-- whether the name is a reserved word
 abbrev pub is_reserved : List ℕ → Bool
 is_reserved name = list_any (bytes_eq name) reserved
 
+-- the tokens behind the key word
 unfoldable pub key_word_at : List ℕ → List Lexeme → Option (List Lexeme)
 key_word_at word [] = None
 key_word_at word (t ∷ ts) = if bytes_eq (folded t.octets) word then Some ts else None
 
+-- the tokens behind the symbol
 unfoldable pub symbol_at : List ℕ → List Lexeme → Option (List Lexeme)
 symbol_at octets [] = None
 symbol_at octets (t ∷ ts) = if bytes_eq t.octets octets then Some ts else None
@@ -51,6 +56,7 @@ literal_at (t ∷ ts) = do
   bound ← literal_of t.octets
   Some (bound, ts)
 
+-- whether nothing is left but a `;`
 unfoldable pub is_end : List Lexeme → Bool
 is_end [] = true
 is_end (t ∷ []) = bytes_eq t.octets (codes ";")

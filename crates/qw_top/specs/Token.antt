@@ -12,9 +12,11 @@ pub record Lexeme : Type 0 where
   pub kind : Kind
   pub octets : List ℕ
 
+-- the token's kind and its octets
 abbrev pub lexeme : Token → Lexeme
 lexeme t = record { kind = t.kind; octets = t.octets.now }
 
+-- those of each token, in order
 abbrev pub lexemes : List Token → List Lexeme
 lexemes ts = map lexeme ts
 
@@ -75,12 +77,14 @@ is_single_symbol b = list_any (λ c. c == b) (codes "(),.;*+-/=<>")
 abbrev pub is_double_symbol : ℕ → ℕ → Bool
 is_double_symbol b c = ((b == 60) && ((c == 61) || (c == 62))) || ((b == 62) && (c == 61))
 
+-- a symbol of one or of two octets
 abbrev pub IsSymbol : List ℕ → Type 0
 IsSymbol [] = ⊥
 IsSymbol (b ∷ []) = IsTrue (is_single_symbol b)
 IsSymbol (b ∷ c ∷ []) = IsTrue (is_double_symbol b c)
 IsSymbol (b ∷ c ∷ d ∷ rest) = ⊥
 
+-- the octets have the form of the kind; the name of a delimited identifier isn't empty
 abbrev pub HasForm : Kind → List ℕ → Type 0
 HasForm Word octets = IsWord octets
 HasForm DelimitedIdentifier octets = (name : List ℕ) × (0 < length name) × (octets ≡ quoted 34 name)
@@ -90,7 +94,8 @@ HasForm Symbol octets = IsSymbol octets
 
 -- ---- where a token ends
 
--- Whether a symbol can't end before this octet: with it, a longer symbol, a number or a comment would begin.
+-- Whether a symbol can't end before this octet: a longer symbol or a number begins there. `--` is kept for
+-- comments, which aren't read: no token begins there.
 abbrev pub symbol_goes_on : List ℕ → ℕ → Bool
 symbol_goes_on [] c = false
 symbol_goes_on (b ∷ []) c = (is_double_symbol b c || ((b == 46) && is_ascii_digit c)) || ((b == 45) && (c == 45))
@@ -104,6 +109,7 @@ goes_on CharacterString octets c = c == 39
 goes_on Number octets c = is_word_octet_or_point c
 goes_on Symbol octets c = symbol_goes_on octets c
 
+-- whether the text has a first octet, and it passes the test
 abbrev pub begins_with : (ℕ → Bool) → List ℕ → Bool
 begins_with test [] = false
 begins_with test (b ∷ bs) = test b

@@ -42,7 +42,13 @@ pub enum TokenFault {
     NoMemory,
 }
 
-/// The tokens of a text, in order. A byte order mark at the start of the text is passed over.
+/// The tokens of a text, in order. A byte order mark at the start of the text is passed over. Comments are
+/// not read: no token begins at `--`.
+///
+/// # Errors
+///
+/// `NotUtf8` where the text is not UTF-8, else `NotToken` at the first octet where a token is to begin and
+/// none does, and `NoMemory`.
 pub fn tokens(alloc: Global, text: &[u8]) -> Result<Vec<Token<'_>>, TokenFault>
     ensures read { IfOk result (λ found. AreTokens text.now (lexemes found.items)) }
     ensures not_utf8 { IsErrOf result TokenFault.NotUtf8 ↔ (IsUtf8 text.now → ⊥) }
