@@ -3,3 +3,4 @@ pub mod Numbered
 pub mod Steps
 pub mod Sound
 pub mod TypedOperands
+pub mod Checked

@@ -5,4 +5,5 @@ pub mod Execution
 pub mod Step
 pub mod Typing
 pub mod Soundness
+pub mod Checking
 pub mod Validity

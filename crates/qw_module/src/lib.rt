@@ -5,3 +5,4 @@
 pub mod instruction;
 pub mod laws;
 pub mod module;
+pub mod valid;
