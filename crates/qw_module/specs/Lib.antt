@@ -6,4 +6,5 @@ pub mod Step
 pub mod Typing
 pub mod Soundness
 pub mod Checking
+pub mod Refusals
 pub mod Validity
