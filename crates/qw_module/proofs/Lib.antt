@@ -4,3 +4,4 @@ pub mod Steps
 pub mod Sound
 pub mod TypedOperands
 pub mod Checked
+pub mod CheckedBodies

@@ -25,8 +25,11 @@ use Rattle.qw_module.specs.Syntax.{Code, done, op, block, loop, if_else, br, br_
 use Rattle.qw_module.specs.Typing.{Typed}
 
 -- the sequences of a body, and the code that it stands for
+abbrev pub items_of : List (Vec Instr) → List (List Instr)
+items_of sequences = map (λ (sequence : Vec Instr). sequence.items) sequences
+
 abbrev pub sequences_of : Body → List (List Instr)
-sequences_of body = map (λ (sequence : Vec Instr). sequence.items) body.sequences.items
+sequences_of body = items_of body.sequences.items
 
 abbrev pub code_of_body : Body → Code
 code_of_body body = code_of (sequences_of body)
