@@ -21,9 +21,17 @@ sequence-loop-instr-init t c =
     (rw c.new-operands.ensures (checks-whole sequences c.requires.numbered c.args.number c.requires.within items is under (types_of c.args.ends)), refl, is)
 
 pub sequence-instruction-requires : goal.sequence-instruction-requires
-sequence-instruction-requires t c =
-    (omega arith, (c.requires.numbered, (c.requires.within, names_below-at c.args.self.now.sequences.now c.requires.numbered c.args.number c.requires.within
-    c.deref-instr-items.result.now c.loop-instr.invariant.2 c.loop-instr.instr-index _ c.loop-instr-test.true)))
+sequence-instruction-requires t c = (
+  omega arith,
+  (
+    c.requires.numbered,
+    (
+      c.requires.within,
+      names_below-at c.args.self.now.sequences.now c.requires.numbered c.args.number c.requires.within
+          c.deref-instr-items.result.now c.loop-instr.invariant.2 c.loop-instr.instr-index _ c.loop-instr-test.true,
+    ),
+  ),
+)
 
 pub sequence-returns-in_err-instruction-clause-checks : goal.sequence-returns-in_err-instruction-clause-checks
 sequence-returns-in_err-instruction-clause-checks t c =
@@ -39,11 +47,12 @@ pub sequence-loop-instr-preserved : goal.sequence-loop-instr-preserved
 sequence-loop-instr-preserved t c =
     let names : ℕ → Code = named (items_of c.args.self.now.sequences.now) in
     let under : Under = conditions_of (c.args.self.now.parameters.now ++ c.args.self.now.locals.now) c.args.labels.now c.args.self.now.has_memory in
-    let follows = rw c.loop-instr.invariant.1 at c.in_ok-instruction.ensures.follows in
-    (checks-next names under c.deref-instr-items.result.now c.loop-instr.instr-index _ c.loop-instr.operands c.instruction.new.operands (types_of c.args.ends) _
-    c.loop-instr-test.true follows c.loop-instr.invariant.0,
-    c.in_ok-instruction.ensures.labels ∙ c.loop-instr.invariant.1,
-    c.loop-instr.invariant.2)
+    let follows = rw c.loop-instr.invariant.1 at c.in_ok-instruction.ensures.follows in (
+      checks-next names under c.deref-instr-items.result.now c.loop-instr.instr-index _ c.loop-instr.operands c.instruction.new.operands (types_of c.args.ends) _
+          c.loop-instr-test.true follows c.loop-instr.invariant.0,
+      c.in_ok-instruction.ensures.labels ∙ c.loop-instr.invariant.1,
+      c.loop-instr.invariant.2,
+    )
 
 pub sequence-returns-in_err-pop_all-clause-checks : goal.sequence-returns-in_err-pop_all-clause-checks
 sequence-returns-in_err-pop_all-clause-checks t c =
