@@ -8,3 +8,4 @@ pub mod Soundness
 pub mod Checking
 pub mod Refusals
 pub mod Validity
+pub mod ValidFaults
