@@ -7,3 +7,4 @@ pub mod Checked
 pub mod CheckedBodies
 pub mod Numbering
 pub mod Names
+pub mod ValidFunctions
