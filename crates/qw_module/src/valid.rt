@@ -17,7 +17,7 @@ use std::alloc;
 use std::marker::Model;
 use thiserror::Error;
 
-/// Why a module is refused: the first part that isn't valid, or want of memory.
+/// Why a module is refused: a part that isn't valid, or want of memory.
 #[derive(Clone, Copy, Debug, PartialEq, Eq, Error)]
 pub enum ValidFault {
     #[error("a function's type has more than one result")]
@@ -188,7 +188,11 @@ fn names_differ(exports: &[Export]) -> bool
 fn are_exports(module: &Module) -> bool
     ensures { IsTrue result ↔ (All (λ (export : Export). IsExportedOf «module».now export.kind) «module».now.exports.items × AllPairs AreApart «module».now.exports.items) }
 {
-    module.exports.iter().all(|export| is_export(module, export.kind)) && names_differ(&module.exports)
+    module
+        .exports
+        .iter()
+        .all(|export| is_export(module, export.kind))
+        && names_differ(&module.exports)
 }
 
 /// Whether an instruction of the sequence of this number names only lower ones.
@@ -250,11 +254,7 @@ fn check_body(
 }
 
 /// Whether a function is typed over the types and memories of a module.
-fn check_function(
-    alloc: alloc::Global,
-    module: &Module,
-    function: &Function,
-) -> Result<(), Refusal>
+fn check_function(alloc: alloc::Global, module: &Module, function: &Function) -> Result<(), Refusal>
     requires { All IsValidType «module».now.types.items }
     ensures valid { OnOk result (IsValidFunction «module».now function.now) }
     ensures ill_typed { result ≡ Err Refusal.IllTyped → ¬ IsValidFunction «module».now function.now }
@@ -320,8 +320,8 @@ fn check(alloc: alloc::Global, module: &Module) -> Result<(), ValidFault>
     check_functions(alloc, module)
 }
 
-/// The module as a valid one. Otherwise it is dropped, and the fault is the first in the order of the
-/// variants of `ValidFault`, which never is `NoMemory` unless there is no memory left.
+/// The module as a valid one. Otherwise it is dropped, and the fault names a part that isn't valid,
+/// unless there was no memory left.
 pub fn validate(alloc: alloc::Global, module: Module) -> Result<ValidModule, ValidFault>
     ensures value { IfOk result (λ valid. valid ≡ «module») }
     ensures valid { OnOk result (IsValid «module») }
