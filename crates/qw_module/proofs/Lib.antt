@@ -1,10 +1,16 @@
 pub mod MemoryFacts
 pub mod Numbered
-pub mod Steps
+pub mod OpenRuns
+pub mod RunRules
 pub mod Sound
+pub mod Steps
 pub mod TypedOperands
 pub mod Checked
 pub mod CheckedBodies
 pub mod Numbering
 pub mod Names
 pub mod ValidFunctions
+pub mod TurnFacts
+pub mod TurnSteps
+pub mod Separate
+pub mod NoTrap

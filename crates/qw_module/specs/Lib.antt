@@ -9,3 +9,6 @@ pub mod Checking
 pub mod Refusals
 pub mod Validity
 pub mod ValidFaults
+pub mod Map
+pub mod Runs
+pub mod Turns

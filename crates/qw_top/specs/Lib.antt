@@ -1,0 +1,10 @@
+pub mod Emit
+pub mod Counts
+pub mod FileNames
+pub mod Output
+pub mod WholeFiles
+pub mod Status
+pub mod Words
+pub mod Columns
+pub mod Loading
+pub mod Sink

@@ -1,0 +1,115 @@
+-- Steps that are counted exactly, and what they say of every open run.
+use Rattle.std.proofs.Common.{◌≡◌, ℕ, zero, suc, ◌+◌, ◌≤◌, nat_le, List, length, Option, Some, None, refl, subst, ⊎_elim, arith}
+use Rattle.std.proofs.lemmas.Bool.{cases_Bool}
+use Rattle.std.proofs.lemmas.Option.{same_Some, none-some}
+use Rattle.qw_module.specs.Execution.{Config, State, Running, Returned, Raised, Trapped, Event}
+use Rattle.qw_module.specs.Step.{Want, Stuck, Goes, Asks, Puts, wants, answered, Next, next}
+use Rattle.qw_module.specs.Map.{World, Others, IsFine, IsAnswered}
+use Rattle.qw_module.specs.Runs.{Moment, moment_after, OpenStep, OpenRun, begins, goes_on, Behaves, OnStep, OnRunning, Steps}
+use Rattle.qw_module.proofs.Steps.{next-rule, rule_from_next}
+
+-- what holds after the steps may be weakened
+OnStep-more : (P Q : Moment → Type 0) (w : World) (before : List ℕ) (made : Option Next) → ((b : Moment) → P b → Q b) →
+    OnStep w before P made → OnStep w before Q made
+OnStep-more P Q w before None weaker h = h
+OnStep-more P Q w before (Some t) weaker h = (h.0, weaker _ h.1)
+
+OnRunning-more : (P Q : Config → Type 0) (s : State) → ((c : Config) → P c → Q c) → OnRunning s P → OnRunning s Q
+OnRunning-more P Q (Running c) weaker h = weaker c h
+OnRunning-more P Q Returned weaker h = h
+OnRunning-more P Q (Raised code) weaker h = h
+OnRunning-more P Q Trapped weaker h = h
+
+pub Steps-more : (P Q : Moment → Type 0) → ((b : Moment) → P b → Q b) → (n : ℕ) (a : Moment) → Steps P n a → Steps Q n a
+Steps-more P Q weaker zero a h = weaker a h
+Steps-more P Q weaker (suc n) a h = OnRunning-more _ _ a.state
+    (λ c steps before others. OnStep-more (Steps P n) (Steps Q n) a.world before (next c before) (Steps-more P Q weaker n) (steps before others)) h
+
+-- one part after another
+pub Steps-then : (P Q : Moment → Type 0) (n : ℕ) → ((b : Moment) → P b → Steps Q n b) → (m k : ℕ) → m + n ≡ k → (a : Moment) →
+    Steps P m a → Steps Q k a
+Steps-then P Q n following zero k e a h = let same : n ≡ k = omega arith in subst (λ (i : ℕ). Steps Q i a) same (following a h)
+Steps-then P Q n following (suc m) zero e a h = absurd (omega arith)
+Steps-then P Q n following (suc m) (suc k) e a h = OnRunning-more _ _ a.state
+    (λ c steps before others. OnStep-more (Steps P m) (Steps Q k) a.world before (next c before)
+    (Steps-then P Q n following m k (omega arith)) (steps before others)) h
+
+-- where a step was made, it is the one that is computed
+step-made : (Q : Moment → Type 0) (w : World) (before : List ℕ) (made : Option Next) (event : Event) (state : State) (after : List ℕ) →
+    made ≡ Some (record { event = event; state = state; memory = after }) → OnStep w before Q made →
+    IsFine w event × Q (moment_after w before event state after)
+step-made Q w before made event state after e h = rw e at h
+
+step-there : (Q : Moment → Type 0) (w : World) (before : List ℕ) (made : Option Next) → OnStep w before Q made → (t : Next) × (made ≡ Some t)
+step-there Q w before None h = absurd h
+step-there Q w before (Some t) h = (t, refl)
+
+-- no step asks for pages
+pub unasked : (w : World) (memory : List ℕ) (want : Want) (t : Next) → answered memory want ≡ Some t → IsAnswered w t.event
+unasked w memory Stuck t e = absurd (none-some t e)
+unasked w memory (Goes s) t e = subst (λ (x : Next). IsAnswered w x.event) (same_Some _ t e) tt
+unasked w memory (Asks address width make) t e = ⊎_elim
+    (λ is. subst (λ (x : Next). IsAnswered w x.event) (same_Some _ t (rw is at e)) tt)
+    (λ is_not. subst (λ (x : Next). IsAnswered w x.event) (same_Some _ t (rw is_not at e)) tt)
+    (cases_Bool (nat_le (address + width) (length memory)))
+unasked w memory (Puts address width value s) t e = ⊎_elim
+    (λ is. subst (λ (x : Next). IsAnswered w x.event) (same_Some _ t (rw is at e)) tt)
+    (λ is_not. subst (λ (x : Next). IsAnswered w x.event) (same_Some _ t (rw is_not at e)) tt)
+    (cases_Bool (nat_le (address + width) (length memory)))
+
+module _ (Q : Moment → Type 0) (returns : (b : Moment) → Q b → b.state ≡ Returned) where
+  -- an instance that has n steps to go is not at its end
+  at_running : (n : ℕ) (b : Moment) (c : Config) → b.state ≡ Running c → Steps Q n b →
+      (j : ℕ) × (suc j ≡ n) × ((before : List ℕ) → Others b.world b.memory before → OnStep b.world before (Steps Q j) (next c before))
+  at_running zero b c running h = absurd (let e = returns b h in cc)
+  at_running (suc n) b c running h = (n, refl, rw running at h)
+
+  at_end : (n : ℕ) (b : Moment) → b.state ≡ Returned → Steps Q n b → Q b
+  at_end zero b returned h = h
+  at_end (suc n) b returned h = absurd (rw returned at h)
+
+  -- every open run of a moment with n steps to go leads to one with fewer
+  pub along : (n : ℕ) (k : ℕ) (a b : Moment) → OpenRun k a b → Steps Q n a → (j : ℕ) × (j + k ≡ n) × Steps Q j b
+  along n _ _ _ (begins a) h = (n, omega arith, h)
+  along n _ _ _ (goes_on k a b c before event state after run step) h =
+      let here = along n k a b run h in
+      let there = at_running here.0 b c step.running here.2 in
+      let made = step-made (Steps Q there.0) b.world before (next c before) event state after
+      (next-rule c before event state after step.step) (there.2 before step.others) in
+      (there.0, omega (arith, there.1, here.1), made.1)
+
+  -- the step that comes next in an open run is fine
+  pub fine_along : (n : ℕ) (k : ℕ) (a b : Moment) (c : Config) (before : List ℕ) (event : Event) (state : State) (after : List ℕ) →
+      OpenRun k a b → OpenStep b c before event state after → Steps Q n a → IsFine b.world event
+  fine_along n k a b c before event state after run step h =
+      let here = along n k a b run h in
+      let there = at_running here.0 b c step.running here.2 in
+      (step-made (Steps Q there.0) b.world before (next c before) event state after (next-rule c before event state after step.step) (there.2 before step.others)).0
+
+  -- a moment from which n steps lead to a return behaves, and each return keeps what they lead to
+  pub behaves_within : (n most : ℕ) → n ≤ most → (a : Moment) → Steps Q n a → Behaves most Q a
+  behaves_within n most le a h = record {
+    goes_on = λ k b c before run running others.
+        let here = along n k a b run h in
+        let there = at_running here.0 b c running here.2 in
+        let made = step-there (Steps Q there.0) b.world before (next c before) (there.2 before others) in (
+          made.0.event,
+          made.0.state,
+          made.0.memory,
+          record {
+            running = running;
+            others = others;
+            step = rule_from_next c before made.0 made.1;
+            answered = unasked b.world before (wants c) made.0 made.1;
+          },
+        );
+    fine = λ k b c before event state after run step. fine_along n k a b c before event state after run step h;
+    bounded = λ k b c run running.
+        let here = along n k a b run h in
+        let there = at_running here.0 b c running here.2 in
+        omega (arith, there.1, here.1);
+    ends = λ k b run returned.
+        let here = along n k a b run h in
+        let end = at_end here.0 b returned here.2 in
+        (omega (arith, here.1), end);
+  }

@@ -1,0 +1,10 @@
+pub mod Nesting
+pub mod OutputLemmas
+pub mod WholeFileLemmas
+pub mod ColumnLemmas
+pub mod LoadingLaws
+pub mod NumberLemmas
+pub mod ReaderLemmas
+pub mod RecordLemmas
+pub mod RowLemmas
+pub mod SinkLemmas
