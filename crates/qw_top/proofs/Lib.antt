@@ -1,1 +1,3 @@
 pub mod Nesting
+pub mod ScanSteps
+pub mod Chains

@@ -64,21 +64,25 @@ scan_row literal =
     (get 6 (i64 1 (op (o.Binary I64Add) (set 6
     (br 0 done))))))))))))))))))))))))))))
 
--- The code of `run` around its loop and the two arms of its last choice. Its locals are: the descriptor's address (the argument), the place before the next value,
--- the place of the last value, the next row's address, the place of the link that it is to be put at, the
--- value, and how many rows there are.
+-- What follows the loop: the next free address, the last row where there is one, and the number of rows.
+abbrev pub scan_end : (none last : Code) → Code
+scan_end none last =
+    get 0 (get 3 (store_i32 0
+    (get 0 (get 6 (i64 0 (op (o.Relation I64Eq)
+    (if_else (Some I32) none last
+    (store_i32 12
+    (get 0 (get 6 (store_i64 16 done)))))))))))
+
+-- The code of `run` around its loop and the two arms of its last choice. Its locals are: the descriptor's
+-- address (the argument), the place before the next value, the place of the last value, the next row's
+-- address, the place of the link that it is to be put at, the value, and how many rows there are.
 abbrev pub scan_frame : (rows none last : Code) → Code
 scan_frame rows none last =
     get 0 (load_i32 64 (i32 4294967292 (op (o.Binary I32Add) (tee 1
     (get 0 (load_i32 76 (i32 4 (op (o.Binary I32Mul) (op (o.Binary I32Add) (set 2
     (get 0 (load_i32 0 (set 3
     (get 0 (i32 8 (op (o.Binary I32Add) (set 4
-    (block None rows
-    (get 0 (get 3 (store_i32 0
-    (get 0 (get 6 (i64 0 (op (o.Relation I64Eq)
-    (if_else (Some I32) none last
-    (store_i32 12
-    (get 0 (get 6 (store_i64 16 done))))))))))))))))))))))))))))))
+    (block None rows (scan_end none last)))))))))))))))))))
 
 abbrev pub scan_code : ℤ → Code
 scan_code literal = scan_frame (loop None (scan_row literal) done) (i32 0 done) (get 4 done)
