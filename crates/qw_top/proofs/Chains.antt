@@ -53,3 +53,15 @@ Chain-more m [] place at link row v is linked cell null h =
     (ap (λ (a : ℕ). number_at m a 4) h ∙ linked ∙ same, ap (λ (a : ℕ). number_at m (a + 8) 8) (sym same) ∙ cell, ap (λ (a : ℕ). number_at m (a + 16) 1) (sym same) ∙ null, sym same)
 Chain-more m (w ∷ vs) place at link row v is linked cell null h =
     (h.0, h.1, h.2, Chain-more m vs at (at + 24) link row v (omega arith) linked cell null h.3)
+
+-- the same, where the first link and all from the first row on stay
+pub Chain-same_rows : (m m' : List ℕ) (place at high link : ℕ) → number_at m' place 4 ≡ number_at m place 4 →
+    ((a w : ℕ) → at ≤ a → a + w ≤ high → number_at m' a w ≡ number_at m a w) →
+    (vs : List ℕ) → at + 24 * length vs ≤ high → Chain m place at vs link → Chain m' place at vs link
+Chain-same_rows m m' place at high link first same [] to h = h
+Chain-same_rows m m' place at high link first same (v ∷ vs) to h = (
+  first ∙ h.0,
+  same (at + 8) 8 (omega arith) (omega arith) ∙ h.1,
+  same (at + 16) 1 (omega arith) (omega arith) ∙ h.2,
+  Chain-same m m' at high link (λ a w low fits apart. same a w low fits) vs at (at + 24) (omega arith) (omega arith) (omega arith) h.3,
+)

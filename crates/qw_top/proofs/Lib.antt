@@ -1,3 +1,5 @@
 pub mod Nesting
 pub mod ScanSteps
 pub mod Chains
+pub mod ScanMemory
+pub mod ScanRuns

@@ -11,7 +11,7 @@ use Rattle.qw_module.specs.Syntax.{Code, done, op, block, loop, if_else, br, br_
 use Rattle.qw_module.specs.Numbers.{at_most}
 use Rattle.qw_module.specs.Execution.{Context, label, Config, State, Running, Returned}
 use Rattle.qw_module.specs.Runs.{called}
-use Rattle.qw_module.proofs.RunRules.{silent}
+use Rattle.qw_module.proofs.RunRules.{Silently}
 use Rattle.qw_top.specs.Emit.{get, set, tee, i32, i64, load_i32, load_value, store_i32, store_i64, scan_row, scan_end, scan_frame, scan_code}
 
 -- what stands after the loop, the loop itself, and the parts of its body after the load and after each store
@@ -47,24 +47,24 @@ at_loop literal locals = running (the_loop literal) [] locals in_block
 
 module _ (literal : ℤ) (d e r l n : ℕ) where
   pub to_load : (p p' v : ℕ) → (p == e) ≡ false → (p + 4) % 2 ^ 32 ≡ p' →
-      silent 9 (at_loop literal (d ∷ p ∷ e ∷ r ∷ l ∷ v ∷ n ∷ [])) ≡ Some (running (load_value (tests literal)) (p' ∷ []) (d ∷ p' ∷ e ∷ r ∷ l ∷ v ∷ n ∷ []) (in_loop literal))
-  to_load p p' v more next = rw (more, next) refl
+      Silently 9 (at_loop literal (d ∷ p ∷ e ∷ r ∷ l ∷ v ∷ n ∷ [])) (running (load_value (tests literal)) (p' ∷ []) (d ∷ p' ∷ e ∷ r ∷ l ∷ v ∷ n ∷ []) (in_loop literal))
+  to_load p p' v more next = record { leads = rw (more, next) refl }
 
   pub rejects : (p v x : ℕ) → at_most Signed x (cast_unsigned w64 literal) ≡ true →
-      silent 4 (running (tests literal) (x ∷ []) (d ∷ p ∷ e ∷ r ∷ l ∷ v ∷ n ∷ []) (in_loop literal)) ≡ Some (at_loop literal (d ∷ p ∷ e ∷ r ∷ l ∷ x ∷ n ∷ []))
-  rejects p v x test = rw test refl
+      Silently 4 (running (tests literal) (x ∷ []) (d ∷ p ∷ e ∷ r ∷ l ∷ v ∷ n ∷ []) (in_loop literal)) (at_loop literal (d ∷ p ∷ e ∷ r ∷ l ∷ x ∷ n ∷ []))
+  rejects p v x test = record { leads = rw test refl }
 
   pub keeps : (p v x : ℕ) → at_most Signed x (cast_unsigned w64 literal) ≡ false →
-      silent 7 (running (tests literal) (x ∷ []) (d ∷ p ∷ e ∷ r ∷ l ∷ v ∷ n ∷ []) (in_loop literal)) ≡ Some (running (store_i32 0 writes) (r ∷ l ∷ []) (d ∷ p ∷ e ∷ r ∷ r ∷ x ∷ n ∷ []) (in_loop literal))
-  keeps p v x test = rw test refl
+      Silently 7 (running (tests literal) (x ∷ []) (d ∷ p ∷ e ∷ r ∷ l ∷ v ∷ n ∷ []) (in_loop literal)) (running (store_i32 0 writes) (r ∷ l ∷ []) (d ∷ p ∷ e ∷ r ∷ r ∷ x ∷ n ∷ []) (in_loop literal))
+  keeps p v x test = record { leads = rw test refl }
 
   pub to_cell : (p v : ℕ) →
-      silent 2 (running writes [] (d ∷ p ∷ e ∷ r ∷ l ∷ v ∷ n ∷ []) (in_loop literal)) ≡ Some (running (store_i64 8 counts) (v ∷ r ∷ []) (d ∷ p ∷ e ∷ r ∷ l ∷ v ∷ n ∷ []) (in_loop literal))
-  to_cell p v = refl
+      Silently 2 (running writes [] (d ∷ p ∷ e ∷ r ∷ l ∷ v ∷ n ∷ []) (in_loop literal)) (running (store_i64 8 counts) (v ∷ r ∷ []) (d ∷ p ∷ e ∷ r ∷ l ∷ v ∷ n ∷ []) (in_loop literal))
+  to_cell p v = record { leads = refl }
 
   pub counted : (p v r' n' : ℕ) → (r + 24) % 2 ^ 32 ≡ r' → (n + 1) % 2 ^ 64 ≡ n' →
-      silent 9 (running counts [] (d ∷ p ∷ e ∷ r ∷ l ∷ v ∷ n ∷ []) (in_loop literal)) ≡ Some (at_loop literal (d ∷ p ∷ e ∷ r' ∷ l ∷ v ∷ n' ∷ []))
-  counted p v r' n' next_row next_count = rw (next_row, next_count) refl
+      Silently 9 (running counts [] (d ∷ p ∷ e ∷ r ∷ l ∷ v ∷ n ∷ []) (in_loop literal)) (at_loop literal (d ∷ p ∷ e ∷ r' ∷ l ∷ v ∷ n' ∷ []))
+  counted p v r' n' next_row next_count = record { leads = rw (next_row, next_count) refl }
 
 -- after the loop
 abbrev pub counts_rows : Code
@@ -78,20 +78,20 @@ chooses_last = get 0 (get 6 (i64 0 (op (o.Relation I64Eq) (if_else (Some I32) (i
 
 module _ (d p e r l v n : ℕ) where
   pub to_end : (literal : ℤ) → (p == e) ≡ true →
-      silent 7 (at_loop literal (d ∷ p ∷ e ∷ r ∷ l ∷ v ∷ n ∷ [])) ≡ Some (running (store_i32 0 chooses_last) (r ∷ d ∷ []) (d ∷ p ∷ e ∷ r ∷ l ∷ v ∷ n ∷ []) in_call)
-  to_end literal over = rw over refl
+      Silently 7 (at_loop literal (d ∷ p ∷ e ∷ r ∷ l ∷ v ∷ n ∷ [])) (running (store_i32 0 chooses_last) (r ∷ d ∷ []) (d ∷ p ∷ e ∷ r ∷ l ∷ v ∷ n ∷ []) in_call)
+  to_end literal over = record { leads = rw over refl }
 
   pub no_last : (n == 0) ≡ true →
-      silent 6 (running chooses_last [] (d ∷ p ∷ e ∷ r ∷ l ∷ v ∷ n ∷ []) in_call) ≡ Some (running links_last (0 ∷ d ∷ []) (d ∷ p ∷ e ∷ r ∷ l ∷ v ∷ n ∷ []) in_call)
-  no_last none = rw none refl
+      Silently 6 (running chooses_last [] (d ∷ p ∷ e ∷ r ∷ l ∷ v ∷ n ∷ []) in_call) (running links_last (0 ∷ d ∷ []) (d ∷ p ∷ e ∷ r ∷ l ∷ v ∷ n ∷ []) in_call)
+  no_last none = record { leads = rw none refl }
 
   pub some_last : (n == 0) ≡ false →
-      silent 6 (running chooses_last [] (d ∷ p ∷ e ∷ r ∷ l ∷ v ∷ n ∷ []) in_call) ≡ Some (running links_last (l ∷ d ∷ []) (d ∷ p ∷ e ∷ r ∷ l ∷ v ∷ n ∷ []) in_call)
-  some_last some = rw some refl
+      Silently 6 (running chooses_last [] (d ∷ p ∷ e ∷ r ∷ l ∷ v ∷ n ∷ []) in_call) (running links_last (l ∷ d ∷ []) (d ∷ p ∷ e ∷ r ∷ l ∷ v ∷ n ∷ []) in_call)
+  some_last some = record { leads = rw some refl }
 
   pub to_count :
-      silent 2 (running counts_rows [] (d ∷ p ∷ e ∷ r ∷ l ∷ v ∷ n ∷ []) in_call) ≡ Some (running (store_i64 16 done) (n ∷ d ∷ []) (d ∷ p ∷ e ∷ r ∷ l ∷ v ∷ n ∷ []) in_call)
-  to_count = refl
+      Silently 2 (running counts_rows [] (d ∷ p ∷ e ∷ r ∷ l ∷ v ∷ n ∷ []) in_call) (running (store_i64 16 done) (n ∷ d ∷ []) (d ∷ p ∷ e ∷ r ∷ l ∷ v ∷ n ∷ []) in_call)
+  to_count = record { leads = refl }
 
 -- before the loop
 abbrev pub begins_rows : ℤ → Code
@@ -105,17 +105,17 @@ begins_values literal = i32 4294967292 (op (o.Binary I32Add) (tee 1 (get 0 (load
 
 module _ (literal : ℤ) (d : ℕ) where
   pub to_values :
-      silent 1 (called (scan_code literal) 0 (d ∷ 0 ∷ 0 ∷ 0 ∷ 0 ∷ 0 ∷ 0 ∷ [])) ≡ Some (running (load_i32 64 (begins_values literal)) (d ∷ []) (d ∷ 0 ∷ 0 ∷ 0 ∷ 0 ∷ 0 ∷ 0 ∷ []) in_call)
-  to_values = refl
+      Silently 1 (called (scan_code literal) 0 (d ∷ 0 ∷ 0 ∷ 0 ∷ 0 ∷ 0 ∷ 0 ∷ [])) (running (load_i32 64 (begins_values literal)) (d ∷ []) (d ∷ 0 ∷ 0 ∷ 0 ∷ 0 ∷ 0 ∷ 0 ∷ []) in_call)
+  to_values = record { leads = refl }
 
   pub to_rows : (start p : ℕ) → (start + 4294967292) % 2 ^ 32 ≡ p →
-      silent 4 (running (begins_values literal) (start ∷ []) (d ∷ 0 ∷ 0 ∷ 0 ∷ 0 ∷ 0 ∷ 0 ∷ []) in_call) ≡ Some (running (load_i32 76 (begins_place literal)) (d ∷ p ∷ []) (d ∷ p ∷ 0 ∷ 0 ∷ 0 ∷ 0 ∷ 0 ∷ []) in_call)
-  to_rows start p before = rw before refl
+      Silently 4 (running (begins_values literal) (start ∷ []) (d ∷ 0 ∷ 0 ∷ 0 ∷ 0 ∷ 0 ∷ 0 ∷ []) in_call) (running (load_i32 76 (begins_place literal)) (d ∷ p ∷ []) (d ∷ p ∷ 0 ∷ 0 ∷ 0 ∷ 0 ∷ 0 ∷ []) in_call)
+  to_rows start p before = record { leads = rw before refl }
 
   pub to_free : (rows p e : ℕ) → (p + rows * 4 % 2 ^ 32) % 2 ^ 32 ≡ e →
-      silent 5 (running (begins_place literal) (rows ∷ p ∷ []) (d ∷ p ∷ 0 ∷ 0 ∷ 0 ∷ 0 ∷ 0 ∷ []) in_call) ≡ Some (running (load_i32 0 (begins_rows literal)) (d ∷ []) (d ∷ p ∷ e ∷ 0 ∷ 0 ∷ 0 ∷ 0 ∷ []) in_call)
-  to_free rows p e last = rw last refl
+      Silently 5 (running (begins_place literal) (rows ∷ p ∷ []) (d ∷ p ∷ 0 ∷ 0 ∷ 0 ∷ 0 ∷ 0 ∷ []) in_call) (running (load_i32 0 (begins_rows literal)) (d ∷ []) (d ∷ p ∷ e ∷ 0 ∷ 0 ∷ 0 ∷ 0 ∷ []) in_call)
+  to_free rows p e last = record { leads = rw last refl }
 
   pub to_loop : (p e r l : ℕ) → (d + 8) % 2 ^ 32 ≡ l →
-      silent 6 (running (begins_rows literal) (r ∷ []) (d ∷ p ∷ e ∷ 0 ∷ 0 ∷ 0 ∷ 0 ∷ []) in_call) ≡ Some (at_loop literal (d ∷ p ∷ e ∷ r ∷ l ∷ 0 ∷ 0 ∷ []))
-  to_loop p e r l first = rw first refl
+      Silently 6 (running (begins_rows literal) (r ∷ []) (d ∷ p ∷ e ∷ 0 ∷ 0 ∷ 0 ∷ 0 ∷ []) in_call) (at_loop literal (d ∷ p ∷ e ∷ r ∷ l ∷ 0 ∷ 0 ∷ []))
+  to_loop p e r l first = record { leads = rw first refl }

@@ -1,1 +1,2 @@
 pub mod Emit
+pub mod Layout
