@@ -7,3 +7,4 @@ pub mod Typing
 pub mod Soundness
 pub mod Map
 pub mod Runs
+pub mod Start

@@ -3,3 +3,4 @@ pub mod ScanSteps
 pub mod Chains
 pub mod ScanMemory
 pub mod ScanRuns
+pub mod ScanStart

@@ -9,7 +9,7 @@ use Rattle.qw_module.specs.Numbers.{at_most, extended}
 use Rattle.qw_module.specs.Memory.{number_at, with_number}
 use Rattle.qw_module.specs.Execution.{State, Running, Returned}
 use Rattle.qw_module.specs.Map.{World, page}
-use Rattle.qw_module.specs.Runs.{Moment, called}
+use Rattle.qw_module.specs.Runs.{Moment}
 use Rattle.qw_module.proofs.MemoryFacts.{length-with_number, number_at-with_number, number_at-apart}
 use Rattle.qw_module.proofs.RunRules.{more, Runs, Runs-weaker, IsKept, go, load, store}
 use Rattle.qw_top.specs.Emit.{scan_code}

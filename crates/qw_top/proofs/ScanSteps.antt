@@ -10,7 +10,6 @@ use Rattle.qw_module.specs.declared.instruction.Op.TheVariants as o
 use Rattle.qw_module.specs.Syntax.{Code, done, op, block, loop, if_else, br, br_if}
 use Rattle.qw_module.specs.Numbers.{at_most}
 use Rattle.qw_module.specs.Execution.{Context, label, Config, State, Running, Returned}
-use Rattle.qw_module.specs.Runs.{called}
 use Rattle.qw_module.proofs.RunRules.{Silently}
 use Rattle.qw_top.specs.Emit.{get, set, tee, i32, i64, load_i32, load_value, store_i32, store_i64, scan_row, scan_end, scan_frame, scan_code}
 
@@ -105,7 +104,7 @@ begins_values literal = i32 4294967292 (op (o.Binary I32Add) (tee 1 (get 0 (load
 
 module _ (literal : ℤ) (d : ℕ) where
   pub to_values :
-      Silently 1 (called (scan_code literal) 0 (d ∷ 0 ∷ 0 ∷ 0 ∷ 0 ∷ 0 ∷ 0 ∷ [])) (running (load_i32 64 (begins_values literal)) (d ∷ []) (d ∷ 0 ∷ 0 ∷ 0 ∷ 0 ∷ 0 ∷ 0 ∷ []) in_call)
+      Silently 1 (running (scan_code literal) [] (d ∷ 0 ∷ 0 ∷ 0 ∷ 0 ∷ 0 ∷ 0 ∷ []) in_call) (running (load_i32 64 (begins_values literal)) (d ∷ []) (d ∷ 0 ∷ 0 ∷ 0 ∷ 0 ∷ 0 ∷ 0 ∷ []) in_call)
   to_values = record { leads = refl }
 
   pub to_rows : (start p : ℕ) → (start + 4294967292) % 2 ^ 32 ≡ p →

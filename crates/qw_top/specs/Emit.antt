@@ -1,8 +1,6 @@
 -- The module of a statement over one table: the code of its function `run`.
 use Rattle.std.specs.Prelude.{◌≡◌, ℕ, ℤ, List, [], ◌∷◌, map, codes, Option, Some, None}
 use Rattle.std.specs.Int.{w64, cast_unsigned}
-use Rattle.std.specs.String.{string_bytes}
-use Rattle.std.specs.Global.{Vec}
 use Rattle.qw_module.specs.declared.instruction.ValType.{ValType}
 use Rattle.qw_module.specs.declared.instruction.ValType.TheVariants.{I32, I64}
 use Rattle.qw_module.specs.declared.instruction.Sign.TheVariants.{Signed}
@@ -11,18 +9,14 @@ use Rattle.qw_module.specs.declared.instruction.Binary.TheVariants.{I32Add, I32M
 use Rattle.qw_module.specs.declared.instruction.Relation.TheVariants.{I32Eq, I64Eq, I64Le}
 use Rattle.qw_module.specs.declared.instruction.Load.TheVariants as load
 use Rattle.qw_module.specs.declared.instruction.Store.TheVariants as store
-use Rattle.qw_module.specs.declared.instruction.Op.{Op}
 use Rattle.qw_module.specs.declared.instruction.Op.TheVariants as o
-use Rattle.qw_module.specs.declared.instruction.Instr.{Instr}
 use Rattle.qw_module.specs.declared.module.FuncType.{FuncType}
 use Rattle.qw_module.specs.declared.module.Import.TheVariants as import
-use Rattle.qw_module.specs.declared.module.Body.{Body}
 use Rattle.qw_module.specs.declared.module.Function.{Function}
-use Rattle.qw_module.specs.declared.module.Export.{Export}
-use Rattle.qw_module.specs.declared.module.ExportKind.{ExportKind}
 use Rattle.qw_module.specs.declared.module.ExportKind.TheVariants as kind
 use Rattle.qw_module.specs.declared.module.Module.{Module}
-use Rattle.qw_module.specs.Syntax.{Code, done, op, block, loop, if_else, br, br_if, code_of}
+use Rattle.qw_module.specs.Syntax.{Code, done, op, block, loop, if_else, br, br_if}
+use Rattle.qw_module.specs.Start.{code_of_body, exported}
 
 -- instructions that hold no other, each followed by the rest of its sequence
 abbrev pub get : ℕ → Code → Code
@@ -87,10 +81,6 @@ scan_frame rows none last =
 abbrev pub scan_code : ℤ → Code
 scan_code literal = scan_frame (loop None (scan_row literal) done) (i32 0 done) (get 4 done)
 
--- the code that a body stands for
-abbrev pub code_of_body : Body → Code
-code_of_body body = code_of (map (λ (sequence : Vec Instr). sequence.items) body.sequences.items)
-
 -- a function's type: its parameters and its results
 abbrev pub signature_of : FuncType → List ValType × List ValType
 signature_of type = (type.params.items, type.results.items)
@@ -98,10 +88,6 @@ signature_of type = (type.params.items, type.results.items)
 -- a function: the number of its type, its locals after its parameters, and its code
 abbrev pub contents_of : Function → ℕ × List ValType × Code
 contents_of function = (function.type_index, function.locals.items, code_of_body function.body)
-
--- an export: its name and what it stands for
-abbrev pub exported : Export → List ℕ × ExportKind
-exported export = (string_bytes export.name, export.kind)
 
 -- The module of a statement with this literal: it imports the memory, of at least one page, and the function
 -- `raise`, and exports its own function `run`; both functions take one i32 and leave nothing.

@@ -1,10 +1,10 @@
 -- What the memory of a statement over one column holds: the column, and the instance's first page.
-use Rattle.std.specs.Prelude.{◌≡◌, ℕ, zero, suc, ◌+◌, ◌*◌, ◌<◌, ◌≤◌, ℤ, List, [], ◌∷◌, length, map, Option, Some, None, slice_get, slice_index}
-use Rattle.std.specs.Int.{w32, cast_signed}
+use Rattle.std.specs.Prelude.{◌≡◌, ℕ, zero, suc, ◌+◌, ◌*◌, ◌<◌, ◌≤◌, ◌==◌, ◌&&◌, if◌then◌else◌, Bool, ℤ, pos, negsuc, int_le, List, [], ◌∷◌, length, map, Option, Some, None, slice_get, slice_index}
+use Rattle.std.specs.Int.{w32, w64, cast_signed}
 use Rattle.qw_types.specs.declared.value.Val.{Val}
 use Rattle.qw_types.specs.declared.value.Val.TheVariants.{Num}
 use Rattle.qw_module.specs.Memory.{number_at}
-use Rattle.qw_module.specs.Map.{Area, World, page}
+use Rattle.qw_module.specs.Map.{Area, World, page, lies_in_one}
 
 -- whole numbers of four octets, signed, one after another
 abbrev pub integers_at : List ℕ → ℕ → ℕ → List ℤ
@@ -38,3 +38,29 @@ first_world start rows descriptor limit = record {
   limit = limit;
   refused = None;
 }
+
+-- an INTEGER is from -2^31 to 2^31 - 1 (ISO/IEC 9075:1992, 4.4, leaves its precision to the implementation)
+abbrev pub is_integer : ℤ → Bool
+is_integer n = int_le (negsuc 2147483647) n && int_le n (pos 2147483647)
+
+-- The result row at an address: 4 octets of the next row's address, 4 zeros, and a cell of 16 octets: a signed value of
+-- 8, and 1 that is 0 as the value isn't null. It lies in an own area, and the value is an INTEGER.
+abbrev pub row_at : List Area → List ℕ → ℕ → Option (List Val)
+row_at own memory at =
+    let value = cast_signed w64 (number_at memory (at + 8) 8) in
+    if lies_in_one own at 24 && ((number_at memory (at + 16) 1 == 0) && is_integer value) then Some (Num value ∷ []) else None
+
+-- a row before others, where both are there
+abbrev pub row_before : Option (List Val) → Option (List (List Val)) → Option (List (List Val))
+row_before None rows = None
+row_before (Some row) None = None
+row_before (Some row) (Some rows) = Some (row ∷ rows)
+
+-- exactly so many rows, chained from an address on; the last one's next address is 0
+abbrev pub rows_from : List Area → List ℕ → ℕ → ℕ → Option (List (List Val))
+rows_from own memory zero at = if at == 0 then Some [] else None
+rows_from own memory (suc count) at = row_before (row_at own memory at) (rows_from own memory count (number_at memory at 4))
+
+-- the result rows of an instance: the descriptor has the first one's address and their number
+abbrev pub rows_at : List Area → List ℕ → ℕ → Option (List (List Val))
+rows_at own memory descriptor = rows_from own memory (number_at memory (descriptor + 16) 8) (number_at memory (descriptor + 8) 4)

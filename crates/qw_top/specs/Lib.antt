@@ -1,2 +1,4 @@
 pub mod Emit
 pub mod Layout
+pub mod Meaning
+pub mod Compiled

@@ -1,7 +1,8 @@
 ghost use Rattle.std.specs.Prelude.{◌≡◌, ℕ, IfOk};
 ghost use Rattle.std.specs.Int.{cast_unsigned, w64};
 ghost use Rattle.qw_module.specs.Syntax.{Code, nested};
-ghost use Rattle.qw_top.specs.Emit.{IsScan, code_of_body, scan_code, scan_frame, scan_row};
+ghost use Rattle.qw_module.specs.Start.{code_of_body};
+ghost use Rattle.qw_top.specs.Emit.{IsScan, scan_code, scan_frame, scan_row};
 
 use crate::meaning::Query;
 use qw_module::instruction::{
