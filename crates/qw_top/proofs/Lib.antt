@@ -4,3 +4,4 @@ pub mod Chains
 pub mod ScanMemory
 pub mod ScanRuns
 pub mod ScanStart
+pub mod ScanResult
