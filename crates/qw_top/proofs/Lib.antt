@@ -5,3 +5,4 @@ pub mod ScanMemory
 pub mod ScanRuns
 pub mod ScanStart
 pub mod ScanResult
+pub mod ScanCompiled

@@ -20,7 +20,7 @@ use Rattle.qw_top.proofs.ScanRuns.{passed_over, kept_of, count_of, AreWords}
 use Rattle.qw_top.proofs.ScanStart.{words_at}
 
 -- the number that a word of four octets stands for, and that its 64 bits do
-abbrev number : ℕ → ℤ
+abbrev pub number : ℕ → ℤ
 number word = cast_signed w32 word
 
 narrow_fits : (word : ℕ) → word < 2 ^ 32 → SFits w32 (number word)
@@ -46,18 +46,18 @@ passed : (literal : ℤ) → SFits w64 literal → (word : ℕ) → word < 2 ^ 3
 passed literal fits word small = rw (number-extended word small, to_z-of_z w64 literal fits) (le_not_lt (number word) literal)
 
 -- the row of a value of 64 bits, and of a number
-abbrev cell : ℕ → List Val
+abbrev pub cell : ℕ → List Val
 cell v = Num (cast_signed w64 v) ∷ []
 
 abbrev row_of : ℤ → List Val
 row_of n = Num n ∷ []
 
 -- a chain in an own area, whose values are INTEGERs, is read as their rows
-AreIntegers : List ℕ → Type 0
+pub AreIntegers : List ℕ → Type 0
 AreIntegers [] = Unit {0}
 AreIntegers (v ∷ vs) = (is_integer (cast_signed w64 v) ≡ true) × AreIntegers vs
 
-kept_integers : (literal : ℤ) (words : List ℕ) → AreWords words → AreIntegers (kept_of literal words)
+pub kept_integers : (literal : ℤ) (words : List ℕ) → AreWords words → AreIntegers (kept_of literal words)
 unfolding AreIntegers
 kept_integers literal [] are = tt
 kept_integers literal (word ∷ words) are = ⊎_elim
@@ -65,7 +65,7 @@ kept_integers literal (word ∷ words) are = ⊎_elim
     (λ passes. rw passes (rw (number-extended word are.0) (integer word are.0), kept_integers literal words are.1))
     (cases_Bool (passed_over literal word))
 
-chain_rows : (m : List ℕ) (d : ℕ) (vs : List ℕ) (place at link : ℕ) → d ≤ at → at + 24 * length vs ≤ d + page → AreIntegers vs →
+pub chain_rows : (m : List ℕ) (d : ℕ) (vs : List ℕ) (place at link : ℕ) → d ≤ at → at + 24 * length vs ≤ d + page → AreIntegers vs →
     number_at m link 4 ≡ 0 → Chain m place at vs link →
     rows_from (record { start = d; size = page } ∷ []) m (length vs) (number_at m place 4) ≡ Some (map cell vs)
 unfolding AreIntegers
@@ -80,7 +80,7 @@ chain_rows m d (v ∷ vs) place at link low high are open_link chain =
     rw (chain.0, row, rest) refl
 
 -- the rows of a table whose column has these words, kept by the statement
-result_rows : (query : Query) → SFits w64 query.literal → (rows : List (List Val)) (words : List ℕ) → AreWords words →
+pub result_rows : (query : Query) → SFits w64 query.literal → (rows : List (List Val)) (words : List ℕ) → AreWords words →
     map (λ (row : List Val). slice_get row query.column) rows ≡ map (λ (n : ℤ). Some (Num n)) (map number words) →
     map cell (kept_of query.literal words) ≡ results query rows
 result_rows query fits [] [] are same = refl
@@ -106,7 +106,7 @@ result_rows query fits (row ∷ rows) (word ∷ words) are same =
     (cases_Bool (int_lt query.literal n))
 
 -- how many instructions run
-counted_within : (literal : ℤ) (words : List ℕ) → count_of literal words ≡ 18 + 14 * length words + 16 * length (kept_of literal words)
+pub counted_within : (literal : ℤ) (words : List ℕ) → count_of literal words ≡ 18 + 14 * length words + 16 * length (kept_of literal words)
 counted_within literal [] = refl
 counted_within literal (word ∷ words) = ⊎_elim
     (λ over. rw over (omega (arith, more-is 14 (count_of literal words), counted_within literal words)))
