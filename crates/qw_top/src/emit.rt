@@ -2,6 +2,7 @@ ghost use Rattle.std.specs.Prelude.{◌≡◌, ℕ, IfOk};
 ghost use Rattle.std.specs.Int.{cast_unsigned, w64};
 ghost use Rattle.qw_module.specs.Syntax.{Code, nested};
 ghost use Rattle.qw_module.specs.Start.{code_of_body};
+ghost use Rattle.qw_top.specs.Compiled.{IsCompiled};
 ghost use Rattle.qw_top.specs.Emit.{IsScan, scan_code, scan_frame, scan_row};
 
 use crate::meaning::Query;
@@ -207,15 +208,9 @@ fn body_of(alloc: Global, literal: i64) -> Result<Body, NoMemory>
     Ok(Body { sequences })
 }
 
-/// The module that runs the statement over its column, whose values are of four octets and not null.
-/// Its `run` takes the address of the descriptor, chains the result rows in the pages that belong to
-/// it, and writes where they begin, how many they are, and where its next object would stand.
-///
-/// # Errors
-///
-/// [`NoMemory`] where the module does not fit memory, and nowhere else.
-pub fn module_of(alloc: Global, query: &Query) -> Result<Module, NoMemory>
-    ensures { IfOk result (λ m. IsScan query.now.literal m) }
+/// The module that compares with this literal.
+fn scan_module(alloc: Global, literal: i64) -> Result<Module, NoMemory>
+    ensures { IfOk result (λ m. IsScan literal m) }
 {
     let params = vec![in alloc; ValType::I32]?;
     let signature = FuncType {
@@ -230,7 +225,7 @@ pub fn module_of(alloc: Global, query: &Query) -> Result<Module, NoMemory>
         ValType::I64,
         ValType::I64,
     ]?;
-    let body = body_of(alloc, query.literal)?;
+    let body = body_of(alloc, literal)?;
     let run = Function {
         type_index: 0,
         locals,
@@ -249,4 +244,19 @@ pub fn module_of(alloc: Global, query: &Query) -> Result<Module, NoMemory>
         globals: Vec::new(alloc),
         exports: vec![in alloc; export]?,
     })
+}
+
+/// The module that runs the statement over its column, whose values are of four octets and not null.
+/// Its `run` takes the address of the descriptor, chains the result rows in the instance's first
+/// page, and writes there where they begin, how many they are, and where the next object would stand.
+///
+/// # Errors
+///
+/// [`NoMemory`] where the module does not fit memory, and nowhere else.
+pub fn module_of(alloc: Global, query: &Query) -> Result<Module, NoMemory>
+    ensures code { IfOk result (λ m. IsScan query.now.literal m) }
+    ensures compiled { IfOk result (λ m. IsCompiled query.now m) }
+{
+    let module = scan_module(alloc, query.literal)?;
+    Ok(module)
 }
