@@ -8,3 +8,4 @@ pub mod Soundness
 pub mod Map
 pub mod Runs
 pub mod Start
+pub mod Turns
