@@ -3,3 +3,6 @@ pub mod Numbered
 pub mod Steps
 pub mod OpenRuns
 pub mod RunRules
+pub mod Sound
+pub mod TypedOperands
+pub mod Checked

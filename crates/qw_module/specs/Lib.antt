@@ -9,3 +9,6 @@ pub mod Map
 pub mod Runs
 pub mod Start
 pub mod Turns
+pub mod Checking
+pub mod Refusals
+pub mod Validity
