@@ -1,11 +1,11 @@
 -- Steps that are counted exactly, and what they say of every open run.
-use Rattle.std.proofs.Common.{◌≡◌, ℕ, zero, suc, ◌+◌, ◌<◌, ◌≤◌, nat_le, List, length, Option, Some, None, refl, sym, ap, ◌∙◌, subst, ⊎_elim, arith}
+use Rattle.std.proofs.Common.{◌≡◌, ℕ, zero, suc, ◌+◌, ◌≤◌, nat_le, List, length, Option, Some, None, refl, subst, ⊎_elim, arith}
 use Rattle.std.proofs.lemmas.Bool.{cases_Bool}
 use Rattle.std.proofs.lemmas.Option.{same_Some, none-some}
-use Rattle.qw_module.specs.Execution.{Config, State, Running, Returned, Raised, Trapped, Event, Step}
+use Rattle.qw_module.specs.Execution.{Config, State, Running, Returned, Raised, Trapped, Event}
 use Rattle.qw_module.specs.Step.{Want, Stuck, Goes, Asks, Puts, wants, answered, Next, next}
 use Rattle.qw_module.specs.Map.{World, Others, IsFine, IsAnswered}
-use Rattle.qw_module.specs.Runs.{Moment, moment_after, OpenStep, OpenRun, begins, goes_on, IsOver, Behaves, OnStep, OnRunning, Steps, Within}
+use Rattle.qw_module.specs.Runs.{Moment, moment_after, OpenStep, OpenRun, begins, goes_on, IsOver, Behaves, OnStep, OnRunning, Steps}
 use Rattle.qw_module.proofs.Steps.{next-rule, rule_from_next}
 
 -- what holds after the steps may be weakened
@@ -32,7 +32,7 @@ Steps-then P Q n following zero k e a h = let same : n ≡ k = omega arith in su
 Steps-then P Q n following (suc m) zero e a h = absurd (omega arith)
 Steps-then P Q n following (suc m) (suc k) e a h = OnRunning-more _ _ a.state
     (λ c steps before others. OnStep-more (Steps P m) (Steps Q k) a.world before (next c before)
-      (Steps-then P Q n following m k (omega arith)) (steps before others)) h
+    (Steps-then P Q n following m k (omega arith)) (steps before others)) h
 
 -- where a step was made, it is the one that is computed
 step-made : (Q : Moment → Type 0) (w : World) (before : List ℕ) (made : Option Next) (event : Event) (state : State) (after : List ℕ) →
@@ -84,7 +84,7 @@ module _ (Q : Moment → Type 0) (ended : (b : Moment) → Q b → IsOver b.stat
       let here = along n k a b run h in
       let there = at_running here.0 b c step.running here.2 in
       let made = step-made (Steps Q there.0) b.world before (next c before) event state after
-          (next-rule c before event state after step.step) (there.2 before step.others) in
+      (next-rule c before event state after step.step) (there.2 before step.others) in
       (there.0, omega (arith, there.1, here.1), made.1)
 
   -- the step that comes next in an open run is fine
@@ -101,13 +101,17 @@ module _ (Q : Moment → Type 0) (ended : (b : Moment) → Q b → IsOver b.stat
     goes_on = λ k b c before run running others.
         let here = along n k a b run h in
         let there = at_running here.0 b c running here.2 in
-        let made = step-there (Steps Q there.0) b.world before (next c before) (there.2 before others) in
-        (made.0.event, made.0.state, made.0.memory, record {
-          running = running;
-          others = others;
-          step = rule_from_next c before made.0 made.1;
-          answered = unasked b.world before (wants c) made.0 made.1;
-        });
+        let made = step-there (Steps Q there.0) b.world before (next c before) (there.2 before others) in (
+          made.0.event,
+          made.0.state,
+          made.0.memory,
+          record {
+            running = running;
+            others = others;
+            step = rule_from_next c before made.0 made.1;
+            answered = unasked b.world before (wants c) made.0 made.1;
+          },
+        );
     fine = λ k b c before event state after run step. fine_along n k a b c before event state after run step h;
     bounded = λ k b c run running.
         let here = along n k a b run h in

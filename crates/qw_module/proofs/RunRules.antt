@@ -1,12 +1,12 @@
 -- Rules for code over any memory of which M holds, where M speaks only of what others keep.
-use Rattle.std.proofs.Common.{◌≡◌, ℕ, zero, suc, ◌+◌, ◌-◌, ◌<◌, ◌≤◌, true, List, [], ◌∷◌, ◌++◌, length, get_or, Option, Some, None, refl, sym, ap, ◌∙◌, subst, ⊎_elim, arith}
+use Rattle.std.proofs.Common.{◌≡◌, ℕ, zero, suc, ◌+◌, ◌-◌, ◌≤◌, true, List, ◌++◌, length, get_or, Option, Some, None, refl, sym, subst, arith}
 use Rattle.std.proofs.lemmas.Bool.{le-leb}
 use Rattle.std.proofs.lemmas.Option.{none-some, same_Some}
-use Rattle.qw_module.specs.Execution.{Config, State, Running, Returned, Raised, Trapped, Event, Loads, Stores}
+use Rattle.qw_module.specs.Execution.{Config, State, Running, Returned, Raised, Trapped}
 use Rattle.qw_module.specs.Memory.{number_at, with_number}
-use Rattle.qw_module.specs.Step.{Want, Stuck, Goes, Asks, Puts, wants, answered, Next, next}
-use Rattle.qw_module.specs.Map.{Area, World, Others, SameIn, IsFine, lies_in_one}
-use Rattle.qw_module.specs.Runs.{Moment, OnStep, Steps}
+use Rattle.qw_module.specs.Step.{Want, Stuck, Goes, Asks, Puts, wants}
+use Rattle.qw_module.specs.Map.{Area, World, Others, SameIn, lies_in_one}
+use Rattle.qw_module.specs.Runs.{Moment, Steps}
 use Rattle.qw_module.proofs.MemoryFacts.{number_at-moved}
 
 -- k more than n
@@ -95,4 +95,4 @@ pub number_at-kept : (before after : List ℕ) (area : Area) (at width : ℕ) �
     area.start ≤ at → at + width ≤ area.start + area.size → number_at after at width ≡ number_at before at width
 number_at-kept before after area at width same low high = number_at-moved after before at at width
     (λ k below. let place : area.start + (at + k - area.start) ≡ at + k = omega arith in
-     subst (λ (i : ℕ). get_or after i 0 ≡ get_or before i 0) place (same (at + k - area.start) (omega arith)))
+    subst (λ (i : ℕ). get_or after i 0 ≡ get_or before i 0) place (same (at + k - area.start) (omega arith)))

@@ -1,5 +1,5 @@
 -- The memory as its users see it: areas, what an instance may touch of it, and what others may change.
-use Rattle.std.specs.Prelude.{◌≡◌, ℕ, ◌+◌, ◌-◌, ◌*◌, ◌<◌, ◌≤◌, nat_le, ◌&&◌, Bool, true, false, IsTrue, ◌⊎◌, List, [], ◌∷◌, ◌++◌, length, Option, Some, None, IsSome, slice_index}
+use Rattle.std.specs.Prelude.{◌≡◌, ℕ, ◌+◌, ◌-◌, ◌*◌, ◌<◌, ◌≤◌, nat_le, ◌&&◌, Bool, true, false, IsTrue, ◌⊎◌, List, [], ◌∷◌, ◌++◌, length, Option, Some, IsSome, slice_index}
 use Rattle.std.specs.List.{list_any, AllByRecursion}
 use Rattle.qw_module.specs.Memory.{AreOctets}
 use Rattle.qw_module.specs.Execution.{Event, Silent, Loads, Stores, Grows, Raises, Traps}

@@ -1,76 +1,92 @@
--- Several instances over one memory, and what a turn of one of them does.
-use Rattle.std.specs.Prelude.{ℕ, zero, suc, ◌+◌, ◌==◌, nat_le, if◌then◌else◌, List, [], ◌∷◌, Option, Some, None, slice_get, slice_set}
-use Rattle.std.specs.Option.{option_map, option_and_then}
-use Rattle.qw_module.specs.Execution.{Config, State, Running, Returned, Raised, Trapped}
+-- Several instances over one memory, and the turns that they are given. The atomic step is one instruction of one
+-- instance.
+use Rattle.std.specs.Prelude.{ℕ, zero, suc, ◌+◌, ◌==◌, nat_le, ◌||◌, if◌then◌else◌, List, [], ◌∷◌, Option, Some, None, slice_get, slice_set, is_some}
+use Rattle.qw_module.specs.Execution.{State, Running, Returned, Raised, Trapped}
 use Rattle.qw_module.specs.Step.{Next, next}
 use Rattle.qw_module.specs.Map.{World, world_after}
 
--- how an instance ended: by its return; by a raised exception; by a request of pages that was refused; by its limit of steps
+-- How an instance ended: it returned, it raised an exception's code, a request for so many pages beside those held was past
+-- its limit and the instance raised 3, it ran as many instructions as its limit says, or it trapped.
 pub data End : Type 0 where
   Done : End
-  Raise : (code : ℕ) → End
+  Exception : (code : ℕ) → End
   Pages : (held asked limit : ℕ) → End
-  StepLimit : (limit : ℕ) → End
+  Steps : (limit : ℕ) → End
+  Trap : End
 
--- an instance: what it has, its state, how many steps it made, and how many it may make
+-- An instance: where it is, what it has of the memory, how many instructions it may run, how many it has run, and how it
+-- ended.
 pub record Instance : Type 0 where
-  pub world : World
   pub state : State
-  pub steps : ℕ
-  pub limit : ℕ
+  pub world : World
+  pub most_steps : ℕ
+  pub ran : ℕ
+  pub end : Option End
 
--- one memory and its instances
-pub record Together : Type 0 where
+-- One memory and the instances that share it.
+pub record Shared : Type 0 where
   pub memory : List ℕ
   pub instances : List Instance
 
--- A raised 3 tells of the last request that was refused, any other number is an exception's. A trap is no end.
-abbrev pub end_of_state : World → ℕ → ℕ → State → Option End
-end_of_state world steps limit (Running c) = if nat_le limit steps then Some (StepLimit limit) else None
-end_of_state world steps limit Returned = Some Done
-end_of_state world steps limit (Raised code) = if code == 3 then option_map (λ asked. Pages world.held asked world.limit) world.refused else Some (Raise code)
-end_of_state world steps limit Trapped = None
+-- the end after a refused request; a raise of 3 without one counts as a trap
+abbrev pub end_of_refusal : Option ℕ → World → Option End
+end_of_refusal None w = Some Trap
+end_of_refusal (Some asked) w = Some (Pages w.held asked w.limit)
 
-abbrev pub end_of : Instance → Option End
-end_of instance = end_of_state instance.world instance.steps instance.limit instance.state
+-- the end at a code that was raised: 1 and 2 are exceptions, 3 tells that the last request was refused
+abbrev pub end_of_raise : ℕ → World → Option End
+end_of_raise code w =
+    if (code == 1) || (code == 2) then Some (Exception code) else end_of_refusal w.refused w
 
--- the instance after a step from a memory
-abbrev pub after_step : Instance → List ℕ → Next → Instance
-after_step instance memory made =
-    record instance { world = world_after instance.world memory made.event; state = made.state; steps = instance.steps + 1 }
+-- the end at a state, after so many instructions of at most `most`
+abbrev pub end_at : State → World → (ran most : ℕ) → Option End
+end_at Returned w ran most = Some Done
+end_at (Raised code) w ran most = end_of_raise code w
+end_at Trapped w ran most = Some Trap
+end_at (Running c) w ran most = if nat_le most ran then Some (Steps most) else None
 
--- the next step of a state, where it runs
-abbrev pub next_of : State → List ℕ → Option Next
-next_of (Running c) memory = next c memory
-next_of Returned memory = None
-next_of (Raised code) memory = None
-next_of Trapped memory = None
+-- the instance after a step to a state, with what it has then
+abbrev pub moved : Instance → World → State → Instance
+moved i w s = record {
+  state = s;
+  world = w;
+  most_steps = i.most_steps;
+  ran = i.ran + 1;
+  end = end_at s w (i.ran + 1) i.most_steps;
+}
 
--- the next step of an instance, where it has not ended
-abbrev pub next_unless : Option End → Option Next → Option Next
-next_unless None made = made
-next_unless (Some end) made = None
+-- an instance and the memory after a step of it; a state that has none stays
+abbrev pub after_next : Instance → List ℕ → Option Next → Instance × List ℕ
+after_next i m None = (i, m)
+after_next i m (Some t) = (moved i (world_after i.world m t.event) t.state, t.memory)
 
-abbrev pub next_step : Instance → List ℕ → Option Next
-next_step instance memory = next_unless (end_of instance) (next_of instance.state memory)
+abbrev pub stepped_from : State → Instance → List ℕ → Instance × List ℕ
+stepped_from (Running c) i m = after_next i m (next c m)
+stepped_from Returned i m = (i, m)
+stepped_from (Raised code) i m = (i, m)
+stepped_from Trapped i m = (i, m)
 
--- all together after a step of instance i; none where there is no such instance, or it has ended
-abbrev pub stepped : Together → ℕ → Option Together
-stepped all i = option_and_then
-    (λ instance. option_map (λ made. record { memory = made.memory; instances = slice_set all.instances i (after_step instance all.memory made) }) (next_step instance all.memory))
-    (slice_get all.instances i)
+abbrev pub stepped : Instance → List ℕ → Instance × List ℕ
+stepped i m = stepped_from i.state i m
 
--- what follows a step, where one was made
-abbrev pub on_stepped : Together → Option Together → (Together → Together) → Together
-on_stepped all None following = all
-on_stepped all (Some after) following = following after
+-- an instance and the memory after at most `quantum` steps of it, none after its end
+abbrev pub steps_of : (quantum : ℕ) → Instance → List ℕ → Instance × List ℕ
+steps_of zero i m = (i, m)
+steps_of (suc q) i m = if is_some i.end then (i, m) else steps_of q (stepped i m).0 (stepped i m).1
 
--- a turn of instance i: it makes q steps, or fewer where it ends before
-abbrev pub turned : Together → ℕ → ℕ → Together
-turned all i zero = all
-turned all i (suc q) = on_stepped all (stepped all i) (λ after. turned after i q)
+-- with one instance and the memory changed
+abbrev pub with_instance : Shared → ℕ → Instance × List ℕ → Shared
+with_instance s i changed = record { memory = changed.1; instances = slice_set s.instances i changed.0 }
 
--- one turn after another, each an instance and its quantum
-abbrev pub turned_all : Together → List (ℕ × ℕ) → Together
-turned_all all [] = all
-turned_all all (turn ∷ turns) = turned_all (turned all turn.0 turn.1) turns
+abbrev pub turn_at : Shared → ℕ → ℕ → Option Instance → Shared
+turn_at s i quantum None = s
+turn_at s i quantum (Some instance) = with_instance s i (steps_of quantum instance s.memory)
+
+-- A turn: the instance of this number takes steps until it has ended or has taken `quantum`.
+abbrev pub turn : Shared → ℕ × ℕ → Shared
+turn s (i, quantum) = turn_at s i quantum (slice_get s.instances i)
+
+-- turns one after another
+abbrev pub turns : List (ℕ × ℕ) → Shared → Shared
+turns [] s = s
+turns (t ∷ ts) s = turns ts (turn s t)

@@ -6,3 +6,12 @@ pub mod ScanRuns
 pub mod ScanStart
 pub mod ScanResult
 pub mod ScanCompiled
+pub mod OutputLemmas
+pub mod WholeFileLemmas
+pub mod ColumnLemmas
+pub mod LoadingLaws
+pub mod NumberLemmas
+pub mod ReaderLemmas
+pub mod RecordLemmas
+pub mod RowLemmas
+pub mod SinkLemmas

@@ -1,6 +1,8 @@
 -- The module of a statement over one table: the code of its function `run`.
 use Rattle.std.specs.Prelude.{◌≡◌, ℕ, ℤ, List, [], ◌∷◌, map, codes, Option, Some, None}
 use Rattle.std.specs.Int.{w64, cast_unsigned}
+use Rattle.std.specs.List.{AllByRecursion}
+use Rattle.std.specs.String.{string_bytes}
 use Rattle.qw_module.specs.declared.instruction.ValType.{ValType}
 use Rattle.qw_module.specs.declared.instruction.ValType.TheVariants.{I32, I64}
 use Rattle.qw_module.specs.declared.instruction.Sign.TheVariants.{Signed}
@@ -14,9 +16,11 @@ use Rattle.qw_module.specs.declared.module.FuncType.{FuncType}
 use Rattle.qw_module.specs.declared.module.Import.TheVariants as import
 use Rattle.qw_module.specs.declared.module.Function.{Function}
 use Rattle.qw_module.specs.declared.module.ExportKind.TheVariants as kind
+use Rattle.qw_module.specs.declared.module.Export.{Export}
+use Rattle.qw_module.specs.declared.module.ExportKind.{ExportKind}
 use Rattle.qw_module.specs.declared.module.Module.{Module}
-use Rattle.qw_module.specs.Syntax.{Code, done, op, block, loop, if_else, br, br_if}
-use Rattle.qw_module.specs.Start.{code_of_body, exported}
+use Rattle.qw_module.specs.Syntax.{Code, done, op, block, loop, if_else, br, br_if, IsNumbered}
+use Rattle.qw_module.specs.Validity.{code_of_body, sequences_of}
 
 -- instructions that hold no other, each followed by the rest of its sequence
 abbrev pub get : ℕ → Code → Code
@@ -89,12 +93,17 @@ signature_of type = (type.params.items, type.results.items)
 abbrev pub contents_of : Function → ℕ × List ValType × Code
 contents_of function = (function.type_index, function.locals.items, code_of_body function.body)
 
+-- an export: its name and what it stands for
+abbrev pub exported : Export → List ℕ × ExportKind
+exported export = (string_bytes export.name, export.kind)
+
 -- The module of a statement with this literal: it imports the memory, of at least one page, and the function
 -- `raise`, and exports its own function `run`; both functions take one i32 and leave nothing.
 pub record IsScan (literal : ℤ) (m : Module) : Type 0 where
   pub types : map signature_of m.types.items ≡ (I32 ∷ [], []) ∷ []
   pub imports : m.imports.items ≡ import.Memory (record { min = 1; max = None }) ∷ import.Raise 0 ∷ []
   pub functions : map contents_of m.functions.items ≡ (0, I32 ∷ I32 ∷ I32 ∷ I32 ∷ I64 ∷ I64 ∷ [], scan_code literal) ∷ []
+  pub numbered : AllByRecursion (λ (function : Function). IsNumbered (sequences_of function.body)) m.functions.items
   pub memory : m.memory ≡ None
   pub globals : m.globals.items ≡ []
   pub exports : map exported m.exports.items ≡ (codes "run", kind.Function 1) ∷ []

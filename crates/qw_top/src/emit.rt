@@ -1,7 +1,7 @@
 ghost use Rattle.std.specs.Prelude.{◌≡◌, ℕ, IfOk};
 ghost use Rattle.std.specs.Int.{cast_unsigned, w64};
-ghost use Rattle.qw_module.specs.Syntax.{Code, nested};
-ghost use Rattle.qw_module.specs.Start.{code_of_body};
+ghost use Rattle.qw_module.specs.Syntax.{Code, IsNumbered, nested};
+ghost use Rattle.qw_module.specs.Validity.{code_of_body, sequences_of};
 ghost use Rattle.qw_top.specs.Compiled.{IsCompiled};
 ghost use Rattle.qw_top.specs.Emit.{IsScan, scan_code, scan_frame, scan_row};
 
@@ -192,7 +192,8 @@ fn outer_sequence(alloc: Global) -> Result<Vec<Instr>, NoMemory>
 
 /// The body of `run`, inner sequences before the one that holds them.
 fn body_of(alloc: Global, literal: i64) -> Result<Body, NoMemory>
-    ensures { IfOk result (λ b. code_of_body b ≡ scan_code literal) }
+    ensures code { IfOk result (λ b. code_of_body b ≡ scan_code literal) }
+    ensures numbered { IfOk result (λ b. IsNumbered (sequences_of b)) }
 {
     let row = row_sequence(alloc, literal)?;
     let around = vec![in alloc;
