@@ -9,7 +9,9 @@ ghost use Rattle.qw_module.specs.declared.instruction.ValType.{ValType};
 ghost use Rattle.qw_module.specs.Checking.{nothing, anything, pushed, popped, all_pushed, all_popped, has_none, under, after_op};
 ghost use Rattle.qw_module.specs.Refusals.{Finds, Decides};
 
-use crate::instruction::{Binary, BlockType, Const, Instr, Load, MemArg, Op, Relation, Store, ValType};
+use crate::instruction::{
+    Binary, BlockType, Const, Instr, Load, MemArg, Op, Relation, Store, ValType,
+};
 use std::alloc::Global;
 use std::marker::Model;
 
@@ -136,7 +138,12 @@ impl Labels {
     pub(crate) fn get(&self, label: u32) -> Result<BlockType, Refusal>
         ensures { Finds result (slice_get self.now label) types_of }
     {
-        self.taken.iter().rev().nth(label as usize).copied().ok_or(Refusal::IllTyped)
+        self.taken
+            .iter()
+            .rev()
+            .nth(label as usize)
+            .copied()
+            .ok_or(Refusal::IllTyped)
     }
 }
 
