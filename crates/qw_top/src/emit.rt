@@ -46,6 +46,9 @@ const CELL_OFFSET: u32 = 8;
 
 const ROW_SIZE: u32 = 24;
 
+/// Four less, modulo 2^32.
+const MINUS_FOUR: u32 = u32::MAX - 3;
+
 fn get(local: u32) -> Instr
     ensures { result ≡ Instr.Op (Op.LocalGet local) }
 {
@@ -106,7 +109,9 @@ fn store_i64(offset: u32) -> Instr
     Instr::Op(Op::Store(Store::I64, MemArg { align: 3, offset }))
 }
 
-/// The loop's body, which looks at one value of the column.
+/// The loop's body, which looks at one value of the column: it leaves the loop after the last, goes
+/// to the next value, and begins again unless the value is greater than the literal. Else the last
+/// link leads to a new row, which gets the value and is counted.
 fn row_sequence(alloc: Global, literal: i64) -> Result<Vec<Instr>, NoMemory>
     ensures code { IfOk result (λ v. (named : ℕ → Code) → nested named v.items ≡ scan_row literal) }
     ensures names { IfOk result (λ v. AllByRecursion (NamesBelow 0) v.items) }
@@ -145,7 +150,8 @@ fn row_sequence(alloc: Global, literal: i64) -> Result<Vec<Instr>, NoMemory>
     Ok(sequence)
 }
 
-/// The outermost sequence: what stands before the loop, the loop, and what is written after it.
+/// The outermost sequence: the places of the values, of the rows and of the first link are read, then
+/// the loop runs, and then the next free address, the last row and the number of rows are written.
 fn outer_sequence(alloc: Global) -> Result<Vec<Instr>, NoMemory>
     ensures code { IfOk result (λ v. (named : ℕ → Code) → nested named v.items ≡ scan_frame (named 1) (named 2) (named 3)) }
     ensures names { IfOk result (λ v. AllByRecursion (NamesBelow 4) v.items) }
@@ -153,7 +159,7 @@ fn outer_sequence(alloc: Global) -> Result<Vec<Instr>, NoMemory>
     let sequence = vec![in alloc;
         get(DESCRIPTOR),
         load(Load::I32, VALUES_OFFSET),
-        i32_const(u32::MAX - 3),
+        i32_const(MINUS_FOUR),
         binary(Binary::I32Add),
         tee(PLACE),
         get(DESCRIPTOR),
@@ -171,7 +177,7 @@ fn outer_sequence(alloc: Global) -> Result<Vec<Instr>, NoMemory>
         set(LINK),
         Instr::Block {
             result: None,
-            body: 1,
+            body: 1
         },
         get(DESCRIPTOR),
         get(NEXT_ROW),
@@ -183,7 +189,7 @@ fn outer_sequence(alloc: Global) -> Result<Vec<Instr>, NoMemory>
         Instr::If {
             result: Some(ValType::I32),
             then_body: 2,
-            else_body: 3,
+            else_body: 3
         },
         store_i32(LAST_ROW_OFFSET),
         get(DESCRIPTOR),
@@ -262,4 +268,21 @@ pub fn module_of(alloc: Global, query: &Query) -> Result<Module, NoMemory>
 {
     let module = scan_module(alloc, query.literal)?;
     Ok(module)
+}
+
+#[cfg(test)]
+mod tests {
+    use super::*;
+    use std::test::Fail;
+
+    #[test]
+    fn a_module_is_made(rt: HostRuntime) -> Result<(), Fail> {
+        let query = Query {
+            column: 0,
+            literal: 5,
+        };
+        let module = module_of(rt.alloc(), &query)?;
+        assert_eq!(rt; module.functions.len(), 1);
+        Ok(())
+    }
 }
