@@ -109,6 +109,31 @@ fn store_i64(offset: u32) -> Instr
     Instr::Op(Op::Store(Store::I64, MemArg { align: 3, offset }))
 }
 
+/// A block that leaves nothing.
+fn block(body: usize) -> Instr
+    ensures { result ≡ Instr.Block None body }
+{
+    Instr::Block { result: None, body }
+}
+
+/// A loop that leaves nothing.
+fn repeat(body: usize) -> Instr
+    ensures { result ≡ Instr.Loop None body }
+{
+    Instr::Loop { result: None, body }
+}
+
+/// The i32 that one of two sequences leaves.
+fn i32_choice(then_body: usize, else_body: usize) -> Instr
+    ensures { result ≡ Instr.If (Some ValType.I32) then_body else_body }
+{
+    Instr::If {
+        result: Some(ValType::I32),
+        then_body,
+        else_body,
+    }
+}
+
 /// The loop's body, which looks at one value of the column: it leaves the loop after the last, goes
 /// to the next value, and begins again unless the value is greater than the literal. Else the last
 /// link leads to a new row, which gets the value and is counted.
@@ -175,10 +200,7 @@ fn outer_sequence(alloc: Global) -> Result<Vec<Instr>, NoMemory>
         i32_const(FIRST_ROW_OFFSET),
         binary(Binary::I32Add),
         set(LINK),
-        Instr::Block {
-            result: None,
-            body: 1
-        },
+        block(1),
         get(DESCRIPTOR),
         get(NEXT_ROW),
         store_i32(FREE_OFFSET),
@@ -186,11 +208,7 @@ fn outer_sequence(alloc: Global) -> Result<Vec<Instr>, NoMemory>
         get(COUNT),
         i64_const(0),
         relation(Relation::I64Eq),
-        Instr::If {
-            result: Some(ValType::I32),
-            then_body: 2,
-            else_body: 3
-        },
+        i32_choice(2, 3),
         store_i32(LAST_ROW_OFFSET),
         get(DESCRIPTOR),
         get(COUNT),
@@ -205,12 +223,7 @@ fn body_of(alloc: Global, literal: i64) -> Result<Body, NoMemory>
     ensures numbered { IfOk result (λ b. IsNumbered (sequences_of b)) }
 {
     let row = row_sequence(alloc, literal)?;
-    let around = vec![in alloc;
-        Instr::Loop {
-            result: None,
-            body: 0
-        },
-    ]?;
+    let around = vec![in alloc; repeat(0)]?;
     let no_row = vec![in alloc; i32_const(0)]?;
     let last_row = vec![in alloc; get(LINK)]?;
     let outer = outer_sequence(alloc)?;
