@@ -16,7 +16,9 @@ pub struct FileShelf<'a, R: Files> {
 }
 
 impl<'a, R: Files> FileShelf<'a, R> {
-    pub fn new(runtime: &'a R) -> Self {
+    pub fn new(runtime: &'a R) -> Self
+        ensures { ⟦<FileShelf<'a, R> as Shelf>⟧.faults result ≡ 0 }
+    {
         FileShelf {
             runtime,
             faults: FaultCount::ZERO,

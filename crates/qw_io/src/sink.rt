@@ -19,7 +19,8 @@ pub trait Sink {
     /// other at least one.
     fn put(&mut self, piece: &[u8]) -> Result<usize, IoFault>
         ensures never_falls { faults self.old ≤ faults self.new }
-        ensures failed_is_counted { IsErrOf result IoFault.Failed → IsCounted (faults self.old) (faults self.new) }
+        ensures failed_is_counted { IsErrOf result IoFault.Failed →
+            IsCounted (faults self.old) (faults self.new) }
         ensures no_memory_is_not { IsErrOf result IoFault.NoMemory → faults self.new ≡ faults self.old }
         ensures memory_is_taken { IsErrOf result IoFault.NoMemory → IsTrue takes_memory }
         ensures ok_is_not { OnOk result (faults self.new ≡ faults self.old) }

@@ -13,7 +13,9 @@ pub struct StdSink<W> {
 }
 
 impl<W: Write> StdSink<W> {
-    pub fn new(stream: W) -> Self {
+    pub fn new(stream: W) -> Self
+        ensures { ⟦<StdSink<W> as Sink>⟧.faults result ≡ 0 }
+    {
         StdSink {
             stream,
             faults: FaultCount::ZERO,

@@ -69,7 +69,8 @@ AreRecordsOf columns _ _ = ⊥
 abbrev pub IsHeader : List Column → List (List ℕ) → Type 0
 IsHeader columns fields = map (λ field. map to_ascii_lowercase field) fields ≡ map (λ (c : Column). map to_ascii_lowercase c.name) columns
 
--- the first records of a file (RFC 4180), a byte order mark at its start passed over
+-- the first records of a file (RFC 4180): commas part their fields, which may stand between double quotes. One byte order
+-- mark at the start of the file is passed over, and so are empty lines
 abbrev pub AreFirstRecords : List ℕ → List (List (List ℕ)) → Type 0
 AreFirstRecords bytes records = (state : State) × (rest : List ℕ) × Reached default_config StartRecord (strip_bom bytes) records state rest
 

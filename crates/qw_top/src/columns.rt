@@ -5,16 +5,14 @@ ghost use Rattle.qw_top.specs.Columns.{Holds, SameOutside, columns_end, columns_
 
 use crate::loading::Loaded;
 
-/// The octets of a page.
-pub const PAGE_SIZE: usize = 65_536;
-
 /// Where the columns begin. The octets before belong to nobody.
 pub const COLUMNS_START: usize = 64;
 
-/// The octets of a value of an INTEGER column.
-pub const INTEGER_SIZE: usize = 4;
+// The octets of a value of an INTEGER column.
+const INTEGER_SIZE: usize = 4;
 
-/// Writes the column of a loaded table into the memory, of which one page is enough.
+/// Writes the column of a loaded table into the memory: four octets for each row from octet 64 on,
+/// the least significant first. One page has room for the most rows that a loaded table can have.
 pub fn place(loaded: &Loaded, memory: &mut [u8])
     requires { page_size ≤ length memory.old }
     ensures holds { Holds memory.new loaded.now }

@@ -60,9 +60,11 @@ pub fn read_whole<F: Shelf>(
     name: &str,
     limit: usize,
 ) -> Result<Vec<u8>, ReadFault>
-    ensures whole { IfOk result (λ bytes. OfFile (F.files files.old) name.now (λ file. file ≡ bytes.items)) }
+    ensures whole { IfOk result (λ bytes.
+        OfFile (F.files files.old) name.now (λ file. file ≡ bytes.items)) }
     ensures within { IfOk result (λ bytes. length bytes.items ≤ limit) }
-    ensures too_long { IsErrOf result ReadFault.TooLong → OfFile (F.files files.old) name.now (λ file. limit < length file) }
+    ensures too_long { IsErrOf result ReadFault.TooLong →
+        OfFile (F.files files.old) name.now (λ file. limit < length file) }
 
     ensures counts { CountsRead result (F.faults files.old) (F.faults files.new) }
     ensures never_falls { F.faults files.old ≤ F.faults files.new }
@@ -82,9 +84,11 @@ fn read_pieces<F: Shelf>(
 ) -> Result<Vec<u8>, ReadFault>
     requires { 0 < length piece.old }
 
-    ensures whole { IfOk result (λ bytes. OfFile (F.files files.old) name.now (λ file. file ≡ bytes.items)) }
+    ensures whole { IfOk result (λ bytes.
+        OfFile (F.files files.old) name.now (λ file. file ≡ bytes.items)) }
     ensures within { IfOk result (λ bytes. length bytes.items ≤ limit) }
-    ensures too_long { IsErrOf result ReadFault.TooLong → OfFile (F.files files.old) name.now (λ file. limit < length file) }
+    ensures too_long { IsErrOf result ReadFault.TooLong →
+        OfFile (F.files files.old) name.now (λ file. limit < length file) }
 
     ensures counts { CountsRead result (F.faults files.old) (F.faults files.new) }
     ensures never_falls { F.faults files.old ≤ F.faults files.new }
@@ -111,11 +115,13 @@ fn read_more<F: Shelf>(
 ) -> Result<usize, ReadFault>
     requires { 0 < length piece.old }
 
-    ensures front { OnOk result (IsFront (F.files files.old) name.now bytes.old.items → IsFront (F.files files.old) name.now bytes.new.items) }
+    ensures front { OnOk result (IsFront (F.files files.old) name.now bytes.old.items →
+        IsFront (F.files files.old) name.now bytes.new.items) }
     ensures within { IfOk result (λ count. count ≤ length piece.old) }
     ensures added { IfOk result (λ count. length bytes.new.items ≡ length bytes.old.items + count) }
     ensures end { IfOk result (λ count. count ≡ 0 →
-        (bytes.new.items ≡ bytes.old.items) × OfFile (F.files files.old) name.now (λ file. length file ≤ length bytes.old.items)) }
+        (bytes.new.items ≡ bytes.old.items) ×
+        OfFile (F.files files.old) name.now (λ file. length file ≤ length bytes.old.items)) }
 
     ensures never_too_long { ¬ IsErrOf result ReadFault.TooLong }
     ensures counts { CountsRead result (F.faults files.old) (F.faults files.new) }
