@@ -18,7 +18,7 @@ use Rattle.qw_module.specs.Runs.{Moment, IsOver, Behaves, Steps}
 use Rattle.qw_module.specs.Validity.{code_of_body}
 use Rattle.qw_module.specs.Start.{run_begins, weight}
 use Rattle.qw_module.proofs.MemoryFacts.{number_at-four}
-use Rattle.qw_module.proofs.OpenRuns.{Steps-more, behaves_within}
+use Rattle.qw_module.proofs.OpenRuns.{Steps-more, Within-from_steps, behaves_within}
 use Rattle.qw_module.proofs.RunRules.{more, more-is}
 use Rattle.qw_top.specs.declared.meaning.Query.{Query}
 use Rattle.qw_top.specs.Meaning.{Rows, outcome, results}
@@ -126,7 +126,8 @@ module _ (query : Query) (fits : SFits w64 query.literal) (rows : List (List Val
       let begins : Moment = record { world = first_world start (length rows) d limit; state = running (scan_code query.literal) [] (d ∷ 0 ∷ 0 ∷ 0 ∷ 0 ∷ 0 ∷ 0 ∷ []) in_call; memory = memory } in
       behaves_within (λ b. Answers query rows d b b.state) (λ b h. answers_over query rows d b b.state h)
       (more 19 (count_of query.literal words)) (63 * (1 + units query rows)) within begins
-      (Steps-more (Over start (length rows) d limit all) (λ b. Answers query rows d b b.state) delivered (more 19 (count_of query.literal words)) begins steps)
+      (Within-from_steps (λ b. Answers query rows d b b.state) (more 19 (count_of query.literal words)) begins
+      (Steps-more (Over start (length rows) d limit all) (λ b. Answers query rows d b b.state) delivered (more 19 (count_of query.literal words)) begins steps))
 
 pub scan_compiled : (query : Query) (m : Module) → SFits w64 query.literal → IsScan query.literal m → IsCompiled query m
 scan_compiled query m fits scan =
