@@ -11,10 +11,5 @@ pub mod Validity
 pub mod ValidFaults
 pub mod Map
 pub mod Runs
-pub mod Map
-pub mod Runs
 pub mod Start
 pub mod Turns
-pub mod Checking
-pub mod Refusals
-pub mod Validity
