@@ -53,7 +53,7 @@ Within-then P Q n following (suc m) zero le a h = absurd (omega arith)
 Within-then P Q n following (suc m) (suc k) le a (inl h) = following (suc k) a (omega arith) h
 Within-then P Q n following (suc m) (suc k) le a (inr h) = inr (OnRunning-more _ _ a.state
     (λ c steps before others. OnStep-more (Within P m) (Within Q k) a.world before (next c before)
-      (Within-then P Q n following m k (omega arith)) (steps before others)) h)
+    (Within-then P Q n following m k (omega arith)) (steps before others)) h)
 
 -- a greater number of steps
 pub Within-more : (Q : Moment → Type 0) (m k : ℕ) → m ≤ k → (a : Moment) → Within Q m a → Within Q k a
