@@ -2,7 +2,9 @@
 //! definitions of validity and execution (in `specs/`), and the machine that executes a module.
 #![tactic(auto)]
 
+mod checker;
 pub mod instruction;
 pub mod laws;
 pub mod module;
 pub mod turn_laws;
+pub mod valid;

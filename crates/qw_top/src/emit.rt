@@ -1,7 +1,10 @@
 ghost use Rattle.std.specs.Prelude.{◌≡◌, ℕ, IfOk};
 ghost use Rattle.std.specs.Int.{cast_unsigned, w64};
-ghost use Rattle.qw_module.specs.Syntax.{Code, nested};
-ghost use Rattle.qw_top.specs.Emit.{IsScan, code_of_body, scan_code, scan_frame, scan_row};
+ghost use Rattle.std.specs.List.{AllByRecursion};
+ghost use Rattle.qw_module.specs.Syntax.{Code, IsNumbered, NamesBelow, nested};
+ghost use Rattle.qw_module.specs.Validity.{code_of_body, sequences_of};
+ghost use Rattle.qw_top.specs.Compiled.{IsCompiled};
+ghost use Rattle.qw_top.specs.Emit.{IsScan, scan_code, scan_frame, scan_row};
 
 use crate::meaning::Query;
 use qw_module::instruction::{
@@ -42,6 +45,9 @@ const COLUMN_ROWS_OFFSET: u32 = 76;
 const CELL_OFFSET: u32 = 8;
 
 const ROW_SIZE: u32 = 24;
+
+/// Four less, modulo 2^32.
+const MINUS_FOUR: u32 = u32::MAX - 3;
 
 fn get(local: u32) -> Instr
     ensures { result ≡ Instr.Op (Op.LocalGet local) }
@@ -103,9 +109,37 @@ fn store_i64(offset: u32) -> Instr
     Instr::Op(Op::Store(Store::I64, MemArg { align: 3, offset }))
 }
 
-/// The loop's body, which looks at one value of the column.
+/// A block that leaves nothing.
+fn block(body: usize) -> Instr
+    ensures { result ≡ Instr.Block None body }
+{
+    Instr::Block { result: None, body }
+}
+
+/// A loop that leaves nothing.
+fn repeat(body: usize) -> Instr
+    ensures { result ≡ Instr.Loop None body }
+{
+    Instr::Loop { result: None, body }
+}
+
+/// The i32 that one of two sequences leaves.
+fn i32_choice(then_body: usize, else_body: usize) -> Instr
+    ensures { result ≡ Instr.If (Some ValType.I32) then_body else_body }
+{
+    Instr::If {
+        result: Some(ValType::I32),
+        then_body,
+        else_body,
+    }
+}
+
+/// The loop's body, which looks at one value of the column: it leaves the loop after the last, goes
+/// to the next value, and begins again unless the value is greater than the literal. Else the last
+/// link leads to a new row, which gets the value and is counted.
 fn row_sequence(alloc: Global, literal: i64) -> Result<Vec<Instr>, NoMemory>
-    ensures { IfOk result (λ v. (named : ℕ → Code) → nested named v.items ≡ scan_row literal) }
+    ensures code { IfOk result (λ v. (named : ℕ → Code) → nested named v.items ≡ scan_row literal) }
+    ensures names { IfOk result (λ v. AllByRecursion (NamesBelow 0) v.items) }
 {
     let sequence = vec![in alloc;
         get(PLACE),
@@ -141,14 +175,16 @@ fn row_sequence(alloc: Global, literal: i64) -> Result<Vec<Instr>, NoMemory>
     Ok(sequence)
 }
 
-/// The outermost sequence: what stands before the loop, the loop, and what is written after it.
+/// The outermost sequence: the places of the values, of the rows and of the first link are read, then
+/// the loop runs, and then the next free address, the last row and the number of rows are written.
 fn outer_sequence(alloc: Global) -> Result<Vec<Instr>, NoMemory>
-    ensures { IfOk result (λ v. (named : ℕ → Code) → nested named v.items ≡ scan_frame (named 1) (named 2) (named 3)) }
+    ensures code { IfOk result (λ v. (named : ℕ → Code) → nested named v.items ≡ scan_frame (named 1) (named 2) (named 3)) }
+    ensures names { IfOk result (λ v. AllByRecursion (NamesBelow 4) v.items) }
 {
     let sequence = vec![in alloc;
         get(DESCRIPTOR),
         load(Load::I32, VALUES_OFFSET),
-        i32_const(u32::MAX - 3),
+        i32_const(MINUS_FOUR),
         binary(Binary::I32Add),
         tee(PLACE),
         get(DESCRIPTOR),
@@ -164,10 +200,7 @@ fn outer_sequence(alloc: Global) -> Result<Vec<Instr>, NoMemory>
         i32_const(FIRST_ROW_OFFSET),
         binary(Binary::I32Add),
         set(LINK),
-        Instr::Block {
-            result: None,
-            body: 1,
-        },
+        block(1),
         get(DESCRIPTOR),
         get(NEXT_ROW),
         store_i32(FREE_OFFSET),
@@ -175,11 +208,7 @@ fn outer_sequence(alloc: Global) -> Result<Vec<Instr>, NoMemory>
         get(COUNT),
         i64_const(0),
         relation(Relation::I64Eq),
-        Instr::If {
-            result: Some(ValType::I32),
-            then_body: 2,
-            else_body: 3,
-        },
+        i32_choice(2, 3),
         store_i32(LAST_ROW_OFFSET),
         get(DESCRIPTOR),
         get(COUNT),
@@ -190,15 +219,11 @@ fn outer_sequence(alloc: Global) -> Result<Vec<Instr>, NoMemory>
 
 /// The body of `run`, inner sequences before the one that holds them.
 fn body_of(alloc: Global, literal: i64) -> Result<Body, NoMemory>
-    ensures { IfOk result (λ b. code_of_body b ≡ scan_code literal) }
+    ensures code { IfOk result (λ b. code_of_body b ≡ scan_code literal) }
+    ensures numbered { IfOk result (λ b. IsNumbered (sequences_of b)) }
 {
     let row = row_sequence(alloc, literal)?;
-    let around = vec![in alloc;
-        Instr::Loop {
-            result: None,
-            body: 0
-        },
-    ]?;
+    let around = vec![in alloc; repeat(0)]?;
     let no_row = vec![in alloc; i32_const(0)]?;
     let last_row = vec![in alloc; get(LINK)]?;
     let outer = outer_sequence(alloc)?;
@@ -206,15 +231,9 @@ fn body_of(alloc: Global, literal: i64) -> Result<Body, NoMemory>
     Ok(Body { sequences })
 }
 
-/// The module that runs the statement over its column, whose values are of four octets and not null.
-/// Its `run` takes the address of the descriptor, chains the result rows in the pages that belong to
-/// it, and writes where they begin, how many they are, and where its next object would stand.
-///
-/// # Errors
-///
-/// [`NoMemory`] where the module does not fit memory, and nowhere else.
-pub fn module_of(alloc: Global, query: &Query) -> Result<Module, NoMemory>
-    ensures { IfOk result (λ m. IsScan query.now.literal m) }
+/// The module that compares with this literal.
+fn scan_module(alloc: Global, literal: i64) -> Result<Module, NoMemory>
+    ensures { IfOk result (λ m. IsScan literal m) }
 {
     let params = vec![in alloc; ValType::I32]?;
     let signature = FuncType {
@@ -229,7 +248,7 @@ pub fn module_of(alloc: Global, query: &Query) -> Result<Module, NoMemory>
         ValType::I64,
         ValType::I64,
     ]?;
-    let body = body_of(alloc, query.literal)?;
+    let body = body_of(alloc, literal)?;
     let run = Function {
         type_index: 0,
         locals,
@@ -248,4 +267,35 @@ pub fn module_of(alloc: Global, query: &Query) -> Result<Module, NoMemory>
         globals: Vec::new(alloc),
         exports: vec![in alloc; export]?,
     })
+}
+
+/// The module that runs the statement over its column, whose values are of four octets and not null.
+/// Its `run` takes the address of the descriptor, chains the result rows in the instance's first
+/// page, and writes there where they begin, how many they are, and where the next object would stand.
+///
+/// # Errors
+///
+/// [`NoMemory`] where the module does not fit memory, and nowhere else.
+pub fn module_of(alloc: Global, query: &Query) -> Result<Module, NoMemory>
+    ensures { IfOk result (λ m. IsCompiled query.now m) }
+{
+    let module = scan_module(alloc, query.literal)?;
+    Ok(module)
+}
+
+#[cfg(test)]
+mod tests {
+    use super::*;
+    use std::test::Fail;
+
+    #[test]
+    fn a_module_is_made(rt: HostRuntime) -> Result<(), Fail> {
+        let query = Query {
+            column: 0,
+            literal: 5,
+        };
+        let module = module_of(rt.alloc(), &query)?;
+        assert_eq!(rt; module.functions.len(), 1);
+        Ok(())
+    }
 }
