@@ -1,1 +1,2 @@
 pub mod MemoryFacts
+mod StoreFacts

@@ -3,4 +3,5 @@
 #![tactic(auto)]
 
 pub mod instruction;
+pub mod linear;
 pub mod module;
