@@ -1,2 +1,3 @@
 pub mod MemoryFacts
+pub mod Numbered
 mod StoreFacts
