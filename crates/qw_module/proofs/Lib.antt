@@ -1,3 +1,4 @@
 pub mod MemoryFacts
 pub mod Numbered
 mod StoreFacts
+pub mod StackFacts

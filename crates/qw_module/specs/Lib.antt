@@ -2,7 +2,9 @@ pub mod Syntax
 pub mod Numbers
 pub mod Memory
 pub mod Linear
+pub mod Stacked
 pub mod Execution
 pub mod Step
 pub mod Typing
 pub mod Soundness
+pub mod Machine

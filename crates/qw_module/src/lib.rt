@@ -5,3 +5,5 @@
 pub mod instruction;
 pub mod linear;
 pub mod module;
+mod operators;
+pub mod stack;

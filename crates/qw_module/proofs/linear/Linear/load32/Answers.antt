@@ -1,4 +1,4 @@
-use Rattle.std.proofs.Common.{◌∙◌, sym, ap}
+use Rattle.std.proofs.Common.{◌∙◌}
 use Rattle.qw_module.proofs.StoreFacts.{loaded-four}
 use Rattle.qw_module.proofs.linear.Linear.load32.Goals as goal
 
