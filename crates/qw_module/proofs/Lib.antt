@@ -2,3 +2,6 @@ pub mod MemoryFacts
 pub mod Numbered
 mod StoreFacts
 pub mod StackFacts
+pub mod Steps
+pub mod Sound
+pub mod TypedOperands

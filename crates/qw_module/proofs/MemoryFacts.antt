@@ -1,10 +1,11 @@
 -- Numbers in memory, over any width: which octets they depend on, and what is read after a number was put.
-use Rattle.std.proofs.Common.{◌≡◌, ℕ, zero, suc, ◌+◌, ◌*◌, ◌/◌, ◌%◌, ◌^◌, ◌<◌, ◌≤◌, List, length, get_or, set, take, drop, ◌⊎◌, inl, inr, ⊎_elim, refl, ap, ap₂, ◌∙◌, arith, length-set, get_or-set_same, get_or-set_other, get_or-drop, get_or-take, w32, w64, mod-lt, add-zero, mul-suc, add_comm, add_assoc}
+use Rattle.std.proofs.Common.{◌≡◌, ℕ, zero, suc, ◌+◌, ◌*◌, ◌/◌, ◌%◌, ◌^◌, ◌<◌, ◌≤◌, List, length, get_or, set, take, drop, ◌⊎◌, inl, inr, ⊎_elim, refl, ap, ap₂, ◌∙◌, arith, length-set, add-one, sym, ◌++◌, [], ◌∷◌, take-append-drop, take-suc-set, drop-set-lt, append_assoc, mul_comm, pow-suc, get_or-set_same, get_or-set_other, get_or-drop, get_or-take, w32, w64, mod-lt, add-zero, mul-suc, add_comm, add_assoc}
 use Rattle.std.proofs.lemmas.Nat.{mod-pow-add, pow-add}
 use Rattle.std.proofs.lemmas.Bool.{cases_lt}
 use Rattle.std.proofs.lemmas.List.{get_or_past}
 use Rattle.std.proofs.lemmas.List.Elements.{All-set}
-use Rattle.std.specs.Int.{from_le_bytes}
+use Rattle.std.specs.Int.{from_le_bytes, byte_at, bytes_low_first}
+use native.Mathlib.Nat.{div-div-eq-div-mul}
 use Rattle.qw_module.specs.Memory.{number_at, with_number, AreOctets}
 
 -- putting a number keeps the length
@@ -128,3 +129,45 @@ number_at-eight octets at = simp (
   add-zero,
   add_assoc,
 ) (omega arith)
+
+byte_at-higher : (k number : ℕ) → byte_at k (number / 256) ≡ byte_at (suc k) number
+byte_at-higher zero number = refl
+byte_at-higher (suc k) number =
+    let product : 256 * 256 ^ suc k ≡ 256 ^ suc (suc k) = mul_comm 256 (256 ^ suc k) ∙ sym (pow-suc 256 (suc k)) in
+    rw (div-div-eq-div-mul number 256 (256 ^ suc k), product) refl
+
+bytes_low_first-higher : (from width number : ℕ) → bytes_low_first from width (number / 256) ≡ bytes_low_first (suc from) width number
+bytes_low_first-higher from zero number = refl
+bytes_low_first-higher from (suc width) number = ap₂ (λ (x : ℕ) (xs : List ℕ). x ∷ xs) (byte_at-higher from number) (bytes_low_first-higher (suc from) width number)
+
+-- the octets that are put are those of the number, the lowest first
+pub with_number-within : (octets : List ℕ) (at width number k : ℕ) → at + width ≤ length octets → k < width →
+    get_or (with_number octets at width number) (at + k) 0 ≡ byte_at k number
+unfolding with_number
+with_number-within octets at zero number k room h = absurd (omega arith)
+with_number-within octets at (suc width) number zero room h =
+    let more : List ℕ = set octets at (number % 256) in
+    rw add-zero (with_number-below more (at + 1) width (number / 256) at (omega arith) ∙ get_or-set_same octets at (number % 256) 0 (omega arith))
+with_number-within octets at (suc width) number (suc k) room h =
+    let more : List ℕ = set octets at (number % 256) in
+    let next : at + suc k ≡ at + 1 + k = omega arith in
+    rw next (with_number-within more (at + 1) width (number / 256) k (omega (arith, length-set octets at (number % 256))) (omega arith)
+    ∙ byte_at-higher k number)
+
+-- so putting a number is putting its octets
+pub with_number-octets : (octets : List ℕ) (at width number : ℕ) → at + width ≤ length octets →
+    with_number octets at width number ≡ take at octets ++ (bytes_low_first 0 width number ++ drop (at + width) octets)
+unfolding with_number
+with_number-octets octets at zero number room =
+    let here : at + 0 ≡ at = omega arith in
+    rw here (sym (take-append-drop at octets))
+with_number-octets octets at (suc width) number room =
+    let octet : ℕ = number % 256 in
+    let more : List ℕ = set octets at octet in
+    let rest : with_number more (at + 1) width (number / 256) ≡ take (at + 1) more ++ (bytes_low_first 0 width (number / 256) ++ drop (at + 1 + width) more) =
+    with_number-octets more (at + 1) width (number / 256) (omega (arith, length-set octets at octet)) in
+    let front : take (at + 1) more ≡ take at octets ++ octet ∷ [] = rw add-one (take-suc-set octets at octet (omega arith)) in
+    let end : at + 1 + width ≡ at + suc width = omega arith in
+    let back : drop (at + suc width) more ≡ drop (at + suc width) octets = drop-set-lt (at + suc width) octets at octet (omega arith) in
+    rw (rest, front, end, back, bytes_low_first-higher 0 width number)
+    (append_assoc (take at octets) (octet ∷ []) (bytes_low_first 1 width number ++ drop (at + suc width) octets))

@@ -1,9 +1,9 @@
 -- When a configuration is typed (WebAssembly Core Specification 1.0, appendix "Soundness"): its values are
 -- of the types that its code takes, and what awaits takes what its code leaves.
-use Rattle.std.specs.Prelude.{◌≡◌, ℕ, ◌<◌, List, [], ◌∷◌, ◌++◌, length}
+use Rattle.std.specs.Prelude.{◌≡◌, ◌≢◌, ℕ, ◌<◌, List, [], ◌∷◌, ◌++◌, length}
 use Rattle.qw_module.specs.declared.instruction.ValType.{ValType}
 use Rattle.qw_module.specs.Numbers.{values_of}
-use Rattle.qw_module.specs.Syntax.{Code}
+use Rattle.qw_module.specs.Syntax.{Code, done}
 use Rattle.qw_module.specs.Execution.{Context, label, frame, Config, State, Running, Returned, Raised, Trapped}
 use Rattle.qw_module.specs.Typing.{Scope, Typed}
 
@@ -38,7 +38,9 @@ Awaits (frame outer_locals arity below after ∷ contexts) locals labels ends =
     × AreOf outer_locals types × (below_types : List ValType) × AreOf below below_types
     × Typed (scope_of types outer) after (ends ++ below_types) next × Awaits contexts types outer next
 
+-- A configuration is typed. It has an instruction left, since a finished sequence is left by the step before.
 pub record IsTyped (c : Config) : Type 0 where
+  pub unfinished : c.code ≢ done
   pub locals : List ValType
   pub labels : List (List ValType)
   pub before : List ValType

@@ -1,5 +1,5 @@
 -- Validity (WebAssembly Core Specification 1.0, 3): the typing rules of instruction sequences.
-use Rattle.std.specs.Prelude.{◌≡◌, ℕ, ◌≤◌, ◌^◌, List, [], ◌∷◌, ◌++◌, Option, Some, None, slice_get}
+use Rattle.std.specs.Prelude.{◌≡◌, ℕ, ◌<◌, ◌≤◌, ◌^◌, List, [], ◌∷◌, ◌++◌, Option, Some, None, slice_get}
 use Rattle.qw_module.specs.declared.instruction.ValType.{ValType}
 use Rattle.qw_module.specs.declared.instruction.ValType.TheVariants.{I32}
 use Rattle.qw_module.specs.declared.instruction.Op.{Op}
@@ -12,7 +12,7 @@ use Rattle.qw_module.specs.declared.instruction.Load.{Load}
 use Rattle.qw_module.specs.declared.instruction.Store.{Store}
 use Rattle.qw_module.specs.declared.instruction.MemArg.{MemArg}
 use Rattle.qw_module.specs.Syntax.{Code, done, op, block, loop, if_else, br, br_if}
-use Rattle.qw_module.specs.Numbers.{type_of_constant, type_of_binary, type_of_relation, type_of_load, load_width, type_of_store, store_width}
+use Rattle.qw_module.specs.Numbers.{values_of, constant, type_of_constant, type_of_binary, type_of_relation, type_of_load, load_width, type_of_store, store_width}
 
 -- the types of a block's results (3.2.2)
 abbrev pub types_of : Option ValType → List ValType
@@ -38,8 +38,9 @@ pub data OpTyped : List ValType → Op → List ValType → List ValType → Typ
       OpTyped locals (LocalSet x) (t ∷ types) types
   typed-local_tee : (locals types : List ValType) (x : ℕ) (t : ValType) → slice_get locals x ≡ Some t →
       OpTyped locals (LocalTee x) (t ∷ types) (t ∷ types)
-  -- 3.3.1
-  typed-const : (locals types : List ValType) (c : Const) → OpTyped locals (o.Const c) types (type_of_constant c ∷ types)
+  -- 3.3.1; a constant is a value of its type (2.2.2)
+  typed-const : (locals types : List ValType) (c : Const) → constant c < values_of (type_of_constant c) →
+      OpTyped locals (o.Const c) types (type_of_constant c ∷ types)
   typed-binary : (locals types : List ValType) (b : Binary) →
       OpTyped locals (o.Binary b) (type_of_binary b ∷ type_of_binary b ∷ types) (type_of_binary b ∷ types)
   typed-relation : (locals types : List ValType) (r : Relation) →

@@ -4,6 +4,7 @@
 
 pub mod instruction;
 pub mod linear;
+pub mod laws;
 pub mod module;
 mod operators;
 pub mod stack;
