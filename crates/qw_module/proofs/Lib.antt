@@ -2,6 +2,7 @@ pub mod MemoryFacts
 pub mod Numbered
 mod StoreFacts
 pub mod StackFacts
+pub mod ListFacts
 pub mod Steps
 pub mod Sound
 pub mod TypedOperands

@@ -3,8 +3,9 @@
 #![tactic(auto)]
 
 pub mod instruction;
-pub mod linear;
 pub mod laws;
+pub mod linear;
+pub mod machine;
 pub mod module;
 mod operators;
 pub mod stack;

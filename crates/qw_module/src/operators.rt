@@ -1,6 +1,6 @@
 //! What the machine does at an instruction that holds no other. Values are numbers without a type.
 
-ghost use Rattle.std.specs.Prelude.{◌≡◌, ℕ, List, [], ◌+◌, ◌%◌, ◌^◌, ◌<◌, ◌≤◌, length, Option, IsSome, IfSome, OnSome, IfNone, ◌↔◌};
+ghost use Rattle.std.specs.Prelude.{◌≡◌, ℕ, List, [], ◌+◌, ◌*◌, ◌%◌, ◌^◌, ◌<◌, ◌≤◌, length, Option, IsSome, IfSome, OnSome, IfNone, ◌↔◌};
 ghost use Rattle.qw_module.specs.Numbers.{constant, binary, relation, extended, load_width, loaded_value, store_width};
 ghost use Rattle.qw_module.specs.Memory.{number_at, with_number};
 ghost use Rattle.qw_module.specs.Step.{op_wants};
@@ -61,6 +61,7 @@ fn place_of(address: u64, arg: MemArg) -> u64
 fn read(memory: &Linear, load: Load, at: u64) -> Option<u64>
     ensures inside { IsSome result ↔ (at + load_width load ≤ length memory.now) }
     ensures value { IfSome result (λ v. v ≡ loaded_value load (number_at memory.now at (load_width load))) }
+    ensures fits { OnSome result (number_at memory.now at (load_width load) < 2 ^ (8 * load_width load)) }
 {
     let n = memory.load32(at)?;
     Some(match load {

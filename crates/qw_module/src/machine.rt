@@ -1,0 +1,93 @@
+//! The machine: executes an instance's `run` instruction by instruction (WebAssembly Core Specification
+//! 1.0, 4.4), as the step relation of `specs/Execution` says.
+
+ghost use Rattle.std.specs.Prelude.{◌≡◌, ℕ, List, ◌∷◌, ◌++◌, ◌+◌, ◌-◌, ◌<◌, ◌≤◌, ◌^◌, length, take, drop};
+ghost use Rattle.qw_module.specs.Numbers.{truth};
+ghost use Rattle.qw_module.specs.Machine.{CanJump, IsExecuted, IsJump, IsPoint, entered, point_of, rooms_of, sequences_in, under};
+
+use crate::stack::Stack;
+
+/// What a step came to.
+#[derive(Clone, Copy, Debug, PartialEq, Eq)]
+pub enum Stepped {
+    Ran,
+    /// This step left `run`.
+    Returned,
+    Trapped,
+}
+
+/// A label that the instance is in (4.2.12).
+#[derive(Clone, Copy, Debug, PartialEq, Eq)]
+pub struct Entry {
+    /// How many operands lie below the label's own.
+    pub base: usize,
+    /// Whether a branch to the label takes an operand.
+    pub takes: bool,
+    /// The number of the sequence that the label stands in.
+    pub sequence: usize,
+    /// The place there that a branch goes to: a loop's own, or the one after the block.
+    pub target: usize,
+    /// The place there after the label's end.
+    pub after: usize,
+}
+
+/// Where the execution of a numbered body is (4.2.12): the labels that it is in, the sequence that runs
+/// and the place in it, the operands of all labels, and the locals. All room is reserved at first.
+#[derive(Drop)]
+pub struct Activity {
+    labels: Stack<Entry>,
+    sequence: usize,
+    place: usize,
+    operands: Stack<u64>,
+    locals: Vec<u64>,
+}
+
+impl Activity {
+    /// Enters a block that begins with a sequence of this number (4.4.7, `enter`).
+    fn enter(&mut self, inner: usize, takes: bool, target: usize)
+        requires room { length self.old.labels.values < self.old.labels.room }
+        requires place { self.old.place < 2 ^ 64 - 1 }
+        ensures point { point_of self.new ≡ entered (point_of self.old) inner takes target }
+        ensures rooms { rooms_of self.new ≡ rooms_of self.old }
+    {
+        self.labels.push(Entry {
+            base: self.operands.len(),
+            takes,
+            sequence: self.sequence,
+            target,
+            after: self.place + 1,
+        });
+        self.sequence = inner;
+        self.place = 0;
+    }
+
+    /// Branches to the label of an index, counted from the innermost (4.4.8, `br`).
+    fn branch(&mut self, index: usize)
+        requires there { CanJump index (point_of self.old) }
+        requires room { length self.old.operands.values ≤ self.old.operands.room }
+        ensures jump { IsJump index (point_of self.old) (point_of self.new) }
+        ensures rooms { rooms_of self.new ≡ rooms_of self.old }
+    {
+        self.labels.truncate(self.labels.len() - index);
+        let entry = self.labels.pop();
+        unwind(&mut self.operands, entry.base, entry.takes);
+        self.sequence = entry.sequence;
+        self.place = entry.target;
+    }
+}
+
+/// Drops the operands above the first `base`, but for the last one where the branch takes one.
+fn unwind(operands: &mut Stack<u64>, base: usize, takes: bool)
+    requires there { base + truth takes ≤ length operands.old.values }
+    requires room { length operands.old.values ≤ operands.old.room }
+    ensures operands { operands.new.values ≡ take (truth takes) operands.old.values ++ under base operands.old.values }
+    ensures room { operands.new.room ≡ operands.old.room }
+{
+    if !takes {
+        operands.truncate(base);
+        return;
+    }
+    let taken = operands.pop();
+    operands.truncate(base);
+    operands.push(taken);
+}
