@@ -3,6 +3,9 @@ pub mod Numbered
 mod StoreFacts
 pub mod StackFacts
 pub mod ListFacts
+pub mod Points
+pub mod Jumps
+pub mod Operated
 pub mod Steps
 pub mod Sound
 pub mod TypedOperands
