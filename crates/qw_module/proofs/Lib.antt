@@ -6,6 +6,7 @@ pub mod ListFacts
 pub mod Points
 pub mod Jumps
 pub mod Operated
+pub mod Controlled
 pub mod Steps
 pub mod Sound
 pub mod TypedOperands
