@@ -7,6 +7,7 @@ pub mod Points
 pub mod Jumps
 pub mod Operated
 pub mod Controlled
+pub mod Arrays
 pub mod Steps
 pub mod Sound
 pub mod TypedOperands

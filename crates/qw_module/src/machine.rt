@@ -3,8 +3,12 @@
 
 ghost use Rattle.std.specs.Prelude.{◌≡◌, ℕ, List, ◌∷◌, ◌++◌, ◌+◌, ◌-◌, ◌<◌, ◌≤◌, ◌^◌, length, take, drop};
 ghost use Rattle.qw_module.specs.Numbers.{truth};
+ghost use Rattle.qw_module.specs.Syntax.{IsNumbered, sequence_at};
 ghost use Rattle.qw_module.specs.Machine.{CanJump, IsExecuted, IsJump, IsPoint, entered, point_of, rooms_of, sequences_in, under};
 
+use crate::instruction::Instr;
+use crate::linear::Linear;
+use crate::operators::operate;
 use crate::stack::Stack;
 
 /// What a step came to.
@@ -73,6 +77,59 @@ impl Activity {
         unwind(&mut self.operands, entry.base, entry.takes);
         self.sequence = entry.sequence;
         self.place = entry.target;
+    }
+
+    /// Executes the instruction at the place, and leaves no label yet. Answers whether it didn't trap.
+    fn execute(&mut self, sequences: &[Vec<Instr>], memory: &mut Linear) -> bool
+        requires numbered { IsNumbered (sequences_in sequences.now) }
+        requires point { IsPoint (sequences_in sequences.now) (rooms_of self.old) (point_of self.old) }
+        requires unfinished { self.old.place < length (sequence_at (sequences_in sequences.now) self.old.sequence) }
+        ensures executed { IsExecuted (sequences_in sequences.now) (rooms_of self.old) (point_of self.old) memory.old result (point_of self.new) memory.new }
+        ensures rooms { rooms_of self.new ≡ rooms_of self.old }
+    {
+        let sequence = sequences[self.sequence].as_slice();
+        let after = self.place + 1;
+        match sequence[self.place] {
+            Instr::Op(op) => {
+                if !operate(op, &mut self.operands, self.locals.as_mut_slice(), memory) {
+                    return false;
+                }
+                self.place = after;
+                true
+            }
+            Instr::Block { result, body } => {
+                self.enter(body, result.is_some(), after);
+                true
+            }
+            Instr::Loop { body, .. } => {
+                self.enter(body, false, self.place);
+                true
+            }
+            Instr::If {
+                result,
+                then_body,
+                else_body,
+            } => {
+                if self.operands.pop() != 0 {
+                    self.enter(then_body, result.is_some(), after);
+                    return true;
+                }
+                self.enter(else_body, result.is_some(), after);
+                true
+            }
+            Instr::Br(index) => {
+                self.branch(index as usize);
+                true
+            }
+            Instr::BrIf(index) => {
+                if self.operands.pop() != 0 {
+                    self.branch(index as usize);
+                    return true;
+                }
+                self.place = after;
+                true
+            }
+        }
     }
 }
 
