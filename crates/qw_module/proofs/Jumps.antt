@@ -100,7 +100,7 @@ module _ (sequences : List (List Instr)) (rooms : Rooms) (locals : List ValType)
       }
 
 -- a point is its parts
-point-is : (q : Point) (labels : List Entry) (sequence place : ℕ) (operands values : List ℕ) → q.labels ≡ labels → q.sequence ≡ sequence → q.place ≡ place →
+pub point-is : (q : Point) (labels : List Entry) (sequence place : ℕ) (operands values : List ℕ) → q.labels ≡ labels → q.sequence ≡ sequence → q.place ≡ place →
     q.operands ≡ operands → q.locals ≡ values →
     q ≡ record { labels = labels; sequence = sequence; place = place; operands = operands; locals = values }
 point-is q labels sequence place operands values a b c d e = rw (← a, ← b, ← c, ← d, ← e) refl

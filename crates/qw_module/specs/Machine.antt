@@ -10,10 +10,13 @@ use Rattle.qw_module.specs.declared.instruction.Op.TheVariants.{LocalGet, LocalS
 use Rattle.qw_module.specs.declared.instruction.Op.TheVariants as o
 use Rattle.qw_module.specs.declared.machine.Entry.{Entry}
 use Rattle.qw_module.specs.declared.machine.Activity.{Activity}
+use Rattle.qw_module.specs.declared.machine.Stepped.{Stepped}
+use Rattle.qw_module.specs.declared.machine.Stepped.TheVariants.{Ran}
+use Rattle.qw_module.specs.declared.machine.Stepped.TheVariants as stepped
 use Rattle.qw_module.specs.Numbers.{truth}
 use Rattle.qw_module.specs.Syntax.{Code, nested, sequence_at, named_below}
 use Rattle.qw_module.specs.Memory.{number_at, with_number}
-use Rattle.qw_module.specs.Execution.{Context, label, Config, State, Trapped, Event, settled}
+use Rattle.qw_module.specs.Execution.{Context, label, Config, State, Returned, Trapped, Event, settled}
 use Rattle.qw_module.specs.Step.{OpWant, Stuck', Leaves, Reads, Writes, next}
 use Rattle.qw_module.specs.Typing.{Typed}
 use Rattle.qw_module.specs.Soundness.{AreOf, scope_of}
@@ -173,6 +176,21 @@ IsExecuted sequences rooms p memory went q after =
     MatchBool went
     (IsPoint sequences rooms q × ((globals : List ℕ) → LeadsTo (config_at sequences globals p) memory (state_at sequences globals q) after))
     ((globals : List ℕ) → LeadsTo (config_at sequences globals p) memory Trapped after)
+
+-- finished labels were left: the point q runs on, or there was no label left
+abbrev pub IsLeft : List (List Instr) → Rooms → (p : Point) → (runs : Bool) → (q : Point) → Type 0
+IsLeft sequences rooms p runs q =
+    MatchBool runs
+    (IsPoint sequences rooms q × (q.place < length (sequence_at sequences q.sequence)) × ((globals : List ℕ) → state_at sequences globals p ≡ state_at sequences globals q))
+    ((globals : List ℕ) → state_at sequences globals p ≡ Returned)
+
+-- A step from a point went to the point q, left `run`, or trapped, as its configuration does.
+abbrev pub IsStepped : List (List Instr) → Rooms → (p : Point) → (memory : List ℕ) → Stepped → (q : Point) → (after : List ℕ) → Type 0
+IsStepped sequences rooms p memory Ran q after =
+    IsPoint sequences rooms q × (q.place < length (sequence_at sequences q.sequence))
+    × ((globals : List ℕ) → LeadsTo (config_at sequences globals p) memory (state_at sequences globals q) after)
+IsStepped sequences rooms p memory stepped.Returned q after = (globals : List ℕ) → LeadsTo (config_at sequences globals p) memory Returned after
+IsStepped sequences rooms p memory stepped.Trapped q after = (globals : List ℕ) → LeadsTo (config_at sequences globals p) memory Trapped after
 
 -- there are the operands that an operator takes, an address below 2^32 where it takes one, and the local that it names
 abbrev pub IsReady : Op → List ℕ → List ℕ → Type 0

@@ -4,7 +4,7 @@
 ghost use Rattle.std.specs.Prelude.{◌≡◌, ℕ, List, ◌∷◌, ◌++◌, ◌+◌, ◌-◌, ◌<◌, ◌≤◌, ◌^◌, length, take, drop};
 ghost use Rattle.qw_module.specs.Numbers.{truth};
 ghost use Rattle.qw_module.specs.Syntax.{IsNumbered, sequence_at};
-ghost use Rattle.qw_module.specs.Machine.{CanJump, IsExecuted, IsJump, IsPoint, entered, point_of, rooms_of, sequences_in, under};
+ghost use Rattle.qw_module.specs.Machine.{CanJump, IsExecuted, IsJump, IsLeft, IsPoint, IsStepped, entered, point_of, rooms_of, sequences_in, under};
 
 use crate::instruction::Instr;
 use crate::linear::Linear;
@@ -129,6 +129,41 @@ impl Activity {
                 self.place = after;
                 true
             }
+        }
+    }
+
+    /// Leaves the labels whose sequences are finished (4.4.7, exit). Answers whether `run` still runs.
+    fn leave_finished(&mut self, sequences: &[Vec<Instr>]) -> bool
+        requires { IsPoint (sequences_in sequences.now) (rooms_of self.old) (point_of self.old) }
+        ensures left { IsLeft (sequences_in sequences.now) (rooms_of self.old) (point_of self.old) result (point_of self.new) }
+        ensures rooms { rooms_of self.new ≡ rooms_of self.old }
+    {
+        while self.place == sequences[self.sequence].len() {
+            if self.labels.len() == 0 {
+                return false;
+            }
+            let entry = self.labels.pop();
+            self.sequence = entry.sequence;
+            self.place = entry.after;
+        }
+        true
+    }
+
+    /// One step: an instruction, and the labels that it finishes.
+    fn step(&mut self, sequences: &[Vec<Instr>], memory: &mut Linear) -> Stepped
+        requires numbered { IsNumbered (sequences_in sequences.now) }
+        requires point { IsPoint (sequences_in sequences.now) (rooms_of self.old) (point_of self.old) }
+        requires unfinished { self.old.place < length (sequence_at (sequences_in sequences.now) self.old.sequence) }
+        ensures stepped { IsStepped (sequences_in sequences.now) (rooms_of self.old) (point_of self.old) memory.old result (point_of self.new) memory.new }
+        ensures rooms { rooms_of self.new ≡ rooms_of self.old }
+    {
+        if !self.execute(sequences, memory) {
+            return Stepped::Trapped;
+        }
+        if self.leave_finished(sequences) {
+            Stepped::Ran
+        } else {
+            Stepped::Returned
         }
     }
 }
