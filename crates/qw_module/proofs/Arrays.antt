@@ -6,8 +6,8 @@ use Rattle.std.specs.Option.{option_map}
 use Rattle.qw_module.specs.declared.instruction.Instr.{Instr}
 use Rattle.qw_module.specs.Syntax.{sequence_at}
 use Rattle.qw_module.specs.declared.machine.Entry.{Entry}
-use Rattle.qw_module.specs.Execution.{Returned, settled}
-use Rattle.qw_module.specs.Machine.{sequences_in, Point, Rooms, IsPoint, state_at, base_of, contexts_of, above, under}
+use Rattle.qw_module.specs.Execution.{Config, State, Returned, settled}
+use Rattle.qw_module.specs.Machine.{sequences_in, Point, Rooms, IsPoint, state_at, LeadsTo, base_of, contexts_of, above, under}
 use Rattle.qw_module.proofs.Points.{code_at-end, left, left-point, left-state, state_at-split}
 use Rattle.qw_module.proofs.Jumps.{point-is}
 
@@ -83,3 +83,7 @@ pub left-last : (arrays : List (Vec Instr Global)) (rooms : Rooms) (p : Point) (
 left-last arrays rooms p array is read ended none globals =
     let end : p.place ≡ length (sequence_at (sequences_in arrays) p.sequence) = place-end arrays p.sequence p.place array is.room.numbered read ended in
     rw (no_labels p.labels none, code_at-end (sequences_in arrays) p.sequence p.place end) refl
+
+-- a step leads to what its state is
+pub leads-to : (c : Config) (memory : List ℕ) (s t : State) (after : List ℕ) → LeadsTo c memory s after → s ≡ t → LeadsTo c memory t after
+leads-to c memory s t after leads same = subst (λ (x : State). LeadsTo c memory x after) same leads
