@@ -11,3 +11,5 @@ pub mod Arrays
 pub mod Steps
 pub mod Sound
 pub mod TypedOperands
+pub mod Checked
+pub mod CheckedBodies

@@ -8,3 +8,6 @@ pub mod Step
 pub mod Typing
 pub mod Soundness
 pub mod Machine
+pub mod Checking
+pub mod Refusals
+pub mod Validity

@@ -2,6 +2,7 @@
 //! definitions of validity and execution (in `specs/`), and the machine that executes a module.
 #![tactic(auto)]
 
+mod checker;
 pub mod instruction;
 pub mod laws;
 pub mod linear;
@@ -9,3 +10,4 @@ pub mod machine;
 pub mod module;
 mod operators;
 pub mod stack;
+pub mod valid;
