@@ -8,6 +8,7 @@ pub mod Jumps
 pub mod Operated
 pub mod Controlled
 pub mod Arrays
+pub mod Instances
 pub mod Steps
 pub mod Sound
 pub mod TypedOperands

@@ -11,3 +11,4 @@ pub mod Machine
 pub mod Checking
 pub mod Refusals
 pub mod Validity
+pub mod Instance
