@@ -14,3 +14,5 @@ pub mod Sound
 pub mod TypedOperands
 pub mod Checked
 pub mod CheckedBodies
+pub mod Numbering
+pub mod Names

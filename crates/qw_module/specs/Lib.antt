@@ -12,3 +12,4 @@ pub mod Checking
 pub mod Refusals
 pub mod Validity
 pub mod Instance
+pub mod ValidFaults
