@@ -42,7 +42,7 @@ pub state_at-running : (sequences : List (List Instr)) (globals : List ℕ) (p :
     state_at sequences globals p ≡ Running (config_at sequences globals p)
 state_at-running sequences globals p inside =
     settled-unfinished globals (contexts_of sequences p.labels (under (base_of p.labels) p.operands)) (code_at sequences p.sequence p.place)
-      (above (base_of p.labels) p.operands) p.locals (code_at-unfinished sequences p.sequence p.place inside)
+    (above (base_of p.labels) p.operands) p.locals (code_at-unfinished sequences p.sequence p.place inside)
 
 -- the arrays of a function of the module
 pub body-array : (m : Module) (number : ℕ) (function : Function) (arrays : List (Vec Instr Global)) → slice_get m.functions.items number ≡ Some function →
@@ -85,7 +85,7 @@ module _ (m : Module) (before : Instance) (ran : before.last ≡ Ran) (running :
       WhileRunning answer (IsRunning (body_of m before.function) (rooms_of activity) (point_of activity))
   runs-on Ran activity same is = record {
     point = subst (λ (rooms : Rooms). IsPoint (body_of m before.function) rooms (point_of activity)) (sym same) is.0;
-    unfinished = is.1
+    unfinished = is.1;
   }
   runs-on stepped.Returned activity same is = tt
   runs-on stepped.Trapped activity same is = tt

@@ -9,6 +9,7 @@ pub mod Operated
 pub mod Controlled
 pub mod Arrays
 pub mod Instances
+mod ShapeFacts
 pub mod Steps
 pub mod Sound
 pub mod TypedOperands

@@ -13,3 +13,4 @@ pub mod Refusals
 pub mod Validity
 pub mod Instance
 pub mod ValidFaults
+pub mod Shape

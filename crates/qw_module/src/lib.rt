@@ -9,5 +9,6 @@ pub mod linear;
 pub mod machine;
 pub mod module;
 mod operators;
+mod shape;
 pub mod stack;
 pub mod valid;
