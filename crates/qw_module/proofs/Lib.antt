@@ -2,6 +2,17 @@ pub mod MemoryFacts
 pub mod Numbered
 pub mod OpenRuns
 pub mod RunRules
+mod StoreFacts
+pub mod StackFacts
+pub mod ListFacts
+pub mod Points
+pub mod Jumps
+pub mod Operated
+pub mod Controlled
+pub mod Arrays
+pub mod Instances
+mod ShapeFacts
+pub mod Steps
 pub mod Sound
 pub mod Steps
 pub mod TypedOperands

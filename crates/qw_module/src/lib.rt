@@ -5,6 +5,11 @@
 mod checker;
 pub mod instruction;
 pub mod laws;
+pub mod linear;
+pub mod machine;
 pub mod module;
 pub mod turn_laws;
+mod operators;
+mod shape;
+pub mod stack;
 pub mod valid;
