@@ -7,6 +7,7 @@ pub mod files;
 pub mod loading;
 pub mod meaning;
 pub mod output;
+pub mod result_laws;
 pub mod sink;
 pub mod status;
 #[cfg(test)]
