@@ -8,6 +8,7 @@ pub mod loading;
 pub mod meaning;
 pub mod output;
 pub mod parse;
+pub mod result_laws;
 pub mod sink;
 pub mod status;
 pub mod token;
