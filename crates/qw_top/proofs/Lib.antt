@@ -8,3 +8,8 @@ pub mod ReaderLemmas
 pub mod RecordLemmas
 pub mod RowLemmas
 pub mod SinkLemmas
+pub mod TokenLemmas
+pub mod TokenRun
+pub mod ParseLemmas
+pub mod GrammarLemmas
+pub mod ReadLemmas

@@ -8,3 +8,8 @@ pub mod Words
 pub mod Columns
 pub mod Loading
 pub mod Sink
+pub mod Token
+pub mod Scan
+pub mod Grammar
+pub mod Parse
+pub mod Reading

@@ -12,3 +12,5 @@ pub mod status;
 #[cfg(test)]
 mod tests;
 pub mod words;
+pub mod parse;
+pub mod token;
