@@ -13,3 +13,4 @@ pub mod TokenRun
 pub mod ParseLemmas
 pub mod GrammarLemmas
 pub mod ReadLemmas
+pub mod TopLemmas

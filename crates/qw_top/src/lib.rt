@@ -7,10 +7,11 @@ pub mod files;
 pub mod loading;
 pub mod meaning;
 pub mod output;
+pub mod parse;
 pub mod sink;
 pub mod status;
 #[cfg(test)]
 mod tests;
-pub mod words;
-pub mod parse;
 pub mod token;
+pub mod top;
+pub mod words;
