@@ -24,3 +24,7 @@ pub mod TokenLongest
 pub mod ParseLemmas
 pub mod GrammarLemmas
 pub mod ReadLemmas
+pub mod ParseLemmas
+pub mod GrammarLemmas
+pub mod ReadLemmas
+pub mod TopLemmas

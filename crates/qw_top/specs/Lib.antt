@@ -16,3 +16,4 @@ pub mod Scan
 pub mod Grammar
 pub mod Parse
 pub mod Reading
+pub mod Top

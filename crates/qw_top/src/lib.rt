@@ -15,3 +15,6 @@ pub mod token;
 pub mod words;
 #[cfg(test)]
 mod tests;
+pub mod token;
+pub mod top;
+pub mod words;
