@@ -12,9 +12,7 @@ pub mod result_laws;
 pub mod sink;
 pub mod status;
 pub mod token;
+pub mod top;
 pub mod words;
 #[cfg(test)]
 mod tests;
-pub mod token;
-pub mod top;
-pub mod words;
