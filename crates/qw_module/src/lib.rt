@@ -6,5 +6,5 @@ mod checker;
 pub mod instruction;
 pub mod laws;
 pub mod module;
-pub mod valid;
 pub mod turn_laws;
+pub mod valid;
