@@ -50,13 +50,14 @@ abbrev pub OnStep : World → List ℕ → (Moment → Type 0) → Option Next �
 OnStep w before Q None = ⊥
 OnStep w before Q (Some t) = IsFine w t.event × Q (moment_after w before t.event t.state t.memory)
 
--- Exactly n steps follow, each fine whatever others do before it, and then Q holds.
+-- an instance runs, and P holds of its configuration
 abbrev pub OnRunning : State → (Config → Type 0) → Type 0
 OnRunning (Running c) P = P c
 OnRunning Returned P = ⊥
 OnRunning (Raised code) P = ⊥
 OnRunning Trapped P = ⊥
 
+-- Exactly n steps follow, each fine whatever others do before it, and then Q holds.
 abbrev pub Steps : (Moment → Type 0) → ℕ → Moment → Type 0
 Steps Q zero a = Q a
 Steps Q (suc n) a = OnRunning a.state (λ c. (before : List ℕ) → Others a.world a.memory before → OnStep a.world before (Steps Q n) (next c before))

@@ -1,5 +1,5 @@
 -- How a run of a module begins, and how long its code is.
-use Rattle.std.specs.Prelude.{ℕ, ◌+◌, List, ◌∷◌, length, replicate}
+use Rattle.std.specs.Prelude.{ℕ, ◌+◌, ◌∷◌, length, replicate}
 use Rattle.qw_module.specs.declared.module.Function.{Function}
 use Rattle.qw_module.specs.Syntax.{Code, done, op, block, loop, if_else, br, br_if}
 use Rattle.qw_module.specs.Execution.{State}

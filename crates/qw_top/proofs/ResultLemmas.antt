@@ -1,5 +1,5 @@
 -- Result rows depend on the own areas alone.
-use Rattle.std.proofs.Common.{◌≡◌, ℕ, zero, suc, ◌+◌, ◌≤◌, nat_le, true, false, List, [], ◌∷◌, Option, Some, None, refl, sym, ap, ◌∙◌, subst, ⊎_elim, arith}
+use Rattle.std.proofs.Common.{◌≡◌, ℕ, zero, suc, ◌+◌, ◌≤◌, nat_le, true, List, [], ◌∷◌, Option, Some, None, refl, ⊎_elim, arith}
 use Rattle.std.specs.List.{AllByRecursion}
 use Rattle.std.proofs.lemmas.Bool.{cases_Bool, or_cases, and_parts, leb-true}
 use Rattle.std.proofs.lemmas.Option.{none-some}
@@ -16,10 +16,10 @@ module _ (before after : List ℕ) where
   kept_inside [] same at size inside a width low high = cc
   kept_inside (area ∷ own) same at size inside a width low high = ⊎_elim
       (λ here.
-        let parts = and_parts (nat_le area.start at) (nat_le (at + size) (area.start + area.size)) here in
-        let from : area.start ≤ at = leb-true area.start at parts.0 in
-        let to : at + size ≤ area.start + area.size = leb-true (at + size) (area.start + area.size) parts.1 in
-        number_at-kept before after area a width same.0 (omega arith) (omega arith))
+      let parts = and_parts (nat_le area.start at) (nat_le (at + size) (area.start + area.size)) here in
+      let from : area.start ≤ at = leb-true area.start at parts.0 in
+      let to : at + size ≤ area.start + area.size = leb-true (at + size) (area.start + area.size) parts.1 in
+      number_at-kept before after area a width same.0 (omega arith) (omega arith))
       (λ further. kept_inside own same.1 at size further a width low high)
       (or_cases (lies_in at size area) (lies_in_one own at size) inside)
 

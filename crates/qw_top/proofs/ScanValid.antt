@@ -1,7 +1,7 @@
 -- The emitted module is valid, and of the shape that is executed.
-use Rattle.std.proofs.Common.{◌≡◌, ℕ, ℤ, ◌<◌, ◌≤◌, All, List, [], ◌∷◌, ◌++◌, length, map, Some, None, get_or, refl, sym, ap, ◌∙◌, subst, ◌+◌, arith, w64, SFits}
+use Rattle.std.proofs.Common.{◌≡◌, ℕ, ℤ, ◌<◌, All, List, [], ◌∷◌, ◌++◌, length, map, Some, None, get_or, refl, sym, ap, ◌∙◌, subst, ◌+◌, arith, w64, SFits}
 use Rattle.std.specs.Prelude.{codes, slice_get, Option, Contains}
-use Rattle.std.specs.List.{AllPairs, filter_map}
+use Rattle.std.specs.List.{filter_map}
 use Rattle.std.specs.Option.{option_to_list}
 use Rattle.std.specs.String.{string_bytes}
 use Rattle.std.proofs.lemmas.List.Elements.{All-nil, All-cons, All-same}
@@ -10,14 +10,13 @@ use Rattle.qw_module.specs.declared.instruction.ValType.TheVariants.{I32, I64}
 use Rattle.qw_module.specs.declared.module.FuncType.{FuncType}
 use Rattle.qw_module.specs.declared.module.Limits.{Limits}
 use Rattle.qw_module.specs.declared.module.Import.{Import}
-use Rattle.qw_module.specs.declared.module.Import.TheVariants as import
 use Rattle.qw_module.specs.declared.module.Function.{Function}
 use Rattle.qw_module.specs.declared.module.Export.{Export}
 use Rattle.qw_module.specs.declared.module.ExportKind.{ExportKind}
 use Rattle.qw_module.specs.declared.module.ExportKind.TheVariants as kind
 use Rattle.qw_module.specs.declared.module.Module.{Module}
-use Rattle.qw_module.specs.Syntax.{Code, IsNumbered}
-use Rattle.qw_module.specs.Validity.{code_of_body, sequences_of, imported_function, imported_memory, functions_of, memories_of, TakesOneI32, IsOneI32, IsValidType, IsValidImport, IsValidGlobal, IsExportedOf, IsTypedFunction, IsValidFunction, AreApart, IsValid, IsShaped}
+use Rattle.qw_module.specs.Syntax.{Code}
+use Rattle.qw_module.specs.Validity.{code_of_body, imported_function, imported_memory, functions_of, memories_of, TakesOneI32, IsOneI32, IsValidType, IsValidMemory, IsValidGlobal, IsExportedOf, IsTypedFunction, IsValidFunction, IsValid, IsShaped}
 use Rattle.qw_top.specs.Emit.{IsScan, signature_of, contents_of, exported, scan_code}
 use Rattle.qw_top.proofs.ScanTyped.{code_typed}
 
@@ -99,6 +98,13 @@ module _ (literal : ℤ) (fits : SFits w64 literal) (m : Module) (scan : IsScan 
   run_valid : IsValidFunction m run
   run_valid = rw run_type run_typed
 
+  there : ℕ → Type 0
+  there i = i < length m.types.items
+
+  first : there 0
+  unfolding there
+  first = omega (arith, ap length types)
+
   is_exported : Export → Type 0
   is_exported e = IsExportedOf m e.kind
 
@@ -107,18 +113,16 @@ module _ (literal : ℤ) (fits : SFits w64 literal) (m : Module) (scan : IsScan 
   run_exported = rw kind_is (rw functions_are (omega arith))
 
   valid_parts : IsValid m
-  unfolding the_limits is_exported
+  unfolding the_limits there is_exported
   valid_parts = record {
     types = All-same IsValidType _ _ types (one IsValidType type (rw results (omega arith)));
-    imports = All-same (IsValidImport m) _ _ scan.imports
-        (All-cons (IsValidImport m) (import.Memory (record { min = 1; max = None })) (import.Raise 0 ∷ []) (omega arith, tt)
-        (one (IsValidImport m) (import.Raise 0) (omega (arith, ap length types))));
-    functions = All-same (IsValidFunction m) _ _ functions (one (IsValidFunction m) run run_valid);
-    memory = rw scan.memory tt;
+    functions = All-same there _ _ functions_are (All-cons there 0 (0 ∷ []) first (one there 0 first));
+    memories = All-same IsValidMemory _ _ memories_are (one IsValidMemory (record { min = 1; max = None }) (omega arith, tt));
     one_memory = rw memories_are (omega arith);
     globals = All-same IsValidGlobal _ _ scan.globals (All-nil IsValidGlobal);
     exports = All-same is_exported _ _ exports (one is_exported export run_exported);
     names = λ i j d less within. absurd (omega (arith, ap length exports));
+    bodies = All-same (IsValidFunction m) _ _ functions (one (IsValidFunction m) run run_valid);
   }
 
   shaped_parts : IsShaped m 0

@@ -1,5 +1,5 @@
 -- When a module is the compiled form of a statement: what its runs do, whatever shares the memory with them.
-use Rattle.std.specs.Prelude.{◌≡◌, ℕ, ◌+◌, ◌*◌, ◌^◌, ◌<◌, ◌≤◌, List, [], ◌∷◌, length, Some, slice_get}
+use Rattle.std.specs.Prelude.{◌≡◌, ℕ, ◌+◌, ◌*◌, ◌^◌, ◌<◌, ◌≤◌, List, length, Some, slice_get}
 use Rattle.std.specs.List.{AllByRecursion}
 use Rattle.qw_types.specs.declared.value.Val.{Val}
 use Rattle.qw_module.specs.declared.module.Function.{Function}
@@ -10,21 +10,18 @@ use Rattle.qw_module.specs.Map.{page, most_pages}
 use Rattle.qw_module.specs.Runs.{Moment, Behaves}
 use Rattle.qw_module.specs.Validity.{IsValid, IsShaped, code_of_body}
 use Rattle.qw_module.specs.Start.{run_begins, weight}
+use Rattle.qw_top.specs.declared.loading.TheConstants.{MAX_ROWS}
 use Rattle.qw_top.specs.declared.meaning.Query.{Query}
 use Rattle.qw_top.specs.Meaning.{Rows, outcome, results}
 use Rattle.qw_top.specs.Columns.{HoldsColumn}
 use Rattle.qw_top.specs.Layout.{IsFresh, first_world, rows_at}
 
--- the most rows of a table, so that a row for each fits the first page
-abbrev pub most_rows : ℕ
-most_rows = 2727
-
 -- The memory is ready for a run over a table's rows, which have the statement's column: from `start` on, but not in the first
--- 64 octets, it holds that column, and behind it the instance's first page as it begins.
+-- 64 octets, it holds that column, and behind it the instance's first page as it begins. A result row for each row fits the page.
 pub record IsReady (query : Query) (rows : List (List Val)) (start descriptor : ℕ) (memory : List ℕ) : Type 0 where
   pub octets : AreOctets memory
   pub size : length memory ≤ most_pages * page
-  pub few : length rows ≤ most_rows
+  pub few : length rows ≤ MAX_ROWS
   pub typed : AllByRecursion (λ (row : List Val). query.column < length row) rows
   pub column : HoldsColumn memory start query.column rows
   pub from : 64 ≤ start

@@ -1,5 +1,5 @@
 -- What an instance's first page holds: the descriptor of a statement over one column, and the result rows.
-use Rattle.std.specs.Prelude.{◌≡◌, ℕ, zero, suc, ◌+◌, ◌*◌, ◌<◌, ◌≤◌, ◌==◌, ◌&&◌, if◌then◌else◌, Bool, ℤ, pos, negsuc, int_le, List, [], ◌∷◌, length, Option, Some, None, slice_index}
+use Rattle.std.specs.Prelude.{◌≡◌, ℕ, zero, suc, ◌+◌, ◌*◌, ◌<◌, ◌≤◌, ◌==◌, ◌&&◌, if◌then◌else◌, Bool, ℤ, pos, negsuc, int_le, List, [], ◌∷◌, Option, Some, None, slice_index}
 use Rattle.std.specs.Int.{w64, cast_signed}
 use Rattle.qw_types.specs.declared.value.Val.{Val}
 use Rattle.qw_types.specs.declared.value.Val.TheVariants.{Num}
