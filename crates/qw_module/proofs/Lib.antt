@@ -14,7 +14,6 @@ pub mod Instances
 mod ShapeFacts
 pub mod Steps
 pub mod Sound
-pub mod Steps
 pub mod TypedOperands
 pub mod Checked
 pub mod CheckedBodies

@@ -49,7 +49,7 @@ pub struct Activity {
 }
 
 impl Activity {
-    /// Enters a block that begins with a sequence of this number (4.4.7, `enter`).
+    /// Enters a block that begins with a sequence of this number (4.4.6).
     fn enter(&mut self, inner: usize, takes: bool, target: usize)
         requires room { length self.old.labels.values < self.old.labels.room }
         requires place { self.old.place < 2 ^ 64 - 1 }
@@ -67,7 +67,7 @@ impl Activity {
         self.place = 0;
     }
 
-    /// Branches to the label of an index, counted from the innermost (4.4.8, `br`).
+    /// Branches to the label of an index, counted from the innermost (4.4.5, `br`).
     fn branch(&mut self, index: usize)
         requires there { CanJump index (point_of self.old) }
         requires room { length self.old.operands.values ≤ self.old.operands.room }
@@ -134,7 +134,7 @@ impl Activity {
         }
     }
 
-    /// Leaves the labels whose sequences are finished (4.4.7, exit). Answers whether `run` still runs.
+    /// Leaves the labels whose sequences are finished (4.4.6). Answers whether `run` still runs.
     fn leave_finished(&mut self, sequences: &[Vec<Instr>]) -> bool
         requires { IsPoint (items_of sequences.now) (rooms_of self.old) (point_of self.old) }
         ensures left { IsLeft (items_of sequences.now) (rooms_of self.old) (point_of self.old) result (point_of self.new) }

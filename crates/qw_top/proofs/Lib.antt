@@ -24,7 +24,4 @@ pub mod TokenLongest
 pub mod ParseLemmas
 pub mod GrammarLemmas
 pub mod ReadLemmas
-pub mod ParseLemmas
-pub mod GrammarLemmas
-pub mod ReadLemmas
 pub mod TopLemmas

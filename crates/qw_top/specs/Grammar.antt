@@ -1,5 +1,6 @@
--- The fixed forms of the two texts (ISO/IEC 9075:1992, 5.2 "token", 7.6 "where clause",
--- 7.9 "query specification", 8.2 "comparison predicate", 11.3 "table definition").
+-- The fixed forms of the two texts (ISO/IEC 9075:1992, 5.2 "token", 5.3 "literal", 6.1 "data type",
+-- 6.4 "column reference", 7.4 "from clause", 7.6 "where clause", 7.9 "query specification", 8.2 "comparison predicate",
+-- 11.3 "table definition", 11.4 "column definition").
 use Rattle.std.specs.Prelude.{◌≡◌, ℕ, IsTrue, List, [], ◌∷◌, ◌++◌, ◌⊎◌, map, length, ◌<◌, codes, Contains}
 use Rattle.std.specs.List.{AllZip, list_all}
 use Rattle.std.specs.Char.{is_ascii_digit, to_ascii_uppercase}

@@ -26,7 +26,7 @@ integer_column name = record { name = name; ty = Integer; not_null = true }
 abbrev pub one_table : List ℕ → List ℕ → List Table
 one_table table column = record { name = table; columns = integer_column column ∷ [] } ∷ []
 
--- The text declares these tables: one table of one column (ISO/IEC 9075:1992, 11.3).
+-- The text declares these tables: one table of one column (ISO/IEC 9075:1992, 11.3 and 11.4).
 pub record ReadsSchema (text : List ℕ) (tables : List Table) : Type 0 where
   pub table : List ℕ
   pub column : List ℕ
@@ -41,7 +41,7 @@ table_of schema name = find (λ (t : Table). bytes_eq name t.name) schema
 abbrev pub place_of : List Column → List ℕ → Option ℕ
 place_of columns name = position (λ (c : Column). bytes_eq name c.name) columns
 
--- The text is this query over the schema's tables (ISO/IEC 9075:1992, 7.6 and 7.9).
+-- The text is this query over the schema's tables (ISO/IEC 9075:1992, 7.4, 7.6 and 7.9).
 pub record ReadsQuery (schema : List Table) (text : List ℕ) (query : Query) : Type 0 where
   pub table_name : List ℕ
   pub column_name : List ℕ
