@@ -4,7 +4,6 @@ use Rattle.std.specs.List.{filter_map, AllPairs}
 use Rattle.std.specs.Option.{option_to_list}
 use Rattle.std.specs.String.{string_bytes}
 use Rattle.std.specs.Global.{Vec}
-use Rattle.qw_module.specs.declared.instruction.ValType.{ValType}
 use Rattle.qw_module.specs.declared.instruction.ValType.TheVariants.{I32}
 use Rattle.qw_module.specs.declared.instruction.Op.{Op}
 use Rattle.qw_module.specs.declared.instruction.Op.TheVariants.{Load, Store}

@@ -7,8 +7,6 @@ ghost use Rattle.qw_module.specs.Syntax.{IsNumbered, sequence_at};
 ghost use Rattle.qw_module.specs.Machine.{CanJump, IsExecuted, IsJump, IsLeft, IsPoint, IsStepped, LeadsTo, entered, first_point, instructions_below, whole_room, point_of, rooms_of, under};
 ghost use Rattle.qw_module.specs.Validity.{IsShaped, IsValid, items_of};
 
-use std::alloc::Global;
-
 use crate::instruction::{Instr, ValType};
 use crate::linear::Linear;
 use crate::module::{self, Module};
@@ -17,6 +15,7 @@ use crate::shape::shaped_run;
 use crate::stack::Stack;
 use crate::valid::ValidModule;
 use qw_types::NoMemory;
+use std::alloc::Global;
 use thiserror::Error;
 
 /// What a step came to.
