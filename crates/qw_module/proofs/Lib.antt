@@ -12,9 +12,18 @@ pub mod Instances
 mod ShapeFacts
 pub mod Starts
 pub mod Steps
+pub mod OpenRuns
+pub mod RunRules
 pub mod Sound
+pub mod Steps
 pub mod TypedOperands
 pub mod Checked
 pub mod CheckedBodies
 pub mod Numbering
 pub mod Names
+pub mod ValidFunctions
+pub mod TurnFacts
+pub mod TurnSteps
+pub mod Separate
+pub mod NoTrap
+pub mod Begins

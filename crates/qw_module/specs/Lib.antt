@@ -14,3 +14,7 @@ pub mod Validity
 pub mod Instance
 pub mod ValidFaults
 pub mod Shape
+pub mod Map
+pub mod Runs
+pub mod Start
+pub mod Turns

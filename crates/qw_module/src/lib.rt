@@ -11,4 +11,5 @@ pub mod module;
 mod operators;
 mod shape;
 pub mod stack;
+pub mod turn_laws;
 pub mod valid;

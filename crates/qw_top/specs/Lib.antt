@@ -1,0 +1,13 @@
+pub mod Emit
+pub mod Layout
+pub mod Meaning
+pub mod Compiled
+pub mod Counts
+pub mod FileNames
+pub mod Output
+pub mod WholeFiles
+pub mod Status
+pub mod Words
+pub mod Columns
+pub mod Loading
+pub mod Sink

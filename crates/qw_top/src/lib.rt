@@ -1,4 +1,14 @@
 //! From the bytes of the files to the bytes of the report.
 #![tactic(auto)]
 
+pub mod columns;
+pub mod emit;
+pub mod files;
+pub mod loading;
 pub mod meaning;
+pub mod output;
+pub mod sink;
+pub mod status;
+#[cfg(test)]
+mod tests;
+pub mod words;

@@ -1,0 +1,33 @@
+//! The outside as the compiler sees it: a [`Shelf`] that files are read from, and a [`Sink`] that takes
+//! bytes. Each keeps a count of its faults, so that a contract can tell a fault of the outside from a
+//! fault that a body made up.
+//!
+//! - [`MemoryShelf`] and [`MemorySink`] stand in for the outside: they answer in small pieces and fail
+//!   at chosen calls.
+//! - [`PlainSink`] takes all that it is given and never fails but for want of memory.
+//! - [`FileShelf`] and [`StdSink`] are the files and streams of the system. Of what those hold nothing
+//!   is told.
+#![tactic(auto)]
+
+mod fault;
+mod file_shelf;
+mod memory_shelf;
+mod memory_sink;
+mod piece;
+mod plain_sink;
+mod shelf;
+mod sink;
+mod std_sink;
+
+pub use fault::IoFault;
+pub use file_shelf::FileShelf;
+pub use memory_shelf::MemoryShelf;
+pub use memory_sink::MemorySink;
+pub use piece::NamedFile;
+pub use plain_sink::PlainSink;
+pub use shelf::Shelf;
+pub use sink::Sink;
+pub use std_sink::StdSink;
+
+#[cfg(test)]
+mod tests;

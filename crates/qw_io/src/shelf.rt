@@ -1,0 +1,38 @@
+ghost use Rattle.std.specs.Prelude.{◌≡◌, ◌↔◌, ◌⊎◌, ℕ, ◌≤◌, Bool, true, List, Option, length, take, drop, IfOk, OnOk, IsErrOf, IsTrue, ⊤};
+ghost use Rattle.qw_io.specs.Faults.{IsCounted};
+ghost use Rattle.qw_io.specs.Files.{OfFile};
+
+use crate::fault::IoFault;
+
+/// Files that are read by name, a piece at a time.
+pub trait Shelf {
+    /// The bytes of each file by its name, where they are told. No call changes them.
+    ghost files: { Self → Option (List ℕ → Option (List ℕ)) };
+
+    /// How many faults were counted. The count never falls, and stays at 2^64 - 1.
+    ghost faults: { Self → ℕ };
+
+    /// Whether a call may take memory. Only then may it answer want of memory.
+    ghost takes_memory: { Bool } = { true };
+
+    /// Reads octets of the file `name` from place `at` into the front of `into`, and answers how many.
+    /// Of what stands behind them in `into` nothing is said, nor of `into` after an `Err`.
+    /// `Ok(0)` at an `into` that isn't empty is the end of the file.
+    fn fetch(&mut self, name: &str, at: u64, into: &mut [u8]) -> Result<usize, IoFault>
+        ensures never_falls { faults self.old ≤ faults self.new }
+        ensures failed_is_counted { IsErrOf result IoFault.Failed →
+            IsCounted (faults self.old) (faults self.new) }
+        ensures no_memory_is_not { IsErrOf result IoFault.NoMemory → faults self.new ≡ faults self.old }
+        ensures memory_is_taken { IsErrOf result IoFault.NoMemory → IsTrue takes_memory }
+        ensures ok_is_not { OnOk result (faults self.new ≡ faults self.old) }
+
+        ensures same_files { files self.new ≡ files self.old }
+        ensures within { IfOk result (λ n. n ≤ length into.old) }
+
+        // What is read, where the files are told.
+        ensures there { OnOk result (OfFile (files self.old) name.now (λ _. ⊤)) }
+        ensures end { IfOk result (λ n. OfFile (files self.old) name.now (λ bytes.
+            (n ≡ 0) ↔ ((length into.old ≡ 0) ⊎ (length bytes ≤ at)))) }
+        ensures octets { IfOk result (λ n. OfFile (files self.old) name.now (λ bytes.
+            take n into.new ≡ take n (drop at bytes))) };
+}

@@ -1,0 +1,72 @@
+-- Open runs: an instance's steps over a memory that others change between them.
+use Rattle.std.specs.Prelude.{◌≡◌, ℕ, zero, suc, ◌<◌, ◌≤◌, ◌⊎◌, List, [], ◌∷◌, Option, Some, None}
+use Rattle.qw_module.specs.Syntax.{Code, done}
+use Rattle.qw_module.specs.Execution.{label, Config, State, Running, Returned, Raised, Trapped, Event, Step, settled}
+use Rattle.qw_module.specs.Step.{Next, next}
+use Rattle.qw_module.specs.Map.{World, Others, IsFine, IsAnswered, world_after}
+
+-- an instance between two steps: what it has, its state, and the memory
+pub record Moment : Type 0 where
+  pub world : World
+  pub state : State
+  pub memory : List ℕ
+
+-- the moment after a step from a memory, with this event
+abbrev pub moment_after : World → List ℕ → Event → State → List ℕ → Moment
+moment_after world before event state after = record { world = world_after world before event; state = state; memory = after }
+
+-- One step of an open run: others change the memory, and the instance makes a step over it.
+pub record OpenStep (a : Moment) (c : Config) (before : List ℕ) (event : Event) (state : State) (after : List ℕ) : Type 0 where
+  pub running : a.state ≡ Running c
+  pub others : Others a.world a.memory before
+  pub step : Step c before event state after
+  pub answered : IsAnswered a.world event
+
+-- an open run of so many steps from one moment to another
+pub data OpenRun : ℕ → Moment → Moment → Type 0 where
+  begins : (a : Moment) → OpenRun zero a a
+  goes_on : (k : ℕ) (a b : Moment) (c : Config) (before : List ℕ) (event : Event) (state : State) (after : List ℕ) →
+      OpenRun k a b → OpenStep b c before event state after → OpenRun (suc k) a (moment_after b.world before event state after)
+
+-- an instance has ended where it doesn't run
+abbrev pub IsOver : State → Type 0
+IsOver (Running c) = ⊥
+IsOver Returned = Unit {0}
+IsOver (Raised code) = Unit {0}
+IsOver Trapped = Unit {0}
+
+-- The instance behaves from here on: in every open run, while it runs it can make a step, each step that it can make
+-- is fine, and fewer than `most` instructions have run; where it has ended, at most so many have, and P holds.
+pub record Behaves (most : ℕ) (P : Moment → Type 0) (a : Moment) : Type 0 where
+  pub goes_on : (k : ℕ) (b : Moment) (c : Config) (before : List ℕ) → OpenRun k a b → b.state ≡ Running c → Others b.world b.memory before →
+      (event : Event) × (state : State) × (after : List ℕ) × OpenStep b c before event state after
+  pub fine : (k : ℕ) (b : Moment) (c : Config) (before : List ℕ) (event : Event) (state : State) (after : List ℕ) →
+      OpenRun k a b → OpenStep b c before event state after → IsFine b.world event
+  pub bounded : (k : ℕ) (b : Moment) (c : Config) → OpenRun k a b → b.state ≡ Running c → k < most
+  pub ends : (k : ℕ) (b : Moment) → OpenRun k a b → IsOver b.state → (k ≤ most) × P b
+
+-- a step was made: it is fine, and Q holds of the moment after it
+abbrev pub OnStep : World → List ℕ → (Moment → Type 0) → Option Next → Type 0
+OnStep w before Q None = ⊥
+OnStep w before Q (Some t) = IsFine w t.event × Q (moment_after w before t.event t.state t.memory)
+
+-- Exactly n steps follow, each fine whatever others do before it, and then Q holds.
+abbrev pub OnRunning : State → (Config → Type 0) → Type 0
+OnRunning (Running c) P = P c
+OnRunning Returned P = ⊥
+OnRunning (Raised code) P = ⊥
+OnRunning Trapped P = ⊥
+
+abbrev pub Steps : (Moment → Type 0) → ℕ → Moment → Type 0
+Steps Q zero a = Q a
+Steps Q (suc n) a = OnRunning a.state (λ c. (before : List ℕ) → Others a.world a.memory before → OnStep a.world before (Steps Q n) (next c before))
+
+-- At most n steps follow, each fine whatever others do before it, and then Q holds.
+abbrev pub Within : (Moment → Type 0) → ℕ → Moment → Type 0
+Within Q zero a = Q a
+Within Q (suc n) a = Q a ⊎ OnRunning a.state (λ c. (before : List ℕ) → Others a.world a.memory before → OnStep a.world before (Within Q n) (next c before))
+
+-- The start of a call of a function: its locals are its arguments, then zeros; its body is a block, whose label
+-- ends the call (WebAssembly Core Specification 1.0, 4.4.7, "Invocation").
+abbrev pub called : (code : Code) → (results : ℕ) → (locals : List ℕ) → State
+called code results locals = settled [] (label done results [] done ∷ []) code [] locals

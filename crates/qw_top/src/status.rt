@@ -1,0 +1,41 @@
+ghost use Rattle.std.specs.Prelude.{◌≡◌};
+ghost use Rattle.qw_top.specs.Status.{code_of};
+
+/// How a run of the program ended.
+#[derive(Clone, Copy, Debug, PartialEq, Eq)]
+pub enum Status {
+    /// Every query gave rows, and the report was written.
+    Done,
+    /// The words of the command line are none that the program takes.
+    WordsRefused,
+    /// The schema file is too long, or its text is no schema.
+    SchemaRefused,
+    /// A table file is too long, or its records don't fit the table.
+    TableFileRefused,
+    /// The queries file is too long, or its text is no script over the schema.
+    QueriesRefused,
+    /// A file could not be read.
+    ReadFailed,
+    /// The report or the note could not be written.
+    WriteFailed,
+    /// There was no memory left.
+    NoMemory,
+}
+
+impl Status {
+    /// The number that the program ends with.
+    pub fn code(self) -> u8
+        ensures { result ≡ code_of self }
+    {
+        match self {
+            Status::Done => 0,
+            Status::WordsRefused => 2,
+            Status::SchemaRefused => 3,
+            Status::TableFileRefused => 4,
+            Status::QueriesRefused => 5,
+            Status::ReadFailed => 6,
+            Status::WriteFailed => 7,
+            Status::NoMemory => 9,
+        }
+    }
+}
