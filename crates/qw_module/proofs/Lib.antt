@@ -15,7 +15,6 @@ pub mod Steps
 pub mod OpenRuns
 pub mod RunRules
 pub mod Sound
-pub mod Steps
 pub mod TypedOperands
 pub mod Checked
 pub mod CheckedBodies
