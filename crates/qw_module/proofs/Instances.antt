@@ -1,5 +1,5 @@
 -- What a step of the activity says of the instance.
-use Rattle.std.proofs.Common.{◌≡◌, ◌≢◌, ℕ, ◌+◌, ◌<◌, List, [], ◌∷◌, length, get_or, Vec, Global, Option, Some, None, slice_get, refl, sym, ap, ◌∙◌, subst, arith}
+use Rattle.std.proofs.Common.{◌≡◌, ◌≢◌, ℕ, ◌<◌, List, [], ◌∷◌, length, get_or, Vec, Global, Option, Some, None, slice_get, refl, sym, ap, ◌∙◌, subst}
 use Rattle.std.proofs.lemmas.Option.{slice_get-get_or, slice_get_read, slice_get_within, get_or_from_slice_get}
 use Rattle.std.specs.Option.{IsSomeAnd}
 use Rattle.qw_module.specs.declared.instruction.Instr.{Instr}
@@ -12,15 +12,13 @@ use Rattle.qw_module.specs.declared.machine.Stepped.{Stepped}
 use Rattle.qw_module.specs.declared.machine.Stepped.TheVariants.{Ran}
 use Rattle.qw_module.specs.declared.machine.Stepped.TheVariants as stepped
 use Rattle.qw_module.specs.Syntax.{Code, done, nested, sequence_at, IsNumbered}
-use Rattle.qw_module.specs.Execution.{Config, State, Running}
-use Rattle.qw_module.specs.Validity.{items_of, sequences_of, IsValid, IsValidFunction, IsTypedFunction, IsShaped, IsOneI32}
+use Rattle.qw_module.specs.Execution.{Config, Running}
+use Rattle.qw_module.specs.Validity.{items_of, IsValid, IsValidFunction, IsTypedFunction, IsShaped, IsOneI32}
 use Rattle.qw_module.specs.Machine.{code_at, base_of, above, under, contexts_of, Point, Rooms, state_at, config_at, IsPoint, IsRunning, IsStepped, LeadsTo, point_of, rooms_of}
-use Rattle.qw_module.specs.Instance.{body_of, sequences_of_function, state_after, state_of, WhileRunning, IsAnswer, IsOver}
+use Rattle.qw_module.specs.Instance.{body_of, state_after, state_of, WhileRunning, IsAnswer, IsOver}
 use Rattle.qw_module.proofs.Numbered.{named}
-use Rattle.qw_module.proofs.ListFacts.{drop-get}
 use Rattle.qw_module.proofs.Points.{code_at-instruction}
 use Rattle.qw_module.proofs.Sound.{settled-unfinished}
-use Rattle.qw_module.proofs.Arrays.{leads-to}
 
 nested-more : (name : ℕ → Code) (instruction : Instr) (rest : List Instr) → nested name (instruction ∷ rest) ≢ done
 nested-more name (i.Op o) rest e = cc
@@ -91,7 +89,7 @@ module _ (m : Module) (before : Instance) (ran : before.last ≡ Ran) (running :
   runs-on stepped.Trapped activity same is = tt
 
 -- ---- the function of a valid and shaped module
-some_of : {T : Type 0} (o : Option T) (P : T → Type 0) → IsSomeAnd o P → (x : T) × (o ≡ Some x) × P x
+pub some_of : {T : Type 0} (o : Option T) (P : T → Type 0) → IsSomeAnd o P → (x : T) × (o ≡ Some x) × P x
 some_of None P is = absurd is
 some_of (Some x) P is = (x, refl, is)
 
@@ -102,13 +100,18 @@ function-read m number function shaped read =
     let inside = slice_get_within m.functions.items number there.0 there.1 in
     slice_get_read m.functions.items (length m.functions.items) number function refl inside read
 
+-- a function of a valid module is typed
+pub typed-function : (m : Module) (number : ℕ) (function : Function) → IsValid m → slice_get m.functions.items number ≡ Some function →
+    IsValidFunction m function
+typed-function m number function valid found =
+    let inside = slice_get_within m.functions.items number function found in
+    let same : get_or m.functions.items number function ≡ function = get_or_from_slice_get m.functions.items number function function found in
+    subst (λ (f : Function). IsValidFunction m f) same (valid.functions number function inside)
+
 pub numbered-body : (m : Module) (number : ℕ) (function : Function) → IsValid m → slice_get m.functions.items number ≡ Some function →
     IsNumbered (body_of m number)
 numbered-body m number function valid found =
-    let inside = slice_get_within m.functions.items number function found in
-    let same : get_or m.functions.items number function ≡ function = get_or_from_slice_get m.functions.items number function function found in
-    let is : IsValidFunction m function = subst (λ (f : Function). IsValidFunction m f) same (valid.functions number function inside) in
-    let typed = some_of (slice_get m.types.items function.type_index) (IsTypedFunction m function) is in
+    let typed = some_of (slice_get m.types.items function.type_index) (IsTypedFunction m function) (typed-function m number function valid found) in
     rw found typed.2.numbered
 
 -- what runs isn't over

@@ -12,6 +12,7 @@ pub mod Controlled
 pub mod Arrays
 pub mod Instances
 mod ShapeFacts
+pub mod Starts
 pub mod Steps
 pub mod Sound
 pub mod TypedOperands
