@@ -5,3 +5,4 @@ pub mod RunRules
 pub mod Sound
 pub mod Steps
 pub mod TypedOperands
+pub mod Checked

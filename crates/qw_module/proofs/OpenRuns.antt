@@ -5,7 +5,7 @@ use Rattle.std.proofs.lemmas.Option.{same_Some, none-some}
 use Rattle.qw_module.specs.Execution.{Config, State, Running, Returned, Raised, Trapped, Event}
 use Rattle.qw_module.specs.Step.{Want, Stuck, Goes, Asks, Puts, wants, answered, Next, next}
 use Rattle.qw_module.specs.Map.{World, Others, IsFine, IsAnswered}
-use Rattle.qw_module.specs.Runs.{Moment, moment_after, OpenStep, OpenRun, begins, goes_on, Behaves, OnStep, OnRunning, Steps}
+use Rattle.qw_module.specs.Runs.{Moment, moment_after, OpenStep, OpenRun, begins, goes_on, IsOver, Behaves, OnStep, OnRunning, Steps}
 use Rattle.qw_module.proofs.Steps.{next-rule, rule_from_next}
 
 -- what holds after the steps may be weakened
@@ -57,16 +57,25 @@ unasked w memory (Puts address width value s) t e = ⊎_elim
     (λ is_not. subst (λ (x : Next). IsAnswered w x.event) (same_Some _ t (rw is_not at e)) tt)
     (cases_Bool (nat_le (address + width) (length memory)))
 
-module _ (Q : Moment → Type 0) (returns : (b : Moment) → Q b → b.state ≡ Returned) where
+still_running : (s : State) (c : Config) → s ≡ Running c → IsOver s → ⊥
+still_running s c running over = subst IsOver running over
+
+OnRunning-over : (P : Config → Type 0) (s : State) → IsOver s → OnRunning s P → ⊥
+OnRunning-over P (Running c) over h = over
+OnRunning-over P Returned over h = h
+OnRunning-over P (Raised code) over h = h
+OnRunning-over P Trapped over h = h
+
+module _ (Q : Moment → Type 0) (ended : (b : Moment) → Q b → IsOver b.state) where
   -- an instance that has n steps to go is not at its end
   at_running : (n : ℕ) (b : Moment) (c : Config) → b.state ≡ Running c → Steps Q n b →
       (j : ℕ) × (suc j ≡ n) × ((before : List ℕ) → Others b.world b.memory before → OnStep b.world before (Steps Q j) (next c before))
-  at_running zero b c running h = absurd (let e = returns b h in cc)
+  at_running zero b c running h = absurd (still_running b.state c running (ended b h))
   at_running (suc n) b c running h = (n, refl, rw running at h)
 
-  at_end : (n : ℕ) (b : Moment) → b.state ≡ Returned → Steps Q n b → Q b
-  at_end zero b returned h = h
-  at_end (suc n) b returned h = absurd (rw returned at h)
+  at_end : (n : ℕ) (b : Moment) → IsOver b.state → Steps Q n b → Q b
+  at_end zero b over h = h
+  at_end (suc n) b over h = absurd (OnRunning-over _ b.state over h)
 
   -- every open run of a moment with n steps to go leads to one with fewer
   pub along : (n : ℕ) (k : ℕ) (a b : Moment) → OpenRun k a b → Steps Q n a → (j : ℕ) × (j + k ≡ n) × Steps Q j b
@@ -86,7 +95,7 @@ module _ (Q : Moment → Type 0) (returns : (b : Moment) → Q b → b.state ≡
       let there = at_running here.0 b c step.running here.2 in
       (step-made (Steps Q there.0) b.world before (next c before) event state after (next-rule c before event state after step.step) (there.2 before step.others)).0
 
-  -- a moment from which n steps lead to a return behaves, and each return keeps what they lead to
+  -- a moment from which n steps lead to an end behaves, and each end is what they lead to
   pub behaves_within : (n most : ℕ) → n ≤ most → (a : Moment) → Steps Q n a → Behaves most Q a
   behaves_within n most le a h = record {
     goes_on = λ k b c before run running others.
@@ -108,8 +117,8 @@ module _ (Q : Moment → Type 0) (returns : (b : Moment) → Q b → b.state ≡
         let here = along n k a b run h in
         let there = at_running here.0 b c running here.2 in
         omega (arith, there.1, here.1);
-    ends = λ k b run returned.
+    ends = λ k b run over.
         let here = along n k a b run h in
-        let end = at_end here.0 b returned here.2 in
+        let end = at_end here.0 b over here.2 in
         (omega (arith, here.1), end);
   }

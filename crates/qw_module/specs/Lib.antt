@@ -7,5 +7,8 @@ pub mod Typing
 pub mod Soundness
 pub mod Map
 pub mod Runs
-pub mod Validity
+pub mod Start
 pub mod Turns
+pub mod Checking
+pub mod Refusals
+pub mod Validity

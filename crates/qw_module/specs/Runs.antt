@@ -28,15 +28,22 @@ pub data OpenRun : ℕ → Moment → Moment → Type 0 where
   goes_on : (k : ℕ) (a b : Moment) (c : Config) (before : List ℕ) (event : Event) (state : State) (after : List ℕ) →
       OpenRun k a b → OpenStep b c before event state after → OpenRun (suc k) a (moment_after b.world before event state after)
 
--- The instance behaves from here on: in every open run, while it runs it can make a step, each step that it can make is
--- fine, fewer than `most` instructions have run, and where it has returned, the moment keeps to P.
+-- an instance has ended where it doesn't run
+abbrev pub IsOver : State → Type 0
+IsOver (Running c) = ⊥
+IsOver Returned = Unit {0}
+IsOver (Raised code) = Unit {0}
+IsOver Trapped = Unit {0}
+
+-- The instance behaves from here on: in every open run, while it runs it can make a step, each step that it can make
+-- is fine, and fewer than `most` instructions have run; where it has ended, at most so many have, and P holds.
 pub record Behaves (most : ℕ) (P : Moment → Type 0) (a : Moment) : Type 0 where
   pub goes_on : (k : ℕ) (b : Moment) (c : Config) (before : List ℕ) → OpenRun k a b → b.state ≡ Running c → Others b.world b.memory before →
       (event : Event) × (state : State) × (after : List ℕ) × OpenStep b c before event state after
   pub fine : (k : ℕ) (b : Moment) (c : Config) (before : List ℕ) (event : Event) (state : State) (after : List ℕ) →
       OpenRun k a b → OpenStep b c before event state after → IsFine b.world event
   pub bounded : (k : ℕ) (b : Moment) (c : Config) → OpenRun k a b → b.state ≡ Running c → k < most
-  pub ends : (k : ℕ) (b : Moment) → OpenRun k a b → b.state ≡ Returned → (k ≤ most) × P b
+  pub ends : (k : ℕ) (b : Moment) → OpenRun k a b → IsOver b.state → (k ≤ most) × P b
 
 -- a step was made: it is fine, and Q holds of the moment after it
 abbrev pub OnStep : World → List ℕ → (Moment → Type 0) → Option Next → Type 0

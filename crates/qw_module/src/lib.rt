@@ -2,6 +2,8 @@
 //! definitions of validity and execution (in `specs/`), and the machine that executes a module.
 #![tactic(auto)]
 
+mod checker;
 pub mod instruction;
 pub mod laws;
 pub mod module;
+pub mod valid;

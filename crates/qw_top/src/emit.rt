@@ -1,7 +1,9 @@
 ghost use Rattle.std.specs.Prelude.{◌≡◌, ℕ, IfOk};
 ghost use Rattle.std.specs.Int.{cast_unsigned, w64};
-ghost use Rattle.qw_module.specs.Syntax.{Code, nested};
-ghost use Rattle.qw_top.specs.Emit.{IsScan, code_of_body, scan_code, scan_frame, scan_row};
+ghost use Rattle.qw_module.specs.Syntax.{Code, IsNumbered, nested};
+ghost use Rattle.qw_module.specs.Validity.{code_of_body, sequences_of};
+ghost use Rattle.qw_top.specs.Compiled.{IsCompiled};
+ghost use Rattle.qw_top.specs.Emit.{IsScan, scan_code, scan_frame, scan_row};
 
 use crate::meaning::Query;
 use qw_module::instruction::{
@@ -190,7 +192,8 @@ fn outer_sequence(alloc: Global) -> Result<Vec<Instr>, NoMemory>
 
 /// The body of `run`, inner sequences before the one that holds them.
 fn body_of(alloc: Global, literal: i64) -> Result<Body, NoMemory>
-    ensures { IfOk result (λ b. code_of_body b ≡ scan_code literal) }
+    ensures code { IfOk result (λ b. code_of_body b ≡ scan_code literal) }
+    ensures numbered { IfOk result (λ b. IsNumbered (sequences_of b)) }
 {
     let row = row_sequence(alloc, literal)?;
     let around = vec![in alloc;
@@ -206,15 +209,9 @@ fn body_of(alloc: Global, literal: i64) -> Result<Body, NoMemory>
     Ok(Body { sequences })
 }
 
-/// The module that runs the statement over its column, whose values are of four octets and not null.
-/// Its `run` takes the address of the descriptor, chains the result rows in the pages that belong to
-/// it, and writes where they begin, how many they are, and where its next object would stand.
-///
-/// # Errors
-///
-/// [`NoMemory`] where the module does not fit memory, and nowhere else.
-pub fn module_of(alloc: Global, query: &Query) -> Result<Module, NoMemory>
-    ensures { IfOk result (λ m. IsScan query.now.literal m) }
+/// The module that compares with this literal.
+fn scan_module(alloc: Global, literal: i64) -> Result<Module, NoMemory>
+    ensures { IfOk result (λ m. IsScan literal m) }
 {
     let params = vec![in alloc; ValType::I32]?;
     let signature = FuncType {
@@ -229,7 +226,7 @@ pub fn module_of(alloc: Global, query: &Query) -> Result<Module, NoMemory>
         ValType::I64,
         ValType::I64,
     ]?;
-    let body = body_of(alloc, query.literal)?;
+    let body = body_of(alloc, literal)?;
     let run = Function {
         type_index: 0,
         locals,
@@ -248,4 +245,19 @@ pub fn module_of(alloc: Global, query: &Query) -> Result<Module, NoMemory>
         globals: Vec::new(alloc),
         exports: vec![in alloc; export]?,
     })
+}
+
+/// The module that runs the statement over its column, whose values are of four octets and not null.
+/// Its `run` takes the address of the descriptor, chains the result rows in the instance's first
+/// page, and writes there where they begin, how many they are, and where the next object would stand.
+///
+/// # Errors
+///
+/// [`NoMemory`] where the module does not fit memory, and nowhere else.
+pub fn module_of(alloc: Global, query: &Query) -> Result<Module, NoMemory>
+    ensures code { IfOk result (λ m. IsScan query.now.literal m) }
+    ensures compiled { IfOk result (λ m. IsCompiled query.now m) }
+{
+    let module = scan_module(alloc, query.literal)?;
+    Ok(module)
 }

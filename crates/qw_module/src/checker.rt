@@ -1,0 +1,283 @@
+//! Whether a body is typed: its sequences are gone through from the first instruction on, and the types of
+//! the operands are kept (WebAssembly Core Specification 1.0, appendix "Validation Algorithm").
+
+ghost use Rattle.std.specs.Prelude.{◌≡◌, ℕ, List, [], ◌∷◌, ◌++◌, ◌<◌, ◌^◌, ◌≤◌, ◌↔◌, length, drop, map, IsTrue, ◌&&◌, nat_le, IfOk, OnOk, Some, slice_get};
+ghost use Rattle.std.specs.Option.{option_map};
+ghost use Rattle.qw_module.specs.Numbers.{values_of, constant, type_of_constant, type_of_binary, type_of_relation, type_of_load, load_width, type_of_store, store_width};
+ghost use Rattle.qw_module.specs.Typing.{types_of};
+ghost use Rattle.qw_module.specs.declared.instruction.ValType.{ValType};
+ghost use Rattle.qw_module.specs.Checking.{nothing, anything, pushed, popped, all_pushed, all_popped, has_none, under, after_op};
+ghost use Rattle.qw_module.specs.Refusals.{Finds, Decides};
+
+use crate::instruction::{Binary, BlockType, Const, Instr, Load, MemArg, Op, Relation, Store, ValType};
+use std::alloc::Global;
+use std::marker::Model;
+
+/// Why a body is refused.
+#[derive(Clone, Copy, Debug, PartialEq, Eq)]
+pub(crate) enum Refusal {
+    IllTyped,
+    NoMemory,
+}
+
+/// The types of the operands that are known at a place.
+#[derive(Drop)]
+pub(crate) struct Operands {
+    known: Vec<ValType>,
+    /// Whether the place follows an unconditional branch, so that any others may lie below.
+    unreachable: bool,
+}
+
+impl Model for Operands {
+    ghost use Rattle.std.specs.Prelude.{reverse};
+    ghost use Rattle.qw_module.specs.Checking.{Known};
+
+    ghost Value = { Known };
+
+    ghost view = { λ o. record { types = reverse o.known.items; unreachable = o.unreachable } };
+}
+
+impl Operands {
+    pub(crate) fn new(alloc: Global) -> Self
+        ensures { result ≡ nothing }
+    {
+        Operands {
+            known: Vec::new(alloc),
+            unreachable: false,
+        }
+    }
+
+    pub(crate) fn push(&mut self, ty: ValType) -> Result<(), Refusal>
+        ensures { Finds result (Some (pushed ty self.old)) (λ _. self.new) }
+    {
+        self.known.push(ty).map_err(|_| Refusal::NoMemory)
+    }
+
+    pub(crate) fn pop(&mut self, ty: ValType) -> Result<(), Refusal>
+        ensures { Finds result (popped ty self.old) (λ _. self.new) }
+    {
+        match self.known.pop() {
+            Some(last) if last == ty => Ok(()),
+            None if self.unreachable => Ok(()),
+            _ => Err(Refusal::IllTyped),
+        }
+    }
+
+    pub(crate) fn push_all(&mut self, types: BlockType) -> Result<(), Refusal>
+        ensures { Finds result (Some (all_pushed (types_of types) self.old)) (λ _. self.new) }
+    {
+        match types {
+            None => Ok(()),
+            Some(ty) => self.push(ty),
+        }
+    }
+
+    pub(crate) fn pop_all(&mut self, types: BlockType) -> Result<(), Refusal>
+        ensures { Finds result (all_popped (types_of types) self.old) (λ _. self.new) }
+    {
+        match types {
+            None => Ok(()),
+            Some(ty) => self.pop(ty),
+        }
+    }
+
+    pub(crate) fn forget(&mut self)
+        ensures { self.new ≡ anything }
+    {
+        self.known.clear();
+        self.unreachable = true;
+    }
+
+    pub(crate) fn is_empty(&self) -> bool
+        ensures { result ≡ has_none self.now.types }
+    {
+        self.known.is_empty()
+    }
+}
+
+/// For each label, from the outermost in, what a branch to it takes.
+#[derive(Drop)]
+pub(crate) struct Labels {
+    taken: Vec<BlockType>,
+}
+
+impl Model for Labels {
+    ghost use Rattle.std.specs.Prelude.{List, map, reverse};
+    ghost use Rattle.qw_module.specs.declared.instruction.ValType.{ValType};
+    ghost use Rattle.qw_module.specs.Typing.{types_of};
+
+    ghost Value = { List (List ValType) };
+
+    ghost view = { λ l. map types_of (reverse l.taken.items) };
+}
+
+impl Labels {
+    pub(crate) fn new(alloc: Global) -> Self
+        ensures { result ≡ [] }
+    {
+        Labels {
+            taken: Vec::new(alloc),
+        }
+    }
+
+    pub(crate) fn push(&mut self, taken: BlockType) -> Result<(), Refusal>
+        ensures { Finds result (Some (types_of taken ∷ self.old)) (λ _. self.new) }
+    {
+        self.taken.push(taken).map_err(|_| Refusal::NoMemory)
+    }
+
+    pub(crate) fn pop(&mut self)
+        requires { 0 < length self.old }
+        ensures { self.new ≡ drop 1 self.old }
+    {
+        let _ = self.taken.pop();
+    }
+
+    pub(crate) fn get(&self, label: u32) -> Result<BlockType, Refusal>
+        ensures { Finds result (slice_get self.now label) types_of }
+    {
+        self.taken.iter().rev().nth(label as usize).copied().ok_or(Refusal::IllTyped)
+    }
+}
+
+fn constant_type(number: Const) -> ValType
+    ensures value { result ≡ type_of_constant number }
+    ensures fits { constant number < values_of result }
+{
+    match number {
+        Const::I32(_) => ValType::I32,
+        Const::I64(_) => ValType::I64,
+    }
+}
+
+fn binary_type(operator: Binary) -> ValType
+    ensures { result ≡ type_of_binary operator }
+{
+    match operator {
+        Binary::I32Add | Binary::I32Mul => ValType::I32,
+        Binary::I64Add => ValType::I64,
+    }
+}
+
+fn relation_type(comparison: Relation) -> ValType
+    ensures { result ≡ type_of_relation comparison }
+{
+    match comparison {
+        Relation::I32Eq => ValType::I32,
+        Relation::I64Eq | Relation::I64Le(_) => ValType::I64,
+    }
+}
+
+fn load_type(load: Load) -> ValType
+    ensures { result ≡ type_of_load load }
+{
+    match load {
+        Load::I32 => ValType::I32,
+        Load::I64From32(_) => ValType::I64,
+    }
+}
+
+fn load_octets(load: Load) -> u32
+    ensures { result ≡ load_width load }
+{
+    match load {
+        Load::I32 | Load::I64From32(_) => 4,
+    }
+}
+
+fn store_type(store: Store) -> ValType
+    ensures { result ≡ type_of_store store }
+{
+    match store {
+        Store::I32 => ValType::I32,
+        Store::I64 => ValType::I64,
+    }
+}
+
+fn store_octets(store: Store) -> u32
+    ensures { result ≡ store_width store }
+{
+    match store {
+        Store::I32 => 4,
+        Store::I64 => 8,
+    }
+}
+
+/// Whether an alignment of 2 to this power is at most so many octets.
+fn is_aligned(align: u32, octets: u32) -> bool
+    ensures { IsTrue result ↔ (2 ^ align ≤ octets) }
+{
+    2u32.checked_pow(align).is_some_and(|unit| unit <= octets)
+}
+
+/// What all sequences of a body are checked under.
+#[derive(Clone, Copy)]
+pub(crate) struct Checker<'a> {
+    pub(crate) alloc: Global,
+    pub(crate) parameters: &'a [ValType],
+    /// The types of the locals after the parameters.
+    pub(crate) locals: &'a [ValType],
+    pub(crate) has_memory: bool,
+    pub(crate) sequences: &'a [Vec<Instr>],
+}
+
+impl Checker<'_> {
+    fn local(&self, index: u32) -> Result<ValType, Refusal>
+        ensures { Finds result (slice_get (self.now.parameters.now ++ self.now.locals.now) index) (λ ty. ty) }
+    {
+        let index = index as usize;
+        let found = match self.parameters.get(index) {
+            Some(ty) => Some(ty),
+            None => self.locals.get(index - self.parameters.len()),
+        };
+        found.copied().ok_or(Refusal::IllTyped)
+    }
+
+    fn access(&self, arg: MemArg, octets: u32) -> Result<(), Refusal>
+        ensures { Decides result (self.now.has_memory && nat_le (2 ^ arg.align) octets) }
+    {
+        if self.has_memory && is_aligned(arg.align, octets) {
+            Ok(())
+        } else {
+            Err(Refusal::IllTyped)
+        }
+    }
+
+    fn operator(&self, op: Op, operands: &mut Operands) -> Result<(), Refusal>
+        ensures { (labels : List (List ValType)) →
+            Finds result (after_op (under (self.now.parameters.now ++ self.now.locals.now) labels self.now.has_memory) op operands.old) (λ _. operands.new) }
+    {
+        match op {
+            Op::LocalGet(x) => operands.push(self.local(x)?),
+            Op::LocalSet(x) => operands.pop(self.local(x)?),
+            Op::LocalTee(x) => {
+                let ty = self.local(x)?;
+                operands.pop(ty)?;
+                operands.push(ty)
+            }
+            Op::Const(number) => operands.push(constant_type(number)),
+            Op::Binary(operator) => {
+                let ty = binary_type(operator);
+                operands.pop(ty)?;
+                operands.pop(ty)?;
+                operands.push(ty)
+            }
+            Op::Relation(comparison) => {
+                let ty = relation_type(comparison);
+                operands.pop(ty)?;
+                operands.pop(ty)?;
+                operands.push(ValType::I32)
+            }
+            Op::Load(load, arg) => {
+                self.access(arg, load_octets(load))?;
+                operands.pop(ValType::I32)?;
+                operands.push(load_type(load))
+            }
+            Op::Store(store, arg) => {
+                self.access(arg, store_octets(store))?;
+                operands.pop(store_type(store))?;
+                operands.pop(ValType::I32)
+            }
+        }
+    }
+}
