@@ -6,3 +6,7 @@ pub mod Sound
 pub mod Steps
 pub mod TypedOperands
 pub mod Checked
+pub mod TurnFacts
+pub mod TurnSteps
+pub mod Separate
+pub mod NoTrap

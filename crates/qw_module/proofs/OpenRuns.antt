@@ -45,7 +45,7 @@ step-there Q w before None h = absurd h
 step-there Q w before (Some t) h = (t, refl)
 
 -- no step asks for pages
-unasked : (w : World) (memory : List ℕ) (want : Want) (t : Next) → answered memory want ≡ Some t → IsAnswered w t.event
+pub unasked : (w : World) (memory : List ℕ) (want : Want) (t : Next) → answered memory want ≡ Some t → IsAnswered w t.event
 unasked w memory Stuck t e = absurd (none-some t e)
 unasked w memory (Goes s) t e = subst (λ (x : Next). IsAnswered w x.event) (same_Some _ t e) tt
 unasked w memory (Asks address width make) t e = ⊎_elim

@@ -1,9 +1,12 @@
 -- Several instances over one memory, and the turns that they are given. The atomic step is one instruction of one
 -- instance.
-use Rattle.std.specs.Prelude.{ℕ, zero, suc, ◌+◌, ◌==◌, nat_le, ◌||◌, if◌then◌else◌, List, [], ◌∷◌, Option, Some, None, slice_get, slice_set, is_some}
-use Rattle.qw_module.specs.Execution.{State, Running, Returned, Raised, Trapped}
+use Rattle.std.specs.Prelude.{◌≡◌, ◌≢◌, ℕ, zero, suc, ◌+◌, ◌-◌, ◌*◌, ◌≤◌, ◌==◌, nat_le, ◌||◌, ◌⊎◌, if◌then◌else◌, List, [], ◌∷◌, ◌++◌, length, Option, Some, None, slice_get, slice_set, is_some}
+use Rattle.std.specs.List.{AllByRecursion}
+use Rattle.qw_module.specs.Execution.{Config, Event, State, Running, Returned, Raised, Trapped}
+use Rattle.qw_module.specs.Memory.{AreOctets}
 use Rattle.qw_module.specs.Step.{Next, next}
-use Rattle.qw_module.specs.Map.{World, world_after}
+use Rattle.qw_module.specs.Map.{Area, page, most_pages, World, Others, IsFine, world_after}
+use Rattle.qw_module.specs.Runs.{Moment, OpenStep, OpenRun}
 
 -- How an instance ended: it returned, it raised an exception's code, a request for so many pages beside those held was past
 -- its limit and the instance raised 3, it ran as many instructions as its limit says, or it trapped.
@@ -90,3 +93,65 @@ turn s (i, quantum) = turn_at s i quantum (slice_get s.instances i)
 abbrev pub turns : List (ℕ × ℕ) → Shared → Shared
 turns [] s = s
 turns (t ∷ ts) s = turns ts (turn s t)
+
+-- P holds of each instance
+abbrev pub EachInstance : (Instance → Type 0) → Shared → Type 0
+EachInstance P s = (k : ℕ) (i : Instance) → slice_get s.instances k ≡ Some i → P i
+
+-- R holds between each instance and what it has become
+abbrev pub EachAfter : (Instance → Instance → Type 0) → (before after : Shared) → Type 0
+EachAfter R before after = (k : ℕ) (i later : Instance) → slice_get before.instances k ≡ Some i →
+    slice_get after.instances k ≡ Some later → R i later
+
+-- An instance's count and its end go with where it is: it ran at most what it may, and its end is the one at its state.
+pub record IsWhole (i : Instance) : Type 0 where
+  pub within : i.ran ≤ i.most_steps
+  pub end_is : i.end ≡ end_at i.state i.world i.ran i.most_steps
+
+-- two areas have no octet in common
+abbrev pub AreApart : Area → Area → Type 0
+AreApart a b = (a.start + a.size ≤ b.start) ⊎ (b.start + b.size ≤ a.start)
+
+-- each of these areas has none in common with any of those
+abbrev pub AllApart : List Area → List Area → Type 0
+AllApart areas others = AllByRecursion (λ a. AllByRecursion (AreApart a) others) areas
+
+-- an area lies in a memory of so many octets
+abbrev pub LiesWithin : ℕ → Area → Type 0
+LiesWithin octets area = area.start + area.size ≤ octets
+
+-- how many pages the instances may still ask for
+abbrev pub may_ask : List Instance → ℕ
+may_ask [] = 0
+may_ask (i ∷ instances) = (i.world.limit - i.world.held) + may_ask instances
+
+-- The instances' areas lie in the memory; the own areas of one meet neither those of another nor any mapped columns;
+-- and the memory has room for all that the instances may still ask for.
+pub record AreSeparate (s : Shared) : Type 0 where
+  pub octets : AreOctets s.memory
+  pub inside : EachInstance (λ i. AllByRecursion (LiesWithin (length s.memory)) (i.world.mapped ++ i.world.own)) s
+  pub own_apart : (j k : ℕ) (one other : Instance) → j ≢ k → slice_get s.instances j ≡ Some one → slice_get s.instances k ≡ Some other →
+      AllApart one.world.own other.world.own
+  pub columns_apart : (j k : ℕ) (one other : Instance) → slice_get s.instances j ≡ Some one → slice_get s.instances k ≡ Some other →
+      AllApart one.world.own other.world.mapped
+  pub room : length s.memory + may_ask s.instances * page ≤ most_pages * page
+
+-- an instance over a memory, between two of its steps
+abbrev pub moment_of : Instance → List ℕ → Moment
+moment_of i memory = record { world = i.world; state = i.state; memory = memory }
+
+-- from a moment on each step that can be made is fine, whatever others do before it
+abbrev pub StaysFine : Moment → Type 0
+StaysFine a = (k : ℕ) (b : Moment) (c : Config) (before : List ℕ) (event : Event) (state : State) (after : List ℕ) →
+    OpenRun k a b → OpenStep b c before event state after → IsFine b.world event
+
+-- instances that lie apart, and of which each does only what it may
+pub record AreSafe (s : Shared) : Type 0 where
+  pub separate : AreSeparate s
+  pub fine : EachInstance (λ i. StaysFine (moment_of i s.memory)) s
+
+-- An open run of so many steps leads from one moment to another, but for what others make of the memory after the last.
+pub record LeadsTo (steps : ℕ) (a b : Moment) : Type 0 where
+  pub left : List ℕ
+  pub run : OpenRun steps a (record b { memory = left })
+  pub others : Others b.world left b.memory

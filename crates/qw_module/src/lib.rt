@@ -7,3 +7,4 @@ pub mod instruction;
 pub mod laws;
 pub mod module;
 pub mod valid;
+pub mod turn_laws;
