@@ -145,56 +145,75 @@ two_to_one-complete : (type result : ValType) (known : Known) (below : List ValT
     (after : Known) × (two_to_one type result known ≡ Some after) × AreAs after (result ∷ below)
 two_to_one-complete type result known below are =
     let one = popped-complete type known (type ∷ below) are in
-    let two = popped-complete type one.0 below one.2 in
-    (pushed result two.0, map_from (pushed result) (option_and_then (popped type) (popped type known)) two.0
-    (then_from (popped type) (popped type known) one.0 (Some two.0) one.1 two.1), (refl, two.2))
+    let two = popped-complete type one.0 below one.2 in (
+      pushed result two.0,
+      map_from (pushed result) (option_and_then (popped type) (popped type known)) two.0
+          (then_from (popped type) (popped type known) one.0 (Some two.0) one.1 two.1),
+      (refl, two.2),
+    )
 
 op-sound : (under : Under) (operator : Op) (known after : Known) (operands : List ValType) → after_op under operator known ≡ Some after → AreAs after operands →
     From under.scope.locals operator known operands
 op-sound under (LocalGet x) known after operands e are =
     let found = map_some (λ (type : ValType). pushed type known) (slice_get under.scope.locals x) after e in
-    let below = pushed_sound found.0 known operands (subst (λ (k : Known). AreAs k operands) (sym found.2) are) in
-    (below.0, below.2, subst (λ (types : List ValType). OpTyped under.scope.locals (LocalGet x) below.0 types) (sym below.1)
-    (typed-local_get under.scope.locals below.0 x found.0 found.1))
+    let below = pushed_sound found.0 known operands (subst (λ (k : Known). AreAs k operands) (sym found.2) are) in (
+      below.0,
+      below.2,
+      subst (λ (types : List ValType). OpTyped under.scope.locals (LocalGet x) below.0 types) (sym below.1)
+          (typed-local_get under.scope.locals below.0 x found.0 found.1),
+    )
 op-sound under (LocalSet x) known after operands e are =
     let found = then_some (λ (type : ValType). popped type known) (slice_get under.scope.locals x) after e in
     (found.0 ∷ operands, popped-sound found.0 known after operands found.2 are, typed-local_set under.scope.locals operands x found.0 found.1)
 op-sound under (LocalTee x) known after operands e are =
     let found = then_some (λ (type : ValType). option_map (pushed type) (popped type known)) (slice_get under.scope.locals x) after e in
     let put = map_some (pushed found.0) (popped found.0 known) after found.2 in
-    let below = pushed_sound found.0 put.0 operands (subst (λ (k : Known). AreAs k operands) (sym put.2) are) in
-    (found.0 ∷ below.0, popped-sound found.0 known put.0 below.0 put.1 below.2,
-    subst (λ (types : List ValType). OpTyped under.scope.locals (LocalTee x) (found.0 ∷ below.0) types) (sym below.1)
-    (typed-local_tee under.scope.locals below.0 x found.0 found.1))
+    let below = pushed_sound found.0 put.0 operands (subst (λ (k : Known). AreAs k operands) (sym put.2) are) in (
+      found.0 ∷ below.0,
+      popped-sound found.0 known put.0 below.0 put.1 below.2,
+      subst (λ (types : List ValType). OpTyped under.scope.locals (LocalTee x) (found.0 ∷ below.0) types) (sym below.1)
+          (typed-local_tee under.scope.locals below.0 x found.0 found.1),
+    )
 op-sound under (o.Const c) known after operands e are =
     let fits = cond_some (nat_lt (constant c) (values_of (type_of_constant c))) (pushed (type_of_constant c) known) after e in
-    let below = pushed_sound (type_of_constant c) known operands (subst (λ (k : Known). AreAs k operands) (sym fits.1) are) in
-    (below.0, below.2, subst (λ (types : List ValType). OpTyped under.scope.locals (o.Const c) below.0 types) (sym below.1)
-    (typed-const under.scope.locals below.0 c (ltb-true (constant c) (values_of (type_of_constant c)) fits.0)))
+    let below = pushed_sound (type_of_constant c) known operands (subst (λ (k : Known). AreAs k operands) (sym fits.1) are) in (
+      below.0,
+      below.2,
+      subst (λ (types : List ValType). OpTyped under.scope.locals (o.Const c) below.0 types) (sym below.1)
+          (typed-const under.scope.locals below.0 c (ltb-true (constant c) (values_of (type_of_constant c)) fits.0)),
+    )
 op-sound under (o.Binary b) known after operands e are =
-    let below = two_to_one-sound (type_of_binary b) (type_of_binary b) known after operands e are in
-    (type_of_binary b ∷ type_of_binary b ∷ below.0, below.2,
-    subst (λ (types : List ValType). OpTyped under.scope.locals (o.Binary b) (type_of_binary b ∷ type_of_binary b ∷ below.0) types) (sym below.1)
-    (typed-binary under.scope.locals below.0 b))
+    let below = two_to_one-sound (type_of_binary b) (type_of_binary b) known after operands e are in (
+      type_of_binary b ∷ type_of_binary b ∷ below.0,
+      below.2,
+      subst (λ (types : List ValType). OpTyped under.scope.locals (o.Binary b) (type_of_binary b ∷ type_of_binary b ∷ below.0) types) (sym below.1)
+          (typed-binary under.scope.locals below.0 b),
+    )
 op-sound under (o.Relation r) known after operands e are =
-    let below = two_to_one-sound (type_of_relation r) I32 known after operands e are in
-    (type_of_relation r ∷ type_of_relation r ∷ below.0, below.2,
-    subst (λ (types : List ValType). OpTyped under.scope.locals (o.Relation r) (type_of_relation r ∷ type_of_relation r ∷ below.0) types) (sym below.1)
-    (typed-relation under.scope.locals below.0 r))
+    let below = two_to_one-sound (type_of_relation r) I32 known after operands e are in (
+      type_of_relation r ∷ type_of_relation r ∷ below.0,
+      below.2,
+      subst (λ (types : List ValType). OpTyped under.scope.locals (o.Relation r) (type_of_relation r ∷ type_of_relation r ∷ below.0) types) (sym below.1)
+          (typed-relation under.scope.locals below.0 r),
+    )
 op-sound under (o.Load l arg) known after operands e are =
     let tests = if_some (under.memory && nat_le (2 ^ arg.align) (load_width l)) (option_map (pushed (type_of_load l)) (popped I32 known)) after e in
     let put = map_some (pushed (type_of_load l)) (popped I32 known) after tests.1 in
     let below = pushed_sound (type_of_load l) put.0 operands (subst (λ (k : Known). AreAs k operands) (sym put.2) are) in
-    let aligned = leb-true (2 ^ arg.align) (load_width l) (and_parts under.memory (nat_le (2 ^ arg.align) (load_width l)) tests.0).1 in
-    (I32 ∷ below.0, popped-sound I32 known put.0 below.0 put.1 below.2,
-    subst (λ (types : List ValType). OpTyped under.scope.locals (o.Load l arg) (I32 ∷ below.0) types) (sym below.1)
-    (typed-load under.scope.locals below.0 l arg aligned))
+    let aligned = leb-true (2 ^ arg.align) (load_width l) (and_parts under.memory (nat_le (2 ^ arg.align) (load_width l)) tests.0).1 in (
+      I32 ∷ below.0,
+      popped-sound I32 known put.0 below.0 put.1 below.2,
+      subst (λ (types : List ValType). OpTyped under.scope.locals (o.Load l arg) (I32 ∷ below.0) types) (sym below.1)
+          (typed-load under.scope.locals below.0 l arg aligned),
+    )
 op-sound under (o.Store s arg) known after operands e are =
     let tests = if_some (under.memory && nat_le (2 ^ arg.align) (store_width s)) (option_and_then (popped I32) (popped (type_of_store s) known)) after e in
     let value = then_some (popped I32) (popped (type_of_store s) known) after tests.1 in
-    let aligned = leb-true (2 ^ arg.align) (store_width s) (and_parts under.memory (nat_le (2 ^ arg.align) (store_width s)) tests.0).1 in
-    (type_of_store s ∷ I32 ∷ operands, popped-sound (type_of_store s) known value.0 (I32 ∷ operands) value.1 (popped-sound I32 value.0 after operands value.2 are),
-    typed-store under.scope.locals operands s arg aligned)
+    let aligned = leb-true (2 ^ arg.align) (store_width s) (and_parts under.memory (nat_le (2 ^ arg.align) (store_width s)) tests.0).1 in (
+      type_of_store s ∷ I32 ∷ operands,
+      popped-sound (type_of_store s) known value.0 (I32 ∷ operands) value.1 (popped-sound I32 value.0 after operands value.2 are),
+      typed-store under.scope.locals operands s arg aligned,
+    )
 
 -- And from the operands before an instruction to those after it.
 abbrev Onto : Under → Op → Known → List ValType → Type 0
@@ -208,25 +227,37 @@ op-complete _ _ _ _ (typed-local_set locals types x t found) under same memory k
     let taken = popped-complete t known types are in
     (taken.0, then_from (λ (type : ValType). popped type known) (slice_get under.scope.locals x) t (Some taken.0) (ap (λ (l : List ValType). slice_get l x) same ∙ found) taken.1, taken.2)
 op-complete _ _ _ _ (typed-local_tee locals types x t found) under same memory known are =
-    let taken = popped-complete t known types are in
-    (pushed t taken.0, then_from (λ (type : ValType). option_map (pushed type) (popped type known)) (slice_get under.scope.locals x) t (Some (pushed t taken.0))
-    (ap (λ (l : List ValType). slice_get l x) same ∙ found) (map_from (pushed t) (popped t known) taken.0 taken.1), (refl, taken.2))
-op-complete _ _ _ _ (typed-const locals types c fits) under same memory known are =
-    (pushed (type_of_constant c) known, if_from (nat_lt (constant c) (values_of (type_of_constant c))) (Some (pushed (type_of_constant c) known))
-    (lt-ltb (constant c) (values_of (type_of_constant c)) fits), (refl, are))
+    let taken = popped-complete t known types are in (
+      pushed t taken.0,
+      then_from (λ (type : ValType). option_map (pushed type) (popped type known)) (slice_get under.scope.locals x) t (Some (pushed t taken.0))
+          (ap (λ (l : List ValType). slice_get l x) same ∙ found) (map_from (pushed t) (popped t known) taken.0 taken.1),
+      (refl, taken.2),
+    )
+op-complete _ _ _ _ (typed-const locals types c fits) under same memory known are = (
+  pushed (type_of_constant c) known,
+  if_from (nat_lt (constant c) (values_of (type_of_constant c))) (Some (pushed (type_of_constant c) known))
+      (lt-ltb (constant c) (values_of (type_of_constant c)) fits),
+  (refl, are),
+)
 op-complete _ _ _ _ (typed-binary locals types b) under same memory known are = two_to_one-complete (type_of_binary b) (type_of_binary b) known types are
 op-complete _ _ _ _ (typed-relation locals types r) under same memory known are = two_to_one-complete (type_of_relation r) I32 known types are
 op-complete _ _ _ _ (typed-load locals types l arg aligned) under same memory known are =
     let taken = popped-complete I32 known types are in
-    let tests : (under.memory && nat_le (2 ^ arg.align) (load_width l)) ≡ true = and_from under.memory (nat_le (2 ^ arg.align) (load_width l)) (memory refl) (le-leb (2 ^ arg.align) (load_width l) aligned) in
-    (pushed (type_of_load l) taken.0, if_from (under.memory && nat_le (2 ^ arg.align) (load_width l)) (option_map (pushed (type_of_load l)) (popped I32 known)) tests
-    ∙ map_from (pushed (type_of_load l)) (popped I32 known) taken.0 taken.1, (refl, taken.2))
+    let tests : (under.memory && nat_le (2 ^ arg.align) (load_width l)) ≡ true = and_from under.memory (nat_le (2 ^ arg.align) (load_width l)) (memory refl) (le-leb (2 ^ arg.align) (load_width l) aligned) in (
+      pushed (type_of_load l) taken.0,
+      if_from (under.memory && nat_le (2 ^ arg.align) (load_width l)) (option_map (pushed (type_of_load l)) (popped I32 known)) tests
+          ∙ map_from (pushed (type_of_load l)) (popped I32 known) taken.0 taken.1,
+      (refl, taken.2),
+    )
 op-complete _ _ _ _ (typed-store locals types s arg aligned) under same memory known are =
     let value = popped-complete (type_of_store s) known (I32 ∷ types) are in
     let address = popped-complete I32 value.0 types value.2 in
-    let tests : (under.memory && nat_le (2 ^ arg.align) (store_width s)) ≡ true = and_from under.memory (nat_le (2 ^ arg.align) (store_width s)) (memory refl) (le-leb (2 ^ arg.align) (store_width s) aligned) in
-    (address.0, if_from (under.memory && nat_le (2 ^ arg.align) (store_width s)) (option_and_then (popped I32) (popped (type_of_store s) known)) tests
-    ∙ then_from (popped I32) (popped (type_of_store s) known) value.0 (Some address.0) value.1 address.1, address.2)
+    let tests : (under.memory && nat_le (2 ^ arg.align) (store_width s)) ≡ true = and_from under.memory (nat_le (2 ^ arg.align) (store_width s)) (memory refl) (le-leb (2 ^ arg.align) (store_width s) aligned) in (
+      address.0,
+      if_from (under.memory && nat_le (2 ^ arg.align) (store_width s)) (option_and_then (popped I32) (popped (type_of_store s) known)) tests
+          ∙ then_from (popped I32) (popped (type_of_store s) known) value.0 (Some address.0) value.1 address.1,
+      address.2,
+    )
 
 op-access : (under : Under) (operator : Op) (known after : Known) → after_op under operator known ≡ Some after → is_access operator ≡ true → under.memory ≡ true
 op-access under (o.Load l arg) known after e access =
@@ -290,18 +321,24 @@ checks-sound (block result inner rest) under known ends e =
     let body : Bool = checks inner (inside under (types_of result)) nothing (types_of result) in
     let next = holds_some (after_inner body result known) (λ (after : Known). checks rest under after ends) e in
     let typed = checks-sound rest under next.0 ends next.2 in
-    let first = after_inner-sound body result known next.0 typed.0 next.1 typed.1 in
-    (first.1, first.3, typed-block under.scope result inner rest first.1 ends
-    (inner-sound inner (inside under (types_of result)) (types_of result) (checks-sound inner (inside under (types_of result)) nothing (types_of result) first.0))
-    (subst (λ (types : List ValType). Typed under.scope rest types ends) first.2 typed.2))
+    let first = after_inner-sound body result known next.0 typed.0 next.1 typed.1 in (
+      first.1,
+      first.3,
+      typed-block under.scope result inner rest first.1 ends
+          (inner-sound inner (inside under (types_of result)) (types_of result) (checks-sound inner (inside under (types_of result)) nothing (types_of result) first.0))
+          (subst (λ (types : List ValType). Typed under.scope rest types ends) first.2 typed.2),
+    )
 checks-sound (loop result inner rest) under known ends e =
     let body : Bool = checks inner (inside under []) nothing (types_of result) in
     let next = holds_some (after_inner body result known) (λ (after : Known). checks rest under after ends) e in
     let typed = checks-sound rest under next.0 ends next.2 in
-    let first = after_inner-sound body result known next.0 typed.0 next.1 typed.1 in
-    (first.1, first.3, typed-loop under.scope result inner rest first.1 ends
-    (inner-sound inner (inside under []) (types_of result) (checks-sound inner (inside under []) nothing (types_of result) first.0))
-    (subst (λ (types : List ValType). Typed under.scope rest types ends) first.2 typed.2))
+    let first = after_inner-sound body result known next.0 typed.0 next.1 typed.1 in (
+      first.1,
+      first.3,
+      typed-loop under.scope result inner rest first.1 ends
+          (inner-sound inner (inside under []) (types_of result) (checks-sound inner (inside under []) nothing (types_of result) first.0))
+          (subst (λ (types : List ValType). Typed under.scope rest types ends) first.2 typed.2),
+    )
 checks-sound (if_else result inner other rest) under known ends e =
     let here : Under = inside under (types_of result) in
     let then_checks : Bool = checks inner here nothing (types_of result) in
@@ -310,28 +347,35 @@ checks-sound (if_else result inner other rest) under known ends e =
     let typed = checks-sound rest under next.0 ends next.2 in
     let test = then_some (after_inner (then_checks && else_checks) result) (popped I32 known) next.0 next.1 in
     let first = after_inner-sound (then_checks && else_checks) result test.0 next.0 typed.0 test.2 typed.1 in
-    let arms = and_parts then_checks else_checks first.0 in
-    (I32 ∷ first.1, popped-sound I32 known test.0 first.1 test.1 first.3, typed-if_else under.scope result inner other rest first.1 ends
-    (inner-sound inner here (types_of result) (checks-sound inner here nothing (types_of result) arms.0))
-    (inner-sound other here (types_of result) (checks-sound other here nothing (types_of result) arms.1))
-    (subst (λ (types : List ValType). Typed under.scope rest types ends) first.2 typed.2))
+    let arms = and_parts then_checks else_checks first.0 in (
+      I32 ∷ first.1,
+      popped-sound I32 known test.0 first.1 test.1 first.3,
+      typed-if_else under.scope result inner other rest first.1 ends
+          (inner-sound inner here (types_of result) (checks-sound inner here nothing (types_of result) arms.0))
+          (inner-sound other here (types_of result) (checks-sound other here nothing (types_of result) arms.1))
+          (subst (λ (types : List ValType). Typed under.scope rest types ends) first.2 typed.2),
+    )
 checks-sound (br index rest) under known ends e =
     let next = holds_some (after_br under index known) (λ (after : Known). checks rest under after ends) e in
     let typed = checks-sound rest under next.0 ends next.2 in
     let branch = map_some (λ (below : Known). anything) (option_and_then (λ (taken : List ValType). all_popped taken known) (slice_get under.scope.labels index)) next.0 next.1 in
     let found = then_some (λ (taken : List ValType). all_popped taken known) (slice_get under.scope.labels index) branch.0 branch.1 in
-    let below : List ValType = branch.0.types in
-    (found.0 ++ below, all_popped-sound found.0 known branch.0 below found.2 (some_as branch.0.types branch.0.unreachable),
-    typed-br under.scope index rest found.0 below typed.0 ends found.1 typed.2)
+    let below : List ValType = branch.0.types in (
+      found.0 ++ below,
+      all_popped-sound found.0 known branch.0 below found.2 (some_as branch.0.types branch.0.unreachable),
+      typed-br under.scope index rest found.0 below typed.0 ends found.1 typed.2,
+    )
 checks-sound (br_if index rest) under known ends e =
     let next = holds_some (after_br_if under index known) (λ (after : Known). checks rest under after ends) e in
     let typed = checks-sound rest under next.0 ends next.2 in
     let found = then_some (λ (taken : List ValType). option_map (all_pushed taken) (option_and_then (all_popped taken) (popped I32 known))) (slice_get under.scope.labels index) next.0 next.1 in
     let put = map_some (all_pushed found.0) (option_and_then (all_popped found.0) (popped I32 known)) next.0 found.2 in
     let test = then_some (all_popped found.0) (popped I32 known) put.0 put.1 in
-    let below = all_pushed-sound found.0 put.0.types put.0.unreachable typed.0 (subst (λ (k : Known). AreAs k typed.0) (sym put.2) typed.1) in
-    (I32 ∷ found.0 ++ below.0, popped-sound I32 known test.0 (found.0 ++ below.0) test.1 (all_popped-sound found.0 test.0 put.0 below.0 test.2 below.2),
-    typed-br_if under.scope index rest found.0 below.0 ends found.1 (subst (λ (types : List ValType). Typed under.scope rest types ends) below.1 typed.2))
+    let below = all_pushed-sound found.0 put.0.types put.0.unreachable typed.0 (subst (λ (k : Known). AreAs k typed.0) (sym put.2) typed.1) in (
+      I32 ∷ found.0 ++ below.0,
+      popped-sound I32 known test.0 (found.0 ++ below.0) test.1 (all_popped-sound found.0 test.0 put.0 below.0 test.2 below.2),
+      typed-br_if under.scope index rest found.0 below.0 ends found.1 (subst (λ (types : List ValType). Typed under.scope rest types ends) below.1 typed.2),
+    )
 
 abbrev under_of : Scope → Bool → Under
 under_of scope memory = record { scope = scope; memory = memory }

@@ -2,6 +2,15 @@ pub mod MemoryFacts
 pub mod Numbered
 pub mod OpenRuns
 pub mod RunRules
+mod StoreFacts
+pub mod StackFacts
+pub mod ListFacts
+pub mod Points
+pub mod Jumps
+pub mod Operated
+pub mod Controlled
+pub mod Arrays
+pub mod Steps
 pub mod Sound
 pub mod Steps
 pub mod TypedOperands
@@ -10,3 +19,4 @@ pub mod TurnFacts
 pub mod TurnSteps
 pub mod Separate
 pub mod NoTrap
+pub mod CheckedBodies

@@ -5,6 +5,7 @@ use Rattle.std.specs.List.{AllByRecursion}
 use Rattle.qw_module.specs.declared.instruction.Instr.{Instr}
 use Rattle.qw_module.specs.declared.instruction.Instr.TheVariants as i
 use Rattle.qw_module.specs.Syntax.{Code, op, block, loop, br, br_if, nested, sequence_at, named_below, code_of, NamesBelow, IsNumbered}
+pub use Rattle.qw_module.specs.Syntax.{named}
 
 -- the highest of the numbers below a bound names its own sequence
 pub named_below-last : (sequences : List (List Instr)) (n : ℕ) →
@@ -42,10 +43,6 @@ nested-same n f g (i.If result then_body else_body ∷ rest) below same =
     rw (first, second, nested-same n f g rest below.1 same) refl
 nested-same n f g (i.Br label ∷ rest) below same = ap (br label) (nested-same n f g rest below.1 same)
 nested-same n f g (i.BrIf label ∷ rest) below same = ap (br_if label) (nested-same n f g rest below.1 same)
-
--- which nested sequence each number of a body names
-abbrev pub named : List (List Instr) → ℕ → Code
-named sequences = named_below sequences (length sequences)
 
 -- In a numbered body each number names its flat sequence, nested by the same naming.
 pub named-at : (sequences : List (List Instr)) → IsNumbered sequences → (number : ℕ) → number < length sequences →

@@ -46,7 +46,7 @@ HasFor (o.Relation r) operands locals = (y x : ℕ) × (rest : List ℕ) × (ope
 HasFor (o.Load l arg) operands locals = (address : ℕ) × (rest : List ℕ) × (operands ≡ address ∷ rest) × (address < 2 ^ 32)
 HasFor (o.Store s arg) operands locals = (v address : ℕ) × (rest : List ℕ) × (operands ≡ v ∷ address ∷ rest) × (v < values_of (type_of_store s)) × (address < 2 ^ 32)
 
-has_for : (locals : List ValType) (operator : Op) (before middle : List ValType) → OpTyped locals operator before middle →
+pub has_for : (locals : List ValType) (operator : Op) (before middle : List ValType) → OpTyped locals operator before middle →
     (operands values : List ℕ) → AreOf operands before → AreOf values locals → HasFor operator operands values
 has_for _ _ _ _ (typed-local_get locals types x t found) operands values are are_locals = local_there values locals x t are_locals found
 has_for _ _ _ _ (typed-local_set locals types x t found) operands values are are_locals =

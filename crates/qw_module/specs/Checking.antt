@@ -31,8 +31,8 @@ pub record Under : Type 0 where
   pub scope : Scope
   pub memory : Bool
 
-abbrev pub under : List ValType → List (List ValType) → Bool → Under
-under locals labels memory = record { scope = record { locals = locals; labels = labels }; memory = memory }
+abbrev pub conditions_of : List ValType → List (List ValType) → Bool → Under
+conditions_of locals labels memory = record { scope = record { locals = locals; labels = labels }; memory = memory }
 
 abbrev pub inside : Under → List ValType → Under
 inside under types = record { scope = within under.scope types; memory = under.memory }

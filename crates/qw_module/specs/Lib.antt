@@ -1,6 +1,8 @@
 pub mod Syntax
 pub mod Numbers
 pub mod Memory
+pub mod Linear
+pub mod Stacked
 pub mod Execution
 pub mod Step
 pub mod Typing
@@ -9,6 +11,7 @@ pub mod Map
 pub mod Runs
 pub mod Start
 pub mod Turns
+pub mod Machine
 pub mod Checking
 pub mod Refusals
 pub mod Validity

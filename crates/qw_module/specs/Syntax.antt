@@ -38,9 +38,13 @@ named_below sequences zero number = done
 named_below sequences (suc n) number =
     if number == n then nested (named_below sequences n) (sequence_at sequences n) else named_below sequences n number
 
+-- which nested sequence each number of a body names
+abbrev pub named : List (List Instr) → ℕ → Code
+named sequences = named_below sequences (length sequences)
+
 -- the sequence that a numbered body stands for: its last
 abbrev pub code_of : List (List Instr) → Code
-code_of sequences = named_below sequences (length sequences) (length sequences - 1)
+code_of sequences = named sequences (length sequences - 1)
 
 -- an instruction names only sequences of numbers below n
 abbrev pub NamesBelow : ℕ → Instr → Type 0

@@ -24,8 +24,11 @@ use Rattle.qw_module.specs.Syntax.{Code, done, op, block, loop, if_else, br, br_
 use Rattle.qw_module.specs.Typing.{Typed}
 
 -- the sequences of a body, and the code that it stands for
+abbrev pub items_of : List (Vec Instr) → List (List Instr)
+items_of sequences = map (λ (sequence : Vec Instr). sequence.items) sequences
+
 abbrev pub sequences_of : Body → List (List Instr)
-sequences_of body = map (λ (sequence : Vec Instr). sequence.items) body.sequences.items
+sequences_of body = items_of body.sequences.items
 
 abbrev pub code_of_body : Body → Code
 code_of_body body = code_of (sequences_of body)
@@ -57,6 +60,11 @@ IsValidType type = length type.results.items ≤ 1
 abbrev pub IsValidMemory : Limits → Type 0
 IsValidMemory limits = (limits.min ≤ 65536) × IfSome limits.max (λ greatest. (greatest ≤ 65536) × (limits.min ≤ greatest))
 
+-- an imported memory is within the limits of one, and an imported function has a type of the module (3.4.9)
+abbrev pub IsValidImport : Module → Import → Type 0
+IsValidImport m (import.Memory limits) = IsValidMemory limits
+IsValidImport m (import.Raise type) = type < length m.types.items
+
 -- a global begins as a value of its type (3.4.4)
 abbrev pub IsValidGlobal : Global → Type 0
 IsValidGlobal global = (type_of_constant global.init ≡ global.ty) × (constant global.init < values_of global.ty)
@@ -82,7 +90,7 @@ accesses_memory (if_else result inner other rest) = accesses_memory inner || acc
 accesses_memory (br index rest) = accesses_memory rest
 accesses_memory (br_if index rest) = accesses_memory rest
 
--- A function of a module, whose type this is: its body is numbered, and the code that it stands for leads from no
+-- A function of a module, whose type this is, is valid: its body is numbered, and the code that it stands for leads from no
 -- operands to its results. Its locals begin with its parameters, and its outermost label takes its results (3.4.1).
 pub record IsTypedFunction (m : Module) (function : Function) (type : FuncType) : Type 0 where
   pub numbered : IsNumbered (sequences_of function.body)
@@ -96,17 +104,16 @@ IsValidFunction m function = IsSomeAnd (slice_get m.types.items function.type_in
 abbrev pub AreApart : Export → Export → Type 0
 AreApart one other = string_bytes one.name ≢ string_bytes other.name
 
--- A valid module (3.4.10). Of its imports, a memory is within the limits of one, and the function has a type of the
--- module (3.4.9); there is at most one memory.
+-- A valid module (3.4.10).
 pub record IsValid (m : Module) : Type 0 where
   pub types : All IsValidType m.types.items
-  pub functions : All (λ type. type < length m.types.items) (functions_of m)
-  pub memories : All IsValidMemory (memories_of m)
+  pub imports : All (IsValidImport m) m.imports.items
+  pub functions : All (IsValidFunction m) m.functions.items
+  pub memory : IfSome m.memory IsValidMemory
   pub one_memory : length (memories_of m) ≤ 1
   pub globals : All IsValidGlobal m.globals.items
   pub exports : All (λ (export : Export). IsExportedOf m export.kind) m.exports.items
   pub names : AllPairs AreApart m.exports.items
-  pub bodies : All (IsValidFunction m) m.functions.items
 
 -- a function's type: one i32, and no result
 abbrev pub TakesOneI32 : FuncType → Type 0

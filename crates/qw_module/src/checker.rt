@@ -5,11 +5,15 @@ ghost use Rattle.std.specs.Prelude.{◌≡◌, ℕ, List, [], ◌∷◌, ◌++�
 ghost use Rattle.std.specs.Option.{option_map};
 ghost use Rattle.qw_module.specs.Numbers.{values_of, constant, type_of_constant, type_of_binary, type_of_relation, type_of_load, load_width, type_of_store, store_width};
 ghost use Rattle.qw_module.specs.Typing.{types_of};
+ghost use Rattle.qw_module.specs.Syntax.{sequence_at, named, NamesBelow, IsNumbered};
+ghost use Rattle.qw_module.specs.Validity.{items_of};
 ghost use Rattle.qw_module.specs.declared.instruction.ValType.{ValType};
-ghost use Rattle.qw_module.specs.Checking.{nothing, anything, pushed, popped, all_pushed, all_popped, has_none, under, after_op};
+ghost use Rattle.qw_module.specs.Checking.{nothing, anything, pushed, popped, all_pushed, all_popped, has_none, conditions_of, inside, after_op, checks, after_instruction};
 ghost use Rattle.qw_module.specs.Refusals.{Finds, Decides};
 
-use crate::instruction::{Binary, BlockType, Const, Instr, Load, MemArg, Op, Relation, Store, ValType};
+use crate::instruction::{
+    Binary, BlockType, Const, Instr, Load, MemArg, Op, Relation, Store, ValType,
+};
 use std::alloc::Global;
 use std::marker::Model;
 
@@ -136,7 +140,12 @@ impl Labels {
     pub(crate) fn get(&self, label: u32) -> Result<BlockType, Refusal>
         ensures { Finds result (slice_get self.now label) types_of }
     {
-        self.taken.iter().rev().nth(label as usize).copied().ok_or(Refusal::IllTyped)
+        self.taken
+            .iter()
+            .rev()
+            .nth(label as usize)
+            .copied()
+            .ok_or(Refusal::IllTyped)
     }
 }
 
@@ -245,7 +254,7 @@ impl Checker<'_> {
 
     fn operator(&self, op: Op, operands: &mut Operands) -> Result<(), Refusal>
         ensures { (labels : List (List ValType)) →
-            Finds result (after_op (under (self.now.parameters.now ++ self.now.locals.now) labels self.now.has_memory) op operands.old) (λ _. operands.new) }
+            Finds result (after_op (conditions_of (self.now.parameters.now ++ self.now.locals.now) labels self.now.has_memory) op operands.old) (λ _. operands.new) }
     {
         match op {
             Op::LocalGet(x) => operands.push(self.local(x)?),
@@ -278,6 +287,104 @@ impl Checker<'_> {
                 operands.pop(store_type(store))?;
                 operands.pop(ValType::I32)
             }
+        }
+    }
+
+    /// One instruction of the sequence of a number.
+    #[cycle(checker)]
+    fn instruction(
+        &self,
+        instr: Instr,
+        number: usize,
+        labels: &mut Labels,
+        operands: &mut Operands,
+    ) -> Result<(), Refusal>
+        requires numbered { IsNumbered (items_of self.now.sequences.now) }
+        requires within { number < length self.now.sequences.now }
+        requires names { NamesBelow number instr }
+        ensures follows { Finds result (after_instruction (named (items_of self.now.sequences.now))
+            (conditions_of (self.now.parameters.now ++ self.now.locals.now) labels.old self.now.has_memory) instr operands.old) (λ _. operands.new) }
+        ensures labels { OnOk result (labels.new ≡ labels.old) }
+    {
+        match instr {
+            Instr::Op(op) => self.operator(op, operands),
+            Instr::Block { result, body } => {
+                self.inner(body, result, result, labels)?;
+                operands.push_all(result)
+            }
+            Instr::Loop { result, body } => {
+                self.inner(body, None, result, labels)?;
+                operands.push_all(result)
+            }
+            Instr::If {
+                result,
+                then_body,
+                else_body,
+            } => {
+                operands.pop(ValType::I32)?;
+                self.inner(then_body, result, result, labels)?;
+                self.inner(else_body, result, result, labels)?;
+                operands.push_all(result)
+            }
+            Instr::Br(label) => {
+                let taken = labels.get(label)?;
+                operands.pop_all(taken)?;
+                operands.forget();
+                Ok(())
+            }
+            Instr::BrIf(label) => {
+                let taken = labels.get(label)?;
+                operands.pop(ValType::I32)?;
+                operands.pop_all(taken)?;
+                operands.push_all(taken)
+            }
+        }
+    }
+
+    /// An inner sequence, under one more label.
+    #[cycle(checker)]
+    fn inner(
+        &self,
+        number: usize,
+        taken: BlockType,
+        ends: BlockType,
+        labels: &mut Labels,
+    ) -> Result<(), Refusal>
+        requires numbered { IsNumbered (items_of self.now.sequences.now) }
+        requires within { number < length self.now.sequences.now }
+        ensures checks { Decides result (checks (named (items_of self.now.sequences.now) number)
+            (inside (conditions_of (self.now.parameters.now ++ self.now.locals.now) labels.old self.now.has_memory) (types_of taken)) nothing (types_of ends)) }
+        ensures labels { OnOk result (labels.new ≡ labels.old) }
+    {
+        labels.push(taken)?;
+        self.sequence(number, ends, labels)?;
+        labels.pop();
+        Ok(())
+    }
+
+    /// The sequence of a number: whether it leads from no operands to its results.
+    #[cycle(checker)]
+    pub(crate) fn sequence(
+        &self,
+        number: usize,
+        ends: BlockType,
+        labels: &mut Labels,
+    ) -> Result<(), Refusal>
+        requires numbered { IsNumbered (items_of self.now.sequences.now) }
+        requires within { number < length self.now.sequences.now }
+        ensures checks { Decides result (checks (named (items_of self.now.sequences.now) number)
+            (conditions_of (self.now.parameters.now ++ self.now.locals.now) labels.old self.now.has_memory) nothing (types_of ends)) }
+        ensures labels { OnOk result (labels.new ≡ labels.old) }
+    {
+        let mut operands = Operands::new(self.alloc);
+        for instr in &self.sequences[number] {
+            self.instruction(*instr, number, labels, &mut operands)?;
+        }
+        operands.pop_all(ends)?;
+        if operands.is_empty() {
+            Ok(())
+        } else {
+            Err(Refusal::IllTyped)
         }
     }
 }

@@ -5,6 +5,10 @@
 mod checker;
 pub mod instruction;
 pub mod laws;
+pub mod linear;
+pub mod machine;
 pub mod module;
+mod operators;
+pub mod stack;
 pub mod valid;
 pub mod turn_laws;

@@ -12,9 +12,11 @@ pub struct ValidModule {
 
 impl Model for ValidModule {
     ghost use Rattle.qw_module.specs.declared.module.Module.{Module};
+
     ghost Value = { Module };
 
     ghost use Rattle.qw_module.specs.Validity.{IsValid};
+
     ghost view = { λ valid. valid.«module» };
 
     ghost invariant = { λ valid. IsValid valid.«module» };

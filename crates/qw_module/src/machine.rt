@@ -1,0 +1,185 @@
+//! The machine: executes an instance's `run` instruction by instruction (WebAssembly Core Specification
+//! 1.0, 4.4), as the step relation of `specs/Execution` says.
+
+ghost use Rattle.std.specs.Prelude.{◌≡◌, ℕ, List, ◌∷◌, ◌++◌, ◌+◌, ◌-◌, ◌<◌, ◌≤◌, ◌^◌, length, take, drop};
+ghost use Rattle.qw_module.specs.Numbers.{truth};
+ghost use Rattle.qw_module.specs.Syntax.{IsNumbered, sequence_at};
+ghost use Rattle.qw_module.specs.Machine.{CanJump, IsExecuted, IsJump, IsLeft, IsPoint, IsStepped, entered, point_of, rooms_of, sequences_in, under};
+
+use crate::instruction::Instr;
+use crate::linear::Linear;
+use crate::operators::operate;
+use crate::stack::Stack;
+
+/// What a step came to.
+#[derive(Clone, Copy, Debug, PartialEq, Eq)]
+pub enum Stepped {
+    Ran,
+    /// This step left `run`.
+    Returned,
+    Trapped,
+}
+
+/// A label that the instance is in (4.2.12).
+#[derive(Clone, Copy, Debug, PartialEq, Eq)]
+pub struct Entry {
+    /// How many operands lie below the label's own.
+    pub base: usize,
+    /// Whether a branch to the label takes an operand.
+    pub takes: bool,
+    /// The number of the sequence that the label stands in.
+    pub sequence: usize,
+    /// The place there that a branch goes to: a loop's own, or the one after the block.
+    pub target: usize,
+    /// The place there after the label's end.
+    pub after: usize,
+}
+
+/// Where the execution of a numbered body is (4.2.12): the labels that it is in, the sequence that runs
+/// and the place in it, the operands of all labels, and the locals. All room is reserved at first.
+#[derive(Drop)]
+pub struct Activity {
+    labels: Stack<Entry>,
+    sequence: usize,
+    place: usize,
+    operands: Stack<u64>,
+    locals: Vec<u64>,
+}
+
+impl Activity {
+    /// Enters a block that begins with a sequence of this number (4.4.7, `enter`).
+    fn enter(&mut self, inner: usize, takes: bool, target: usize)
+        requires room { length self.old.labels.values < self.old.labels.room }
+        requires place { self.old.place < 2 ^ 64 - 1 }
+        ensures point { point_of self.new ≡ entered (point_of self.old) inner takes target }
+        ensures rooms { rooms_of self.new ≡ rooms_of self.old }
+    {
+        self.labels.push(Entry {
+            base: self.operands.len(),
+            takes,
+            sequence: self.sequence,
+            target,
+            after: self.place + 1,
+        });
+        self.sequence = inner;
+        self.place = 0;
+    }
+
+    /// Branches to the label of an index, counted from the innermost (4.4.8, `br`).
+    fn branch(&mut self, index: usize)
+        requires there { CanJump index (point_of self.old) }
+        requires room { length self.old.operands.values ≤ self.old.operands.room }
+        ensures jump { IsJump index (point_of self.old) (point_of self.new) }
+        ensures rooms { rooms_of self.new ≡ rooms_of self.old }
+    {
+        self.labels.truncate(self.labels.len() - index);
+        let entry = self.labels.pop();
+        unwind(&mut self.operands, entry.base, entry.takes);
+        self.sequence = entry.sequence;
+        self.place = entry.target;
+    }
+
+    /// Executes the instruction at the place, and leaves no label yet. Answers whether it didn't trap.
+    fn execute(&mut self, sequences: &[Vec<Instr>], memory: &mut Linear) -> bool
+        requires numbered { IsNumbered (sequences_in sequences.now) }
+        requires point { IsPoint (sequences_in sequences.now) (rooms_of self.old) (point_of self.old) }
+        requires unfinished { self.old.place < length (sequence_at (sequences_in sequences.now) self.old.sequence) }
+        ensures executed { IsExecuted (sequences_in sequences.now) (rooms_of self.old) (point_of self.old) memory.old result (point_of self.new) memory.new }
+        ensures rooms { rooms_of self.new ≡ rooms_of self.old }
+    {
+        let sequence = sequences[self.sequence].as_slice();
+        let after = self.place + 1;
+        match sequence[self.place] {
+            Instr::Op(op) => {
+                if !operate(op, &mut self.operands, self.locals.as_mut_slice(), memory) {
+                    return false;
+                }
+                self.place = after;
+                true
+            }
+            Instr::Block { result, body } => {
+                self.enter(body, result.is_some(), after);
+                true
+            }
+            Instr::Loop { body, .. } => {
+                self.enter(body, false, self.place);
+                true
+            }
+            Instr::If {
+                result,
+                then_body,
+                else_body,
+            } => {
+                if self.operands.pop() != 0 {
+                    self.enter(then_body, result.is_some(), after);
+                    return true;
+                }
+                self.enter(else_body, result.is_some(), after);
+                true
+            }
+            Instr::Br(index) => {
+                self.branch(index as usize);
+                true
+            }
+            Instr::BrIf(index) => {
+                if self.operands.pop() != 0 {
+                    self.branch(index as usize);
+                    return true;
+                }
+                self.place = after;
+                true
+            }
+        }
+    }
+
+    /// Leaves the labels whose sequences are finished (4.4.7, exit). Answers whether `run` still runs.
+    fn leave_finished(&mut self, sequences: &[Vec<Instr>]) -> bool
+        requires { IsPoint (sequences_in sequences.now) (rooms_of self.old) (point_of self.old) }
+        ensures left { IsLeft (sequences_in sequences.now) (rooms_of self.old) (point_of self.old) result (point_of self.new) }
+        ensures rooms { rooms_of self.new ≡ rooms_of self.old }
+    {
+        while self.place == sequences[self.sequence].len() {
+            if self.labels.len() == 0 {
+                return false;
+            }
+            let entry = self.labels.pop();
+            self.sequence = entry.sequence;
+            self.place = entry.after;
+        }
+        true
+    }
+
+    /// One step: an instruction, and the labels that it finishes.
+    fn step(&mut self, sequences: &[Vec<Instr>], memory: &mut Linear) -> Stepped
+        requires numbered { IsNumbered (sequences_in sequences.now) }
+        requires point { IsPoint (sequences_in sequences.now) (rooms_of self.old) (point_of self.old) }
+        requires unfinished { self.old.place < length (sequence_at (sequences_in sequences.now) self.old.sequence) }
+        ensures stepped { IsStepped (sequences_in sequences.now) (rooms_of self.old) (point_of self.old) memory.old result (point_of self.new) memory.new }
+        ensures rooms { rooms_of self.new ≡ rooms_of self.old }
+    {
+        if !self.execute(sequences, memory) {
+            return Stepped::Trapped;
+        }
+        if self.leave_finished(sequences) {
+            Stepped::Ran
+        } else {
+            Stepped::Returned
+        }
+    }
+}
+
+/// Drops the operands above the first `base`, but for the last one where the branch takes one.
+fn unwind(operands: &mut Stack<u64>, base: usize, takes: bool)
+    requires there { base + truth takes ≤ length operands.old.values }
+    requires room { length operands.old.values ≤ operands.old.room }
+    ensures operands { operands.new.values ≡ take (truth takes) operands.old.values ++ under base operands.old.values }
+    ensures room { operands.new.room ≡ operands.old.room }
+{
+    if !takes {
+        operands.truncate(base);
+        return;
+    }
+    let taken = operands.pop();
+    operands.truncate(base);
+    operands.push(taken);
+}
