@@ -76,19 +76,23 @@ module _ (Q : Moment → Type 0) (w : World) where
       wants c ≡ Asks address width make → address ≡ place → lies_in_one (w.mapped ++ w.own) place width ≡ true →
       ((memory : List ℕ) → M memory → (place + width ≤ length memory) × (number_at memory place width ≡ value)) →
       Runs Q w M n (make value) → Runs Q w M (suc n) (Running c)
-  load {M} {n} {c} {address} {width} {make} kept place value wanted is inside there runs = record { steps = λ memory h before others.
-      let now = kept.keeps memory before others h in
-      let found = there before now in
-      rw (wanted, is, le-leb (place + width) (length before) found.0) (inside, rw found.1 (runs.steps before now)) }
+  load {M} {n} {c} {address} {width} {make} kept place value wanted is inside there runs = record {
+    steps = λ memory h before others.
+        let now = kept.keeps memory before others h in
+        let found = there before now in
+        rw (wanted, is, le-leb (place + width) (length before) found.0) (inside, rw found.1 (runs.steps before now));
+  }
 
   -- a store to a place, after which M' holds
   pub store : {M : List ℕ → Type 0} {n : ℕ} {c : Config} {address width value : ℕ} {s : State} → IsKept w M → (M' : List ℕ → Type 0) (place : ℕ) →
       wants c ≡ Puts address width value s → address ≡ place → lies_in_one w.own place width ≡ true →
       ((memory : List ℕ) → M memory → (place + width ≤ length memory) × M' (with_number memory place width value)) →
       Runs Q w M' n s → Runs Q w M (suc n) (Running c)
-  store {M} {n} {c} {address} {width} {value} {s} kept M' place wanted is inside there runs = record { steps = λ memory h before others.
-      let found = there before (kept.keeps memory before others h) in
-      rw (wanted, is, le-leb (place + width) (length before) found.0) (inside, runs.steps (with_number before place width value) found.1) }
+  store {M} {n} {c} {address} {width} {value} {s} kept M' place wanted is inside there runs = record {
+    steps = λ memory h before others.
+        let found = there before (kept.keeps memory before others h) in
+        rw (wanted, is, le-leb (place + width) (length before) found.0) (inside, runs.steps (with_number before place width value) found.1);
+  }
 
 -- a number in an area is kept where the area is
 pub number_at-kept : (before after : List ℕ) (area : Area) (at width : ℕ) → SameIn before after area →

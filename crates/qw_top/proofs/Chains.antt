@@ -37,8 +37,7 @@ Chain-same m m' low high link same (v ∷ vs) place at from apart to h =
     let where_link : (link ≡ at) ⊎ ((at + 24 ≤ link) × (link + 24 ≤ at + 24 + 24 * length vs)) = Chain-link m vs at (at + 24) link (omega arith) h.3 in
     let beyond : place + 4 ≤ link = ⊎_elim (λ is. omega arith) (λ is. omega arith) where_link in
     let cell : (at + 8 + 8 ≤ link) ⊎ (link + 4 ≤ at + 8) = ⊎_elim (λ is. inr (omega arith)) (λ is. inl (omega arith)) where_link in
-    let null : (at + 16 + 1 ≤ link) ⊎ (link + 4 ≤ at + 16) = ⊎_elim (λ is. inr (omega arith)) (λ is. inl (omega arith)) where_link in
-    (
+    let null : (at + 16 + 1 ≤ link) ⊎ (link + 4 ≤ at + 16) = ⊎_elim (λ is. inr (omega arith)) (λ is. inl (omega arith)) where_link in (
       same place 4 from (omega arith) (inl beyond) ∙ h.0,
       same (at + 8) 8 (omega arith) (omega arith) cell ∙ h.1,
       same (at + 16) 1 (omega arith) (omega arith) null ∙ h.2,

@@ -1,4 +1,6 @@
 pub mod Nesting
+pub mod ScanTyped
+pub mod ScanValid
 pub mod ScanSteps
 pub mod Chains
 pub mod ScanMemory

@@ -1,6 +1,8 @@
 -- The emitted module is the compiled form of its statement.
-use Rattle.std.proofs.Common.{◌≡◌, ℕ, ℤ, zero, suc, ◌+◌, ◌*◌, ◌^◌, ◌<◌, ◌≤◌, List, [], ◌∷◌, ◌++◌, length, map, Option, Some, None, refl, sym, ap, ◌∙◌, subst, ⊎_elim, arith, w64, SFits}
+use Rattle.std.proofs.Common.{◌≡◌, ℕ, ℤ, zero, suc, ◌+◌, ◌*◌, ◌^◌, ◌<◌, ◌≤◌, List, [], ◌∷◌, ◌++◌, length, map, Option, Some, None, refl, sym, ap, ◌∙◌, subst, ap₂, ⊎_elim, arith, w32, w64, SFits}
 use Rattle.std.specs.Prelude.{slice_get, replicate}
+use Rattle.std.specs.Int.{cast_signed}
+use Rattle.std.specs.List.{AllByRecursion}
 use Rattle.std.proofs.lemmas.Bool.{cases_Bool}
 use Rattle.std.proofs.lemmas.Option.{same_Some, none-some}
 use Rattle.qw_types.specs.declared.value.Val.{Val}
@@ -13,15 +15,19 @@ use Rattle.qw_module.specs.Memory.{number_at}
 use Rattle.qw_module.specs.Execution.{State, Running, Returned, Raised, Trapped}
 use Rattle.qw_module.specs.Map.{World, page, most_pages}
 use Rattle.qw_module.specs.Runs.{Moment, IsOver, Behaves, Steps}
-use Rattle.qw_module.specs.Start.{RunsBy, called, code_of_body, weight}
+use Rattle.qw_module.specs.Validity.{code_of_body}
+use Rattle.qw_module.specs.Start.{run_begins, weight}
+use Rattle.qw_module.proofs.MemoryFacts.{number_at-four}
 use Rattle.qw_module.proofs.OpenRuns.{Steps-more, behaves_within}
 use Rattle.qw_module.proofs.RunRules.{more, more-is}
 use Rattle.qw_top.specs.declared.meaning.Query.{Query}
 use Rattle.qw_top.specs.Meaning.{Rows, outcome, results}
 use Rattle.qw_top.specs.Emit.{IsScan, contents_of, scan_code}
-use Rattle.qw_top.specs.Layout.{integers_at, first_world, rows_at}
+use Rattle.qw_top.specs.Columns.{integer_at, StandsAt, HoldsColumn, value_of}
+use Rattle.qw_top.specs.Layout.{first_world, rows_at}
 use Rattle.qw_top.specs.Compiled.{IsReady, beginning, Answers, units, IsCompiled}
 use Rattle.qw_top.proofs.ScanSteps.{running, in_call}
+use Rattle.qw_top.proofs.ScanValid.{valid, shaped}
 use Rattle.qw_top.proofs.ScanRuns.{Over, passed_over, kept_of, count_of}
 use Rattle.qw_top.proofs.ScanStart.{words_at, length-words_at, words_at-are, Begun-fresh, starts}
 use Rattle.qw_top.proofs.ScanResult.{number, cell, kept_integers, chain_rows, result_rows, counted_within}
@@ -34,10 +40,30 @@ only_function (f ∷ []) zero run contents one there = cc
 only_function (f ∷ []) (suc n) run contents one there = absurd (none-some run there)
 only_function (f ∷ g ∷ functions) n run contents one there = cc
 
--- the column's numbers are those of its words
-integers-words : (m : List ℕ) (at n : ℕ) → integers_at m at n ≡ map number (words_at m at n)
-integers-words m at zero = refl
-integers-words m at (suc n) = ap (λ (others : List ℤ). number (number_at m at 4) ∷ others) (integers-words m (at + 4) n)
+-- a list has a value at each place below its length
+value_there : (values : List Val) (place : ℕ) → place < length values → (v : Val) × (slice_get values place ≡ Some v)
+value_there [] place within = absurd (omega arith)
+value_there (v ∷ values) zero within = (v, refl)
+value_there (v ∷ values) (suc place) within = value_there values place (omega arith)
+
+first_word : (memory : List ℕ) (start : ℕ) (o : Option Val) (v : Val) → o ≡ Some v → StandsAt memory (start + 4 * 0) v →
+    o ≡ Some (Num (number (number_at memory start 4)))
+first_word memory start o (Num n) there stands =
+    let place : start + 4 * 0 ≡ start = omega arith in
+    let here : integer_at memory start ≡ n = subst (λ (a : ℕ). integer_at memory a ≡ n) place stands in
+    there ∙ ap (λ (k : ℤ). Some (Num k)) (sym here ∙ ap (cast_signed w32) (sym (number_at-four memory start)))
+
+-- the column's values are those of its words
+column_words : (memory : List ℕ) (column : ℕ) (rows : List (List Val)) (start : ℕ) → AllByRecursion (λ (row : List Val). column < length row) rows →
+    ((row : ℕ) (v : Val) → value_of rows row column ≡ Some v → StandsAt memory (start + 4 * row) v) →
+    map (λ (row : List Val). slice_get row column) rows ≡ map (λ (n : ℤ). Some (Num n)) (map number (words_at memory start (length rows)))
+column_words memory column [] start typed each = refl
+column_words memory column (row ∷ rows) start typed each =
+    let there = value_there row column typed.0 in
+    let rest = column_words memory column rows (start + 4) typed.1
+    (λ k v h. let place : start + 4 * suc k ≡ start + 4 + 4 * k = omega arith in subst (λ (a : ℕ). StandsAt memory a v) place (each (suc k) v h)) in
+    ap₂ (λ (first : Option Val) (others : List (Option Val)). first ∷ others)
+    (first_word memory start (slice_get row column) there.0 there.1 (each zero there.0 there.1)) rest
 
 length-map_cell : (vs : List ℕ) → length (map cell vs) ≡ length vs
 length-map_cell [] = refl
@@ -63,13 +89,13 @@ module _ (query : Query) (fits : SFits w64 query.literal) (rows : List (List Val
   all : List ℕ
   all = kept_of query.literal words
 
-  column_words : map (λ (row : List Val). slice_get row query.column) rows ≡ map (λ (n : ℤ). Some (Num n)) (map number words)
+  the_column : map (λ (row : List Val). slice_get row query.column) rows ≡ map (λ (n : ℤ). Some (Num n)) (map number words)
   unfolding words
-  column_words = ready.column ∙ ap (map (λ (n : ℤ). Some (Num n))) (integers-words memory start (length rows))
+  the_column = column_words memory query.column rows start ready.typed ready.column.each
 
   the_rows : map cell all ≡ results query rows
   unfolding words all
-  the_rows = result_rows query fits rows words (words_at-are memory ready.octets start (length rows)) column_words
+  the_rows = result_rows query fits rows words (words_at-are memory ready.octets start (length rows)) the_column
 
   length_all : length all ≡ length (results query rows)
   length_all = sym (length-map_cell all) ∙ ap length the_rows
@@ -89,9 +115,9 @@ module _ (query : Query) (fits : SFits w64 query.literal) (rows : List (List Val
       let integers = kept_integers query.literal words (words_at-are memory ready.octets start (length rows)) in
       let fits_page : d + 80 + 24 * length all ≤ d + page = omega (arith, kept_few) in
       let read : rows_at (first_world start (length rows) d limit).own b.memory d ≡ Some (results query rows) =
-          rw chain.count
-          (chain_rows b.memory d all (d + 8) (d + 80) chain.link (omega arith) fits_page integers chain.open_link chain.chain
-            ∙ ap Some the_rows) in
+      rw chain.count
+      (chain_rows b.memory d all (d + 8) (d + 80) chain.link (omega arith) fits_page integers chain.open_link chain.chain
+      ∙ ap Some the_rows) in
       rw (over.returned, over.world) (results query rows, refl, read)
 
   within : more 19 (count_of query.literal words) ≤ 63 * (1 + units query rows)
@@ -112,8 +138,11 @@ module _ (query : Query) (fits : SFits w64 query.literal) (rows : List (List Val
 
 pub scan_compiled : (query : Query) (m : Module) → SFits w64 query.literal → IsScan query.literal m → IsCompiled query m
 scan_compiled query m fits scan = record {
-  runs = λ run rows start descriptor limit memory by ready.
-      let contents = only_function m.functions.items by.number run _ scan.functions by.there in
+  valid = valid query.literal fits m scan;
+  number = 0;
+  shaped = shaped query.literal fits m scan;
+  runs = λ run rows start descriptor limit memory there ready.
+      let contents = only_function m.functions.items 0 run _ scan.functions there in
       let code : code_of_body run.body ≡ scan_code query.literal = ap (λ (c : ℕ × List ValType × Code). c.2) contents in
       let locals : length run.locals.items ≡ 6 = ap (λ (c : ℕ × List ValType × Code). length c.1) contents in
       rw (code, locals) (behaves query fits rows start descriptor limit memory ready);

@@ -80,30 +80,34 @@ module _ (start rows d limit at : ℕ) (words kept : List ℕ) (link row : ℕ) 
   row_inside = omega (arith, lies.row_is, lies.few)
 
   pub Scanned-kept : IsKept (first_world start rows d limit) (Scanned d at words kept link row)
-  Scanned-kept = record { keeps = λ before after others h.
-      let inside = link_inside in
-      let ends = row_inside in
-      record {
-        room = omega (arith, others.length_is, h.room);
-        column = Stands-same before after start (start + 4 * rows) (column_kept start rows d limit before after others) words at lies.from (omega (arith, lies.left)) h.column;
-        chain = Chain-same before after d (d + page) link (λ a w low high apart. page_kept start rows d limit before after others a w low high)
-            kept (d + 8) (d + 80) (omega arith) (omega arith) (omega (arith, lies.row_is, ends)) h.chain;
-        open_link = page_kept start rows d limit before after others link 4 (omega (arith, inside.0)) (omega (arith, inside.1, ends)) ∙ h.open_link;
-        free = λ k low high. octet_kept start rows d limit before after others k (omega (arith, lies.row_is)) high ∙ h.free k low high;
-      } }
+  Scanned-kept = record {
+    keeps = λ before after others h.
+        let inside = link_inside in
+        let ends = row_inside in
+        record {
+          room = omega (arith, others.length_is, h.room);
+          column = Stands-same before after start (start + 4 * rows) (column_kept start rows d limit before after others) words at lies.from (omega (arith, lies.left)) h.column;
+          chain = Chain-same before after d (d + page) link (λ a w low high apart. page_kept start rows d limit before after others a w low high)
+              kept (d + 8) (d + 80) (omega arith) (omega arith) (omega (arith, lies.row_is, ends)) h.chain;
+          open_link = page_kept start rows d limit before after others link 4 (omega (arith, inside.0)) (omega (arith, inside.1, ends)) ∙ h.open_link;
+          free = λ k low high. octet_kept start rows d limit before after others k (omega (arith, lies.row_is)) high ∙ h.free k low high;
+        };
+  }
 
   pub Linked-kept : IsKept (first_world start rows d limit) (Linked d at words kept link row)
-  Linked-kept = record { keeps = λ before after others h.
-      let inside = link_inside in
-      let ends = row_inside in
-      record {
-        room = omega (arith, others.length_is, h.room);
-        column = Stands-same before after start (start + 4 * rows) (column_kept start rows d limit before after others) words at lies.from (omega (arith, lies.left)) h.column;
-        chain = Chain-same before after d (d + page) link (λ a w low high apart. page_kept start rows d limit before after others a w low high)
-            kept (d + 8) (d + 80) (omega arith) (omega arith) (omega (arith, lies.row_is, ends)) h.chain;
-        linked = page_kept start rows d limit before after others link 4 (omega (arith, inside.0)) (omega (arith, inside.1, ends)) ∙ h.linked;
-        free = λ k low high. octet_kept start rows d limit before after others k (omega (arith, lies.row_is)) high ∙ h.free k low high;
-      } }
+  Linked-kept = record {
+    keeps = λ before after others h.
+        let inside = link_inside in
+        let ends = row_inside in
+        record {
+          room = omega (arith, others.length_is, h.room);
+          column = Stands-same before after start (start + 4 * rows) (column_kept start rows d limit before after others) words at lies.from (omega (arith, lies.left)) h.column;
+          chain = Chain-same before after d (d + page) link (λ a w low high apart. page_kept start rows d limit before after others a w low high)
+              kept (d + 8) (d + 80) (omega arith) (omega arith) (omega (arith, lies.row_is, ends)) h.chain;
+          linked = page_kept start rows d limit before after others link 4 (omega (arith, inside.0)) (omega (arith, inside.1, ends)) ∙ h.linked;
+          free = λ k low high. octet_kept start rows d limit before after others k (omega (arith, lies.row_is)) high ∙ h.free k low high;
+        };
+  }
 
   -- a store in the first page changes no value of the column
   column_stays : (m : List ℕ) (a width number : ℕ) → d ≤ a → Stands m at words → Stands (with_number m a width number) at words
@@ -137,16 +141,18 @@ module _ (start rows d limit at : ℕ) (words kept : List ℕ) (link row : ℕ) 
   Scanned-linked m left h =
       let inside = link_inside in
       let fits : link + 4 ≤ length m = omega (arith, inside.1, h.room) in
-      let small : row % 2 ^ 32 ≡ row = omega (arith, lies.small) in
-      (fits, record {
-        room = omega (arith, length-with_number m link 4 row, h.room);
-        column = column_stays m link 4 row (omega (arith, inside.0)) h.column;
-        chain = Chain-same m (with_number m link 4 row) d row link
-            (λ a w low high apart. number_at-apart m link 4 row a w apart)
-            kept (d + 8) (d + 80) (omega arith) (omega arith) (omega (arith, lies.row_is)) h.chain;
-        linked = number_at-with_number m link 4 row fits ∙ small;
-        free = λ k from to. with_number-above m link 4 row k (omega (arith, inside.1)) ∙ h.free k from to;
-      })
+      let small : row % 2 ^ 32 ≡ row = omega (arith, lies.small) in (
+        fits,
+        record {
+          room = omega (arith, length-with_number m link 4 row, h.room);
+          column = column_stays m link 4 row (omega (arith, inside.0)) h.column;
+          chain = Chain-same m (with_number m link 4 row) d row link
+              (λ a w low high apart. number_at-apart m link 4 row a w apart)
+              kept (d + 8) (d + 80) (omega arith) (omega arith) (omega (arith, lies.row_is)) h.chain;
+          linked = number_at-with_number m link 4 row fits ∙ small;
+          free = λ k from to. with_number-above m link 4 row k (omega (arith, inside.1)) ∙ h.free k from to;
+        },
+      )
 
   -- the next row has a value, and is the last
   pub Linked-written : (m : List ℕ) (v : ℕ) → v < 2 ^ 64 → row + 24 ≤ d + page →
@@ -158,16 +164,18 @@ module _ (start rows d limit at : ℕ) (words kept : List ℕ) (link row : ℕ) 
       let unlinked : number_at m row 4 ≡ 0 = number_at-zeros m row 4 (λ k low high. h.free k low (omega arith)) in
       let not_null : number_at m (row + 16) 1 ≡ 0 = number_at-zeros m (row + 16) 1 (λ k low high. h.free k (omega arith) (omega arith)) in
       let kept_chain : Chain (with_number m (row + 8) 8 v) (d + 8) (d + 80) kept link = Chain-same m (with_number m (row + 8) 8 v) d row link
-          (λ a w low high apart. number_at-apart m (row + 8) 8 v a w (inl (omega arith)))
-          kept (d + 8) (d + 80) (omega arith) (omega arith) (omega (arith, lies.row_is)) h.chain in
-      (fits, record {
-        room = omega (arith, length-with_number m (row + 8) 8 v, h.room);
-        column = column_stays m (row + 8) 8 v (omega (arith, lies.row_is)) h.column;
-        chain = Chain-more (with_number m (row + 8) 8 v) kept (d + 8) (d + 80) link row v lies.row_is
-            (number_at-apart m (row + 8) 8 v link 4 (inl (omega (arith, inside.1))) ∙ h.linked)
-            (number_at-with_number m (row + 8) 8 v fits ∙ value)
-            (number_at-apart m (row + 8) 8 v (row + 16) 1 (inr (omega arith)) ∙ not_null)
-            kept_chain;
-        open_link = number_at-apart m (row + 8) 8 v row 4 (inl (omega arith)) ∙ unlinked;
-        free = λ k from to. with_number-above m (row + 8) 8 v k (omega arith) ∙ h.free k (omega arith) to;
-      })
+      (λ a w low high apart. number_at-apart m (row + 8) 8 v a w (inl (omega arith)))
+      kept (d + 8) (d + 80) (omega arith) (omega arith) (omega (arith, lies.row_is)) h.chain in (
+        fits,
+        record {
+          room = omega (arith, length-with_number m (row + 8) 8 v, h.room);
+          column = column_stays m (row + 8) 8 v (omega (arith, lies.row_is)) h.column;
+          chain = Chain-more (with_number m (row + 8) 8 v) kept (d + 8) (d + 80) link row v lies.row_is
+              (number_at-apart m (row + 8) 8 v link 4 (inl (omega (arith, inside.1))) ∙ h.linked)
+              (number_at-with_number m (row + 8) 8 v fits ∙ value)
+              (number_at-apart m (row + 8) 8 v (row + 16) 1 (inr (omega arith)) ∙ not_null)
+              kept_chain;
+          open_link = number_at-apart m (row + 8) 8 v row 4 (inl (omega arith)) ∙ unlinked;
+          free = λ k from to. with_number-above m (row + 8) 8 v k (omega arith) ∙ h.free k (omega arith) to;
+        },
+      )

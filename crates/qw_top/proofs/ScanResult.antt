@@ -14,7 +14,7 @@ use Rattle.qw_module.specs.Map.{Area, page, lies_in_one}
 use Rattle.qw_module.proofs.RunRules.{more, more-is}
 use Rattle.qw_top.specs.declared.meaning.Query.{Query}
 use Rattle.qw_top.specs.Meaning.{condition, is_true, selected, results}
-use Rattle.qw_top.specs.Layout.{integers_at, HoldsColumn, is_integer, row_at, rows_from}
+use Rattle.qw_top.specs.Layout.{is_integer, row_at, rows_from}
 use Rattle.qw_top.proofs.Chains.{Chain}
 use Rattle.qw_top.proofs.ScanRuns.{passed_over, kept_of, count_of, AreWords}
 use Rattle.qw_top.proofs.ScanStart.{words_at}
@@ -76,7 +76,7 @@ chain_rows m d (v ∷ vs) place at link low high are open_link chain =
     let inside : lies_in_one own at 24 ≡ true = or_left _ _ (and_from _ _ (le-leb d at low) (le-leb (at + 24) (d + page) (omega arith))) in
     let row : row_at own m at ≡ Some (cell v) = rw (inside, eq-eqb (number_at m (at + 16) 1) 0 chain.2, chain.1, are.0) refl in
     let rest : rows_from own m (length vs) (number_at m at 4) ≡ Some (map cell vs) =
-        chain_rows m d vs at (at + 24) link (omega arith) (omega arith) are.1 open_link chain.3 in
+    chain_rows m d vs at (at + 24) link (omega arith) (omega arith) are.1 open_link chain.3 in
     rw (chain.0, row, rest) refl
 
 -- the rows of a table whose column has these words, kept by the statement
@@ -94,15 +94,15 @@ result_rows query fits (row ∷ rows) (word ∷ words) are same =
     let test : passed_over query.literal word ≡ not (int_lt query.literal n) = passed query.literal fits word are.0 in
     ⊎_elim
     (λ is_greater.
-      let stays : passed_over query.literal word ≡ false = test ∙ ap not is_greater in
-      let value : cast_signed w64 (extended Signed word) ≡ n = number-extended word are.0 in
-      let true_here : is_true (condition query row) ≡ true = rw head (rw is_greater refl) in
-      let row_here : selected query row ≡ row_of n = rw head refl in
-      rw (stays, true_here, row_here, value) (ap (λ (others : List (List Val)). row_of n ∷ others) rest))
+    let stays : passed_over query.literal word ≡ false = test ∙ ap not is_greater in
+    let value : cast_signed w64 (extended Signed word) ≡ n = number-extended word are.0 in
+    let true_here : is_true (condition query row) ≡ true = rw head (rw is_greater refl) in
+    let row_here : selected query row ≡ row_of n = rw head refl in
+    rw (stays, true_here, row_here, value) (ap (λ (others : List (List Val)). row_of n ∷ others) rest))
     (λ not_greater.
-      let over : passed_over query.literal word ≡ true = test ∙ ap not not_greater in
-      let not_here : is_true (condition query row) ≡ false = rw head (rw not_greater refl) in
-      rw (over, not_here) rest)
+    let over : passed_over query.literal word ≡ true = test ∙ ap not not_greater in
+    let not_here : is_true (condition query row) ≡ false = rw head (rw not_greater refl) in
+    rw (over, not_here) rest)
     (cases_Bool (int_lt query.literal n))
 
 -- how many instructions run

@@ -71,12 +71,14 @@ module _ (literal : ℤ) (start rows d limit : ℕ) (words : List ℕ) (from : 6
   }
 
   Begun-kept : IsKept (first_world start rows d limit) (Begun d start rows words)
-  Begun-kept = record { keeps = λ before after others h. record {
-    scanned = (Scanned-kept start rows d limit start words [] (d + 8) (d + 80) first_lies).keeps before after others h.scanned;
-    next_row = page_kept start rows d limit before after others d 4 (omega arith) (omega arith) ∙ h.next_row;
-    values = page_kept start rows d limit before after others (d + 64) 4 (omega arith) (omega arith) ∙ h.values;
-    rows_are = page_kept start rows d limit before after others (d + 76) 4 (omega arith) (omega arith) ∙ h.rows_are;
-  } }
+  Begun-kept = record {
+    keeps = λ before after others h. record {
+      scanned = (Scanned-kept start rows d limit start words [] (d + 8) (d + 80) first_lies).keeps before after others h.scanned;
+      next_row = page_kept start rows d limit before after others d 4 (omega arith) (omega arith) ∙ h.next_row;
+      values = page_kept start rows d limit before after others (d + 64) 4 (omega arith) (omega arith) ∙ h.values;
+      rows_are = page_kept start rows d limit before after others (d + 76) 4 (omega arith) (omega arith) ∙ h.rows_are;
+    };
+  }
 
   pub starts : Runs (Over start rows d limit (kept_of literal words)) (first_world start rows d limit) (Begun d start rows words)
       (more 19 (count_of literal words)) (running (scan_code literal) [] (d ∷ 0 ∷ 0 ∷ 0 ∷ 0 ∷ 0 ∷ 0 ∷ []) in_call)
@@ -92,13 +94,13 @@ module _ (literal : ℤ) (start rows d limit : ℕ) (words : List ℕ) (from : 6
       let first : (d + 8) % 2 ^ 32 ≡ d + 8 = omega arith in
       go Q w kept (to_values literal d)
       (load Q w kept (d + 64) start refl refl (in_page start rows d limit (d + 64) 4 (omega arith) (omega arith))
-        (λ m h. (omega (arith, h.scanned.room), h.values))
-        (go Q w kept (to_rows literal d start p before)
-          (load Q w kept (d + 76) rows refl refl (in_page start rows d limit (d + 76) 4 (omega arith) (omega arith))
-            (λ m h. (omega (arith, h.scanned.room), h.rows_are))
-            (go Q w kept (to_free literal d rows p e last)
-              (load Q w kept d (d + 80) refl (add-zero d) (in_page start rows d limit d 4 (omega arith) (omega arith))
-                (λ m h. (omega (arith, h.scanned.room), h.next_row))
-                (go Q w kept (to_loop literal d p e (d + 80) (d + 8) first)
-                  (Runs-weaker Q w M (Scanned d start words [] (d + 8) (d + 80)) (count_of literal words) _ (λ m h. h.scanned)
-                    (loops literal start rows d limit (kept_of literal words) words [] start p (d + 8) (d + 80) e 0 0 first_lies are (omega arith) (omega (arith, all_words)) refl refl))))))))
+      (λ m h. (omega (arith, h.scanned.room), h.values))
+      (go Q w kept (to_rows literal d start p before)
+      (load Q w kept (d + 76) rows refl refl (in_page start rows d limit (d + 76) 4 (omega arith) (omega arith))
+      (λ m h. (omega (arith, h.scanned.room), h.rows_are))
+      (go Q w kept (to_free literal d rows p e last)
+      (load Q w kept d (d + 80) refl (add-zero d) (in_page start rows d limit d 4 (omega arith) (omega arith))
+      (λ m h. (omega (arith, h.scanned.room), h.next_row))
+      (go Q w kept (to_loop literal d p e (d + 80) (d + 8) first)
+      (Runs-weaker Q w M (Scanned d start words [] (d + 8) (d + 80)) (count_of literal words) _ (λ m h. h.scanned)
+      (loops literal start rows d limit (kept_of literal words) words [] start p (d + 8) (d + 80) e 0 0 first_lies are (omega arith) (omega (arith, all_words)) refl refl))))))))

@@ -1,20 +1,10 @@
--- What the memory of a statement over one column holds: the column, and the instance's first page.
-use Rattle.std.specs.Prelude.{◌≡◌, ℕ, zero, suc, ◌+◌, ◌*◌, ◌<◌, ◌≤◌, ◌==◌, ◌&&◌, if◌then◌else◌, Bool, ℤ, pos, negsuc, int_le, List, [], ◌∷◌, length, map, Option, Some, None, slice_get, slice_index}
-use Rattle.std.specs.Int.{w32, w64, cast_signed}
+-- What an instance's first page holds: the descriptor of a statement over one column, and the result rows.
+use Rattle.std.specs.Prelude.{◌≡◌, ℕ, zero, suc, ◌+◌, ◌*◌, ◌<◌, ◌≤◌, ◌==◌, ◌&&◌, if◌then◌else◌, Bool, ℤ, pos, negsuc, int_le, List, [], ◌∷◌, length, Option, Some, None, slice_index}
+use Rattle.std.specs.Int.{w64, cast_signed}
 use Rattle.qw_types.specs.declared.value.Val.{Val}
 use Rattle.qw_types.specs.declared.value.Val.TheVariants.{Num}
 use Rattle.qw_module.specs.Memory.{number_at}
 use Rattle.qw_module.specs.Map.{Area, World, page, lies_in_one}
-
--- whole numbers of four octets, signed, one after another
-abbrev pub integers_at : List ℕ → ℕ → ℕ → List ℤ
-integers_at memory start zero = []
-integers_at memory start (suc rows) = cast_signed w32 (number_at memory start 4) ∷ integers_at memory (start + 4) rows
-
--- from a place on the memory holds a column of a table's rows: its values, four octets each
-abbrev pub HoldsColumn : List ℕ → ℕ → ℕ → List (List Val) → Type 0
-HoldsColumn memory start column rows =
-    map (λ (row : List Val). slice_get row column) rows ≡ map (λ (n : ℤ). Some (Num n)) (integers_at memory start (length rows))
 
 -- The first page as it begins: the descriptor of one column, and zeros. The descriptor has the first free address,
 -- the end of the page, zeros where results are to be written, and the column: where its values stand, no null bits, no texts,

@@ -1,6 +1,7 @@
 ghost use Rattle.std.specs.Prelude.{◌≡◌, ℕ, IfOk};
 ghost use Rattle.std.specs.Int.{cast_unsigned, w64};
-ghost use Rattle.qw_module.specs.Syntax.{Code, IsNumbered, nested};
+ghost use Rattle.std.specs.List.{AllByRecursion};
+ghost use Rattle.qw_module.specs.Syntax.{Code, IsNumbered, NamesBelow, nested};
 ghost use Rattle.qw_module.specs.Validity.{code_of_body, sequences_of};
 ghost use Rattle.qw_top.specs.Compiled.{IsCompiled};
 ghost use Rattle.qw_top.specs.Emit.{IsScan, scan_code, scan_frame, scan_row};
@@ -107,7 +108,8 @@ fn store_i64(offset: u32) -> Instr
 
 /// The loop's body, which looks at one value of the column.
 fn row_sequence(alloc: Global, literal: i64) -> Result<Vec<Instr>, NoMemory>
-    ensures { IfOk result (λ v. (named : ℕ → Code) → nested named v.items ≡ scan_row literal) }
+    ensures code { IfOk result (λ v. (named : ℕ → Code) → nested named v.items ≡ scan_row literal) }
+    ensures names { IfOk result (λ v. AllByRecursion (NamesBelow 0) v.items) }
 {
     let sequence = vec![in alloc;
         get(PLACE),
@@ -145,7 +147,8 @@ fn row_sequence(alloc: Global, literal: i64) -> Result<Vec<Instr>, NoMemory>
 
 /// The outermost sequence: what stands before the loop, the loop, and what is written after it.
 fn outer_sequence(alloc: Global) -> Result<Vec<Instr>, NoMemory>
-    ensures { IfOk result (λ v. (named : ℕ → Code) → nested named v.items ≡ scan_frame (named 1) (named 2) (named 3)) }
+    ensures code { IfOk result (λ v. (named : ℕ → Code) → nested named v.items ≡ scan_frame (named 1) (named 2) (named 3)) }
+    ensures names { IfOk result (λ v. AllByRecursion (NamesBelow 4) v.items) }
 {
     let sequence = vec![in alloc;
         get(DESCRIPTOR),
@@ -255,8 +258,7 @@ fn scan_module(alloc: Global, literal: i64) -> Result<Module, NoMemory>
 ///
 /// [`NoMemory`] where the module does not fit memory, and nowhere else.
 pub fn module_of(alloc: Global, query: &Query) -> Result<Module, NoMemory>
-    ensures code { IfOk result (λ m. IsScan query.now.literal m) }
-    ensures compiled { IfOk result (λ m. IsCompiled query.now m) }
+    ensures { IfOk result (λ m. IsCompiled query.now m) }
 {
     let module = scan_module(alloc, query.literal)?;
     Ok(module)
