@@ -7,70 +7,71 @@ use Rattle.qw_module.specs.declared.instruction.Instr.{Instr}
 use Rattle.qw_module.specs.Syntax.{sequence_at}
 use Rattle.qw_module.specs.declared.machine.Entry.{Entry}
 use Rattle.qw_module.specs.Execution.{Config, State, Returned, settled}
-use Rattle.qw_module.specs.Machine.{sequences_in, Point, Rooms, IsPoint, state_at, LeadsTo, base_of, contexts_of, above, under}
+use Rattle.qw_module.specs.Machine.{Point, Rooms, IsPoint, state_at, LeadsTo, base_of, contexts_of, above, under}
+use Rattle.qw_module.specs.Validity.{items_of}
 use Rattle.qw_module.proofs.Points.{code_at-end, left, left-point, left-state, state_at-split}
 use Rattle.qw_module.proofs.Jumps.{point-is}
 
-pub sequence_at-array : (arrays : List (Vec Instr Global)) (number : ℕ) (array : Vec Instr Global) → number < length (sequences_in arrays) →
-    array ≡ get_or arrays number array → sequence_at (sequences_in arrays) number ≡ array.items
+pub sequence_at-array : (arrays : List (Vec Instr Global)) (number : ℕ) (array : Vec Instr Global) → number < length (items_of arrays) →
+    array ≡ get_or arrays number array → sequence_at (items_of arrays) number ≡ array.items
 sequence_at-array arrays number array inside read =
     let within : number < length arrays = subst (λ (n : ℕ). number < n) (length-map arrays (λ (array : Vec Instr Global). array.items)) inside in
     let there : slice_get arrays number ≡ Some array = slice_get_read arrays (length arrays) number array refl within read in
     rw (slice_get-map, there) refl
 
 pub instruction-array : (arrays : List (Vec Instr Global)) (number place : ℕ) (array : Vec Instr Global) (sequence : List Instr) (instruction default : Instr) →
-    number < length (sequences_in arrays) → array ≡ get_or arrays number array → sequence ≡ array.items → place < length (sequence_at (sequences_in arrays) number) →
-    get_or sequence place default ≡ instruction → slice_get (sequence_at (sequences_in arrays) number) place ≡ Some instruction
+    number < length (items_of arrays) → array ≡ get_or arrays number array → sequence ≡ array.items → place < length (sequence_at (items_of arrays) number) →
+    get_or sequence place default ≡ instruction → slice_get (sequence_at (items_of arrays) number) place ≡ Some instruction
 instruction-array arrays number place array sequence instruction default inside read same within found =
-    let whole : sequence_at (sequences_in arrays) number ≡ sequence = sequence_at-array arrays number array inside read ∙ sym same in
+    let whole : sequence_at (items_of arrays) number ≡ sequence = sequence_at-array arrays number array inside read ∙ sym same in
     let long : place < length sequence = subst (λ (xs : List Instr). place < length xs) whole within in
     rw (whole, slice_get-get_or sequence place default long) (ap (λ (x : Instr). Some x) found)
 
 -- a place in a sequence has one after it
-pub place-small : (arrays : List (Vec Instr Global)) (number place : ℕ) (array : Vec Instr Global) → number < length (sequences_in arrays) →
-    array ≡ get_or arrays number array → place < length (sequence_at (sequences_in arrays) number) → place + 1 < 9223372036854775808
+pub place-small : (arrays : List (Vec Instr Global)) (number place : ℕ) (array : Vec Instr Global) → number < length (items_of arrays) →
+    array ≡ get_or arrays number array → place < length (sequence_at (items_of arrays) number) → place + 1 < 9223372036854775808
 place-small arrays number place array inside read within =
     let long : place < length array.items = subst (λ (xs : List Instr). place < length xs) (sequence_at-array arrays number array inside read) within in
     omega (arith, array.ok.0, array.ok.1, array.small)
 
 -- a place at the end of its array is at the end of its sequence
-place-end : (arrays : List (Vec Instr Global)) (number place : ℕ) (array : Vec Instr Global) → number < length (sequences_in arrays) →
-    array ≡ get_or arrays number array → place ≡ vec_len array → place ≡ length (sequence_at (sequences_in arrays) number)
+place-end : (arrays : List (Vec Instr Global)) (number place : ℕ) (array : Vec Instr Global) → number < length (items_of arrays) →
+    array ≡ get_or arrays number array → place ≡ vec_len array → place ≡ length (sequence_at (items_of arrays) number)
 place-end arrays number place array inside read ended =
     ended ∙ array.ok.0 ∙ ap length (sym (sequence_at-array arrays number array inside read))
 
 -- and one that isn't is before the end
-pub place-unfinished : (arrays : List (Vec Instr Global)) (number place : ℕ) (array : Vec Instr Global) → number < length (sequences_in arrays) →
-    array ≡ get_or arrays number array → place ≢ vec_len array → place ≤ length (sequence_at (sequences_in arrays) number) → place < length (sequence_at (sequences_in arrays) number)
+pub place-unfinished : (arrays : List (Vec Instr Global)) (number place : ℕ) (array : Vec Instr Global) → number < length (items_of arrays) →
+    array ≡ get_or arrays number array → place ≢ vec_len array → place ≤ length (sequence_at (items_of arrays) number) → place < length (sequence_at (items_of arrays) number)
 place-unfinished arrays number place array inside read unfinished within =
-    let whole : length (sequence_at (sequences_in arrays) number) ≡ vec_len array = ap length (sequence_at-array arrays number array inside read) ∙ sym array.ok.0 in
-    let apart : place ≢ length (sequence_at (sequences_in arrays) number) = λ e. unfinished (e ∙ whole) in
+    let whole : length (sequence_at (items_of arrays) number) ≡ vec_len array = ap length (sequence_at-array arrays number array inside read) ∙ sym array.ok.0 in
+    let apart : place ≢ length (sequence_at (items_of arrays) number) = λ e. unfinished (e ∙ whole) in
     omega arith
 
 -- a label that is left, by the arrays
 module _ (arrays : List (Vec Instr Global)) (rooms : Rooms) (p q : Point) (array : Vec Instr Global) (entry : Entry)
-    (is : IsPoint (sequences_in arrays) rooms p) (read : array ≡ get_or arrays p.sequence array) (ended : p.place ≡ vec_len array) (labels : p.labels ≡ entry ∷ q.labels)
+    (is : IsPoint (items_of arrays) rooms p) (read : array ≡ get_or arrays p.sequence array) (ended : p.place ≡ vec_len array) (labels : p.labels ≡ entry ∷ q.labels)
     (sequence : q.sequence ≡ entry.sequence) (place : q.place ≡ entry.after) (operands : q.operands ≡ p.operands) (values : q.locals ≡ p.locals) where
   abbrev inner : List Entry → Point
   inner entries = record { labels = entries; sequence = p.sequence; place = p.place; operands = p.operands; locals = p.locals }
 
-  inner-is : IsPoint (sequences_in arrays) rooms (inner (entry ∷ q.labels))
-  inner-is = subst (λ (entries : List Entry). IsPoint (sequences_in arrays) rooms (inner entries)) labels is
+  inner-is : IsPoint (items_of arrays) rooms (inner (entry ∷ q.labels))
+  inner-is = subst (λ (entries : List Entry). IsPoint (items_of arrays) rooms (inner entries)) labels is
 
-  at_end : p.place ≡ length (sequence_at (sequences_in arrays) p.sequence)
+  at_end : p.place ≡ length (sequence_at (items_of arrays) p.sequence)
   at_end = place-end arrays p.sequence p.place array is.room.numbered read ended
 
   outer-is : q ≡ left p entry q.labels
   outer-is = point-is q q.labels entry.sequence entry.after p.operands p.locals refl sequence place operands values
 
-  pub left-entry-point : IsPoint (sequences_in arrays) rooms q
-  left-entry-point = rw outer-is (left-point (sequences_in arrays) rooms entry q.labels p.sequence p.place p.operands p.locals at_end inner-is)
+  pub left-entry-point : IsPoint (items_of arrays) rooms q
+  left-entry-point = rw outer-is (left-point (items_of arrays) rooms entry q.labels p.sequence p.place p.operands p.locals at_end inner-is)
 
-  pub left-entry-state : (globals : List ℕ) → state_at (sequences_in arrays) globals p ≡ state_at (sequences_in arrays) globals q
+  pub left-entry-state : (globals : List ℕ) → state_at (items_of arrays) globals p ≡ state_at (items_of arrays) globals q
   left-entry-state globals =
-      ap (λ (entries : List Entry). state_at (sequences_in arrays) globals (inner entries)) labels
-      ∙ left-state (sequences_in arrays) rooms entry q.labels p.sequence p.place p.operands p.locals at_end inner-is globals
-      ∙ ap (state_at (sequences_in arrays) globals) (sym outer-is)
+      ap (λ (entries : List Entry). state_at (items_of arrays) globals (inner entries)) labels
+      ∙ left-state (items_of arrays) rooms entry q.labels p.sequence p.place p.operands p.locals at_end inner-is globals
+      ∙ ap (state_at (items_of arrays) globals) (sym outer-is)
 
 -- where no label is left, the state is the return
 no_labels : (labels : List Entry) → length labels ≡ 0 → labels ≡ []
@@ -78,11 +79,11 @@ no_labels [] none = refl
 no_labels (entry ∷ labels) none = absurd (omega arith)
 
 pub left-last : (arrays : List (Vec Instr Global)) (rooms : Rooms) (p : Point) (array : Vec Instr Global) →
-    IsPoint (sequences_in arrays) rooms p → array ≡ get_or arrays p.sequence array → p.place ≡ vec_len array → length p.labels ≡ 0 →
-    (globals : List ℕ) → state_at (sequences_in arrays) globals p ≡ Returned
+    IsPoint (items_of arrays) rooms p → array ≡ get_or arrays p.sequence array → p.place ≡ vec_len array → length p.labels ≡ 0 →
+    (globals : List ℕ) → state_at (items_of arrays) globals p ≡ Returned
 left-last arrays rooms p array is read ended none globals =
-    let end : p.place ≡ length (sequence_at (sequences_in arrays) p.sequence) = place-end arrays p.sequence p.place array is.room.numbered read ended in
-    rw (no_labels p.labels none, code_at-end (sequences_in arrays) p.sequence p.place end) refl
+    let end : p.place ≡ length (sequence_at (items_of arrays) p.sequence) = place-end arrays p.sequence p.place array is.room.numbered read ended in
+    rw (no_labels p.labels none, code_at-end (items_of arrays) p.sequence p.place end) refl
 
 -- a step leads to what its state is
 pub leads-to : (c : Config) (memory : List ℕ) (s t : State) (after : List ℕ) → LeadsTo c memory s after → s ≡ t → LeadsTo c memory t after

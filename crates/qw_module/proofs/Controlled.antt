@@ -93,7 +93,7 @@ module _ (sequences : List (List Instr)) (rooms : Rooms) (numbered : IsNumbered 
     place_in = inside;
     fits = omega (arith, is.fits);
     room = is.room;
-    entries_are = is.entries
+    entries_are = is.entries;
   }
 
   -- a block is entered, whose branches go after it or back to it
@@ -114,7 +114,7 @@ module _ (sequences : List (List Instr)) (rooms : Rooms) (numbered : IsNumbered 
     after_typed = rest_is;
     target_in = omega arith;
     target_fits = omega (arith, results-short result, is.fits);
-    after_fits = omega (arith, results-short result, is.fits)
+    after_fits = omega (arith, results-short result, is.fits);
   }
 
   -- entering by `block` or a branch of an `if`
@@ -124,18 +124,18 @@ module _ (sequences : List (List Instr)) (rooms : Rooms) (numbered : IsNumbered 
       IsPoint sequences rooms (enclosed own inner (is_some result) (p.place + 1))
   entered-forward-point own types inner result fewer are lower inner_is rest_is =
       entered-point sequences rooms p.labels p.sequence p.place inner (is_some result) (p.place + 1) own is.below p.locals is.locals is.labels types is.ends
-        (types_of result) (types_of result) (around own types fewer are) (forward_label own types inner result fewer lower inner_is rest_is)
+      (types_of result) (types_of result) (around own types fewer are) (forward_label own types inner result fewer lower inner_is rest_is)
 
   entered-forward-state : (own : List ℕ) (types : List ValType) (inner : ℕ) (result : Option ValType) → length own ≤ length is.own → AreOf own types → inner < p.sequence →
       Typed (scope_of is.locals (types_of result ∷ is.labels)) (named sequences inner) [] (types_of result) →
       Typed (scope_of is.locals is.labels) (code_at sequences p.sequence (p.place + 1)) (types_of result ++ types) is.ends →
       (globals : List ℕ) → state_at sequences globals (enclosed own inner (is_some result) (p.place + 1))
       ≡ settled globals (label (code_at sequences p.sequence (p.place + 1)) (arity_of result) own (code_at sequences p.sequence (p.place + 1)) ∷ contexts_of sequences p.labels is.below)
-        (named sequences inner) [] p.locals
+      (named sequences inner) [] p.locals
   entered-forward-state own types inner result fewer are lower inner_is rest_is globals =
       let first = code_at-first sequences numbered inner (omega (arith, is.room.numbered)) in
       entered-state sequences rooms p.labels p.sequence p.place inner (is_some result) (p.place + 1) own is.below p.locals is.locals is.labels types is.ends
-        (types_of result) (types_of result) (around own types fewer are) (forward_label own types inner result fewer lower inner_is rest_is) globals
+      (types_of result) (types_of result) (around own types fewer are) (forward_label own types inner result fewer lower inner_is rest_is) globals
       ∙ rw (arity-is_some result, first) refl
 
   -- ---- block
@@ -154,12 +154,12 @@ module _ (sequences : List (List Instr)) (rooms : Rooms) (numbered : IsNumbered 
     pub executed-block : (q : Point) (memory : List ℕ) → q ≡ entered p inner (is_some result) (p.place + 1) → IsExecuted sequences rooms p memory true q memory
     executed-block q memory same =
         let whole : q ≡ enclosed is.own inner (is_some result) (p.place + 1) =
-            same ∙ ap (λ (xs : List ℕ). entered (record { labels = p.labels; sequence = p.sequence; place = p.place; operands = xs; locals = p.locals }) inner (is_some result) (p.place + 1)) is.operands_are in
+        same ∙ ap (λ (xs : List ℕ). entered (record { labels = p.labels; sequence = p.sequence; place = p.place; operands = xs; locals = p.locals }) inner (is_some result) (p.place + 1)) is.operands_are in
         let fewer : length is.own ≤ length is.own = omega arith in
         rw whole (executed-goes (enclosed is.own inner (is_some result) (p.place + 1)) memory
-          (entered-forward-point is.own is.before inner result fewer is.own_are block_lower block_is.0 block_is.1)
-          (λ globals. ap wants (config-is globals _ block_code)
-            ∙ ap Goes (sym (entered-forward-state is.own is.before inner result fewer is.own_are block_lower block_is.0 block_is.1 globals))))
+        (entered-forward-point is.own is.before inner result fewer is.own_are block_lower block_is.0 block_is.1)
+        (λ globals. ap wants (config-is globals _ block_code)
+        ∙ ap Goes (sym (entered-forward-state is.own is.before inner result fewer is.own_are block_lower block_is.0 block_is.1 globals))))
 
   -- ---- loop
   module _ (result : Option ValType) (inner : ℕ) (found : slice_get (sequence_at sequences p.sequence) p.place ≡ Some (i.Loop result inner)) where
@@ -186,7 +186,7 @@ module _ (sequences : List (List Instr)) (rooms : Rooms) (numbered : IsNumbered 
       after_typed = loop_is.1;
       target_in = omega arith;
       target_fits = omega (arith, is.fits);
-      after_fits = omega (arith, results-short result, is.fits)
+      after_fits = omega (arith, results-short result, is.fits);
     }
 
     loop_around : IsAround sequences rooms p.labels p.sequence p.place is.own is.below p.locals is.locals is.labels is.before is.ends
@@ -195,12 +195,12 @@ module _ (sequences : List (List Instr)) (rooms : Rooms) (numbered : IsNumbered 
     pub executed-loop : (q : Point) (memory : List ℕ) → q ≡ entered p inner false p.place → IsExecuted sequences rooms p memory true q memory
     executed-loop q memory same =
         let whole : q ≡ enclosed is.own inner false p.place =
-            same ∙ ap (λ (xs : List ℕ). entered (record { labels = p.labels; sequence = p.sequence; place = p.place; operands = xs; locals = p.locals }) inner false p.place) is.operands_are in
+        same ∙ ap (λ (xs : List ℕ). entered (record { labels = p.labels; sequence = p.sequence; place = p.place; operands = xs; locals = p.locals }) inner false p.place) is.operands_are in
         rw whole (executed-goes (enclosed is.own inner false p.place) memory
-          (entered-point sequences rooms p.labels p.sequence p.place inner false p.place is.own is.below p.locals is.locals is.labels is.before is.ends [] (types_of result) loop_around loop_label)
-          (λ globals. ap wants (config-is globals _ loop_code)
-            ∙ ap Goes (sym (entered-state sequences rooms p.labels p.sequence p.place inner false p.place is.own is.below p.locals is.locals is.labels is.before is.ends [] (types_of result) loop_around loop_label globals
-              ∙ rw (← loop_first, loop_code) refl))))
+        (entered-point sequences rooms p.labels p.sequence p.place inner false p.place is.own is.below p.locals is.locals is.labels is.before is.ends [] (types_of result) loop_around loop_label)
+        (λ globals. ap wants (config-is globals _ loop_code)
+        ∙ ap Goes (sym (entered-state sequences rooms p.labels p.sequence p.place inner false p.place is.own is.below p.locals is.locals is.labels is.before is.ends [] (types_of result) loop_around loop_label globals
+        ∙ rw (← loop_first, loop_code) refl))))
 
   -- ---- br
   module _ (index : ℕ) (found : slice_get (sequence_at sequences p.sequence) p.place ≡ Some (i.Br index)) where
@@ -221,7 +221,7 @@ module _ (sequences : List (List Instr)) (rooms : Rooms) (numbered : IsNumbered 
     executed-br q memory jump = executed-goes q memory
         (jumped-point sequences rooms p is.own is.below is.locals is.labels br_is.0 br_is.1 is.ends is.operands_are is.below_are br_own is.locals_are is.entries index br_is.3 q jump)
         (λ globals. ap wants (config-is globals _ br_code)
-          ∙ ap goes_if_some (jumped-state sequences rooms p is.own is.below is.locals is.labels br_is.0 br_is.1 is.ends is.operands_are is.below_are br_own is.locals_are is.entries index br_is.3 q jump globals))
+        ∙ ap goes_if_some (jumped-state sequences rooms p is.own is.below is.locals is.labels br_is.0 br_is.1 is.ends is.operands_are is.below_are br_own is.locals_are is.entries index br_is.3 q jump globals))
 
   -- ---- what takes an operand first
   -- a point with one operand less
@@ -261,12 +261,12 @@ module _ (sequences : List (List Instr)) (rooms : Rooms) (numbered : IsNumbered 
         let own = first_of I32 if_is.0 if_is.1 n operands popped in
         let fewer : length own.0 ≤ length is.own = omega (arith, ap length own.1) in
         let whole : q ≡ enclosed own.0 inner (is_some result) (p.place + 1) =
-            same ∙ ap (λ (xs : List ℕ). entered (without xs) inner (is_some result) (p.place + 1)) own.2 in
+        same ∙ ap (λ (xs : List ℕ). entered (without xs) inner (is_some result) (p.place + 1)) own.2 in
         rw whole (executed-goes (enclosed own.0 inner (is_some result) (p.place + 1)) memory
-          (entered-forward-point own.0 if_is.0 inner result fewer own.3 if_lower.0 if_is.2 if_is.4)
-          (λ globals. ap wants (config-over globals _ (n ∷ own.0) if_code own.1)
-            ∙ by_operand-other n own.0 _ _ other_than
-            ∙ ap Goes (sym (entered-forward-state own.0 if_is.0 inner result fewer own.3 if_lower.0 if_is.2 if_is.4 globals))))
+        (entered-forward-point own.0 if_is.0 inner result fewer own.3 if_lower.0 if_is.2 if_is.4)
+        (λ globals. ap wants (config-over globals _ (n ∷ own.0) if_code own.1)
+        ∙ by_operand-other n own.0 _ _ other_than
+        ∙ ap Goes (sym (entered-forward-state own.0 if_is.0 inner result fewer own.3 if_lower.0 if_is.2 if_is.4 globals))))
 
     pub executed-else : (operands : List ℕ) (q : Point) (memory : List ℕ) → p.operands ≡ 0 ∷ operands →
         q ≡ entered (without operands) other (is_some result) (p.place + 1) → IsExecuted sequences rooms p memory true q memory
@@ -274,11 +274,11 @@ module _ (sequences : List (List Instr)) (rooms : Rooms) (numbered : IsNumbered 
         let own = first_of I32 if_is.0 if_is.1 0 operands popped in
         let fewer : length own.0 ≤ length is.own = omega (arith, ap length own.1) in
         let whole : q ≡ enclosed own.0 other (is_some result) (p.place + 1) =
-            same ∙ ap (λ (xs : List ℕ). entered (without xs) other (is_some result) (p.place + 1)) own.2 in
+        same ∙ ap (λ (xs : List ℕ). entered (without xs) other (is_some result) (p.place + 1)) own.2 in
         rw whole (executed-goes (enclosed own.0 other (is_some result) (p.place + 1)) memory
-          (entered-forward-point own.0 if_is.0 other result fewer own.3 if_lower.1 if_is.3 if_is.4)
-          (λ globals. ap wants (config-over globals _ (0 ∷ own.0) if_code own.1)
-            ∙ ap Goes (sym (entered-forward-state own.0 if_is.0 other result fewer own.3 if_lower.1 if_is.3 if_is.4 globals))))
+        (entered-forward-point own.0 if_is.0 other result fewer own.3 if_lower.1 if_is.3 if_is.4)
+        (λ globals. ap wants (config-over globals _ (0 ∷ own.0) if_code own.1)
+        ∙ ap Goes (sym (entered-forward-state own.0 if_is.0 other result fewer own.3 if_lower.1 if_is.3 if_is.4 globals))))
 
   -- ---- br_if
   module _ (index : ℕ) (found : slice_get (sequence_at sequences p.sequence) p.place ≡ Some (i.BrIf index)) where
@@ -305,10 +305,10 @@ module _ (sequences : List (List Instr)) (rooms : Rooms) (numbered : IsNumbered 
     executed-br_if n operands q memory popped other_than jump =
         let own = first_of I32 (br_if_is.0 ++ br_if_is.1) br_if_is.2 n operands popped in
         executed-goes q memory
-          (jumped-point sequences rooms (without operands) own.0 is.below is.locals is.labels br_if_is.0 br_if_is.1 is.ends own.2 is.below_are own.3 is.locals_are is.entries index br_if_is.3 q jump)
-          (λ globals. ap wants (config-over globals _ (n ∷ own.0) br_if_code own.1)
-            ∙ by_operand-other n own.0 _ _ other_than
-            ∙ ap goes_if_some (jumped-state sequences rooms (without operands) own.0 is.below is.locals is.labels br_if_is.0 br_if_is.1 is.ends own.2 is.below_are own.3 is.locals_are is.entries index br_if_is.3 q jump globals))
+        (jumped-point sequences rooms (without operands) own.0 is.below is.locals is.labels br_if_is.0 br_if_is.1 is.ends own.2 is.below_are own.3 is.locals_are is.entries index br_if_is.3 q jump)
+        (λ globals. ap wants (config-over globals _ (n ∷ own.0) br_if_code own.1)
+        ∙ by_operand-other n own.0 _ _ other_than
+        ∙ ap goes_if_some (jumped-state sequences rooms (without operands) own.0 is.below is.locals is.labels br_if_is.0 br_if_is.1 is.ends own.2 is.below_are own.3 is.locals_are is.entries index br_if_is.3 q jump globals))
 
     pub executed-br_if-not : (operands : List ℕ) (q : Point) (memory : List ℕ) → p.operands ≡ 0 ∷ operands →
         q ≡ record { labels = p.labels; sequence = p.sequence; place = p.place + 1; operands = operands; locals = p.locals } → IsExecuted sequences rooms p memory true q memory
@@ -316,22 +316,22 @@ module _ (sequences : List (List Instr)) (rooms : Rooms) (numbered : IsNumbered 
         let own = first_of I32 (br_if_is.0 ++ br_if_is.1) br_if_is.2 0 operands popped in
         let after : Point = record { labels = p.labels; sequence = p.sequence; place = p.place + 1; operands = operands; locals = p.locals } in
         rw same (executed-goes after memory
-          (record {
-            own = own.0;
-            below = is.below;
-            locals = is.locals;
-            labels = is.labels;
-            before = br_if_is.0 ++ br_if_is.1;
-            ends = is.ends;
-            operands_are = own.2;
-            below_are = is.below_are;
-            own_are = own.3;
-            locals_are = is.locals_are;
-            typed = br_if_is.4;
-            place_in = omega arith;
-            fits = omega (arith, ap length own.1, is.fits);
-            room = is.room;
-            entries = is.entries
-          })
-          (λ globals. ap wants (config-over globals _ (0 ∷ own.0) br_if_code own.1)
-            ∙ ap Goes (sym (state_at-split sequences globals after own.0 is.below own.2 is.below_are))))
+        (record {
+          own = own.0;
+          below = is.below;
+          locals = is.locals;
+          labels = is.labels;
+          before = br_if_is.0 ++ br_if_is.1;
+          ends = is.ends;
+          operands_are = own.2;
+          below_are = is.below_are;
+          own_are = own.3;
+          locals_are = is.locals_are;
+          typed = br_if_is.4;
+          place_in = omega arith;
+          fits = omega (arith, ap length own.1, is.fits);
+          room = is.room;
+          entries = is.entries;
+        })
+        (λ globals. ap wants (config-over globals _ (0 ∷ own.0) br_if_code own.1)
+        ∙ ap Goes (sym (state_at-split sequences globals after own.0 is.below own.2 is.below_are))))

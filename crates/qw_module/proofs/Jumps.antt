@@ -69,8 +69,12 @@ module _ (sequences : List (List Instr)) (rooms : Rooms) (locals : List ValType)
         entries_are = are;
         cut = refl;
         leads = λ globals operands values enough.
-          rw (le-leb (truth entry.takes) (length operands) enough, e.operands_are, above-append (base_of entries) e.own e.below e.below_are,
-            under-append (base_of entries) e.own e.below e.below_are) refl
+            rw (
+              le-leb (truth entry.takes) (length operands) enough,
+              e.operands_are,
+              above-append (base_of entries) e.own e.below e.below_are,
+              under-append (base_of entries) e.own e.below e.below_are,
+            ) refl;
       }
   found-label (suc index) (entry ∷ entries) labels taken ends below (e, are) base found =
       let f = found-label index entries e.outer taken e.next e.below are e.below_are (rw e.labels_are at found) in
@@ -86,7 +90,7 @@ module _ (sequences : List (List Instr)) (rooms : Rooms) (locals : List ValType)
         takes_are = f.takes_are;
         base_in = omega (arith, f.base_in, ap length e.operands_are, length-append e.own e.below);
         under_is = λ on. ap (λ (xs : List ℕ). under f.entry.base (on ++ xs)) e.operands_are
-          ∙ ap (under f.entry.base) (sym (append_assoc on e.own e.below)) ∙ f.under_is (on ++ e.own);
+            ∙ ap (under f.entry.base) (sym (append_assoc on e.own e.below)) ∙ f.under_is (on ++ e.own);
         lower_are = f.lower_are;
         own_are = f.own_are;
         target_typed = f.target_typed;
@@ -96,7 +100,7 @@ module _ (sequences : List (List Instr)) (rooms : Rooms) (locals : List ValType)
         entries_are = f.entries_are;
         cut = f.cut;
         leads = λ globals operands values enough.
-          rw (e.operands_are, under-append (base_of entries) e.own e.below e.below_are) (f.leads globals operands values enough)
+            rw (e.operands_are, under-append (base_of entries) e.own e.below e.below_are) (f.leads globals operands values enough);
       }
 
 -- a point is its parts
@@ -133,13 +137,13 @@ module _ (sequences : List (List Instr)) (rooms : Rooms) (p : Point) (own below 
       let rest : q.labels ≡ f.rest = cc same in
       let within : length taken ≤ length own = enough in
       let operands : q.operands ≡ (take (length taken) own ++ f.own) ++ f.lower =
-          jump.operands
-          ∙ ap₂ (λ (e : Entry) (xs : List ℕ). take (truth e.takes) xs ++ under e.base xs) entry operands_are
-          ∙ ap (λ (n : ℕ). take n (own ++ below) ++ under f.entry.base (own ++ below)) f.takes_are
-          ∙ ap₂ (λ (xs ys : List ℕ). xs ++ ys) (take-append-le (length taken) own below within) (f.under_is own)
-          ∙ sym (append_assoc (take (length taken) own) f.own f.lower) in
+      jump.operands
+      ∙ ap₂ (λ (e : Entry) (xs : List ℕ). take (truth e.takes) xs ++ under e.base xs) entry operands_are
+      ∙ ap (λ (n : ℕ). take n (own ++ below) ++ under f.entry.base (own ++ below)) f.takes_are
+      ∙ ap₂ (λ (xs ys : List ℕ). xs ++ ys) (take-append-le (length taken) own below within) (f.under_is own)
+      ∙ sym (append_assoc (take (length taken) own) f.own f.lower) in
       point-is q f.rest f.entry.sequence f.entry.target _ p.locals rest
-        (jump.sequence ∙ ap (λ (e : Entry). e.sequence) entry) (jump.place ∙ ap (λ (e : Entry). e.target) entry) operands jump.locals
+      (jump.sequence ∙ ap (λ (e : Entry). e.sequence) entry) (jump.place ∙ ap (λ (e : Entry). e.target) entry) operands jump.locals
 
   target_point-is : IsPoint sequences rooms target_point
   target_point-is =
@@ -160,7 +164,7 @@ module _ (sequences : List (List Instr)) (rooms : Rooms) (p : Point) (own below 
         place_in = f.target_in;
         fits = omega (arith, length-append (take (length taken) own) f.own, AreOf-length (take (length taken) own) taken kept, f.target_fits);
         room = f.room;
-        entries = f.entries_are
+        entries = f.entries_are;
       }
 
   -- a branch leads to a point, and the configuration's branch to what that stands for

@@ -106,7 +106,7 @@ module _ (sequences : List (List Instr)) (rooms : Rooms) (p : Point) (is : IsPoi
         place_in = omega arith;
         fits = omega (arith, AreOf-length operands parts.0 are, AreOf-length is.own is.before is.own_are, is.fits, length-op_typed is.locals operator is.before parts.0 parts.1);
         room = is.room;
-        entries = is.entries
+        entries = is.entries;
       }
 
   -- the configuration's step
@@ -117,8 +117,8 @@ module _ (sequences : List (List Instr)) (rooms : Rooms) (p : Point) (is : IsPoi
       ≡ answered memory (then_wants (op_wants operator is.own p.locals) (own_config globals) (code_at sequences p.sequence (p.place + 1)))
   next-is globals memory =
       let split : config_at sequences globals p ≡ own_config globals =
-          config_at-split sequences globals p is.own is.below is.operands_are is.below_are
-          ∙ ap (λ (x : Code). let c : Config = record { globals = globals; code = x; operands = is.own; locals = p.locals; contexts = contexts_of sequences p.labels is.below } in c) code in
+      config_at-split sequences globals p is.own is.below is.operands_are is.below_are
+      ∙ ap (λ (x : Code). let c : Config = record { globals = globals; code = x; operands = is.own; locals = p.locals; contexts = contexts_of sequences p.labels is.below } in c) code in
       ap (λ (c : Config). next c memory) split
 
   state-is : (globals operands values : List ℕ) →
@@ -138,21 +138,21 @@ module _ (sequences : List (List Instr)) (rooms : Rooms) (p : Point) (is : IsPoi
       )
   executed-want (Reads address width make) typed memory went operands values after done steps = ⊎_elim
       (λ inside.
-        let d = rw inside at done in
-        let n : ℕ = number_at memory address width in
-        rw (d.0, d.1, d.2, d.3) (
-          after_it-is (make n) p.locals (typed n d.4) is.locals_are,
-          λ globals. (Loads address width, steps globals ∙ rw (inside, state-is globals (make n) p.locals) refl),
-        ))
+      let d = rw inside at done in
+      let n : ℕ = number_at memory address width in
+      rw (d.0, d.1, d.2, d.3) (
+        after_it-is (make n) p.locals (typed n d.4) is.locals_are,
+        λ globals. (Loads address width, steps globals ∙ rw (inside, state-is globals (make n) p.locals) refl),
+      ))
       (λ outside. let d = rw outside at done in rw (d.0, d.1) (λ (globals : List ℕ). (Traps, steps globals ∙ rw outside refl)))
       (cases_Bool (nat_le (address + width) (length memory)))
   executed-want (Writes address width value left) typed memory went operands values after done steps = ⊎_elim
       (λ inside.
-        let d = rw inside at done in
-        rw (d.0, d.1, d.2, d.3) (
-          after_it-is left p.locals typed is.locals_are,
-          λ globals. (Stores address width, steps globals ∙ rw (inside, state-is globals left p.locals) refl),
-        ))
+      let d = rw inside at done in
+      rw (d.0, d.1, d.2, d.3) (
+        after_it-is left p.locals typed is.locals_are,
+        λ globals. (Stores address width, steps globals ∙ rw (inside, state-is globals left p.locals) refl),
+      ))
       (λ outside. let d = rw outside at done in rw (d.0, d.1) (λ (globals : List ℕ). (Traps, steps globals ∙ rw outside refl)))
       (cases_Bool (nat_le (address + width) (length memory)))
 
@@ -162,8 +162,8 @@ module _ (sequences : List (List Instr)) (rooms : Rooms) (p : Point) (is : IsPoi
       IsExecuted sequences rooms p memory went (after_it operands values) after
   executed-operator memory went operands values after done =
       let same : op_wants operator p.operands p.locals ≡ over is.below (op_wants operator is.own p.locals) =
-          rw (is.operands_are) (wants-over operator is.own is.below p.locals has) in
+      rw (is.operands_are) (wants-over operator is.own is.below p.locals has) in
       executed-want (op_wants operator is.own p.locals) (op_wants-typed is.locals operator is.before parts.0 parts.1 is.own p.locals is.own_are is.locals_are)
-        memory went operands values after
-        (subst (λ (w : OpWant). IsDone w p.locals memory went operands values after) same done)
-        (λ globals. next-is globals memory)
+      memory went operands values after
+      (subst (λ (w : OpWant). IsDone w p.locals memory went operands values after) same done)
+      (λ globals. next-is globals memory)

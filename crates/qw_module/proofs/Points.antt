@@ -53,8 +53,13 @@ state_at-split sequences globals p own below are base =
 
 pub config_at-split : (sequences : List (List Instr)) (globals : List ℕ) (p : Point) (own below : List ℕ) → p.operands ≡ own ++ below →
     length below ≡ base_of p.labels →
-    config_at sequences globals p ≡ record { globals = globals; code = code_at sequences p.sequence p.place; operands = own; locals = p.locals;
-      contexts = contexts_of sequences p.labels below }
+    config_at sequences globals p ≡ record {
+      globals = globals;
+      code = code_at sequences p.sequence p.place;
+      operands = own;
+      locals = p.locals;
+      contexts = contexts_of sequences p.labels below;
+    }
 config_at-split sequences globals p own below are base =
     rw (are, above-append (base_of p.labels) own below base, under-append (base_of p.labels) own below base) refl
 
@@ -74,7 +79,7 @@ module _ (sequences : List (List Instr)) (rooms : Rooms) where
   left-point entry entries number place operands values ended is =
       let e = is.entries.0 in
       let finished : Typed (scope_of is.locals is.labels) done is.before is.ends =
-          subst (λ (code : Code). Typed (scope_of is.locals is.labels) code is.before is.ends) (code_at-end sequences number place ended) is.typed in
+      subst (λ (code : Code). Typed (scope_of is.locals is.labels) code is.before is.ends) (code_at-end sequences number place ended) is.typed in
       let same : is.before ≡ is.ends = done_types (scope_of is.locals is.labels) is.before is.ends finished in
       let leaves : AreOf is.own is.ends = subst (λ (types : List ValType). AreOf is.own types) same is.own_are in
       record {
@@ -92,7 +97,7 @@ module _ (sequences : List (List Instr)) (rooms : Rooms) where
         place_in = e.after_in;
         fits = omega (arith, length-append is.own e.own, AreOf-length is.own is.ends leaves, e.after_fits);
         room = e.room;
-        entries = is.entries.1
+        entries = is.entries.1;
       }
 
   pub left-state : (entry : Entry) (entries : List Entry) (number place : ℕ) (operands values : List ℕ) →
@@ -103,13 +108,17 @@ module _ (sequences : List (List Instr)) (rooms : Rooms) where
       let p : Point = record { labels = entry ∷ entries; sequence = number; place = place; operands = operands; locals = values } in
       let e = is.entries.0 in
       let whole : operands ≡ (is.own ++ e.own) ++ e.below =
-          is.operands_are ∙ ap (λ (xs : List ℕ). is.own ++ xs) e.operands_are ∙ sym (append_assoc is.own e.own e.below) in
+      is.operands_are ∙ ap (λ (xs : List ℕ). is.own ++ xs) e.operands_are ∙ sym (append_assoc is.own e.own e.below) in
       let before = state_at-split sequences globals p is.own is.below is.operands_are is.below_are in
       let after = state_at-split sequences globals (left p entry entries) (is.own ++ e.own) e.below whole e.below_are in
       let middle : settled globals (contexts_of sequences (entry ∷ entries) is.below) (code_at sequences number place) is.own values
-          ≡ settled globals (contexts_of sequences entries e.below) (code_at sequences entry.sequence entry.after) (is.own ++ e.own) values =
-          rw (code_at-end sequences number place ended, e.operands_are, above-append (base_of entries) e.own e.below e.below_are,
-            under-append (base_of entries) e.own e.below e.below_are) refl in
+      ≡ settled globals (contexts_of sequences entries e.below) (code_at sequences entry.sequence entry.after) (is.own ++ e.own) values =
+      rw (
+        code_at-end sequences number place ended,
+        e.operands_are,
+        above-append (base_of entries) e.own e.below e.below_are,
+        under-append (base_of entries) e.own e.below e.below_are,
+      ) refl in
       before ∙ middle ∙ sym after
 
   -- ---- entering a block
@@ -154,7 +163,7 @@ module _ (sequences : List (List Instr)) (rooms : Rooms) where
         record {
           numbered = inner_in;
           operands = omega (arith, length-append own below, fewer, around.fits, around.place_in, around.room.operands);
-          labels = omega (arith, is.lower, around.room.labels)
+          labels = omega (arith, is.lower, around.room.labels);
         }
 
     pub entered-point : IsPoint sequences rooms
@@ -193,18 +202,18 @@ module _ (sequences : List (List Instr)) (rooms : Rooms) where
           after_in = omega (arith, around.place_in);
           target_fits = is.target_fits;
           after_fits = is.after_fits;
-          room = around.room
+          room = around.room;
         },
-        around.entries_are
-      )
+        around.entries_are,
+      );
     }
 
     pub entered-state : (globals : List ℕ) →
         state_at sequences globals (entered (record { labels = entries; sequence = number; place = place; operands = own ++ below; locals = values }) inner takes target)
         ≡ settled globals (label (code_at sequences number target) (truth takes) own (code_at sequences number (place + 1)) ∷ contexts_of sequences entries below)
-          (code_at sequences inner 0) [] values
+        (code_at sequences inner 0) [] values
     entered-state globals =
         state_at-split sequences globals
-          (entered (record { labels = entries; sequence = number; place = place; operands = own ++ below; locals = values }) inner takes target)
-          [] (own ++ below) refl refl
+        (entered (record { labels = entries; sequence = number; place = place; operands = own ++ below; locals = values }) inner takes target)
+        [] (own ++ below) refl refl
         ∙ rw (above-append (base_of entries) own below around.below_are, under-append (base_of entries) own below around.below_are) refl

@@ -1,8 +1,6 @@
 -- What the machine's arrays stand for, and what they keep from step to step.
 use Rattle.std.specs.Prelude.{◌≡◌, ℕ, zero, suc, ◌+◌, ◌-◌, ◌*◌, ◌<◌, ◌≤◌, ◌^◌, nat_le, Bool, true, false, List, [], ◌∷◌, ◌++◌, map, length, take, drop, slice_index, slice_get, Some, IfSome, nat_eq}
 use Rattle.std.specs.Bool.{MatchBool}
-use Rattle.std.specs.declared.vec.Vec.{Vec}
-use Rattle.std.specs.declared.alloc.Global.{Global}
 use Rattle.qw_module.specs.declared.instruction.ValType.{ValType}
 use Rattle.qw_module.specs.declared.instruction.Instr.{Instr}
 use Rattle.qw_module.specs.declared.instruction.Op.{Op}
@@ -121,10 +119,6 @@ pub record IsPoint (sequences : List (List Instr)) (rooms : Rooms) (p : Point) :
   pub fits : length own ≤ p.place
   pub room : HasRoom sequences rooms p.sequence (length below) (length p.labels)
   pub entries : AreEntries sequences rooms locals p.labels labels ends below
-
--- the sequences of a body, without the arrays that hold them
-abbrev pub sequences_in : List (Vec Instr Global) → List (List Instr)
-sequences_in arrays = map (λ array. array.items) arrays
 
 abbrev pub point_of : Activity → Point
 point_of a = record { labels = a.labels.values; sequence = a.sequence; place = a.place; operands = a.operands.values; locals = a.locals.items }

@@ -4,7 +4,8 @@
 ghost use Rattle.std.specs.Prelude.{◌≡◌, ℕ, List, ◌∷◌, ◌++◌, ◌+◌, ◌-◌, ◌<◌, ◌≤◌, ◌^◌, length, take, drop};
 ghost use Rattle.qw_module.specs.Numbers.{truth};
 ghost use Rattle.qw_module.specs.Syntax.{IsNumbered, sequence_at};
-ghost use Rattle.qw_module.specs.Machine.{CanJump, IsExecuted, IsJump, IsLeft, IsPoint, IsStepped, entered, point_of, rooms_of, sequences_in, under};
+ghost use Rattle.qw_module.specs.Machine.{CanJump, IsExecuted, IsJump, IsLeft, IsPoint, IsStepped, entered, point_of, rooms_of, under};
+ghost use Rattle.qw_module.specs.Validity.{items_of};
 
 use crate::instruction::Instr;
 use crate::linear::Linear;
@@ -81,10 +82,10 @@ impl Activity {
 
     /// Executes the instruction at the place, and leaves no label yet. Answers whether it didn't trap.
     fn execute(&mut self, sequences: &[Vec<Instr>], memory: &mut Linear) -> bool
-        requires numbered { IsNumbered (sequences_in sequences.now) }
-        requires point { IsPoint (sequences_in sequences.now) (rooms_of self.old) (point_of self.old) }
-        requires unfinished { self.old.place < length (sequence_at (sequences_in sequences.now) self.old.sequence) }
-        ensures executed { IsExecuted (sequences_in sequences.now) (rooms_of self.old) (point_of self.old) memory.old result (point_of self.new) memory.new }
+        requires numbered { IsNumbered (items_of sequences.now) }
+        requires point { IsPoint (items_of sequences.now) (rooms_of self.old) (point_of self.old) }
+        requires unfinished { self.old.place < length (sequence_at (items_of sequences.now) self.old.sequence) }
+        ensures executed { IsExecuted (items_of sequences.now) (rooms_of self.old) (point_of self.old) memory.old result (point_of self.new) memory.new }
         ensures rooms { rooms_of self.new ≡ rooms_of self.old }
     {
         let sequence = sequences[self.sequence].as_slice();
@@ -134,8 +135,8 @@ impl Activity {
 
     /// Leaves the labels whose sequences are finished (4.4.7, exit). Answers whether `run` still runs.
     fn leave_finished(&mut self, sequences: &[Vec<Instr>]) -> bool
-        requires { IsPoint (sequences_in sequences.now) (rooms_of self.old) (point_of self.old) }
-        ensures left { IsLeft (sequences_in sequences.now) (rooms_of self.old) (point_of self.old) result (point_of self.new) }
+        requires { IsPoint (items_of sequences.now) (rooms_of self.old) (point_of self.old) }
+        ensures left { IsLeft (items_of sequences.now) (rooms_of self.old) (point_of self.old) result (point_of self.new) }
         ensures rooms { rooms_of self.new ≡ rooms_of self.old }
     {
         while self.place == sequences[self.sequence].len() {
@@ -151,10 +152,10 @@ impl Activity {
 
     /// One step: an instruction, and the labels that it finishes.
     fn step(&mut self, sequences: &[Vec<Instr>], memory: &mut Linear) -> Stepped
-        requires numbered { IsNumbered (sequences_in sequences.now) }
-        requires point { IsPoint (sequences_in sequences.now) (rooms_of self.old) (point_of self.old) }
-        requires unfinished { self.old.place < length (sequence_at (sequences_in sequences.now) self.old.sequence) }
-        ensures stepped { IsStepped (sequences_in sequences.now) (rooms_of self.old) (point_of self.old) memory.old result (point_of self.new) memory.new }
+        requires numbered { IsNumbered (items_of sequences.now) }
+        requires point { IsPoint (items_of sequences.now) (rooms_of self.old) (point_of self.old) }
+        requires unfinished { self.old.place < length (sequence_at (items_of sequences.now) self.old.sequence) }
+        ensures stepped { IsStepped (items_of sequences.now) (rooms_of self.old) (point_of self.old) memory.old result (point_of self.new) memory.new }
         ensures rooms { rooms_of self.new ≡ rooms_of self.old }
     {
         if !self.execute(sequences, memory) {
