@@ -12,7 +12,6 @@ pub mod Controlled
 pub mod Arrays
 pub mod Steps
 pub mod Sound
-pub mod Steps
 pub mod TypedOperands
 pub mod Checked
 pub mod TurnFacts

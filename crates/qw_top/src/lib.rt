@@ -4,9 +4,11 @@
 pub mod columns;
 pub mod emit;
 pub mod files;
+pub mod layout;
 pub mod loading;
 pub mod meaning;
 pub mod output;
+pub mod results;
 pub mod sink;
 pub mod status;
 #[cfg(test)]
