@@ -16,5 +16,5 @@ pub mod NumberLemmas
 pub mod ReaderLemmas
 pub mod RecordLemmas
 pub mod RowLemmas
-pub mod ResultLemmas
+pub mod RowReading
 pub mod SinkLemmas

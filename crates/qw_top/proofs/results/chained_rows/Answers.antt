@@ -1,6 +1,6 @@
 use Rattle.std.proofs.Common.{◌+◌, ◌<◌, ◌≤◌, ◌≡◌, length, ◌^◌, arith}
 use Rattle.qw_module.specs.Memory.{number_at}
-use Rattle.qw_top.proofs.ResultLemmas.{read-none, next-inside, read-more, read-all}
+use Rattle.qw_top.proofs.RowReading.{read-none, next-inside, read-more, read-all}
 use Rattle.qw_top.proofs.results.chained_rows.Goals as goal
 
 pub loop-init : goal.loop-init

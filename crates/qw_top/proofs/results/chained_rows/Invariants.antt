@@ -1,4 +1,4 @@
-use Rattle.qw_top.proofs.ResultLemmas.{IsRead}
+use Rattle.qw_top.proofs.RowReading.{IsRead}
 use Rattle.qw_top.proofs.results.chained_rows.Given as goal
 
 abbrev pub invariant-loop : goal.invariant-loop
