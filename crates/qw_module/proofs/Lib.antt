@@ -10,6 +10,7 @@ pub mod Jumps
 pub mod Operated
 pub mod Controlled
 pub mod Arrays
+pub mod Instances
 pub mod Steps
 pub mod Sound
 pub mod TypedOperands
@@ -19,3 +20,5 @@ pub mod TurnSteps
 pub mod Separate
 pub mod NoTrap
 pub mod CheckedBodies
+pub mod Numbering
+pub mod Names

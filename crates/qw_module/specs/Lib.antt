@@ -15,3 +15,5 @@ pub mod Machine
 pub mod Checking
 pub mod Refusals
 pub mod Validity
+pub mod Instance
+pub mod ValidFaults

@@ -186,6 +186,11 @@ IsStepped sequences rooms p memory Ran q after =
 IsStepped sequences rooms p memory stepped.Returned q after = (globals : List ℕ) → LeadsTo (config_at sequences globals p) memory Returned after
 IsStepped sequences rooms p memory stepped.Trapped q after = (globals : List ℕ) → LeadsTo (config_at sequences globals p) memory Trapped after
 
+-- the point runs: it isn't at the end of its sequence
+pub record IsRunning (sequences : List (List Instr)) (rooms : Rooms) (p : Point) : Type 0 where
+  pub point : IsPoint sequences rooms p
+  pub unfinished : p.place < length (sequence_at sequences p.sequence)
+
 -- there are the operands that an operator takes, an address below 2^32 where it takes one, and the local that it names
 abbrev pub IsReady : Op → List ℕ → List ℕ → Type 0
 IsReady (LocalGet x) operands locals = x < length locals

@@ -149,7 +149,7 @@ impl Labels {
     }
 }
 
-fn constant_type(number: Const) -> ValType
+pub(crate) fn constant_type(number: Const) -> ValType
     ensures value { result ≡ type_of_constant number }
     ensures fits { constant number < values_of result }
 {

@@ -4,13 +4,14 @@
 ghost use Rattle.std.specs.Prelude.{◌≡◌, ℕ, List, ◌∷◌, ◌++◌, ◌+◌, ◌-◌, ◌<◌, ◌≤◌, ◌^◌, length, take, drop};
 ghost use Rattle.qw_module.specs.Numbers.{truth};
 ghost use Rattle.qw_module.specs.Syntax.{IsNumbered, sequence_at};
-ghost use Rattle.qw_module.specs.Machine.{CanJump, IsExecuted, IsJump, IsLeft, IsPoint, IsStepped, entered, point_of, rooms_of, under};
+ghost use Rattle.qw_module.specs.Machine.{CanJump, IsExecuted, IsJump, IsLeft, IsPoint, IsStepped, LeadsTo, entered, point_of, rooms_of, under};
 ghost use Rattle.qw_module.specs.Validity.{items_of};
 
 use crate::instruction::Instr;
 use crate::linear::Linear;
 use crate::operators::operate;
 use crate::stack::Stack;
+use crate::valid::ValidModule;
 
 /// What a step came to.
 #[derive(Clone, Copy, Debug, PartialEq, Eq)]
@@ -166,6 +167,39 @@ impl Activity {
         } else {
             Stepped::Returned
         }
+    }
+}
+
+/// An instance of a module whose `run` was called. Which module it goes with is the caller's to know.
+#[derive(Drop)]
+pub struct Instance {
+    globals: Vec<u64>,
+    /// The number of the module's own function that is `run`.
+    function: usize,
+    /// What the last step came to, `Ran` at first.
+    last: Stepped,
+    activity: Activity,
+}
+
+impl Instance {
+    ghost use Rattle.qw_module.specs.Instance.{GoesWith, IsAnswer, IsOver, state_of};
+    ghost use Rattle.qw_module.specs.Execution.{Config, Running};
+
+    /// Executes one instruction, and leaves what it finishes. After `Returned` or `Trapped` nothing
+    /// changes any more, and the answer is the same again.
+    pub fn step(&mut self, valid: &ValidModule, memory: &mut Linear) -> Stepped
+        requires { GoesWith valid.now self.old }
+        ensures step { (c : Config) → state_of valid.now self.old ≡ Running c → LeadsTo c memory.old (state_of valid.now self.new) memory.new }
+        ensures over { IsOver (state_of valid.now self.old) → (self.new ≡ self.old) × (memory.new ≡ memory.old) }
+        ensures answer { IsAnswer result (state_of valid.now self.new) }
+        ensures goes_with { GoesWith valid.now self.new }
+    {
+        let Stepped::Ran = self.last else {
+            return self.last;
+        };
+        let function = &valid.module().functions[self.function];
+        self.last = self.activity.step(&function.body.sequences, memory);
+        self.last
     }
 }
 
