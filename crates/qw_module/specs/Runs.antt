@@ -1,5 +1,5 @@
 -- Open runs: an instance's steps over a memory that others change between them.
-use Rattle.std.specs.Prelude.{◌≡◌, ℕ, zero, suc, ◌<◌, ◌≤◌, List, [], ◌∷◌, Option, Some, None}
+use Rattle.std.specs.Prelude.{◌≡◌, ℕ, zero, suc, ◌<◌, ◌≤◌, ◌⊎◌, List, [], ◌∷◌, Option, Some, None}
 use Rattle.qw_module.specs.Syntax.{Code, done}
 use Rattle.qw_module.specs.Execution.{label, Config, State, Running, Returned, Raised, Trapped, Event, Step, settled}
 use Rattle.qw_module.specs.Step.{Next, next}
@@ -61,9 +61,10 @@ abbrev pub Steps : (Moment → Type 0) → ℕ → Moment → Type 0
 Steps Q zero a = Q a
 Steps Q (suc n) a = OnRunning a.state (λ c. (before : List ℕ) → Others a.world a.memory before → OnStep a.world before (Steps Q n) (next c before))
 
--- at most n steps, and then Q
+-- At most n steps follow, each fine whatever others do before it, and then Q holds.
 abbrev pub Within : (Moment → Type 0) → ℕ → Moment → Type 0
-Within Q n a = (k : ℕ) × (k ≤ n) × Steps Q k a
+Within Q zero a = Q a
+Within Q (suc n) a = Q a ⊎ OnRunning a.state (λ c. (before : List ℕ) → Others a.world a.memory before → OnStep a.world before (Within Q n) (next c before))
 
 -- The start of a call of a function: its locals are its arguments, then zeros; its body is a block, whose label
 -- ends the call (WebAssembly Core Specification 1.0, 4.4.7, "Invocation").

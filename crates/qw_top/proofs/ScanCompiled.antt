@@ -18,7 +18,7 @@ use Rattle.qw_module.specs.Runs.{Moment, IsOver, Behaves, Steps}
 use Rattle.qw_module.specs.Validity.{code_of_body}
 use Rattle.qw_module.specs.Start.{run_begins, weight}
 use Rattle.qw_module.proofs.MemoryFacts.{number_at-four}
-use Rattle.qw_module.proofs.OpenRuns.{Steps-more, behaves_within}
+use Rattle.qw_module.proofs.OpenRuns.{Steps-more, Within-from_steps, behaves_within}
 use Rattle.qw_module.proofs.RunRules.{more, more-is}
 use Rattle.qw_top.specs.declared.meaning.Query.{Query}
 use Rattle.qw_top.specs.Meaning.{Rows, outcome, results}
@@ -27,18 +27,10 @@ use Rattle.qw_top.specs.Columns.{integer_at, StandsAt, HoldsColumn, value_of}
 use Rattle.qw_top.specs.Layout.{first_world, rows_at}
 use Rattle.qw_top.specs.Compiled.{IsReady, beginning, Answers, units, IsCompiled}
 use Rattle.qw_top.proofs.ScanSteps.{running, in_call}
-use Rattle.qw_top.proofs.ScanValid.{valid, shaped}
+use Rattle.qw_top.proofs.ScanValid.{single, valid, shaped}
 use Rattle.qw_top.proofs.ScanRuns.{Over, passed_over, kept_of, count_of}
 use Rattle.qw_top.proofs.ScanStart.{words_at, length-words_at, words_at-are, Begun-fresh, starts}
 use Rattle.qw_top.proofs.ScanResult.{number, cell, kept_integers, chain_rows, result_rows, counted_within}
-
--- the only function of a module
-only_function : (functions : List Function) (n : ℕ) (run : Function) (contents : ℕ × List ValType × Code) →
-    map contents_of functions ≡ contents ∷ [] → slice_get functions n ≡ Some run → contents_of run ≡ contents
-only_function [] n run contents one there = cc
-only_function (f ∷ []) zero run contents one there = cc
-only_function (f ∷ []) (suc n) run contents one there = absurd (none-some run there)
-only_function (f ∷ g ∷ functions) n run contents one there = cc
 
 -- a list has a value at each place below its length
 value_there : (values : List Val) (place : ℕ) → place < length values → (v : Val) × (slice_get values place ≡ Some v)
@@ -134,16 +126,20 @@ module _ (query : Query) (fits : SFits w64 query.literal) (rows : List (List Val
       let begins : Moment = record { world = first_world start (length rows) d limit; state = running (scan_code query.literal) [] (d ∷ 0 ∷ 0 ∷ 0 ∷ 0 ∷ 0 ∷ 0 ∷ []) in_call; memory = memory } in
       behaves_within (λ b. Answers query rows d b b.state) (λ b h. answers_over query rows d b b.state h)
       (more 19 (count_of query.literal words)) (63 * (1 + units query rows)) within begins
-      (Steps-more (Over start (length rows) d limit all) (λ b. Answers query rows d b b.state) delivered (more 19 (count_of query.literal words)) begins steps)
+      (Within-from_steps (λ b. Answers query rows d b b.state) (more 19 (count_of query.literal words)) begins
+      (Steps-more (Over start (length rows) d limit all) (λ b. Answers query rows d b b.state) delivered (more 19 (count_of query.literal words)) begins steps))
 
 pub scan_compiled : (query : Query) (m : Module) → SFits w64 query.literal → IsScan query.literal m → IsCompiled query m
-scan_compiled query m fits scan = record {
-  valid = valid query.literal fits m scan;
-  number = 0;
-  shaped = shaped query.literal fits m scan;
-  runs = λ run rows start descriptor limit memory there ready.
-      let contents = only_function m.functions.items 0 run _ scan.functions there in
-      let code : code_of_body run.body ≡ scan_code query.literal = ap (λ (c : ℕ × List ValType × Code). c.2) contents in
-      let locals : length run.locals.items ≡ 6 = ap (λ (c : ℕ × List ValType × Code). length c.1) contents in
-      rw (code, locals) (behaves query fits rows start descriptor limit memory ready);
-}
+scan_compiled query m fits scan =
+    let only = single contents_of m.functions.items _ scan.functions in
+    let code : code_of_body only.0.body ≡ scan_code query.literal = ap (λ (c : ℕ × List ValType × Code). c.2) only.2 in
+    let locals : length only.0.locals.items ≡ 6 = ap (λ (c : ℕ × List ValType × Code). length c.1) only.2 in
+    record {
+      valid = valid query.literal fits m scan;
+      number = 0;
+      shaped = shaped query.literal fits m scan;
+      run = only.0;
+      there = ap (λ (functions : List Function). slice_get functions 0) only.1;
+      light = rw code (omega arith);
+      behaves = λ rows start descriptor limit memory ready. rw (code, locals) (behaves query fits rows start descriptor limit memory ready);
+    }

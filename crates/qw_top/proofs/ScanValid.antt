@@ -22,7 +22,7 @@ use Rattle.qw_top.specs.Emit.{IsScan, signature_of, contents_of, exported, scan_
 use Rattle.qw_top.proofs.ScanTyped.{code_typed}
 
 -- the one element that a list has, by what is made of it
-single : {A B : Type 0} (f : A → B) (xs : List A) (y : B) → map f xs ≡ y ∷ [] → (x : A) × (xs ≡ x ∷ []) × (f x ≡ y)
+pub single : {A B : Type 0} (f : A → B) (xs : List A) (y : B) → map f xs ≡ y ∷ [] → (x : A) × (xs ≡ x ∷ []) × (f x ≡ y)
 single f [] y h = cc
 single f (x ∷ []) y h = (x, refl, cc)
 single f (x ∷ z ∷ xs) y h = cc

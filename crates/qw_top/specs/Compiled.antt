@@ -1,5 +1,5 @@
 -- When a module is the compiled form of a statement: what its runs do, whatever shares the memory with them.
-use Rattle.std.specs.Prelude.{◌≡◌, ℕ, ◌+◌, ◌*◌, ◌<◌, ◌≤◌, List, [], ◌∷◌, length, Some, slice_get}
+use Rattle.std.specs.Prelude.{◌≡◌, ℕ, ◌+◌, ◌*◌, ◌^◌, ◌<◌, ◌≤◌, List, [], ◌∷◌, length, Some, slice_get}
 use Rattle.std.specs.List.{AllByRecursion}
 use Rattle.qw_types.specs.declared.value.Val.{Val}
 use Rattle.qw_module.specs.declared.module.Function.{Function}
@@ -49,14 +49,17 @@ Answers query rows descriptor b Trapped = ⊥
 abbrev pub units : Query → List (List Val) → ℕ
 units query rows = length rows + length (results query rows)
 
--- The module is the compiled form of the statement: it is valid, and of the shape that is executed; and over any table,
--- wherever its column and the first page lie, every open run behaves: its loads lie in the column and its own areas, its
--- stores in its own areas, it doesn't trap, it ends within its weight times one more than its units, and then answers.
+-- The module is the compiled form of the statement: it is valid, and of the shape that is executed; its `run` has at most
+-- 2^24 instructions; and over any table, wherever its column and the first page lie, every open run behaves: its loads
+-- lie in the column and its own areas, its stores in its own areas, it doesn't trap, it ends within its weight times one
+-- more than its units, and then answers.
 pub record IsCompiled (query : Query) (m : Module) : Type 0 where
   pub valid : IsValid m
   pub number : ℕ
   pub shaped : IsShaped m number
-  pub runs : (run : Function) (rows : List (List Val)) (start descriptor limit : ℕ) (memory : List ℕ) →
-      slice_get m.functions.items number ≡ Some run → IsReady query rows start descriptor memory →
+  pub run : Function
+  pub there : slice_get m.functions.items number ≡ Some run
+  pub light : weight (code_of_body run.body) ≤ 2 ^ 24
+  pub behaves : (rows : List (List Val)) (start descriptor limit : ℕ) (memory : List ℕ) → IsReady query rows start descriptor memory →
       Behaves (weight (code_of_body run.body) * (1 + units query rows)) (λ b. Answers query rows descriptor b b.state)
       (beginning run start (length rows) descriptor limit memory)

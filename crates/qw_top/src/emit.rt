@@ -33,6 +33,9 @@ const VALUE: u32 = 5;
 
 const COUNT: u32 = 6;
 
+/// Four less, modulo 2^32.
+const MINUS_FOUR: u32 = u32::MAX - 3;
+
 fn get(local: u32) -> Instr
     ensures { result ≡ Instr.Op (Op.LocalGet local) }
 {
@@ -93,7 +96,34 @@ fn store_i64(offset: u32) -> Instr
     Instr::Op(Op::Store(Store::I64, MemArg { align: 3, offset }))
 }
 
-/// The loop's body, which looks at one value of the column.
+/// A block that leaves nothing.
+fn block(body: usize) -> Instr
+    ensures { result ≡ Instr.Block None body }
+{
+    Instr::Block { result: None, body }
+}
+
+/// A loop that leaves nothing.
+fn repeat(body: usize) -> Instr
+    ensures { result ≡ Instr.Loop None body }
+{
+    Instr::Loop { result: None, body }
+}
+
+/// The i32 that one of two sequences leaves.
+fn i32_choice(then_body: usize, else_body: usize) -> Instr
+    ensures { result ≡ Instr.If (Some ValType.I32) then_body else_body }
+{
+    Instr::If {
+        result: Some(ValType::I32),
+        then_body,
+        else_body,
+    }
+}
+
+/// The loop's body, which looks at one value of the column: it leaves the loop after the last, goes
+/// to the next value, and begins again unless the value is greater than the literal. Else the last
+/// link leads to a new row, which gets the value and is counted.
 fn row_sequence(alloc: Global, literal: i64) -> Result<Vec<Instr>, NoMemory>
     ensures code { IfOk result (λ v. (named : ℕ → Code) → nested named v.items ≡ scan_row literal) }
     ensures names { IfOk result (λ v. AllByRecursion (NamesBelow 0) v.items) }
@@ -132,7 +162,8 @@ fn row_sequence(alloc: Global, literal: i64) -> Result<Vec<Instr>, NoMemory>
     Ok(sequence)
 }
 
-/// The outermost sequence: what stands before the loop, the loop, and what is written after it.
+/// The outermost sequence: the places of the values, of the rows and of the first link are read, then
+/// the loop runs, and then the next free address, the last row and the number of rows are written.
 fn outer_sequence(alloc: Global) -> Result<Vec<Instr>, NoMemory>
     ensures code { IfOk result (λ v. (named : ℕ → Code) → nested named v.items ≡ scan_frame (named 1) (named 2) (named 3)) }
     ensures names { IfOk result (λ v. AllByRecursion (NamesBelow 4) v.items) }
@@ -140,7 +171,7 @@ fn outer_sequence(alloc: Global) -> Result<Vec<Instr>, NoMemory>
     let sequence = vec![in alloc;
         get(DESCRIPTOR),
         load(Load::I32, VALUES_OFFSET),
-        i32_const(u32::MAX - 3),
+        i32_const(MINUS_FOUR),
         binary(Binary::I32Add),
         tee(PLACE),
         get(DESCRIPTOR),
@@ -156,10 +187,7 @@ fn outer_sequence(alloc: Global) -> Result<Vec<Instr>, NoMemory>
         i32_const(FIRST_ROW_OFFSET),
         binary(Binary::I32Add),
         set(LINK),
-        Instr::Block {
-            result: None,
-            body: 1,
-        },
+        block(1),
         get(DESCRIPTOR),
         get(NEXT_ROW),
         store_i32(FREE_OFFSET),
@@ -167,11 +195,7 @@ fn outer_sequence(alloc: Global) -> Result<Vec<Instr>, NoMemory>
         get(COUNT),
         i64_const(0),
         relation(Relation::I64Eq),
-        Instr::If {
-            result: Some(ValType::I32),
-            then_body: 2,
-            else_body: 3,
-        },
+        i32_choice(2, 3),
         store_i32(LAST_ROW_OFFSET),
         get(DESCRIPTOR),
         get(COUNT),
@@ -186,12 +210,7 @@ fn body_of(alloc: Global, literal: i64) -> Result<Body, NoMemory>
     ensures numbered { IfOk result (λ b. IsNumbered (sequences_of b)) }
 {
     let row = row_sequence(alloc, literal)?;
-    let around = vec![in alloc;
-        Instr::Loop {
-            result: None,
-            body: 0
-        },
-    ]?;
+    let around = vec![in alloc; repeat(0)]?;
     let no_row = vec![in alloc; i32_const(0)]?;
     let last_row = vec![in alloc; get(LINK)]?;
     let outer = outer_sequence(alloc)?;
@@ -249,4 +268,21 @@ pub fn module_of(alloc: Global, query: &Query) -> Result<Module, NoMemory>
 {
     let module = scan_module(alloc, query.literal)?;
     Ok(module)
+}
+
+#[cfg(test)]
+mod tests {
+    use super::*;
+    use std::test::Fail;
+
+    #[test]
+    fn a_module_is_made(rt: HostRuntime) -> Result<(), Fail> {
+        let query = Query {
+            column: 0,
+            literal: 5,
+        };
+        let module = module_of(rt.alloc(), &query)?;
+        assert_eq!(rt; module.functions.len(), 1);
+        Ok(())
+    }
 }
