@@ -15,6 +15,10 @@ pub mod Steps
 pub mod Sound
 pub mod TypedOperands
 pub mod Checked
+pub mod CheckedBodies
+pub mod Numbering
+pub mod Names
+pub mod ValidFunctions
 pub mod TurnFacts
 pub mod TurnSteps
 pub mod Separate

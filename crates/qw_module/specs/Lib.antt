@@ -7,6 +7,12 @@ pub mod Execution
 pub mod Step
 pub mod Typing
 pub mod Soundness
+pub mod Checking
+pub mod Refusals
+pub mod Validity
+pub mod ValidFaults
+pub mod Map
+pub mod Runs
 pub mod Map
 pub mod Runs
 pub mod Start

@@ -1,11 +1,13 @@
 //! Whether a module is valid (WebAssembly Core Specification 1.0, 3.4).
 
-ghost use Rattle.std.specs.Prelude.{◌≡◌, ◌≢◌, ◌↔◌, ℕ, ◌<◌, ◌≤◌, length, All, IsTrue, IfOk, IfErr, OnOk};
+ghost use Rattle.std.specs.Prelude.{◌≡◌, ◌≢◌, ◌↔◌, ℕ, List, [], ◌∷◌, ◌++◌, ◌<◌, ◌≤◌, length, All, IsTrue, IfOk, IfErr, IfSome, OnOk};
 ghost use Rattle.std.specs.List.{AllPairs, filter_map};
 ghost use Rattle.std.specs.String.{string_bytes};
 ghost use Rattle.qw_module.specs.declared.module.Export.{Export};
+ghost use Rattle.qw_module.specs.Checking.{nothing, conditions_of, checks};
+ghost use Rattle.qw_module.specs.Refusals.{Decides};
 ghost use Rattle.qw_module.specs.Syntax.{NamesBelow, IsNumbered};
-ghost use Rattle.qw_module.specs.Validity.{items_of, imported_function, imported_memory, functions_of, memories_of, IsValidType, IsValidMemory, IsValidImport, IsValidGlobal, IsExportedOf, IsValidFunction, AreApart, IsValid};
+ghost use Rattle.qw_module.specs.Validity.{items_of, sequences_of, code_of_body, imported_function, imported_memory, functions_of, memories_of, IsValidType, IsValidMemory, IsValidImport, IsValidGlobal, IsExportedOf, IsValidFunction, AreApart, IsValid};
 ghost use Rattle.qw_module.specs.ValidFaults.{IsAgainst};
 
 use crate::checker::{Checker, Labels, Refusal, constant_type};
@@ -15,7 +17,7 @@ use std::alloc;
 use std::marker::Model;
 use thiserror::Error;
 
-/// Why a module is refused: the first part that isn't valid, or want of memory.
+/// Why a module is refused: a part that isn't valid, or want of memory.
 #[derive(Clone, Copy, Debug, PartialEq, Eq, Error)]
 pub enum ValidFault {
     #[error("a function's type has more than one result")]
@@ -140,6 +142,22 @@ fn is_global(global: Global) -> bool
     constant_type(global.init) == global.ty
 }
 
+fn are_globals(globals: &[Global]) -> bool
+    ensures { IsTrue result ↔ All IsValidGlobal globals.now }
+{
+    globals.iter().all(|global| is_global(*global))
+}
+
+fn is_memory_part(module: &Module) -> bool
+    ensures { IsTrue result ↔ (IfSome «module».now.memory IsValidMemory × (length (memories_of «module».now) ≤ 1)) }
+{
+    memories(module) <= 1
+        && match module.memory {
+            None => true,
+            Some(limits) => is_memory(limits),
+        }
+}
+
 fn is_export(module: &Module, kind: ExportKind) -> bool
     ensures { IsTrue result ↔ IsExportedOf «module».now kind }
 {
@@ -165,6 +183,16 @@ fn names_differ(exports: &[Export]) -> bool
         }
     }
     true
+}
+
+fn are_exports(module: &Module) -> bool
+    ensures { IsTrue result ↔ (All (λ (export : Export). IsExportedOf «module».now export.kind) «module».now.exports.items × AllPairs AreApart «module».now.exports.items) }
+{
+    module
+        .exports
+        .iter()
+        .all(|export| is_export(module, export.kind))
+        && names_differ(&module.exports)
 }
 
 /// Whether an instruction of the sequence of this number names only lower ones.
@@ -197,4 +225,109 @@ fn is_numbered(sequences: &[Vec<Instr>]) -> bool
         }
     }
     !sequences.is_empty()
+}
+
+/// Whether a body leads from no operands to the results of the type.
+fn check_body(
+    alloc: alloc::Global,
+    ty: &FuncType,
+    function: &Function,
+    has_memory: bool,
+) -> Result<(), Refusal>
+    requires results { IsValidType ty.now }
+    requires numbered { IsNumbered (sequences_of function.now.body) }
+    ensures { Decides result (checks (code_of_body function.now.body)
+        (conditions_of (ty.now.params.items ++ function.now.locals.items) (ty.now.results.items ∷ []) has_memory) nothing ty.now.results.items) }
+{
+    let ends = ty.results.first().copied();
+    let mut labels = Labels::new(alloc);
+    labels.push(ends)?;
+    let sequences = function.body.sequences.as_slice();
+    let checker = Checker {
+        alloc,
+        parameters: &ty.params,
+        locals: &function.locals,
+        has_memory,
+        sequences,
+    };
+    checker.sequence(sequences.len() - 1, ends, &mut labels)
+}
+
+/// Whether a function is typed over the types and memories of a module.
+fn check_function(alloc: alloc::Global, module: &Module, function: &Function) -> Result<(), Refusal>
+    requires { All IsValidType «module».now.types.items }
+    ensures valid { OnOk result (IsValidFunction «module».now function.now) }
+    ensures ill_typed { result ≡ Err Refusal.IllTyped → ¬ IsValidFunction «module».now function.now }
+{
+    let Some(ty) = module.types.get(function.type_index as usize) else {
+        return Err(Refusal::IllTyped);
+    };
+    if !is_numbered(&function.body.sequences) {
+        return Err(Refusal::IllTyped);
+    }
+    check_body(alloc, ty, function, memories(module) > 0)
+}
+
+fn check_functions(alloc: alloc::Global, module: &Module) -> Result<(), ValidFault>
+    requires { All IsValidType «module».now.types.items }
+    ensures valid { OnOk result (All (IsValidFunction «module».now) «module».now.functions.items) }
+    ensures fault { IfErr result (λ fault. IsAgainst fault «module».now) }
+{
+    for (number, function) in module.functions.iter().enumerate() {
+        match check_function(alloc, module, function) {
+            Ok(()) => {}
+            Err(Refusal::IllTyped) => return Err(ValidFault::Function { number }),
+            Err(Refusal::NoMemory) => return Err(ValidFault::NoMemory),
+        }
+    }
+    Ok(())
+}
+
+/// Whether the parts of a module other than its functions are valid.
+fn check_parts(module: &Module) -> Result<(), ValidFault>
+    ensures types { OnOk result (All IsValidType «module».now.types.items) }
+    ensures imports { OnOk result (All (IsValidImport «module».now) «module».now.imports.items) }
+    ensures memory { OnOk result (IfSome «module».now.memory IsValidMemory) }
+    ensures one_memory { OnOk result (length (memories_of «module».now) ≤ 1) }
+    ensures globals { OnOk result (All IsValidGlobal «module».now.globals.items) }
+    ensures exports { OnOk result (All (λ (export : Export). IsExportedOf «module».now export.kind) «module».now.exports.items) }
+    ensures names { OnOk result (AllPairs AreApart «module».now.exports.items) }
+    ensures fault { IfErr result (λ fault. IsAgainst fault «module».now) }
+{
+    if !are_types(&module.types) {
+        return Err(ValidFault::Types);
+    }
+    if !are_imports(module) {
+        return Err(ValidFault::Imports);
+    }
+    if !is_memory_part(module) {
+        return Err(ValidFault::Memory);
+    }
+    if !are_globals(&module.globals) {
+        return Err(ValidFault::Globals);
+    }
+    if !are_exports(module) {
+        return Err(ValidFault::Exports);
+    }
+    Ok(())
+}
+
+fn check(alloc: alloc::Global, module: &Module) -> Result<(), ValidFault>
+    ensures valid { OnOk result (IsValid «module».now) }
+    ensures fault { IfErr result (λ fault. IsAgainst fault «module».now) }
+{
+    check_parts(module)?;
+    check_functions(alloc, module)
+}
+
+/// The module as a valid one. Otherwise it is dropped, and the fault names a part that isn't valid,
+/// unless there was no memory left.
+pub fn validate(alloc: alloc::Global, module: Module) -> Result<ValidModule, ValidFault>
+    ensures value { IfOk result (λ valid. valid ≡ «module») }
+    ensures valid { OnOk result (IsValid «module») }
+    ensures invalid { IfErr result (λ fault. fault ≢ ValidFault.NoMemory → ¬ IsValid «module») }
+    ensures fault { IfErr result (λ fault. IsAgainst fault «module») }
+{
+    check(alloc, &module)?;
+    Ok(ValidModule { module })
 }
