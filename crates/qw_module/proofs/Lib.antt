@@ -23,6 +23,3 @@ pub mod TurnFacts
 pub mod TurnSteps
 pub mod Separate
 pub mod NoTrap
-pub mod CheckedBodies
-pub mod Numbering
-pub mod Names

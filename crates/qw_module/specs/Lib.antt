@@ -13,13 +13,7 @@ pub mod Validity
 pub mod ValidFaults
 pub mod Map
 pub mod Runs
-pub mod Map
-pub mod Runs
 pub mod Start
 pub mod Turns
 pub mod Machine
-pub mod Checking
-pub mod Refusals
-pub mod Validity
 pub mod Instance
-pub mod ValidFaults
