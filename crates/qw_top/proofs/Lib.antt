@@ -8,6 +8,7 @@ pub mod ScanRuns
 pub mod ScanStart
 pub mod ScanResult
 pub mod ScanCompiled
+pub mod ResultLemmas
 pub mod OutputLemmas
 pub mod WholeFileLemmas
 pub mod ColumnLemmas

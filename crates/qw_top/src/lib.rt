@@ -9,6 +9,7 @@ pub mod loading;
 pub mod meaning;
 pub mod output;
 pub mod results;
+pub mod result_laws;
 pub mod sink;
 pub mod status;
 #[cfg(test)]
