@@ -11,7 +11,7 @@ use Rattle.qw_types.specs.declared.value.Val.TheVariants.{Num}
 use Rattle.qw_module.specs.Map.{Area, lies_in, lies_in_one}
 use Rattle.qw_module.specs.Memory.{number_at}
 use Rattle.qw_module.specs.Turns.{LiesWithin}
-use Rattle.qw_top.specs.Layout.{is_integer, row_at, row_before, rows_from}
+use Rattle.qw_top.specs.Layout.{is_integer, row_at, row_before, rows_at, rows_from}
 
 -- what lies in one of the areas lies in the memory that they lie in
 pub lies-within : (own : List Area) (octets at width : ℕ) → AllByRecursion (LiesWithin octets) own → IsTrue (lies_in_one own at width) → at + width ≤ octets
@@ -113,3 +113,10 @@ read-all own memory count first k at rows over read =
         (λ is. sym (same_Some [] rest (rw is at h)))
         (λ not. absurd (none-some rest (rw not at h)))
         (cases_Bool (at == 0))
+
+-- the head of a descriptor with result rows
+pub head-inside : (own : List Area) (memory : List ℕ) (descriptor : ℕ) → IsSome (rows_at own memory descriptor) → IsTrue (lies_in_one own descriptor 24)
+head-inside own memory descriptor there = ⊎_elim
+    (λ inside. inside)
+    (λ outside. absurd (false≢true (rw outside at there)))
+    (cases_Bool (lies_in_one own descriptor 24))

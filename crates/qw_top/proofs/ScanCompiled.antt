@@ -3,7 +3,7 @@ use Rattle.std.proofs.Common.{◌≡◌, ℕ, ℤ, zero, suc, ◌+◌, ◌*◌, 
 use Rattle.std.specs.Prelude.{IsSomeAnd, slice_get, replicate}
 use Rattle.std.specs.Int.{cast_signed}
 use Rattle.std.specs.List.{AllByRecursion}
-use Rattle.std.proofs.lemmas.Bool.{cases_Bool}
+use Rattle.std.proofs.lemmas.Bool.{cases_Bool, le-leb}
 use Rattle.std.proofs.lemmas.Option.{same_Some, none-some}
 use Rattle.qw_types.specs.declared.value.Val.{Val}
 use Rattle.qw_types.specs.declared.value.Val.TheVariants.{Num}
@@ -110,7 +110,7 @@ module _ (query : Query) (fits : SFits w64 query.literal) (rows : List (List Val
       let integers = kept_integers query.literal words (words_at-are memory ready.octets start (length rows)) in
       let fits_page : d + 80 + 24 * length all ≤ d + page = omega (arith, kept_few) in
       let read : rows_at (first_world start (length rows) d limit).own b.memory d ≡ Some (results query rows) =
-      rw chain.count
+      rw (le-leb d d (omega arith), le-leb (d + 24) (d + page) (omega arith), chain.count)
       (chain_rows b.memory d all (d + 8) (d + 80) chain.link (omega arith) fits_page integers chain.open_link chain.chain
       ∙ ap Some the_rows) in
       rw (over.returned, over.world) (results query rows, refl, read)

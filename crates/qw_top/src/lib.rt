@@ -8,8 +8,8 @@ pub mod layout;
 pub mod loading;
 pub mod meaning;
 pub mod output;
-pub mod results;
 pub mod result_laws;
+pub mod results;
 pub mod sink;
 pub mod status;
 #[cfg(test)]

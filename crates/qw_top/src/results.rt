@@ -19,7 +19,6 @@ pub fn rows_of(alloc: Global, memory: &Linear, descriptor: u64) -> Result<Vec<Ro
     ghost own: { List Area }
     requires inside { AllByRecursion (LiesWithin (length memory.now)) own }
     requires small { descriptor < 2 ^ 32 }
-    requires head { descriptor + 24 ≤ length memory.now }
     requires there { IsSome (rows_at own memory.now descriptor) }
     ensures { IfOk result (λ rows. rows_at own memory.now descriptor ≡ Some rows.items) }
 {
