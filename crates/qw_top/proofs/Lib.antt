@@ -18,4 +18,5 @@ pub mod ReaderLemmas
 pub mod RecordLemmas
 pub mod RowLemmas
 pub mod RowReading
+pub mod Serving
 pub mod SinkLemmas
