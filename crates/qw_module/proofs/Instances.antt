@@ -42,7 +42,7 @@ pub state_at-running : (sequences : List (List Instr)) (globals : List ℕ) (p :
     state_at sequences globals p ≡ Running (config_at sequences globals p)
 state_at-running sequences globals p inside =
     settled-unfinished globals (contexts_of sequences p.labels (under (base_of p.labels) p.operands)) (code_at sequences p.sequence p.place)
-      (above (base_of p.labels) p.operands) p.locals (code_at-unfinished sequences p.sequence p.place inside)
+    (above (base_of p.labels) p.operands) p.locals (code_at-unfinished sequences p.sequence p.place inside)
 
 -- the arrays of a function of the module
 pub body-array : (m : Module) (number : ℕ) (function : Function) (arrays : List (Vec Instr Global)) → slice_get m.functions.items number ≡ Some function →
@@ -85,13 +85,13 @@ module _ (m : Module) (before : Instance) (ran : before.last ≡ Ran) (running :
       WhileRunning answer (IsRunning (body_of m before.function) (rooms_of activity) (point_of activity))
   runs-on Ran activity same is = record {
     point = subst (λ (rooms : Rooms). IsPoint (body_of m before.function) rooms (point_of activity)) (sym same) is.0;
-    unfinished = is.1
+    unfinished = is.1;
   }
   runs-on stepped.Returned activity same is = tt
   runs-on stepped.Trapped activity same is = tt
 
 -- ---- the function of a valid and shaped module
-some_of : {T : Type 0} (o : Option T) (P : T → Type 0) → IsSomeAnd o P → (x : T) × (o ≡ Some x) × P x
+pub some_of : {T : Type 0} (o : Option T) (P : T → Type 0) → IsSomeAnd o P → (x : T) × (o ≡ Some x) × P x
 some_of None P is = absurd is
 some_of (Some x) P is = (x, refl, is)
 
@@ -102,13 +102,18 @@ function-read m number function shaped read =
     let inside = slice_get_within m.functions.items number there.0 there.1 in
     slice_get_read m.functions.items (length m.functions.items) number function refl inside read
 
+-- a function of a valid module is typed
+pub typed-function : (m : Module) (number : ℕ) (function : Function) → IsValid m → slice_get m.functions.items number ≡ Some function →
+    IsValidFunction m function
+typed-function m number function valid found =
+    let inside = slice_get_within m.functions.items number function found in
+    let same : get_or m.functions.items number function ≡ function = get_or_from_slice_get m.functions.items number function function found in
+    subst (λ (f : Function). IsValidFunction m f) same (valid.functions number function inside)
+
 pub numbered-body : (m : Module) (number : ℕ) (function : Function) → IsValid m → slice_get m.functions.items number ≡ Some function →
     IsNumbered (body_of m number)
 numbered-body m number function valid found =
-    let inside = slice_get_within m.functions.items number function found in
-    let same : get_or m.functions.items number function ≡ function = get_or_from_slice_get m.functions.items number function function found in
-    let is : IsValidFunction m function = subst (λ (f : Function). IsValidFunction m f) same (valid.functions number function inside) in
-    let typed = some_of (slice_get m.types.items function.type_index) (IsTypedFunction m function) is in
+    let typed = some_of (slice_get m.types.items function.type_index) (IsTypedFunction m function) (typed-function m number function valid found) in
     rw found typed.2.numbered
 
 -- what runs isn't over

@@ -11,6 +11,8 @@ pub mod Operated
 pub mod Controlled
 pub mod Arrays
 pub mod Instances
+mod ShapeFacts
+pub mod Starts
 pub mod Steps
 pub mod Sound
 pub mod TypedOperands

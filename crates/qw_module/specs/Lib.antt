@@ -17,3 +17,4 @@ pub mod Start
 pub mod Turns
 pub mod Machine
 pub mod Instance
+pub mod Shape

@@ -171,12 +171,12 @@ IsExecuted sequences rooms p memory went q after =
     (IsPoint sequences rooms q × ((globals : List ℕ) → LeadsTo (config_at sequences globals p) memory (state_at sequences globals q) after))
     ((globals : List ℕ) → LeadsTo (config_at sequences globals p) memory Trapped after)
 
--- finished labels were left: the point q runs on, or there was no label left
-abbrev pub IsLeft : List (List Instr) → Rooms → (p : Point) → (runs : Bool) → (q : Point) → Type 0
-IsLeft sequences rooms p runs q =
-    MatchBool runs
-    (IsPoint sequences rooms q × (q.place < length (sequence_at sequences q.sequence)) × ((globals : List ℕ) → state_at sequences globals p ≡ state_at sequences globals q))
-    ((globals : List ℕ) → state_at sequences globals p ≡ Returned)
+-- Finished labels were left: the point q runs on, or `run` was left.
+abbrev pub IsLeft : List (List Instr) → Rooms → (p : Point) → Stepped → (q : Point) → Type 0
+IsLeft sequences rooms p Ran q =
+    IsPoint sequences rooms q × (q.place < length (sequence_at sequences q.sequence)) × ((globals : List ℕ) → state_at sequences globals p ≡ state_at sequences globals q)
+IsLeft sequences rooms p stepped.Returned q = (globals : List ℕ) → state_at sequences globals p ≡ Returned
+IsLeft sequences rooms p stepped.Trapped q = ⊥
 
 -- A step from a point went to the point q, left `run`, or trapped, as its configuration does.
 abbrev pub IsStepped : List (List Instr) → Rooms → (p : Point) → (memory : List ℕ) → Stepped → (q : Point) → (after : List ℕ) → Type 0
@@ -190,6 +190,23 @@ IsStepped sequences rooms p memory stepped.Trapped q after = (globals : List ℕ
 pub record IsRunning (sequences : List (List Instr)) (rooms : Rooms) (p : Point) : Type 0 where
   pub point : IsPoint sequences rooms p
   pub unfinished : p.place < length (sequence_at sequences p.sequence)
+
+-- Where the last sequence of a body begins, in the label of the whole body, with these locals (4.4.7, "Invocation").
+abbrev pub first_point : List (List Instr) → (locals : List ℕ) → Point
+first_point sequences locals =
+    let last = length sequences - 1 in
+    let end = length (sequence_at sequences last) in
+    record {
+      labels = (record { base = 0; takes = false; sequence = last; target = end; after = end }) ∷ [];
+      sequence = last;
+      place = 0;
+      operands = [];
+      locals = locals
+    }
+
+-- the room that no point of a body needs more of
+abbrev pub whole_room : List (List Instr) → Rooms
+whole_room sequences = record { operands = instructions_below sequences (length sequences); labels = length sequences + 1 }
 
 -- there are the operands that an operator takes, an address below 2^32 where it takes one, and the local that it names
 abbrev pub IsReady : Op → List ℕ → List ℕ → Type 0

@@ -9,6 +9,7 @@ pub mod linear;
 pub mod machine;
 pub mod module;
 mod operators;
+mod shape;
 pub mod stack;
 pub mod valid;
 pub mod turn_laws;

@@ -1,17 +1,23 @@
 //! The machine: executes an instance's `run` instruction by instruction (WebAssembly Core Specification
 //! 1.0, 4.4), as the step relation of `specs/Execution` says.
 
-ghost use Rattle.std.specs.Prelude.{◌≡◌, ℕ, List, ◌∷◌, ◌++◌, ◌+◌, ◌-◌, ◌<◌, ◌≤◌, ◌^◌, length, take, drop};
-ghost use Rattle.qw_module.specs.Numbers.{truth};
+ghost use Rattle.std.specs.Prelude.{◌≡◌, ℕ, List, ◌∷◌, ◌++◌, ◌+◌, ◌-◌, ◌<◌, ◌≤◌, ◌^◌, ◌↔◌, map, length, replicate, take, drop, IfOk, IfSome};
+ghost use Rattle.qw_module.specs.Numbers.{constant, truth};
 ghost use Rattle.qw_module.specs.Syntax.{IsNumbered, sequence_at};
-ghost use Rattle.qw_module.specs.Machine.{CanJump, IsExecuted, IsJump, IsLeft, IsPoint, IsStepped, LeadsTo, entered, point_of, rooms_of, under};
-ghost use Rattle.qw_module.specs.Validity.{items_of};
+ghost use Rattle.qw_module.specs.Machine.{CanJump, IsExecuted, IsJump, IsLeft, IsPoint, IsStepped, LeadsTo, entered, first_point, instructions_below, whole_room, point_of, rooms_of, under};
+ghost use Rattle.qw_module.specs.Validity.{IsShaped, IsValid, items_of};
 
-use crate::instruction::Instr;
+use std::alloc::Global;
+
+use crate::instruction::{Instr, ValType};
 use crate::linear::Linear;
-use crate::operators::operate;
+use crate::module::{self, Module};
+use crate::operators::{operate, value_of};
+use crate::shape::shaped_run;
 use crate::stack::Stack;
 use crate::valid::ValidModule;
+use qw_types::NoMemory;
+use thiserror::Error;
 
 /// What a step came to.
 #[derive(Clone, Copy, Debug, PartialEq, Eq)]
@@ -20,6 +26,15 @@ pub enum Stepped {
     /// This step left `run`.
     Returned,
     Trapped,
+}
+
+/// Why a module isn't called.
+#[derive(Clone, Copy, Debug, PartialEq, Eq, Error)]
+pub enum InstanceFault {
+    #[error("the module hasn't the shape that is executed")]
+    NotShaped,
+    #[error("want of memory")]
+    NoMemory,
 }
 
 /// A label that the instance is in (4.2.12).
@@ -49,6 +64,41 @@ pub struct Activity {
 }
 
 impl Activity {
+    /// The activity of a call of a body with one argument, whose declared locals are zeros. The error is
+    /// want of memory.
+    fn begin(
+        alloc: Global,
+        sequences: &[Vec<Instr>],
+        declared: &[ValType],
+        argument: u32,
+    ) -> Result<Self, NoMemory>
+        requires { 1 ≤ length sequences.now }
+        ensures point { IfOk result (λ activity. point_of activity ≡ first_point (items_of sequences.now) (argument ∷ replicate (length declared.now) 0)) }
+        ensures rooms { IfOk result (λ activity. rooms_of activity ≡ whole_room (items_of sequences.now)) }
+    {
+        let room = instructions(sequences).ok_or(NoMemory)?;
+        let sequence = sequences.len() - 1;
+        let end = sequences[sequence].len();
+        let mut labels = Stack::with_room(alloc, sequences.len() + 1)?;
+        labels.push(Entry {
+            base: 0,
+            takes: false,
+            sequence,
+            target: end,
+            after: end,
+        });
+        let operands = Stack::with_room(alloc, room)?;
+        let mut locals = vec![in alloc; 0; declared.len() + 1]?;
+        locals[0] = u64::from(argument);
+        Ok(Activity {
+            labels,
+            sequence,
+            place: 0,
+            operands,
+            locals,
+        })
+    }
+
     /// Enters a block that begins with a sequence of this number (4.4.7, `enter`).
     fn enter(&mut self, inner: usize, takes: bool, target: usize)
         requires room { length self.old.labels.values < self.old.labels.room }
@@ -134,21 +184,21 @@ impl Activity {
         }
     }
 
-    /// Leaves the labels whose sequences are finished (4.4.7, exit). Answers whether `run` still runs.
-    fn leave_finished(&mut self, sequences: &[Vec<Instr>]) -> bool
+    /// Leaves the labels whose sequences are finished (4.4.7, exit). Answers whether `run` was left.
+    fn leave_finished(&mut self, sequences: &[Vec<Instr>]) -> Stepped
         requires { IsPoint (items_of sequences.now) (rooms_of self.old) (point_of self.old) }
         ensures left { IsLeft (items_of sequences.now) (rooms_of self.old) (point_of self.old) result (point_of self.new) }
         ensures rooms { rooms_of self.new ≡ rooms_of self.old }
     {
         while self.place == sequences[self.sequence].len() {
             if self.labels.len() == 0 {
-                return false;
+                return Stepped::Returned;
             }
             let entry = self.labels.pop();
             self.sequence = entry.sequence;
             self.place = entry.after;
         }
-        true
+        Stepped::Ran
     }
 
     /// One step: an instruction, and the labels that it finishes.
@@ -162,11 +212,7 @@ impl Activity {
         if !self.execute(sequences, memory) {
             return Stepped::Trapped;
         }
-        if self.leave_finished(sequences) {
-            Stepped::Ran
-        } else {
-            Stepped::Returned
-        }
+        self.leave_finished(sequences)
     }
 }
 
@@ -182,8 +228,44 @@ pub struct Instance {
 }
 
 impl Instance {
-    ghost use Rattle.qw_module.specs.Instance.{GoesWith, IsAnswer, IsOver, state_of};
+    ghost use Rattle.qw_module.specs.Instance.{GoesWith, IsAnswer, IsOver, begun, state_of};
     ghost use Rattle.qw_module.specs.Execution.{Config, Running};
+
+    /// Calls the `run` of a module with an argument. The errors are that the module hasn't the shape that is
+    /// executed, and want of memory.
+    pub fn new(alloc: Global, valid: &ValidModule, argument: u32) -> Result<Self, InstanceFault>
+        ensures begun { (number : ℕ) → IsShaped valid.now number → IfOk result (λ instance. state_of valid.now instance ≡ begun valid.now number argument) }
+        ensures goes_with { IfOk result (GoesWith valid.now) }
+        ensures not_shaped { (result ≡ Err InstanceFault.NotShaped) ↔ ((number : ℕ) → IsShaped valid.now number → ⊥) }
+    {
+        let module = valid.module();
+        let Some(number) = shaped_run(module) else {
+            return Err(InstanceFault::NotShaped);
+        };
+        match Instance::call(alloc, module, number, argument) {
+            Ok(instance) => Ok(instance),
+            Err(NoMemory) => Err(InstanceFault::NoMemory),
+        }
+    }
+
+    fn call(alloc: Global, module: &Module, number: usize, argument: u32) -> Result<Self, NoMemory>
+        requires valid { IsValid «module».now }
+        requires shaped { IsShaped «module».now number }
+        ensures begun { IfOk result (λ instance. state_of «module».now instance ≡ begun «module».now number argument) }
+        ensures goes_with { IfOk result (GoesWith «module».now) }
+    {
+        let function = &module.functions[number];
+        let sequences = function.body.sequences.as_slice();
+        let globals = initial_values(alloc, &module.globals)?;
+        let mut activity = Activity::begin(alloc, sequences, &function.locals, argument)?;
+        let last = activity.leave_finished(sequences);
+        Ok(Instance {
+            globals,
+            function: number,
+            last,
+            activity,
+        })
+    }
 
     /// Executes one instruction, and leaves what it finishes. After `Returned` or `Trapped` nothing
     /// changes any more, and the answer is the same again.
@@ -201,6 +283,28 @@ impl Instance {
         self.last = self.activity.step(&function.body.sequences, memory);
         self.last
     }
+}
+
+/// The values that globals begin with (4.5.4).
+fn initial_values(alloc: Global, globals: &[module::Global]) -> Result<Vec<u64>, NoMemory>
+    ensures { IfOk result (λ values. values.items ≡ map (λ global. constant global.init) globals.now) }
+{
+    let values = globals
+        .iter()
+        .map(|global| value_of(global.init))
+        .collect(alloc)?;
+    Ok(values)
+}
+
+/// How many instructions there are in all, or `None` where no machine word counts them.
+fn instructions(sequences: &[Vec<Instr>]) -> Option<usize>
+    ensures { IfSome result (λ count. count ≡ instructions_below (items_of sequences.now) (length sequences.now)) }
+{
+    let mut count = 0usize;
+    for sequence in sequences {
+        count = count.checked_add(sequence.len())?;
+    }
+    Some(count)
 }
 
 /// Drops the operands above the first `base`, but for the last one where the branch takes one.

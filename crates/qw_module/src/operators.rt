@@ -11,7 +11,7 @@ use crate::instruction::{Binary, Const, Load, MemArg, Op, Relation, Sign, Store}
 use crate::linear::Linear;
 use crate::stack::Stack;
 
-fn value_of(number: Const) -> u64
+pub(crate) fn value_of(number: Const) -> u64
     ensures { result ≡ constant number }
 {
     match number {

@@ -100,7 +100,7 @@ fn are_imports(module: &Module) -> bool
         .all(|import| is_import(module, *import))
 }
 
-fn imported_functions(imports: &[Import]) -> usize
+pub(crate) fn imported_functions(imports: &[Import]) -> usize
     ensures count { result ≡ length (filter_map imported_function imports.now) }
     ensures few { result ≤ length imports.now }
 {

@@ -69,5 +69,5 @@ returns-clause-goes_with c =
     let is = rw body at c.step-self.ensures.stepped in
     record {
       shaped = c.requires.shaped;
-      running = runs-on m i c.in-Ran.is running c.args.memory.now c.step-self.new.memory c.step-self.result c.step-self.new.self c.step-self.ensures.rooms is
+      running = runs-on m i c.in-Ran.is running c.args.memory.now c.step-self.new.memory c.step-self.result c.step-self.new.self c.step-self.ensures.rooms is;
     }
