@@ -10,13 +10,14 @@ use Rattle.qw_module.specs.declared.instruction.ValType.TheVariants.{I32, I64}
 use Rattle.qw_module.specs.declared.module.FuncType.{FuncType}
 use Rattle.qw_module.specs.declared.module.Limits.{Limits}
 use Rattle.qw_module.specs.declared.module.Import.{Import}
+use Rattle.qw_module.specs.declared.module.Import.TheVariants as import
 use Rattle.qw_module.specs.declared.module.Function.{Function}
 use Rattle.qw_module.specs.declared.module.Export.{Export}
 use Rattle.qw_module.specs.declared.module.ExportKind.{ExportKind}
 use Rattle.qw_module.specs.declared.module.ExportKind.TheVariants as kind
 use Rattle.qw_module.specs.declared.module.Module.{Module}
-use Rattle.qw_module.specs.Syntax.{Code, IsNumbered}
-use Rattle.qw_module.specs.Validity.{code_of_body, sequences_of, imported_function, imported_memory, functions_of, memories_of, TakesOneI32, IsOneI32, IsValidType, IsValidMemory, IsValidImport, IsValidGlobal, IsExportedOf, IsTypedFunction, IsValidFunction, AreApart, IsValid, IsShaped}
+use Rattle.qw_module.specs.Syntax.{Code}
+use Rattle.qw_module.specs.Validity.{code_of_body, imported_function, imported_memory, functions_of, memories_of, TakesOneI32, IsOneI32, IsValidType, IsValidImport, IsValidGlobal, IsExportedOf, IsTypedFunction, IsValidFunction, IsValid, IsShaped}
 use Rattle.qw_top.specs.Emit.{IsScan, signature_of, contents_of, exported, scan_code}
 use Rattle.qw_top.proofs.ScanTyped.{code_typed}
 
