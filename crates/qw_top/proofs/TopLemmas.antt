@@ -12,11 +12,11 @@ use Rattle.qw_types.specs.declared.value.Val.{Val}
 use Rattle.qw_top.specs.declared.files.TheConstants.{MAX_TABLE_FILE, MAX_TEXT_FILE}
 use Rattle.qw_top.specs.declared.meaning.Query.{Query}
 use Rattle.qw_top.specs.declared.status.Status.{Status}
-use Rattle.qw_top.specs.declared.status.Status.TheVariants.{Done, WordsRefused, SchemaRefused, TableFileRefused, QueriesRefused, ReadFailed, WriteFailed, NoMemory}
+use Rattle.qw_top.specs.declared.status.Status.TheVariants.{Done, WordsRefused, SchemaRefused, TableFileRefused, QueriesRefused}
 use Rattle.qw_top.specs.FileNames.{table_file_of}
 use Rattle.qw_top.specs.Parse.{ReadsQuery, ReadsSchema, integer_column, place_of, table_of}
-use Rattle.qw_top.specs.Loading.{IsFirstFault, Loads}
-use Rattle.qw_top.specs.Top.{AreNames, AsksNothing, DeclaresNothing, Explains, Files, FilesExplain, HasQuery, HasRows, IsFile, IsNoQuery, IsNoSchema, IsNoTable, IsOneTable, IsSettled, IsTooLong, Names, QueryIs, SchemaIs, StopsAs, StopsReading, TableIs, selected}
+use Rattle.qw_top.specs.Loading.{Loads}
+use Rattle.qw_top.specs.Top.{AreNames, Explains, Files, FilesExplain, HasQuery, HasRows, IsFile, IsNoQuery, IsNoSchema, IsNoTable, IsOneTable, IsSettled, IsTooLong, Names, QueryIs, SchemaIs, StopsAs, StopsReading, TableIs, selected}
 use Rattle.qw_top.proofs.LoadingLaws.{same_loads, loads_or_fails}
 use Rattle.qw_top.proofs.ReadLemmas.{ReadsQuery-unique, ReadsSchema-unique}
 

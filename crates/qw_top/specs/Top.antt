@@ -1,5 +1,5 @@
 -- What the files of a run hold, and which ends of a run the words and the files explain.
-use Rattle.std.specs.Prelude.{◌≡◌, ◌⊎◌, ℕ, ◌<◌, ◌≤◌, List, [], ◌∷◌, Option, None, Result, Ok, Err, length, slice_get}
+use Rattle.std.specs.Prelude.{◌≡◌, ◌⊎◌, ℕ, ◌<◌, ◌≤◌, List, [], ◌∷◌, Option, None, Result, Err, length, slice_get}
 use Rattle.qw_io.specs.Faults.{IsCounted}
 use Rattle.qw_io.specs.Files.{OfFile}
 use Rattle.qw_types.specs.declared.schema.Column.{Column}
