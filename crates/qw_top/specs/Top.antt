@@ -21,7 +21,8 @@ use Rattle.qw_top.specs.Loading.{IsFirstFault, IsOneInteger, Loads}
 use Rattle.qw_top.specs.Parse.{ReadsQuery, ReadsSchema}
 use Rattle.qw_top.specs.Words.{IsRun}
 
--- the octets of each file by its name, where they are told
+-- The octets of each file by its name, where they are told. What is said of files below holds of the told
+-- ones; of files that aren't told it says only that some octets would do.
 abbrev pub Files : Type 0
 Files = Option (List ℕ → Option (List ℕ))
 
