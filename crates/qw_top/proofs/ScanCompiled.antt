@@ -29,7 +29,7 @@ use Rattle.qw_top.specs.Columns.{integer_at, StandsAt, value_of}
 use Rattle.qw_top.specs.Layout.{first_world, rows_at}
 use Rattle.qw_top.specs.Compiled.{IsReady, Answers, units, weight_of, IsCompiled}
 use Rattle.qw_top.proofs.ScanSteps.{running, in_call}
-use Rattle.qw_top.proofs.ScanValid.{single, valid, shaped}
+use Rattle.qw_top.proofs.ScanValid.{contains, single, valid, shaped}
 use Rattle.qw_top.proofs.ScanRuns.{Over, passed_over, kept_of, count_of}
 use Rattle.qw_top.proofs.ScanStart.{words_at, length-words_at, words_at-are, Begun-fresh, starts}
 use Rattle.qw_top.proofs.ScanResult.{number, cell, kept_integers, chain_rows, result_rows, counted_within}
@@ -174,6 +174,12 @@ pub scan_compiled : (query : Query) (m : Module) → SFits w64 query.literal →
 scan_compiled query m fits scan = record {
   valid = valid query.literal fits m scan;
   shaped = (0, shaped query.literal fits m scan);
+  links = contains m.imports.items scan.imports 0 (omega arith) refl;
+  short = λ number f there.
+      let only = single contents_of m.functions.items _ scan.functions in
+      let same : f ≡ only.0 = only_there m.functions.items f only.0 number only.1 there in
+      let code : code_of_body f.body ≡ scan_code query.literal = rw same (ap (λ (c : ℕ × List ValType × Code). c.2) only.2) in
+      rw code (omega arith);
   light = λ number is_shaped.
       let is = the_scan query m scan number is_shaped in
       rw (is.there, is.code) (omega arith);

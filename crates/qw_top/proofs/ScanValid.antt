@@ -34,7 +34,7 @@ the_limits : Limits
 the_limits = record { min = 1; max = None }
 
 -- what stands at a place of a list is in it
-contains : {A : Type 0} (xs : List A) {ys : List A} {x : A} → xs ≡ ys → (k : ℕ) → k < length ys → get_or ys k x ≡ x → Contains xs x
+pub contains : {A : Type 0} (xs : List A) {ys : List A} {x : A} → xs ≡ ys → (k : ℕ) → k < length ys → get_or ys k x ≡ x → Contains xs x
 contains {A} xs {ys} {x} same k within there = subst (λ (zs : List A). Contains zs x) (sym same) (k, within, there)
 
 module _ (literal : ℤ) (fits : SFits w64 literal) (m : Module) (scan : IsScan literal m) (type : FuncType) (run : Function) (export : Export)
