@@ -10,6 +10,7 @@ pub mod Soundness
 pub mod Machine
 pub mod Checking
 pub mod Refusals
+pub mod Checkers
 pub mod Validity
 pub mod Instance
 pub mod ValidFaults
