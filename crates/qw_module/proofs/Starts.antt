@@ -24,7 +24,7 @@ use Rattle.qw_module.proofs.Points.{code_at-first, code_at-end}
 use Rattle.qw_module.proofs.Instances.{some_of, typed-function}
 
 -- zeros are values of any types
-zeros-are : (types : List ValType) → AreOf (replicate (length types) 0) types
+pub zeros-are : (types : List ValType) → AreOf (replicate (length types) 0) types
 zeros-are [] = tt
 zeros-are (I32 ∷ types) = (omega arith, zeros-are types)
 zeros-are (I64 ∷ types) = (omega arith, zeros-are types)

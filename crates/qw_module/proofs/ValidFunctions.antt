@@ -1,13 +1,12 @@
 -- A function is valid exactly where its body is numbered and checks.
-use Rattle.std.proofs.Common.{◌≡◌, ℕ, ◌<◌, ◌≤◌, List, [], ◌∷◌, ◌++◌, length, refl, sym, ap, subst, ◌∙◌, arith, Option, None, Some, Ok, Err, slice_get, Bool, true, false}
+use Rattle.std.proofs.Common.{◌≡◌, ◌<◌, ◌≤◌, [], ◌∷◌, ◌++◌, length, refl, sym, subst, ◌∙◌, arith, Option, None, Some, Ok, Err, slice_get, Bool, true, false}
 use Rattle.std.specs.Prelude.{Result, OnOk, IsSomeAnd, nat_lt}
 use Rattle.std.proofs.lemmas.Bool.{false≢true, ltb-true, lt-ltb}
-use Rattle.qw_module.specs.declared.instruction.ValType.{ValType}
 use Rattle.qw_module.specs.declared.module.FuncType.{FuncType}
 use Rattle.qw_module.specs.declared.module.Function.{Function}
 use Rattle.qw_module.specs.declared.module.Module.{Module}
 use Rattle.qw_module.specs.declared.checker.Refusal.{Refusal}
-use Rattle.qw_module.specs.declared.checker.Refusal.TheVariants.{IllTyped, NoMemory}
+use Rattle.qw_module.specs.declared.checker.Refusal.TheVariants.{IllTyped}
 use Rattle.qw_module.specs.Syntax.{IsNumbered}
 use Rattle.qw_module.specs.Typing.{Scope}
 use Rattle.qw_module.specs.Checking.{nothing, conditions_of, checks}

@@ -7,15 +7,15 @@ pub mod Execution
 pub mod Step
 pub mod Typing
 pub mod Soundness
-pub mod Machine
 pub mod Checking
 pub mod Refusals
 pub mod Checkers
 pub mod Validity
-pub mod Instance
 pub mod ValidFaults
 pub mod Map
 pub mod Runs
 pub mod Start
 pub mod Turns
+pub mod Machine
+pub mod Instance
 pub mod Shape

@@ -1,5 +1,5 @@
 -- What each fault says of a module that is refused.
-use Rattle.std.specs.Prelude.{◌≡◌, ℕ, ◌≤◌, length, All, Some, IfSome, slice_get}
+use Rattle.std.specs.Prelude.{◌≡◌, ◌≤◌, length, All, Some, IfSome, slice_get}
 use Rattle.std.specs.List.{AllPairs}
 use Rattle.qw_module.specs.declared.module.Function.{Function}
 use Rattle.qw_module.specs.declared.module.Module.{Module}

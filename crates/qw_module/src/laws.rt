@@ -1,14 +1,13 @@
 //! What holds of the definitions of execution, stated as contracts. No function here computes anything.
 
-ghost use Rattle.std.specs.Prelude.{◌≡◌, ℕ, ◌^◌, ◌<◌, List, Some, IsSome, length, slice_get};
+ghost use Rattle.std.specs.Prelude.{◌≡◌, ℕ, ◌^◌, ◌<◌, List, Some, IsSome, length};
 ghost use Rattle.qw_module.specs.Execution.{Config, Event, State, Step};
 ghost use Rattle.qw_module.specs.Step.{Next, next};
 ghost use Rattle.qw_module.specs.Memory.{AreOctets};
 ghost use Rattle.qw_module.specs.Soundness.{IsTyped, IsTypedState};
-ghost use Rattle.qw_module.specs.declared.module.Function.{Function};
 ghost use Rattle.qw_module.specs.declared.module.Module.{Module};
 ghost use Rattle.qw_module.specs.Validity.{IsValid, IsShaped};
-ghost use Rattle.qw_module.specs.Start.{run_begins};
+ghost use Rattle.qw_module.specs.Instance.{begun};
 
 /// The rules of execution, one for each instruction, and the step that is computed say the same.
 pub fn step_is_computed()
@@ -31,6 +30,6 @@ pub fn typed_configurations_go_on()
 
 /// The run of a valid module of the shape begins typed, whatever its argument.
 pub fn valid_modules_begin_typed()
-    ensures { (m : Module) (number : ℕ) (run : Function) (argument : ℕ) → IsValid m → IsShaped m number →
-        slice_get m.functions.items number ≡ Some run → argument < 2 ^ 32 → IsTypedState (run_begins run argument) }
+    ensures { (m : Module) (number argument : ℕ) → IsValid m → IsShaped m number → argument < 2 ^ 32 →
+        IsTypedState (begun m number argument) }
 {}

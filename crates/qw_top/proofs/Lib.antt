@@ -17,6 +17,8 @@ pub mod NumberLemmas
 pub mod ReaderLemmas
 pub mod RecordLemmas
 pub mod RowLemmas
+pub mod RowReading
+pub mod Serving
 pub mod SinkLemmas
 pub mod TokenLemmas
 pub mod TokenRun

@@ -53,9 +53,11 @@ module _ (before after : List ℕ) where
         rw (row, link_stays at parts.0 parts.2, others) parts.4
 
 pub results_stay : (w : World) (before after : List ℕ) (descriptor : ℕ) (rows : List (List Val)) →
-    Others w before after → lies_in_one w.own descriptor 24 ≡ true →
-    rows_at w.own before descriptor ≡ Some rows → rows_at w.own after descriptor ≡ Some rows
-results_stay w before after descriptor rows others inside there =
+    Others w before after → rows_at w.own before descriptor ≡ Some rows → rows_at w.own after descriptor ≡ Some rows
+results_stay w before after descriptor rows others there = ⊎_elim
+    (λ inside.
     let number = kept_inside before after w.own others.own_kept descriptor 24 inside in
-    rw (number (descriptor + 16) 8 (omega arith) (omega arith), number (descriptor + 8) 4 (omega arith) (omega arith))
-    (rows_stay before after w.own others.own_kept (number_at before (descriptor + 16) 8) (number_at before (descriptor + 8) 4) rows there)
+    rw (inside, number (descriptor + 16) 8 (omega arith) (omega arith), number (descriptor + 8) 4 (omega arith) (omega arith))
+    (rows_stay before after w.own others.own_kept (number_at before (descriptor + 16) 8) (number_at before (descriptor + 8) 4) rows (rw inside at there)))
+    (λ outside. absurd (none-some rows (rw outside at there)))
+    (cases_Bool (lies_in_one w.own descriptor 24))

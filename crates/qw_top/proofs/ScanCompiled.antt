@@ -1,20 +1,25 @@
 -- The emitted module is the compiled form of its statement.
-use Rattle.std.proofs.Common.{◌≡◌, ℕ, ℤ, zero, suc, ◌+◌, ◌*◌, ◌^◌, ◌<◌, ◌≤◌, List, [], ◌∷◌, length, map, Option, Some, refl, sym, ap, ◌∙◌, subst, ap₂, ⊎_elim, arith, w32, w64, SFits}
-use Rattle.std.specs.Prelude.{slice_get}
+use Rattle.std.proofs.Common.{◌≡◌, ℕ, ℤ, zero, suc, ◌+◌, ◌*◌, ◌^◌, ◌<◌, ◌≤◌, List, [], ◌∷◌, ◌++◌, length, map, Option, Some, None, refl, sym, ap, ◌∙◌, subst, ap₂, ⊎_elim, arith, w32, w64, SFits}
+use Rattle.std.specs.Prelude.{IsSomeAnd, slice_get, replicate}
 use Rattle.std.specs.Int.{cast_signed}
 use Rattle.std.specs.List.{AllByRecursion}
-use Rattle.std.proofs.lemmas.Bool.{cases_Bool}
+use Rattle.std.proofs.lemmas.Bool.{cases_Bool, le-leb}
+use Rattle.std.proofs.lemmas.Option.{same_Some, none-some}
 use Rattle.qw_types.specs.declared.value.Val.{Val}
 use Rattle.qw_types.specs.declared.value.Val.TheVariants.{Num}
 use Rattle.qw_module.specs.declared.instruction.ValType.{ValType}
 use Rattle.qw_module.specs.declared.module.Function.{Function}
 use Rattle.qw_module.specs.declared.module.Module.{Module}
-use Rattle.qw_module.specs.Syntax.{Code}
+use Rattle.qw_module.specs.Syntax.{Code, done, code_of}
 use Rattle.qw_module.specs.Memory.{number_at}
-use Rattle.qw_module.specs.Execution.{State, Running, Returned, Raised, Trapped}
-use Rattle.qw_module.specs.Map.{page}
-use Rattle.qw_module.specs.Runs.{Moment, IsOver, Behaves}
-use Rattle.qw_module.specs.Validity.{code_of_body}
+use Rattle.qw_module.specs.Execution.{State, Running, Returned, Raised, Trapped, label, settled}
+use Rattle.qw_module.specs.declared.module.Global.{Global}
+use Rattle.qw_module.specs.Numbers.{constant}
+use Rattle.qw_module.specs.Map.{World, page, most_pages}
+use Rattle.qw_module.specs.Runs.{Moment, IsOver, Behaves, Steps}
+use Rattle.qw_module.specs.Validity.{IsOneI32, IsShaped, code_of_body}
+use Rattle.qw_module.specs.Start.{weight}
+use Rattle.qw_module.specs.Instance.{begun, body_of, sequences_of_function, locals_of_function}
 use Rattle.qw_module.proofs.MemoryFacts.{number_at-four}
 use Rattle.qw_module.proofs.OpenRuns.{Steps-more, Within-from_steps, behaves_within}
 use Rattle.qw_module.proofs.RunRules.{more}
@@ -23,7 +28,7 @@ use Rattle.qw_top.specs.Meaning.{results}
 use Rattle.qw_top.specs.Emit.{IsScan, contents_of, scan_code}
 use Rattle.qw_top.specs.Columns.{integer_at, StandsAt, value_of}
 use Rattle.qw_top.specs.Layout.{first_world, rows_at}
-use Rattle.qw_top.specs.Compiled.{IsReady, Answers, units, IsCompiled}
+use Rattle.qw_top.specs.Compiled.{IsReady, beginning, Answers, units, weight_of, IsCompiled}
 use Rattle.qw_top.proofs.ScanSteps.{running, in_call}
 use Rattle.qw_top.proofs.ScanValid.{single, valid, shaped}
 use Rattle.qw_top.proofs.ScanRuns.{Over, passed_over, kept_of, count_of}
@@ -105,7 +110,7 @@ module _ (query : Query) (fits : SFits w64 query.literal) (rows : List (List Val
       let integers = kept_integers query.literal words (words_at-are memory ready.octets start (length rows)) in
       let fits_page : d + 80 + 24 * length all ≤ d + page = omega (arith, kept_few) in
       let read : rows_at (first_world start (length rows) d limit).own b.memory d ≡ Some (results query rows) =
-      rw chain.count
+      rw (le-leb d d (omega arith), le-leb (d + 24) (d + page) (omega arith), chain.count)
       (chain_rows b.memory d all (d + 8) (d + 80) chain.link (omega arith) fits_page integers chain.open_link chain.chain
       ∙ ap Some the_rows) in
       rw (over.returned, over.world) (results query rows, refl, read)
@@ -127,17 +132,55 @@ module _ (query : Query) (fits : SFits w64 query.literal) (rows : List (List Val
       (Within-from_steps (λ b. Answers query rows d b b.state) (more 19 (count_of query.literal words)) begins
       (Steps-more (Over start (length rows) d limit all) (λ b. Answers query rows d b b.state) delivered (more 19 (count_of query.literal words)) begins steps))
 
-pub scan_compiled : (query : Query) (m : Module) → SFits w64 query.literal → IsScan query.literal m → IsCompiled query m
-scan_compiled query m fits scan =
+-- the only function of a module
+only_there : (functions : List Function) (run only : Function) (number : ℕ) → functions ≡ only ∷ [] → slice_get functions number ≡ Some run → run ≡ only
+only_there [] run only number one there = cc
+only_there (f ∷ []) run only zero one there = cc
+only_there (f ∷ []) run only (suc number) one there = absurd (none-some run there)
+only_there (f ∷ g ∷ functions) run only number one there = cc
+
+-- a function that is there
+function_there : (o : Option Function) (P : Function → Type 0) → IsSomeAnd o P → (run : Function) × (o ≡ Some run)
+function_there None P h = absurd h
+function_there (Some run) P h = (run, refl)
+
+-- a function of this number is the scan
+record IsTheScan (query : Query) (m : Module) (number : ℕ) : Type 0 where
+  run : Function
+  there : slice_get m.functions.items number ≡ Some run
+  code : code_of_body run.body ≡ scan_code query.literal
+  locals : length run.locals.items ≡ 6
+
+the_scan : (query : Query) (m : Module) → IsScan query.literal m → (number : ℕ) → IsShaped m number → IsTheScan query m number
+the_scan query m scan number is_shaped =
     let only = single contents_of m.functions.items _ scan.functions in
-    let code : code_of_body only.0.body ≡ scan_code query.literal = ap (λ (c : ℕ × List ValType × Code). c.2) only.2 in
-    let locals : length only.0.locals.items ≡ 6 = ap (λ (c : ℕ × List ValType × Code). length c.1) only.2 in
+    let found = function_there (slice_get m.functions.items number) (λ (f : Function). IsOneI32 m f.type_index) is_shaped.run in
+    let same : found.0 ≡ only.0 = only_there m.functions.items found.0 only.0 number only.1 found.1 in
     record {
-      valid = valid query.literal fits m scan;
-      number = 0;
-      shaped = shaped query.literal fits m scan;
-      run = only.0;
-      there = ap (λ (functions : List Function). slice_get functions 0) only.1;
-      light = rw code (omega arith);
-      behaves = λ rows start descriptor limit memory ready. rw (code, locals) (behaves query fits rows start descriptor limit memory ready);
+      run = found.0;
+      there = found.1;
+      code = rw same (ap (λ (c : ℕ × List ValType × Code). c.2) only.2);
+      locals = rw same (ap (λ (c : ℕ × List ValType × Code). length c.1) only.2);
     }
+
+-- how a call of it begins
+scan_begins : (literal : ℤ) (globals : List Global) (o : Option Function) (run : Function) (argument : ℕ) → globals ≡ [] → o ≡ Some run →
+    code_of_body run.body ≡ scan_code literal → length run.locals.items ≡ 6 →
+    settled (map (λ (global : Global). constant global.init) globals) (label done 0 [] done ∷ []) (code_of (sequences_of_function o)) []
+    (argument ∷ replicate (locals_of_function o) 0)
+    ≡ running (scan_code literal) [] (argument ∷ 0 ∷ 0 ∷ 0 ∷ 0 ∷ 0 ∷ 0 ∷ []) in_call
+scan_begins literal globals o run argument none there code locals = rw (none, there, code, locals) refl
+
+pub scan_compiled : (query : Query) (m : Module) → SFits w64 query.literal → IsScan query.literal m → IsCompiled query m
+scan_compiled query m fits scan = record {
+  valid = valid query.literal fits m scan;
+  shaped = (0, shaped query.literal fits m scan);
+  light = λ number is_shaped.
+      let is = the_scan query m scan number is_shaped in
+      rw (is.there, is.code) (omega arith);
+  behaves = λ number start descriptor limit rows memory is_shaped ready.
+      let is = the_scan query m scan number is_shaped in
+      let begins = scan_begins query.literal m.globals.items (slice_get m.functions.items number) is.run descriptor scan.globals is.there is.code is.locals in
+      let weighs : weight_of m number ≡ 63 = rw (is.there, is.code) refl in
+      rw (begins, weighs) (behaves query fits rows start descriptor limit memory ready);
+}

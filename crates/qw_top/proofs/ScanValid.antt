@@ -15,8 +15,8 @@ use Rattle.qw_module.specs.declared.module.Export.{Export}
 use Rattle.qw_module.specs.declared.module.ExportKind.{ExportKind}
 use Rattle.qw_module.specs.declared.module.ExportKind.TheVariants as kind
 use Rattle.qw_module.specs.declared.module.Module.{Module}
-use Rattle.qw_module.specs.Syntax.{Code}
-use Rattle.qw_module.specs.Validity.{code_of_body, imported_function, imported_memory, functions_of, memories_of, TakesOneI32, IsOneI32, IsValidType, IsValidMemory, IsValidGlobal, IsExportedOf, IsTypedFunction, IsValidFunction, IsValid, IsShaped}
+use Rattle.qw_module.specs.Syntax.{Code, IsNumbered}
+use Rattle.qw_module.specs.Validity.{code_of_body, sequences_of, imported_function, imported_memory, functions_of, memories_of, TakesOneI32, IsOneI32, IsValidType, IsValidMemory, IsValidImport, IsValidGlobal, IsExportedOf, IsTypedFunction, IsValidFunction, AreApart, IsValid, IsShaped}
 use Rattle.qw_top.specs.Emit.{IsScan, signature_of, contents_of, exported, scan_code}
 use Rattle.qw_top.proofs.ScanTyped.{code_typed}
 
@@ -116,13 +116,14 @@ module _ (literal : ℤ) (fits : SFits w64 literal) (m : Module) (scan : IsScan 
   unfolding the_limits there is_exported
   valid_parts = record {
     types = All-same IsValidType _ _ types (one IsValidType type (rw results (omega arith)));
-    functions = All-same there _ _ functions_are (All-cons there 0 (0 ∷ []) first (one there 0 first));
-    memories = All-same IsValidMemory _ _ memories_are (one IsValidMemory (record { min = 1; max = None }) (omega arith, tt));
+    imports = All-same (IsValidImport m) _ _ scan.imports
+        (All-cons (IsValidImport m) (import.Memory (record { min = 1; max = None })) (import.Raise 0 ∷ []) (omega arith, tt) (one (IsValidImport m) (import.Raise 0) first));
+    memory = rw scan.memory tt;
     one_memory = rw memories_are (omega arith);
     globals = All-same IsValidGlobal _ _ scan.globals (All-nil IsValidGlobal);
     exports = All-same is_exported _ _ exports (one is_exported export run_exported);
     names = λ i j d less within. absurd (omega (arith, ap length exports));
-    bodies = All-same (IsValidFunction m) _ _ functions (one (IsValidFunction m) run run_valid);
+    functions = All-same (IsValidFunction m) _ _ functions (one (IsValidFunction m) run run_valid);
   }
 
   shaped_parts : IsShaped m 0

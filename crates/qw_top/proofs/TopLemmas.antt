@@ -1,6 +1,12 @@
 -- How the stages of a run compose, and that told files settle one end.
-use Rattle.std.proofs.Common.{◌≡◌, ◌⊎◌, ℕ, ◌<◌, ◌≤◌, List, [], ◌∷◌, Option, Some, None, inl, inr, refl, sym, subst, length, ap, ◌∙◌, arith}
-use Rattle.std.specs.Prelude.{IsSomeAnd}
+use Rattle.std.proofs.Common.{◌≡◌, ◌⊎◌, ℕ, zero, suc, Bool, ◌<◌, ◌≤◌, List, [], ◌∷◌, Option, Some, None, inl, inr, refl, sym, subst, length, ap, ◌∙◌, arith}
+use Rattle.std.specs.Prelude.{IsSome, IsSomeAnd, slice_get}
+use Rattle.std.specs.Str.{bytes_eq}
+use Rattle.std.specs.List.{position_or_len}
+use Rattle.std.proofs.lemmas.List.Folds.{find_at}
+use Rattle.std.proofs.lemmas.List.Quantifiers.{position-Some}
+use Rattle.std.proofs.lemmas.Option.{slice_get-get_or}
+use Rattle.qw_types.specs.declared.schema.Column.{Column}
 use Rattle.qw_types.specs.declared.schema.Table.{Table}
 use Rattle.qw_types.specs.declared.value.Val.{Val}
 use Rattle.qw_top.specs.declared.files.TheConstants.{MAX_TABLE_FILE, MAX_TEXT_FILE}
@@ -8,9 +14,9 @@ use Rattle.qw_top.specs.declared.meaning.Query.{Query}
 use Rattle.qw_top.specs.declared.status.Status.{Status}
 use Rattle.qw_top.specs.declared.status.Status.TheVariants.{Done, WordsRefused, SchemaRefused, TableFileRefused, QueriesRefused, ReadFailed, WriteFailed, NoMemory}
 use Rattle.qw_top.specs.FileNames.{table_file_of}
-use Rattle.qw_top.specs.Parse.{ReadsQuery, ReadsSchema}
+use Rattle.qw_top.specs.Parse.{ReadsQuery, ReadsSchema, integer_column, place_of, table_of}
 use Rattle.qw_top.specs.Loading.{IsFirstFault, Loads}
-use Rattle.qw_top.specs.Top.{AreNames, AsksNothing, DeclaresNothing, Explains, Files, FilesExplain, HasQuery, HasRows, IsFile, IsNoQuery, IsNoSchema, IsNoTable, IsOneTable, IsSettled, IsTooLong, Names, QueryIs, SchemaIs, StopsAs, StopsReading, TableIs}
+use Rattle.qw_top.specs.Top.{AreNames, AsksNothing, DeclaresNothing, Explains, Files, FilesExplain, HasQuery, HasRows, IsFile, IsNoQuery, IsNoSchema, IsNoTable, IsOneTable, IsSettled, IsTooLong, Names, QueryIs, SchemaIs, StopsAs, StopsReading, TableIs, selected}
 use Rattle.qw_top.proofs.LoadingLaws.{same_loads, loads_or_fails}
 use Rattle.qw_top.proofs.ReadLemmas.{ReadsQuery-unique, ReadsSchema-unique}
 
@@ -74,6 +80,25 @@ all_accepted files now names schema rows query same (table, is, held) asked = (
     asked = subst (λ (s : List Table). QueryIs files names.queries s query) is (subst (λ (f : Files). QueryIs f names.queries schema query) same asked);
   },
 )
+
+only_element : {A : Type 0} (x y : A) (k : ℕ) → slice_get (x ∷ []) k ≡ Some y → y ≡ x
+only_element x y zero h = cc
+only_element x y (suc k) h = cc
+
+selects_of : (table found : Table) (name column : List ℕ) (query : Query) → table_of (table ∷ []) name ≡ Some found → place_of found.columns column ≡ Some query.column → IsSome (selected (table ∷ []) query)
+selects_of table found name column query finds places =
+    let is_named : Table → Bool = λ t. bytes_eq name t.name in
+    let same = only_element table found (position_or_len is_named (table ∷ [])) (sym (find_at is_named (table ∷ [])) ∙ finds) in
+    let here = subst (λ (t : Table). place_of t.columns column ≡ Some query.column) same places in
+    let other : Column = integer_column [] in
+    let within = position-Some (λ (c : Column). bytes_eq column c.name) table.columns query.column other here in
+    rw (slice_get-get_or table.columns query.column other within.0) refl
+
+-- a query that was read over one table selects one of its columns
+pub ReadsQuery-selects : (schema : List Table) (table : Table) (text : List ℕ) (query : Query) → schema ≡ table ∷ [] → ReadsQuery schema text query → IsSome (selected schema query)
+ReadsQuery-selects schema table text query is reads =
+    let r = subst (λ (s : List Table). ReadsQuery s text query) is reads in
+    rw is (selects_of table r.table r.table_name r.column_name query r.table_is r.column_is)
 
 -- the octets of a file are told once
 same_octets : (o : Option (List ℕ)) (a b : List ℕ) → IsSomeAnd o (λ file. file ≡ a) → IsSomeAnd o (λ file. file ≡ b) → a ≡ b

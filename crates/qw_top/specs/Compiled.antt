@@ -1,15 +1,16 @@
 -- When a module is the compiled form of a statement: what its runs do, whatever shares the memory with them.
-use Rattle.std.specs.Prelude.{◌≡◌, ℕ, ◌+◌, ◌*◌, ◌^◌, ◌<◌, ◌≤◌, List, length, Some, slice_get}
+use Rattle.std.specs.Prelude.{◌≡◌, ℕ, ◌+◌, ◌*◌, ◌^◌, ◌<◌, ◌≤◌, List, [], ◌∷◌, length, Some}
 use Rattle.std.specs.List.{AllByRecursion}
 use Rattle.qw_types.specs.declared.value.Val.{Val}
-use Rattle.qw_module.specs.declared.module.Function.{Function}
 use Rattle.qw_module.specs.declared.module.Module.{Module}
 use Rattle.qw_module.specs.Memory.{AreOctets}
 use Rattle.qw_module.specs.Execution.{State, Running, Returned, Raised, Trapped}
 use Rattle.qw_module.specs.Map.{page, most_pages}
 use Rattle.qw_module.specs.Runs.{Moment, Behaves}
-use Rattle.qw_module.specs.Validity.{IsValid, IsShaped, code_of_body}
-use Rattle.qw_module.specs.Start.{run_begins, weight}
+use Rattle.qw_module.specs.Syntax.{code_of}
+use Rattle.qw_module.specs.Validity.{IsValid, IsShaped}
+use Rattle.qw_module.specs.Start.{weight}
+use Rattle.qw_module.specs.Instance.{begun, body_of}
 use Rattle.qw_top.specs.declared.loading.TheConstants.{MAX_ROWS}
 use Rattle.qw_top.specs.declared.meaning.Query.{Query}
 use Rattle.qw_top.specs.Meaning.{Rows, outcome, results}
@@ -29,10 +30,10 @@ pub record IsReady (query : Query) (rows : List (List Val)) (start descriptor : 
   pub inside : descriptor + page ≤ length memory
   pub fresh : IsFresh memory descriptor start (length rows)
 
--- the moment at which a run begins, with the descriptor's address as its argument
-abbrev pub beginning : Function → (start rows descriptor limit : ℕ) → List ℕ → Moment
-beginning run start rows descriptor limit memory =
-    record { world = first_world start rows descriptor limit; state = run_begins run descriptor; memory = memory }
+-- the moment at which a run of a module's own function begins, with the descriptor's address as its argument
+abbrev pub beginning : Module → (number start rows descriptor limit : ℕ) → List ℕ → Moment
+beginning m number start rows descriptor limit memory =
+    record { world = first_world start rows descriptor limit; state = begun m number descriptor; memory = memory }
 
 -- At a return the result rows are those of the statement's outcome. A run ends in no other way.
 abbrev pub Answers : Query → List (List Val) → (descriptor : ℕ) → Moment → State → Type 0
@@ -46,17 +47,23 @@ Answers query rows descriptor b Trapped = ⊥
 abbrev pub units : Query → List (List Val) → ℕ
 units query rows = length rows + length (results query rows)
 
+-- how many instructions a module's own function has
+abbrev pub weight_of : Module → (number : ℕ) → ℕ
+weight_of m number = weight (code_of (body_of m number))
+
+-- the most instructions that a run of it executes over a table's rows
+abbrev pub bound : Query → List (List Val) → Module → (number : ℕ) → ℕ
+bound query rows m number = weight_of m number * (1 + units query rows)
+
 -- The module is the compiled form of the statement: it is valid, and of the shape that is executed; its `run` has at most
 -- 2^24 instructions; and over any table, wherever its column and the first page lie, every open run behaves: its loads
--- lie in the column and its own areas, its stores in its own areas, it doesn't trap, it ends within its weight times one
--- more than its units, and then answers.
+-- lie in the column and its own areas, its stores in its own areas, it doesn't trap, it ends within its bound, and then
+-- answers.
 pub record IsCompiled (query : Query) (m : Module) : Type 0 where
   pub valid : IsValid m
-  pub number : ℕ
-  pub shaped : IsShaped m number
-  pub run : Function
-  pub there : slice_get m.functions.items number ≡ Some run
-  pub light : weight (code_of_body run.body) ≤ 2 ^ 24
-  pub behaves : (rows : List (List Val)) (start descriptor limit : ℕ) (memory : List ℕ) → IsReady query rows start descriptor memory →
-      Behaves (weight (code_of_body run.body) * (1 + units query rows)) (λ b. Answers query rows descriptor b b.state)
-      (beginning run start (length rows) descriptor limit memory)
+  pub shaped : (number : ℕ) × IsShaped m number
+  pub light : (number : ℕ) → IsShaped m number → weight_of m number ≤ 2 ^ 24
+  pub behaves : (number start descriptor limit : ℕ) (rows : List (List Val)) (memory : List ℕ) →
+      IsShaped m number → IsReady query rows start descriptor memory →
+      Behaves (bound query rows m number) (λ b. Answers query rows descriptor b b.state)
+      (beginning m number start (length rows) descriptor limit memory)

@@ -51,6 +51,10 @@ abbrev pub rows_from : List Area → List ℕ → ℕ → ℕ → Option (List (
 rows_from own memory zero at = if at == 0 then Some [] else None
 rows_from own memory (suc count) at = row_before (row_at own memory at) (rows_from own memory count (number_at memory at 4))
 
--- the result rows of an instance: the descriptor has the first one's address and their number
+-- The result rows of an instance: the descriptor, whose head lies in an own area, has the first one's address and their
+-- number.
 abbrev pub rows_at : List Area → List ℕ → ℕ → Option (List (List Val))
-rows_at own memory descriptor = rows_from own memory (number_at memory (descriptor + 16) 8) (number_at memory (descriptor + 8) 4)
+rows_at own memory descriptor =
+    if lies_in_one own descriptor 24
+    then rows_from own memory (number_at memory (descriptor + 16) 8) (number_at memory (descriptor + 8) 4)
+    else None

@@ -2,6 +2,7 @@ pub mod Emit
 pub mod Layout
 pub mod Meaning
 pub mod Compiled
+pub mod Bench
 pub mod Counts
 pub mod FileNames
 pub mod Output

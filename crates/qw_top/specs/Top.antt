@@ -1,12 +1,18 @@
 -- What the files of a run hold, and which ends of a run the words and the files explain.
-use Rattle.std.specs.Prelude.{◌≡◌, ◌⊎◌, ℕ, ◌<◌, ◌≤◌, List, [], ◌∷◌, Option, Result, Ok, Err, length}
+use Rattle.std.specs.Prelude.{◌≡◌, ◌⊎◌, ℕ, ◌<◌, ◌≤◌, List, [], ◌∷◌, Option, None, Result, Ok, Err, length, slice_get}
 use Rattle.qw_io.specs.Faults.{IsCounted}
 use Rattle.qw_io.specs.Files.{OfFile}
+use Rattle.qw_types.specs.declared.schema.Column.{Column}
 use Rattle.qw_types.specs.declared.schema.Table.{Table}
+use Rattle.qw_types.specs.declared.value.Ty.{Ty}
+use Rattle.qw_types.specs.declared.value.Ty.TheVariants.{Integer}
 use Rattle.qw_types.specs.declared.value.Val.{Val}
 use Rattle.qw_top.specs.declared.files.TheConstants.{MAX_TABLE_FILE, MAX_TEXT_FILE}
 use Rattle.qw_top.specs.declared.loading.LoadFault.{LoadFault}
 use Rattle.qw_top.specs.declared.meaning.Query.{Query}
+use Rattle.qw_top.specs.declared.sink.Head.{Head}
+use Rattle.qw_top.specs.declared.sink.Kind.{Kind}
+use Rattle.qw_top.specs.declared.sink.Kind.TheVariants.{Number}
 use Rattle.qw_top.specs.declared.status.Status.{Status}
 use Rattle.qw_top.specs.declared.status.Status.TheVariants.{Done, WordsRefused, SchemaRefused, TableFileRefused, QueriesRefused, ReadFailed, WriteFailed, NoMemory}
 use Rattle.qw_top.specs.declared.words.RunWords.{RunWords}
@@ -133,6 +139,20 @@ StopsReading ReadFailed = Unit {0}
 StopsReading WriteFailed = ⊥
 StopsReading NoMemory = Unit {0}
 
+-- the column that a query over a schema of one table selects
+abbrev pub selected : List Table → Query → Option Column
+selected [] query = None
+selected (table ∷ []) query = slice_get table.columns query.column
+selected (table ∷ next ∷ tables) query = None
+
+-- how the values of a type are printed: an INTEGER with no digits behind a point
+abbrev pub kind_of : Ty → Kind
+kind_of Integer = Number 0
+
+-- the header of the rows that hold this column alone
+abbrev pub header_of : Column → List Head
+header_of column = record { name = column.name; kind = kind_of column.ty } ∷ []
+
 -- a schema of one table that has one INTEGER column
 abbrev pub IsOneTable : List Table → Type 0
 IsOneTable [] = ⊥
@@ -147,3 +167,14 @@ StopsAs refusal reason status = ((status ≡ refusal) × reason) ⊎ (status ≡
 abbrev pub CountsStop : {T : Type 0} → Result T Status → ℕ → ℕ → Type 0
 CountsStop (Err ReadFailed) before after = IsCounted before after
 CountsStop _ before after = after ≡ before
+
+-- an end that the writing of a report can come to
+abbrev pub StopsWriting : Status → Type 0
+StopsWriting WriteFailed = Unit {0}
+StopsWriting NoMemory = Unit {0}
+StopsWriting _ = ⊥
+
+-- a write that failed is counted, and no other answer is
+abbrev pub CountsWritten : {T : Type 0} → Result T Status → ℕ → ℕ → Type 0
+CountsWritten (Err WriteFailed) before after = IsCounted before after
+CountsWritten _ before after = after ≡ before

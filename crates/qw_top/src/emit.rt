@@ -6,6 +6,10 @@ ghost use Rattle.qw_module.specs.Validity.{code_of_body, sequences_of};
 ghost use Rattle.qw_top.specs.Compiled.{IsCompiled};
 ghost use Rattle.qw_top.specs.Emit.{IsScan, scan_code, scan_frame, scan_row};
 
+use crate::layout::{
+    CELL_OFFSET, COLUMN_ROWS_OFFSET, COUNT_OFFSET, FIRST_ROW_OFFSET, FREE_OFFSET, LAST_ROW_OFFSET,
+    ROW_SIZE, VALUES_OFFSET,
+};
 use crate::meaning::Query;
 use qw_module::instruction::{
     Binary, Const, Instr, Load, MemArg, Op, Relation, Sign, Store, ValType,
@@ -28,23 +32,6 @@ const LINK: u32 = 4;
 const VALUE: u32 = 5;
 
 const COUNT: u32 = 6;
-
-/// Where the parts of the descriptor and of a result row stand.
-const FREE_OFFSET: u32 = 0;
-
-const FIRST_ROW_OFFSET: u32 = 8;
-
-const LAST_ROW_OFFSET: u32 = 12;
-
-const COUNT_OFFSET: u32 = 16;
-
-const VALUES_OFFSET: u32 = 64;
-
-const COLUMN_ROWS_OFFSET: u32 = 76;
-
-const CELL_OFFSET: u32 = 8;
-
-const ROW_SIZE: u32 = 24;
 
 /// Four less, modulo 2^32.
 const MINUS_FOUR: u32 = u32::MAX - 3;

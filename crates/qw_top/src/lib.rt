@@ -1,14 +1,17 @@
 //! From the bytes of the files to the bytes of the report.
 #![tactic(auto)]
 
+pub mod bench_laws;
 pub mod columns;
 pub mod emit;
 pub mod files;
+pub mod layout;
 pub mod loading;
 pub mod meaning;
 pub mod output;
 pub mod parse;
 pub mod result_laws;
+pub mod results;
 pub mod sink;
 pub mod status;
 pub mod token;

@@ -1,14 +1,13 @@
 //! What holds of the result rows of an instance in the memory. No function here computes anything.
 
-ghost use Rattle.std.specs.Prelude.{◌≡◌, ℕ, List, Some, IsTrue};
+ghost use Rattle.std.specs.Prelude.{◌≡◌, ℕ, List, Some};
 ghost use Rattle.qw_types.specs.declared.value.Val.{Val};
-ghost use Rattle.qw_module.specs.Map.{World, Others, lies_in_one};
+ghost use Rattle.qw_module.specs.Map.{World, Others};
 ghost use Rattle.qw_top.specs.Layout.{rows_at};
 
-/// The result rows of an instance stay whatever others do, where the descriptor's part that tells of them lies in
-/// its own areas.
+/// The result rows of an instance stay whatever others do.
 pub fn results_stay()
     ensures { (w : World) (before after : List ℕ) (descriptor : ℕ) (rows : List (List Val)) →
-        Others w before after → IsTrue (lies_in_one w.own descriptor 24) →
+        Others w before after →
         rows_at w.own before descriptor ≡ Some rows → rows_at w.own after descriptor ≡ Some rows }
 {}

@@ -1,21 +1,24 @@
 //! A run, from the words of the command line on.
 
-ghost use Rattle.std.specs.Prelude.{◌≡◌, ◌≢◌, ◌≤◌, ℕ, List, [], ◌∷◌, Option, Some, IfOk, IfErr, map};
+ghost use Rattle.std.specs.Prelude.{◌≡◌, ◌≢◌, ◌≤◌, ℕ, List, [], ◌∷◌, Option, Some, IfOk, IfErr, IsSome, OnOk, OnErr};
 ghost use Rattle.qw_types.specs.declared.schema.Table.{Table};
 ghost use Rattle.qw_types.specs.declared.value.Val.{Val};
 ghost use Rattle.qw_top.specs.declared.meaning.Query.{Query};
 ghost use Rattle.qw_top.specs.declared.status.Status.{Status};
 ghost use Rattle.qw_top.specs.Loading.{IsOneInteger};
-ghost use Rattle.qw_top.specs.Top.{CountsStop, Explains, FilesExplain, HasQuery, IsFile, IsNoQuery, IsNoSchema, IsNoTable, IsOneTable, IsSettled, IsTooLong, Names, QueryIs, SchemaIs, StopsAs, StopsReading, TableIs, names_of};
+ghost use Rattle.qw_top.specs.Output.{TookFront, with_text};
+ghost use Rattle.qw_top.specs.Top.{CountsStop, CountsWritten, Explains, FilesExplain, HasQuery, IsFile, IsNoQuery, IsNoSchema, IsNoTable, IsOneTable, IsSettled, IsTooLong, Names, QueryIs, SchemaIs, StopsAs, StopsReading, StopsWriting, TableIs, header_of, names_of, selected};
 
 use crate::files::{MAX_TABLE_FILE, MAX_TEXT_FILE, ReadFault, read_whole, table_file_name};
 use crate::loading::{LoadFault, Loaded, load};
 use crate::meaning::Query;
+use crate::output::write_whole;
 use crate::parse::{ParseFault, query_of, schema_of};
+use crate::sink::{Head, Kind};
 use crate::status::Status;
 use crate::words::RunWords;
-use qw_io::Shelf;
-use qw_types::{Schema, Table};
+use qw_io::{IoFault, Shelf, Sink};
+use qw_types::{Column, NoMemory, Schema, Table, Text, Ty};
 use std::alloc::Global;
 
 /// What the files of a run hold.
@@ -41,6 +44,7 @@ pub fn prepare<F: Shelf>(
     ensures accepted { IfOk result (λ run. (table : Table) × (run.schema ≡ table ∷ [])
         × HasQuery (F.files files.old) (names_of names.now) table run.loaded run.query) }
     ensures explained { IfErr result (λ status. FilesExplain (F.files files.old) (names_of names.now) status) }
+    ensures selects { IfOk result (λ run. IsSome (selected run.schema run.query)) }
     ensures stops { IfErr result (λ status. StopsReading status) }
     ensures counts { CountsStop result (F.faults files.old) (F.faults files.new) }
     ensures never_falls { F.faults files.old ≤ F.faults files.new }
@@ -53,6 +57,51 @@ pub fn prepare<F: Shelf>(
         schema,
         loaded,
         query,
+    })
+}
+
+impl Prepared {
+    /// The column that the query selects.
+    pub fn column(&self) -> &Column
+        requires { IsSome (selected self.now.schema self.now.query) }
+        ensures { selected self.now.schema self.now.query ≡ Some result.now }
+    {
+        let table = &self.schema.as_slice()[0];
+        &table.columns.as_slice()[self.query.column]
+    }
+}
+
+/// The header of the rows of a column.
+pub fn header(alloc: Global, column: &Column) -> Result<Vec<Head>, NoMemory>
+    ensures { IfOk result (λ header. header.items ≡ header_of column.now) }
+{
+    let name = String::from_str(alloc, column.name.as_str())?;
+    let kind = match column.ty {
+        Ty::Integer => Kind::Number(0),
+    };
+    Ok(vec![in alloc;
+        Head {
+            name: Text::new(name),
+            kind
+        },
+    ]?)
+}
+
+/// Writes a report whole. At a fault a front of it was taken.
+///
+/// # Errors
+///
+/// `WriteFailed` where the sink failed, and `NoMemory`.
+pub fn write_report<O: Sink>(out: &mut O, report: &[u8]) -> Result<(), Status>
+    ensures whole { OnOk result (O.taken out.new ≡ with_text (O.taken out.old) report.now) }
+    ensures front { OnErr result (TookFront (O.taken out.old) (O.taken out.new) report.now) }
+    ensures stops { IfErr result (λ status. StopsWriting status) }
+    ensures counts { CountsWritten result (O.faults out.old) (O.faults out.new) }
+    ensures never_falls { O.faults out.old ≤ O.faults out.new }
+{
+    write_whole(out, report).map_err(|fault| match fault {
+        IoFault::Failed => Status::WriteFailed,
+        IoFault::NoMemory => Status::NoMemory,
     })
 }
 

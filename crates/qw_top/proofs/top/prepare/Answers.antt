@@ -1,7 +1,7 @@
 use Rattle.std.proofs.Common.{◌∙◌}
 use Rattle.std.proofs.lemmas.Result.{err_from_is_err_and}
 use Rattle.qw_top.specs.Top.{names_of}
-use Rattle.qw_top.proofs.TopLemmas.{all_accepted, queries_explained, rows_accepted, table_explained, table_stops}
+use Rattle.qw_top.proofs.TopLemmas.{ReadsQuery-selects, all_accepted, only_table, queries_explained, rows_accepted, table_explained, table_stops}
 use Rattle.qw_top.proofs.top.prepare.Goals as goal
 
 pub returns-in_err-loaded-clause-explained : goal.returns-in_err-loaded-clause-explained
@@ -31,3 +31,10 @@ returns-clause-accepted g c =
     let names = names_of c.args.names.now in
     let held = rows_accepted _ _ names _ _ schema.same_files schema.accepted schema.one_table table.accepted in
     all_accepted _ _ names _ _ _ (table.same_files ∙ schema.same_files) held c.in_ok-query.ensures.accepted
+
+pub returns-clause-selects : goal.returns-clause-selects
+returns-clause-selects g c =
+    let schema = c.in_ok-schema.ensures in
+    let table = only_table c.in_ok-schema.schema schema.one_table in
+    let asked = c.in_ok-query.ensures.accepted in
+    ReadsQuery-selects c.in_ok-schema.schema table.0 asked.text _ table.1 asked.reads
