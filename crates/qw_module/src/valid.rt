@@ -1,13 +1,18 @@
 //! Whether a module is valid (WebAssembly Core Specification 1.0, 3.4).
 
-ghost use Rattle.std.specs.Prelude.{◌≡◌, ◌≢◌, ◌↔◌, ℕ, List, [], ◌∷◌, ◌++◌, ◌<◌, ◌≤◌, length, All, IsTrue, IfOk, IfErr, IfSome, OnOk};
+ghost use Rattle.std.specs.Prelude.{◌≡◌, ◌≢◌, ◌↔◌, ℕ, List, [], ◌∷◌, ◌++◌, ◌<◌, ◌≤◌, length};
+ghost use Rattle.std.specs.Prelude.{All, IsTrue, IfOk, IfErr, IfSome, OnOk};
 ghost use Rattle.std.specs.List.{AllPairs, filter_map};
 ghost use Rattle.std.specs.String.{string_bytes};
 ghost use Rattle.qw_module.specs.declared.module.Export.{Export};
+ghost use Rattle.qw_module.specs.Syntax.{NamesBelow, IsNumbered};
 ghost use Rattle.qw_module.specs.Checking.{nothing, conditions_of, checks};
 ghost use Rattle.qw_module.specs.Refusals.{Decides};
-ghost use Rattle.qw_module.specs.Syntax.{NamesBelow, IsNumbered};
-ghost use Rattle.qw_module.specs.Validity.{items_of, sequences_of, code_of_body, imported_function, imported_memory, functions_of, memories_of, IsValidType, IsValidMemory, IsValidImport, IsValidGlobal, IsExportedOf, IsValidFunction, AreApart, IsValid};
+ghost use Rattle.qw_module.specs.Validity.{items_of, sequences_of, code_of_body};
+ghost use Rattle.qw_module.specs.Validity.{imported_function, imported_memory, functions_of};
+ghost use Rattle.qw_module.specs.Validity.{memories_of, IsValidType, IsValidMemory};
+ghost use Rattle.qw_module.specs.Validity.{IsValidImport, IsValidGlobal, IsExportedOf};
+ghost use Rattle.qw_module.specs.Validity.{IsExport, IsValidFunction, AreApart, IsValid};
 ghost use Rattle.qw_module.specs.ValidFaults.{IsAgainst};
 
 use crate::checker::{Checker, Labels, Refusal, constant_type};
@@ -149,7 +154,8 @@ fn are_globals(globals: &[Global]) -> bool
 }
 
 fn is_memory_part(module: &Module) -> bool
-    ensures { IsTrue result ↔ (IfSome «module».now.memory IsValidMemory × (length (memories_of «module».now) ≤ 1)) }
+    ensures { IsTrue result ↔
+        (IfSome «module».now.memory IsValidMemory × (length (memories_of «module».now) ≤ 1)) }
 {
     memories(module) <= 1
         && match module.memory {
@@ -186,7 +192,8 @@ fn names_differ(exports: &[Export]) -> bool
 }
 
 fn are_exports(module: &Module) -> bool
-    ensures { IsTrue result ↔ (All (λ (export : Export). IsExportedOf «module».now export.kind) «module».now.exports.items × AllPairs AreApart «module».now.exports.items) }
+    ensures { IsTrue result ↔ (All (IsExport «module».now) «module».now.exports.items
+        × AllPairs AreApart «module».now.exports.items) }
 {
     module
         .exports
@@ -237,7 +244,8 @@ fn check_body(
     requires results { IsValidType ty.now }
     requires numbered { IsNumbered (sequences_of function.now.body) }
     ensures { Decides result (checks (code_of_body function.now.body)
-        (conditions_of (ty.now.params.items ++ function.now.locals.items) (ty.now.results.items ∷ []) has_memory) nothing ty.now.results.items) }
+        (conditions_of (ty.now.params.items ++ function.now.locals.items) (ty.now.results.items ∷ []) has_memory)
+        nothing ty.now.results.items) }
 {
     let ends = ty.results.first().copied();
     let mut labels = Labels::new(alloc);
@@ -290,7 +298,7 @@ fn check_parts(module: &Module) -> Result<(), ValidFault>
     ensures memory { OnOk result (IfSome «module».now.memory IsValidMemory) }
     ensures one_memory { OnOk result (length (memories_of «module».now) ≤ 1) }
     ensures globals { OnOk result (All IsValidGlobal «module».now.globals.items) }
-    ensures exports { OnOk result (All (λ (export : Export). IsExportedOf «module».now export.kind) «module».now.exports.items) }
+    ensures exports { OnOk result (All (IsExport «module».now) «module».now.exports.items) }
     ensures names { OnOk result (AllPairs AreApart «module».now.exports.items) }
     ensures fault { IfErr result (λ fault. IsAgainst fault «module».now) }
 {
