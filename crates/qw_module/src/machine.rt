@@ -321,3 +321,6 @@ fn unwind(operands: &mut Stack<u64>, base: usize, takes: bool)
     operands.truncate(base);
     operands.push(taken);
 }
+
+#[cfg(test)]
+mod tests;
