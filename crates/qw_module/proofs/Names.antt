@@ -6,10 +6,10 @@ use Rattle.std.proofs.lemmas.Bool.{cases_eq}
 use Rattle.std.proofs.lemmas.List.{length-take, get_or-take}
 use Rattle.std.proofs.lemmas.Option.{slice_get-get_or, same_Some}
 use Rattle.qw_module.specs.declared.module.Export.{Export}
-use Rattle.qw_module.specs.Validity.{AreApart}
+use Rattle.qw_module.specs.Validity.{HaveOtherNames}
 
 abbrev pub ApartBelow : List Export → ℕ → Type 0
-ApartBelow exports n = (i j : ℕ) (d : Export) → i < j → j < n → AreApart (get_or exports i d) (get_or exports j d)
+ApartBelow exports n = (i j : ℕ) (d : Export) → i < j → j < n → HaveOtherNames (get_or exports i d) (get_or exports j d)
 
 -- what stands within a list doesn't depend on what is given past it
 within_same : (exports : List Export) (n : ℕ) (d e : Export) → n < length exports → get_or exports n d ≡ get_or exports n e
@@ -27,7 +27,7 @@ apart_more exports n name export h is named below lack i j d less inside same = 
     (cases_eq j n)
 
 pub lack_from_apart : (exports : List Export) (n : ℕ) (name : List ℕ) (export : Export) → n < length exports → export ≡ get_or exports n export → name ≡ string_bytes export.name →
-    AllPairs AreApart exports → All (λ (e : Export). string_bytes e.name ≢ name) (take n exports)
+    AllPairs HaveOtherNames exports → All (λ (e : Export). string_bytes e.name ≢ name) (take n exports)
 lack_from_apart exports n name export h is named apart k d inside same =
     let short : k < n = omega (arith, length-take n exports) in
     let first : get_or (take n exports) k d ≡ get_or exports k d = get_or-take n exports k d short in

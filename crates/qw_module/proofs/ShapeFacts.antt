@@ -5,7 +5,7 @@ use Rattle.std.proofs.lemmas.List.{get_or_read}
 use Rattle.qw_module.specs.declared.module.Export.{Export}
 use Rattle.qw_module.specs.declared.module.Module.{Module}
 use Rattle.qw_module.specs.declared.module.ExportKind.TheVariants as kind
-use Rattle.qw_module.specs.Validity.{imported_functions, AreApart, IsShaped}
+use Rattle.qw_module.specs.Validity.{imported_functions, HaveOtherNames, IsShaped}
 use Rattle.std.specs.List.{AllPairs}
 use Rattle.std.specs.String.{string_bytes}
 use Rattle.qw_module.specs.Shape.{ImportsMemory, ImportsRaise, IsNoRun, IsRun}
@@ -34,7 +34,7 @@ shape-found m (Some number) memory raise none (k, export, inside, same, run) = r
 }
 
 -- only one function of a valid module is its `run`
-same_place : (m : Module) → AllPairs AreApart m.exports.items → (i j : ℕ) (e f : Export) → i < length m.exports.items → j < length m.exports.items →
+same_place : (m : Module) → AllPairs HaveOtherNames m.exports.items → (i j : ℕ) (e f : Export) → i < length m.exports.items → j < length m.exports.items →
     get_or m.exports.items i e ≡ e → get_or m.exports.items j f ≡ f → string_bytes e.name ≡ string_bytes f.name → i ≡ j
 same_place m apart i j e f inside there first second same = ⊎_elim
     (λ less. absurd (apart i j e less there (named e f i j first (other e f i j there second) same)))
@@ -50,7 +50,7 @@ same_place m apart i j e f inside there first second same = ⊎_elim
           string_bytes (get_or m.exports.items i e).name ≡ string_bytes (get_or m.exports.items j e).name
       named e f i j first second same = ap (λ (x : Export). string_bytes x.name) first ∙ same ∙ sym (ap (λ (x : Export). string_bytes x.name) second)
 
-pub shape-unique : (m : Module) → AllPairs AreApart m.exports.items → (a b : ℕ) → IsShaped m a → IsShaped m b → a ≡ b
+pub shape-unique : (m : Module) → AllPairs HaveOtherNames m.exports.items → (a b : ℕ) → IsShaped m a → IsShaped m b → a ≡ b
 shape-unique m apart a b one other =
     let e : Export = one.exported.0 in
     let f : Export = other.exported.0 in

@@ -59,8 +59,3 @@ IsAnswer Ran (Running c) = Unit {0}
 IsAnswer stepped.Returned Returned = Unit {0}
 IsAnswer stepped.Trapped Trapped = Unit {0}
 IsAnswer _ _ = ⊥
-
--- it has returned or trapped
-abbrev pub IsOver : State → Type 0
-IsOver (Running c) = ⊥
-IsOver _ = Unit {0}

@@ -104,8 +104,8 @@ abbrev pub IsValidFunction : Module → Function → Type 0
 IsValidFunction m function = IsSomeAnd (slice_get m.types.items function.type_index) (IsTypedFunction m function)
 
 -- no two exports have one name (3.4.10)
-abbrev pub AreApart : Export → Export → Type 0
-AreApart one other = string_bytes one.name ≢ string_bytes other.name
+abbrev pub HaveOtherNames : Export → Export → Type 0
+HaveOtherNames one other = string_bytes one.name ≢ string_bytes other.name
 
 -- A valid module (3.4.10).
 pub record IsValid (m : Module) : Type 0 where
@@ -116,7 +116,7 @@ pub record IsValid (m : Module) : Type 0 where
   pub one_memory : length (memories_of m) ≤ 1
   pub globals : All IsValidGlobal m.globals.items
   pub exports : All (IsExport m) m.exports.items
-  pub names : AllPairs AreApart m.exports.items
+  pub names : AllPairs HaveOtherNames m.exports.items
 
 -- a function's type: one i32, and no result
 abbrev pub TakesOneI32 : FuncType → Type 0

@@ -227,7 +227,8 @@ pub struct Instance {
 }
 
 impl Instance {
-    ghost use Rattle.qw_module.specs.Instance.{GoesWith, IsAnswer, IsOver, begun, state_of};
+    ghost use Rattle.qw_module.specs.Instance.{GoesWith, IsAnswer, begun, state_of};
+    ghost use Rattle.qw_module.specs.Runs.{IsOver};
     ghost use Rattle.qw_module.specs.Execution.{Config, Running};
 
     /// Calls the `run` of a module with an argument. The errors are that the module hasn't the shape that is

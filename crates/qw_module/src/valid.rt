@@ -12,7 +12,7 @@ ghost use Rattle.qw_module.specs.Validity.{items_of, sequences_of, code_of_body}
 ghost use Rattle.qw_module.specs.Validity.{imported_function, imported_memory, functions_of};
 ghost use Rattle.qw_module.specs.Validity.{memories_of, IsValidType, IsValidMemory};
 ghost use Rattle.qw_module.specs.Validity.{IsValidImport, IsValidGlobal, IsExportedOf};
-ghost use Rattle.qw_module.specs.Validity.{IsExport, IsValidFunction, AreApart, IsValid};
+ghost use Rattle.qw_module.specs.Validity.{IsExport, IsValidFunction, HaveOtherNames, IsValid};
 ghost use Rattle.qw_module.specs.ValidFaults.{IsAgainst};
 
 use crate::checker::{Checker, Labels, Refusal, constant_type};
@@ -181,7 +181,7 @@ fn lack_name(exports: &[Export], name: &str) -> bool
 }
 
 fn names_differ(exports: &[Export]) -> bool
-    ensures { IsTrue result ↔ AllPairs AreApart exports.now }
+    ensures { IsTrue result ↔ AllPairs HaveOtherNames exports.now }
 {
     for (place, export) in exports.iter().enumerate() {
         if !lack_name(&exports[..place], export.name.as_str()) {
@@ -193,7 +193,7 @@ fn names_differ(exports: &[Export]) -> bool
 
 fn are_exports(module: &Module) -> bool
     ensures { IsTrue result ↔ (All (IsExport «module».now) «module».now.exports.items
-        × AllPairs AreApart «module».now.exports.items) }
+        × AllPairs HaveOtherNames «module».now.exports.items) }
 {
     module
         .exports
@@ -299,7 +299,7 @@ fn check_parts(module: &Module) -> Result<(), ValidFault>
     ensures one_memory { OnOk result (length (memories_of «module».now) ≤ 1) }
     ensures globals { OnOk result (All IsValidGlobal «module».now.globals.items) }
     ensures exports { OnOk result (All (IsExport «module».now) «module».now.exports.items) }
-    ensures names { OnOk result (AllPairs AreApart «module».now.exports.items) }
+    ensures names { OnOk result (AllPairs HaveOtherNames «module».now.exports.items) }
     ensures fault { IfErr result (λ fault. IsAgainst fault «module».now) }
 {
     if !are_types(&module.types) {
