@@ -118,7 +118,7 @@ module _ (sequences : List (List Instr)) (rooms : Rooms) where
         e.operands_are,
         above-append (base_of entries) e.own e.below e.below_are,
         under-append (base_of entries) e.own e.below e.below_are,
-      ) refl in
+      ) (refl {a = settled globals (contexts_of sequences entries e.below) (code_at sequences entry.sequence entry.after) (is.own ++ e.own) values}) in
       before ∙ middle ∙ sym after
 
   -- ---- entering a block
