@@ -19,4 +19,5 @@ pub mod RecordLemmas
 pub mod RowLemmas
 pub mod RowReading
 pub mod Serving
+pub mod SeatSteps
 pub mod SinkLemmas
