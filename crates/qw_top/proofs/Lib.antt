@@ -20,4 +20,5 @@ pub mod RowLemmas
 pub mod RowReading
 pub mod Serving
 pub mod SeatSteps
+pub mod BenchTurns
 pub mod SinkLemmas
