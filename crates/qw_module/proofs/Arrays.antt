@@ -1,18 +1,17 @@
 -- The sequences of a body in the arrays that hold them.
-use Rattle.std.proofs.Common.{◌≡◌, ◌≢◌, ℕ, ◌+◌, ◌<◌, ◌≤◌, List, [], ◌∷◌, length, get_or, Vec, Global, true, Some, slice_get, unwrap_or, refl, sym, ap, ◌∙◌, subst, arith, vec_len}
+use Rattle.std.proofs.Common.{◌≡◌, ◌≢◌, ℕ, ◌+◌, ◌<◌, ◌≤◌, List, [], ◌∷◌, length, get_or, Vec, Global, true, Some, slice_get, refl, sym, ap, ◌∙◌, subst, arith, vec_len}
 use Rattle.std.proofs.lemmas.List.{length-map}
 use Rattle.std.proofs.lemmas.Option.{slice_get-map, slice_get_read, slice_get-get_or}
-use Rattle.std.specs.Option.{option_map}
 use Rattle.qw_module.specs.declared.instruction.Instr.{Instr}
 use Rattle.qw_module.specs.Syntax.{sequence_at}
 use Rattle.qw_module.specs.declared.machine.Entry.{Entry}
 use Rattle.qw_module.specs.declared.machine.Stepped.{Stepped}
 use Rattle.qw_module.specs.declared.machine.Stepped.TheVariants.{Ran}
 use Rattle.qw_module.specs.declared.machine.Stepped.TheVariants as stepped
-use Rattle.qw_module.specs.Execution.{Config, State, Returned, settled}
-use Rattle.qw_module.specs.Machine.{Point, Rooms, IsPoint, state_at, LeadsTo, IsExecuted, IsLeft, IsStepped, config_at, base_of, contexts_of, above, under}
+use Rattle.qw_module.specs.Execution.{Config, State, Returned}
+use Rattle.qw_module.specs.Machine.{Point, Rooms, IsPoint, state_at, LeadsTo, IsExecuted, IsLeft, IsStepped, config_at}
 use Rattle.qw_module.specs.Validity.{items_of}
-use Rattle.qw_module.proofs.Points.{code_at-end, left, left-point, left-state, state_at-split}
+use Rattle.qw_module.proofs.Points.{code_at-end, left, left-point, left-state}
 use Rattle.qw_module.proofs.Jumps.{point-is}
 
 pub sequence_at-array : (arrays : List (Vec Instr Global)) (number : ℕ) (array : Vec Instr Global) → number < length (items_of arrays) →
@@ -96,9 +95,9 @@ leads-to c memory s t after leads same = subst (λ (x : State). LeadsTo c memory
 pub stepped-left : (sequences : List (List Instr)) (rooms between : Rooms) (p q r : Point) (memory after : List ℕ) (answer : Stepped) → between ≡ rooms →
     IsExecuted sequences rooms p memory true q after → IsLeft sequences between q answer r → IsStepped sequences rooms p memory answer r after
 stepped-left sequences rooms between p q r memory after Ran same executed is = (
-    subst (λ (x : Rooms). IsPoint sequences x r) same is.0,
-    is.1,
-    λ globals. leads-to (config_at sequences globals p) memory (state_at sequences globals q) (state_at sequences globals r) after (executed.1 globals) (is.2 globals),
+  subst (λ (x : Rooms). IsPoint sequences x r) same is.0,
+  is.1,
+  λ globals. leads-to (config_at sequences globals p) memory (state_at sequences globals q) (state_at sequences globals r) after (executed.1 globals) (is.2 globals),
 )
 stepped-left sequences rooms between p q r memory after stepped.Returned same executed is =
     λ globals. leads-to (config_at sequences globals p) memory (state_at sequences globals q) Returned after (executed.1 globals) (is globals)

@@ -1,6 +1,6 @@
 -- What is computed from the first instruction on is what the typing rules say: a sequence checks exactly where it is
 -- typed from some operands that are as known, and has no access to a memory that isn't there.
-use Rattle.std.proofs.Common.{◌≡◌, ℕ, zero, suc, ◌+◌, ◌^◌, ◌<◌, ◌≤◌, List, [], ◌∷◌, ◌++◌, length, refl, sym, ap, ap₂, subst, ◌∙◌, ⊎_elim, ◌⊎◌, inl, inr, arith, Option, None, Some, slice_get, Bool, true, false, ◌&&◌, ◌||◌}
+use Rattle.std.proofs.Common.{◌≡◌, ℕ, ◌^◌, List, [], ◌∷◌, ◌++◌, refl, sym, ap, ap₂, subst, ◌∙◌, ⊎_elim, Option, None, Some, slice_get, Bool, true, false, ◌&&◌, ◌||◌}
 use Rattle.std.specs.Prelude.{if◌then◌else◌, nat_lt, nat_le}
 use Rattle.std.specs.Option.{option_map, option_and_then}
 use Rattle.std.proofs.lemmas.Bool.{and_parts, and_from, or_cases, or_left, or_right, ltb-true, lt-ltb, leb-true, le-leb, false≢true}
@@ -310,6 +310,22 @@ after_inner-sound inner result known after operands e are =
     let below = all_pushed-sound (types_of result) known.types known.unreachable operands (subst (λ (k : Known). AreAs k operands) (sym parts.1) are) in
     (parts.0, below.0, below.1, below.2)
 
+br-sound : (under : Under) (index : ℕ) (known after : Known) → after_br under index known ≡ Some after →
+    (taken below : List ValType) × (slice_get under.scope.labels index ≡ Some taken) × AreAs known (taken ++ below)
+br-sound under index known after e =
+    let branch = map_some (λ (below : Known). anything) (option_and_then (λ (taken : List ValType). all_popped taken known) (slice_get under.scope.labels index)) after e in
+    let found = then_some (λ (taken : List ValType). all_popped taken known) (slice_get under.scope.labels index) branch.0 branch.1 in
+    (found.0, branch.0.types, found.1, all_popped-sound found.0 known branch.0 branch.0.types found.2 (some_as branch.0.types branch.0.unreachable))
+
+br_if-sound : (under : Under) (index : ℕ) (known after : Known) (operands : List ValType) → after_br_if under index known ≡ Some after → AreAs after operands →
+    (taken below : List ValType) × (slice_get under.scope.labels index ≡ Some taken) × (operands ≡ taken ++ below) × AreAs known (I32 ∷ taken ++ below)
+br_if-sound under index known after operands e are =
+    let found = then_some (λ (taken : List ValType). option_map (all_pushed taken) (option_and_then (all_popped taken) (popped I32 known))) (slice_get under.scope.labels index) after e in
+    let put = map_some (all_pushed found.0) (option_and_then (all_popped found.0) (popped I32 known)) after found.2 in
+    let test = then_some (all_popped found.0) (popped I32 known) put.0 put.1 in
+    let below = all_pushed-sound found.0 put.0.types put.0.unreachable operands (subst (λ (k : Known). AreAs k operands) (sym put.2) are) in
+    (found.0, below.0, found.1, below.1, popped-sound I32 known test.0 (found.0 ++ below.0) test.1 (all_popped-sound found.0 test.0 put.0 below.0 test.2 below.2))
+
 pub checks-sound : (code : Code) (under : Under) (known : Known) (ends : List ValType) → checks code under known ends ≡ true → TypedFrom code under known ends
 checks-sound done under known ends e = (ends, left-sound ends known e, typed-done under.scope ends)
 checks-sound (op operator rest) under known ends e =
@@ -358,24 +374,13 @@ checks-sound (if_else result inner other rest) under known ends e =
 checks-sound (br index rest) under known ends e =
     let next = holds_some (after_br under index known) (λ (after : Known). checks rest under after ends) e in
     let typed = checks-sound rest under next.0 ends next.2 in
-    let branch = map_some (λ (below : Known). anything) (option_and_then (λ (taken : List ValType). all_popped taken known) (slice_get under.scope.labels index)) next.0 next.1 in
-    let found = then_some (λ (taken : List ValType). all_popped taken known) (slice_get under.scope.labels index) branch.0 branch.1 in
-    let below : List ValType = branch.0.types in (
-      found.0 ++ below,
-      all_popped-sound found.0 known branch.0 below found.2 (some_as branch.0.types branch.0.unreachable),
-      typed-br under.scope index rest found.0 below typed.0 ends found.1 typed.2,
-    )
+    let first = br-sound under index known next.0 next.1 in
+    (first.0 ++ first.1, first.3, typed-br under.scope index rest first.0 first.1 typed.0 ends first.2 typed.2)
 checks-sound (br_if index rest) under known ends e =
     let next = holds_some (after_br_if under index known) (λ (after : Known). checks rest under after ends) e in
     let typed = checks-sound rest under next.0 ends next.2 in
-    let found = then_some (λ (taken : List ValType). option_map (all_pushed taken) (option_and_then (all_popped taken) (popped I32 known))) (slice_get under.scope.labels index) next.0 next.1 in
-    let put = map_some (all_pushed found.0) (option_and_then (all_popped found.0) (popped I32 known)) next.0 found.2 in
-    let test = then_some (all_popped found.0) (popped I32 known) put.0 put.1 in
-    let below = all_pushed-sound found.0 put.0.types put.0.unreachable typed.0 (subst (λ (k : Known). AreAs k typed.0) (sym put.2) typed.1) in (
-      I32 ∷ found.0 ++ below.0,
-      popped-sound I32 known test.0 (found.0 ++ below.0) test.1 (all_popped-sound found.0 test.0 put.0 below.0 test.2 below.2),
-      typed-br_if under.scope index rest found.0 below.0 ends found.1 (subst (λ (types : List ValType). Typed under.scope rest types ends) below.1 typed.2),
-    )
+    let first = br_if-sound under index known next.0 typed.0 next.1 typed.1 in
+    (I32 ∷ first.0 ++ first.1, first.4, typed-br_if under.scope index rest first.0 first.1 ends first.2 (subst (λ (types : List ValType). Typed under.scope rest types ends) first.3 typed.2))
 
 abbrev under_of : Scope → Bool → Under
 under_of scope memory = record { scope = scope; memory = memory }

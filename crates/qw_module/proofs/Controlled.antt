@@ -1,20 +1,17 @@
 -- Instructions that enter blocks or branch, executed in a numbered body, against the configuration's step.
-use Rattle.std.proofs.Common.{◌≡◌, ◌≢◌, ℕ, zero, suc, ◌+◌, ◌<◌, ◌≤◌, Bool, true, false, List, [], ◌∷◌, ◌++◌, length, drop, Option, Some, None, is_some, slice_get, refl, sym, ap, ap₂, subst, ◌∙◌, arith, length-append}
-use Rattle.std.proofs.lemmas.Option.{slice_get_within}
+use Rattle.std.proofs.Common.{◌≡◌, ◌≢◌, ℕ, ◌+◌, ◌<◌, ◌≤◌, Bool, true, false, List, [], ◌∷◌, ◌++◌, length, Option, Some, None, is_some, slice_get, refl, sym, ap, subst, ◌∙◌, arith, length-append}
 use Rattle.qw_module.specs.declared.instruction.ValType.{ValType}
 use Rattle.qw_module.specs.declared.instruction.ValType.TheVariants.{I32}
 use Rattle.qw_module.specs.declared.instruction.Instr.{Instr}
 use Rattle.qw_module.specs.declared.instruction.Instr.TheVariants as i
-use Rattle.qw_module.specs.declared.machine.Entry.{Entry}
 use Rattle.qw_module.specs.Numbers.{truth}
-use Rattle.qw_module.specs.Syntax.{Code, op, block, loop, if_else, br, br_if, sequence_at, IsNumbered}
-use Rattle.qw_module.specs.Execution.{Config, State, Silent, label, settled, arity_of, enters, goes_on, branched}
-use Rattle.qw_module.specs.Step.{Want, Goes, wants, code_wants, answered, by_operand, goes_if_some}
+use Rattle.qw_module.specs.Syntax.{Code, block, loop, if_else, br, br_if, sequence_at, IsNumbered}
+use Rattle.qw_module.specs.Execution.{Config, Silent, label, settled, arity_of}
+use Rattle.qw_module.specs.Step.{Goes, wants, answered, goes_if_some}
 use Rattle.qw_module.specs.Typing.{Scope, within, types_of, Typed, typed-block, typed-loop, typed-if_else, typed-br, typed-br_if}
 use Rattle.qw_module.specs.Soundness.{AreOf, scope_of}
-use Rattle.qw_module.specs.Machine.{code_at, Point, base_of, contexts_of, state_at, config_at, Rooms, HasRoom, AreEntries, IsPoint, IsExecuted, entered, CanJump, IsJump}
+use Rattle.qw_module.specs.Machine.{code_at, Point, contexts_of, state_at, config_at, Rooms, IsPoint, IsExecuted, entered, CanJump, IsJump}
 use Rattle.qw_module.proofs.Numbered.{named}
-use Rattle.qw_module.proofs.Sound.{AreOf-length}
 use Rattle.qw_module.proofs.Steps.{by_operand-other}
 use Rattle.qw_module.proofs.TypedOperands.{first_of_types}
 use Rattle.qw_module.proofs.Points.{code_at-instruction, code_at-first, names_below-at, state_at-split, config_at-split, IsAround, IsLabel, entered-point, entered-state}

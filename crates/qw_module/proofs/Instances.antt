@@ -1,5 +1,5 @@
 -- What a step of the activity says of the instance.
-use Rattle.std.proofs.Common.{◌≡◌, ◌≢◌, ℕ, ◌+◌, ◌<◌, List, [], ◌∷◌, length, get_or, Vec, Global, Option, Some, None, slice_get, refl, sym, ap, ◌∙◌, subst, arith}
+use Rattle.std.proofs.Common.{◌≡◌, ◌≢◌, ℕ, ◌<◌, List, [], ◌∷◌, length, get_or, Vec, Global, Option, Some, None, slice_get, refl, sym, ap, ◌∙◌, subst}
 use Rattle.std.proofs.lemmas.Option.{slice_get-get_or, slice_get_read, slice_get_within, get_or_from_slice_get}
 use Rattle.std.specs.Option.{IsSomeAnd}
 use Rattle.qw_module.specs.declared.instruction.Instr.{Instr}
@@ -12,15 +12,13 @@ use Rattle.qw_module.specs.declared.machine.Stepped.{Stepped}
 use Rattle.qw_module.specs.declared.machine.Stepped.TheVariants.{Ran}
 use Rattle.qw_module.specs.declared.machine.Stepped.TheVariants as stepped
 use Rattle.qw_module.specs.Syntax.{Code, done, nested, sequence_at, IsNumbered}
-use Rattle.qw_module.specs.Execution.{Config, State, Running}
-use Rattle.qw_module.specs.Validity.{items_of, sequences_of, IsValid, IsValidFunction, IsTypedFunction, IsShaped, IsOneI32}
+use Rattle.qw_module.specs.Execution.{Config, Running}
+use Rattle.qw_module.specs.Validity.{items_of, IsValid, IsValidFunction, IsTypedFunction, IsShaped, IsOneI32}
 use Rattle.qw_module.specs.Machine.{code_at, base_of, above, under, contexts_of, Point, Rooms, state_at, config_at, IsPoint, IsRunning, IsStepped, LeadsTo, point_of, rooms_of}
-use Rattle.qw_module.specs.Instance.{body_of, sequences_of_function, state_after, state_of, WhileRunning, IsAnswer, IsOver}
+use Rattle.qw_module.specs.Instance.{body_of, state_after, state_of, WhileRunning, IsAnswer, IsOver}
 use Rattle.qw_module.proofs.Numbered.{named}
-use Rattle.qw_module.proofs.ListFacts.{drop-get}
 use Rattle.qw_module.proofs.Points.{code_at-instruction}
 use Rattle.qw_module.proofs.Sound.{settled-unfinished}
-use Rattle.qw_module.proofs.Arrays.{leads-to}
 
 nested-more : (name : ℕ → Code) (instruction : Instr) (rest : List Instr) → nested name (instruction ∷ rest) ≢ done
 nested-more name (i.Op o) rest e = cc

@@ -1,5 +1,5 @@
 -- A branch in a numbered body, against the branch of the configuration that this stands for.
-use Rattle.std.proofs.Common.{◌≡◌, ℕ, zero, suc, ◌+◌, ◌<◌, ◌≤◌, nat_le, Bool, List, [], ◌∷◌, ◌++◌, length, take, drop, Option, Some, None, slice_get, refl, sym, ap, ap₂, subst, ◌∙◌, arith, length-append, append_assoc}
+use Rattle.std.proofs.Common.{◌≡◌, ℕ, zero, suc, ◌+◌, ◌≤◌, List, [], ◌∷◌, ◌++◌, length, take, drop, Some, slice_get, refl, sym, ap, ap₂, subst, ◌∙◌, arith, length-append, append_assoc}
 use Rattle.std.proofs.lemmas.Bool.{le-leb}
 use Rattle.std.proofs.lemmas.List.{take-append-le}
 use Rattle.std.proofs.lemmas.Option.{same_Some, none-some}
@@ -11,9 +11,9 @@ use Rattle.qw_module.specs.Syntax.{sequence_at}
 use Rattle.qw_module.specs.Execution.{State, settled, branched}
 use Rattle.qw_module.specs.Typing.{Typed}
 use Rattle.qw_module.specs.Soundness.{AreOf, scope_of}
-use Rattle.qw_module.specs.Machine.{code_at, Point, base_of, above, under, contexts_of, state_at, Rooms, HasRoom, AreEntries, IsPoint, CanJump, IsJump}
+use Rattle.qw_module.specs.Machine.{code_at, Point, base_of, under, contexts_of, state_at, Rooms, HasRoom, AreEntries, IsPoint, CanJump, IsJump}
 use Rattle.qw_module.proofs.Sound.{AreOf-append, AreOf-length, AreOf-take}
-use Rattle.qw_module.proofs.ListFacts.{above-append, under-append, drop-get}
+use Rattle.qw_module.proofs.ListFacts.{above-append, under-append}
 use Rattle.qw_module.proofs.Points.{state_at-split}
 
 module _ (sequences : List (List Instr)) (rooms : Rooms) (locals : List ValType) where

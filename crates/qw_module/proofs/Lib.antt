@@ -25,3 +25,4 @@ pub mod TurnFacts
 pub mod TurnSteps
 pub mod Separate
 pub mod NoTrap
+pub mod Begins

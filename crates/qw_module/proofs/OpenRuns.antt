@@ -1,5 +1,5 @@
 -- Steps that are counted exactly, and what they say of every open run.
-use Rattle.std.proofs.Common.{◌≡◌, ℕ, zero, suc, ◌+◌, ◌*◌, ◌≤◌, ◌⊎◌, inl, inr, nat_le, List, length, Option, Some, None, refl, subst, ⊎_elim, arith}
+use Rattle.std.proofs.Common.{◌≡◌, ℕ, zero, suc, ◌+◌, ◌*◌, ◌≤◌, inl, inr, nat_le, List, length, Option, Some, None, refl, subst, ⊎_elim, arith}
 use Rattle.std.proofs.lemmas.Bool.{cases_Bool}
 use Rattle.std.proofs.lemmas.Option.{same_Some, none-some}
 use Rattle.qw_module.specs.Execution.{Config, State, Running, Returned, Raised, Trapped, Event}
@@ -53,7 +53,7 @@ Within-then P Q n following (suc m) zero le a h = absurd (omega arith)
 Within-then P Q n following (suc m) (suc k) le a (inl h) = following (suc k) a (omega arith) h
 Within-then P Q n following (suc m) (suc k) le a (inr h) = inr (OnRunning-more _ _ a.state
     (λ c steps before others. OnStep-more (Within P m) (Within Q k) a.world before (next c before)
-      (Within-then P Q n following m k (omega arith)) (steps before others)) h)
+    (Within-then P Q n following m k (omega arith)) (steps before others)) h)
 
 -- a greater number of steps
 pub Within-more : (Q : Moment → Type 0) (m k : ℕ) → m ≤ k → (a : Moment) → Within Q m a → Within Q k a

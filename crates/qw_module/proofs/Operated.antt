@@ -1,8 +1,7 @@
 -- An instruction that holds no other, done over all operands, against the configuration's step over its own.
-use Rattle.std.proofs.Common.{◌≡◌, ℕ, zero, suc, ◌+◌, ◌*◌, ◌^◌, ◌<◌, ◌≤◌, nat_le, Bool, true, false, List, [], ◌∷◌, ◌++◌, length, Option, Some, None, slice_get, slice_set, refl, sym, ap, ap₂, subst, ◌∙◌, ⊎_elim, arith, length-append}
+use Rattle.std.proofs.Common.{◌≡◌, ℕ, suc, ◌+◌, ◌<◌, ◌≤◌, nat_le, Bool, List, ◌++◌, length, Some, None, slice_get, refl, ap, subst, ◌∙◌, ⊎_elim, arith}
 use Rattle.std.proofs.lemmas.Bool.{cases_Bool, lt-ltb}
 use Rattle.std.proofs.lemmas.Option.{slice_get_within}
-use Rattle.std.specs.Bool.{MatchBool}
 use Rattle.qw_module.specs.declared.instruction.ValType.{ValType}
 use Rattle.qw_module.specs.declared.instruction.Instr.{Instr}
 use Rattle.qw_module.specs.declared.instruction.Instr.TheVariants as i
@@ -10,12 +9,12 @@ use Rattle.qw_module.specs.declared.instruction.Op.{Op}
 use Rattle.qw_module.specs.declared.instruction.Op.TheVariants.{LocalGet, LocalSet, LocalTee}
 use Rattle.qw_module.specs.declared.instruction.Op.TheVariants as o
 use Rattle.qw_module.specs.Syntax.{Code, op, sequence_at}
-use Rattle.qw_module.specs.Memory.{number_at, with_number}
-use Rattle.qw_module.specs.Execution.{Config, State, Trapped, Silent, Loads, Stores, Traps, settled, goes_on}
+use Rattle.qw_module.specs.Memory.{number_at}
+use Rattle.qw_module.specs.Execution.{Config, Silent, Loads, Stores, Traps, goes_on}
 use Rattle.qw_module.specs.Step.{OpWant, Stuck', Leaves, Reads, Writes, op_wants, pushes_local, then_wants, answered, next}
 use Rattle.qw_module.specs.Typing.{Scope, OpTyped, typed-local_get, typed-local_set, typed-local_tee, typed-const, typed-binary, typed-relation, typed-load, typed-store, Typed, typed-op}
 use Rattle.qw_module.specs.Soundness.{AreOf, scope_of}
-use Rattle.qw_module.specs.Machine.{code_at, Point, base_of, contexts_of, state_at, config_at, Rooms, HasRoom, AreEntries, IsPoint, LeadsTo, IsExecuted, IsReady, IsDone}
+use Rattle.qw_module.specs.Machine.{code_at, Point, contexts_of, state_at, config_at, Rooms, IsPoint, IsExecuted, IsReady, IsDone}
 use Rattle.qw_module.proofs.Sound.{AreOf-length, OpWantTyped, op_wants-typed}
 use Rattle.qw_module.proofs.TypedOperands.{HasFor, has_for}
 use Rattle.qw_module.proofs.Points.{state_at-split, config_at-split, code_at-instruction}

@@ -1,18 +1,18 @@
 -- Where an instance is in a numbered body, against the configuration that this stands for: entering and leaving.
-use Rattle.std.proofs.Common.{◌≡◌, ℕ, zero, suc, ◌+◌, ◌-◌, ◌<◌, ◌≤◌, Bool, true, false, List, [], ◌∷◌, ◌++◌, length, take, drop, Option, Some, None, slice_get, refl, sym, ap, ap₂, subst, ◌∙◌, ⊎_elim, arith, length-append, append_assoc}
+use Rattle.std.proofs.Common.{◌≡◌, ℕ, zero, suc, ◌+◌, ◌<◌, ◌≤◌, Bool, List, [], ◌∷◌, ◌++◌, length, drop, Some, slice_get, refl, sym, ap, subst, ◌∙◌, ⊎_elim, arith, length-append, append_assoc}
 use Rattle.std.proofs.Math.Seq.{drop-length}
 use Rattle.std.proofs.lemmas.Bool.{cases_eq}
-use Rattle.std.proofs.lemmas.Option.{same_Some, none-some, slice_get_within}
+use Rattle.std.proofs.lemmas.Option.{same_Some, none-some}
 use Rattle.std.specs.List.{AllByRecursion}
 use Rattle.qw_module.specs.declared.instruction.ValType.{ValType}
 use Rattle.qw_module.specs.declared.instruction.Instr.{Instr}
 use Rattle.qw_module.specs.declared.machine.Entry.{Entry}
 use Rattle.qw_module.specs.Numbers.{truth}
-use Rattle.qw_module.specs.Syntax.{Code, done, nested, sequence_at, named_below, NamesBelow, IsNumbered}
-use Rattle.qw_module.specs.Execution.{Context, label, Config, State, settled}
+use Rattle.qw_module.specs.Syntax.{Code, done, nested, sequence_at, NamesBelow, IsNumbered}
+use Rattle.qw_module.specs.Execution.{label, settled}
 use Rattle.qw_module.specs.Typing.{Scope, Typed, typed-done}
 use Rattle.qw_module.specs.Soundness.{AreOf, scope_of}
-use Rattle.qw_module.specs.Machine.{code_at, Point, base_of, above, under, contexts_of, state_at, config_at, instructions_below, Rooms, HasRoom, IsEntry, AreEntries, IsPoint, entered}
+use Rattle.qw_module.specs.Machine.{code_at, Point, base_of, contexts_of, state_at, config_at, instructions_below, Rooms, HasRoom, AreEntries, IsPoint, entered}
 use Rattle.qw_module.proofs.Numbered.{named, named-at}
 use Rattle.qw_module.proofs.Sound.{AreOf-append, AreOf-length}
 use Rattle.qw_module.proofs.ListFacts.{drop-get, above-append, under-append}

@@ -1,6 +1,5 @@
 -- How a call of a valid and shaped module begins.
-use Rattle.std.proofs.Common.{◌≡◌, ◌≢◌, ℕ, zero, suc, ◌+◌, ◌-◌, ◌^◌, ◌<◌, ◌≤◌, false, List, [], ◌∷◌, ◌++◌, length, map, replicate, get_or, Vec, Global as Memory, Option, Some, None, slice_get, refl, sym, ap, ap₂, ◌∙◌, subst, arith}
-use Rattle.std.proofs.lemmas.Option.{slice_get_within}
+use Rattle.std.proofs.Common.{◌≡◌, ℕ, suc, ◌-◌, ◌^◌, ◌<◌, List, [], ◌∷◌, ◌++◌, length, map, replicate, Vec, Global as Memory, Option, Some, slice_get, refl, sym, ap, ◌∙◌, subst, arith}
 use Rattle.std.specs.Option.{IsSomeAnd}
 use Rattle.qw_module.specs.declared.instruction.ValType.{ValType}
 use Rattle.qw_module.specs.declared.instruction.ValType.TheVariants.{I32, I64}
@@ -10,24 +9,22 @@ use Rattle.qw_module.specs.declared.module.Function.{Function}
 use Rattle.qw_module.specs.declared.module.FuncType.{FuncType}
 use Rattle.qw_module.specs.declared.module.Global.{Global}
 use Rattle.qw_module.specs.declared.machine.Activity.{Activity}
-use Rattle.qw_module.specs.declared.machine.Instance.{Instance}
 use Rattle.qw_module.specs.declared.machine.Stepped.{Stepped}
 use Rattle.qw_module.specs.declared.machine.Stepped.TheVariants.{Ran}
 use Rattle.qw_module.specs.declared.machine.Stepped.TheVariants as stepped
-use Rattle.qw_module.specs.Numbers.{values_of, constant}
+use Rattle.qw_module.specs.Numbers.{constant}
 use Rattle.qw_module.specs.Syntax.{Code, done, code_of, sequence_at, IsNumbered}
-use Rattle.qw_module.specs.Execution.{State, Returned, label, settled}
-use Rattle.qw_module.specs.Typing.{Scope, Typed, typed-done}
+use Rattle.qw_module.specs.Execution.{label, settled}
+use Rattle.qw_module.specs.Typing.{Typed, typed-done}
 use Rattle.qw_module.specs.Soundness.{AreOf, scope_of}
-use Rattle.qw_module.specs.Validity.{code_of_body, sequences_of, IsValid, IsValidFunction, IsTypedFunction, IsShaped, IsOneI32, TakesOneI32}
-use Rattle.qw_module.specs.Machine.{code_at, Point, state_at, IsPoint, IsRunning, IsLeft, Rooms, first_point, whole_room, instructions_below, point_of, rooms_of}
+use Rattle.qw_module.specs.Validity.{code_of_body, sequences_of, IsValid, IsTypedFunction, IsShaped, IsOneI32, TakesOneI32}
+use Rattle.qw_module.specs.Machine.{code_at, state_at, IsPoint, IsRunning, IsLeft, Rooms, first_point, whole_room, instructions_below, point_of, rooms_of}
 use Rattle.qw_module.specs.Instance.{body_of, begun, state_of, GoesWith, WhileRunning}
-use Rattle.qw_module.proofs.Numbered.{named}
 use Rattle.qw_module.proofs.Points.{code_at-first, code_at-end}
-use Rattle.qw_module.proofs.Instances.{some_of, function-read, typed-function}
+use Rattle.qw_module.proofs.Instances.{some_of, typed-function}
 
 -- zeros are values of any types
-zeros-are : (types : List ValType) → AreOf (replicate (length types) 0) types
+pub zeros-are : (types : List ValType) → AreOf (replicate (length types) 0) types
 zeros-are [] = tt
 zeros-are (I32 ∷ types) = (omega arith, zeros-are types)
 zeros-are (I64 ∷ types) = (omega arith, zeros-are types)
@@ -52,7 +49,7 @@ module _ (sequences : List (List Instr)) (numbered : IsNumbered sequences) where
       IsPoint sequences (whole_room sequences) (first_point sequences (argument ∷ replicate (length types) 0))
   first-point types argument small typed =
       let ended : Typed (scope_of (I32 ∷ types) []) (code_at sequences (length sequences - 1) (length (sequence_at sequences (length sequences - 1)))) [] [] =
-          rw end_code (typed-done (scope_of (I32 ∷ types) []) []) in
+      rw end_code (typed-done (scope_of (I32 ∷ types) []) []) in
       let some = numbered.some in
       record {
         own = [];
@@ -88,10 +85,10 @@ module _ (sequences : List (List Instr)) (numbered : IsNumbered sequences) where
             after_in = omega arith;
             target_fits = omega arith;
             after_fits = omega arith;
-            room = record { numbered = last_in; operands = omega (arith, all_instructions); labels = omega arith }
+            room = record { numbered = last_in; operands = omega (arith, all_instructions); labels = omega arith };
           },
-          refl
-        )
+          refl,
+        );
       }
 
   pub first-state : (globals locals : List ℕ) →
@@ -107,15 +104,15 @@ module _ (m : Module) (number : ℕ) (function : Function) (valid : IsValid m) (
   takes-one : TakesOneI32 its_type.0
   takes-one =
       let run : IsOneI32 m function.type_index =
-          subst (λ (o : Option Function). IsSomeAnd o (λ (f : Function). IsOneI32 m f.type_index)) found shaped.run in
+      subst (λ (o : Option Function). IsSomeAnd o (λ (f : Function). IsOneI32 m f.type_index)) found shaped.run in
       subst (λ (o : Option FuncType). IsSomeAnd o TakesOneI32) its_type.1 run
 
   body-typed : Typed (scope_of (I32 ∷ function.locals.items) ([] ∷ [])) (code_of (sequences_of function.body)) [] []
   body-typed =
       let typed = its_type.2.typed in
       let params : Typed (record { locals = I32 ∷ function.locals.items; labels = its_type.0.results.items ∷ [] }) (code_of_body function.body) [] its_type.0.results.items =
-          subst (λ (ps : List ValType). Typed (record { locals = ps ++ function.locals.items; labels = its_type.0.results.items ∷ [] }) (code_of_body function.body) [] its_type.0.results.items)
-            takes-one.0 typed in
+      subst (λ (ps : List ValType). Typed (record { locals = ps ++ function.locals.items; labels = its_type.0.results.items ∷ [] }) (code_of_body function.body) [] its_type.0.results.items)
+      takes-one.0 typed in
       subst (λ (rs : List ValType). Typed (record { locals = I32 ∷ function.locals.items; labels = rs ∷ [] }) (code_of_body function.body) [] rs) takes-one.1 params
 
   body-is : body_of m number ≡ sequences_of function.body

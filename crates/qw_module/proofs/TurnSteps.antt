@@ -102,7 +102,9 @@ refusal-ends None w = refl
 refusal-ends (Some asked) w = refl
 
 raise-ends : (code : ℕ) (w : World) → IsSome (end_of_raise code w)
-raise-ends code w = ⊎_elim (λ is. rw is refl) (λ is_not. rw is_not (refusal-ends w.refused w)) (cases_Bool ((code == 1) || (code == 2)))
+raise-ends code w =
+    ⊎_elim (λ is. rw is refl) (λ is_not. rw is_not (⊎_elim (λ is. rw is (refusal-ends w.refused w)) (λ other. rw other refl) (cases_Bool (code == 3))))
+    (cases_Bool ((code == 1) || (code == 2)))
 
 limit-ends : (c : Config) (w : World) (ran most : ℕ) → nat_le most ran ≡ true → IsSome (end_at (Running c) w ran most)
 limit-ends c w ran most reached = rw reached refl

@@ -1,13 +1,12 @@
 -- A function is valid exactly where its body is numbered and checks.
-use Rattle.std.proofs.Common.{◌≡◌, ℕ, ◌<◌, ◌≤◌, List, [], ◌∷◌, ◌++◌, length, refl, sym, ap, subst, ◌∙◌, arith, Option, None, Some, Ok, Err, slice_get, Bool, true, false}
+use Rattle.std.proofs.Common.{◌≡◌, ◌<◌, ◌≤◌, [], ◌∷◌, ◌++◌, length, refl, sym, subst, ◌∙◌, arith, Option, None, Some, Ok, Err, slice_get, Bool, true, false}
 use Rattle.std.specs.Prelude.{Result, OnOk, IsSomeAnd, nat_lt}
 use Rattle.std.proofs.lemmas.Bool.{false≢true, ltb-true, lt-ltb}
-use Rattle.qw_module.specs.declared.instruction.ValType.{ValType}
 use Rattle.qw_module.specs.declared.module.FuncType.{FuncType}
 use Rattle.qw_module.specs.declared.module.Function.{Function}
 use Rattle.qw_module.specs.declared.module.Module.{Module}
 use Rattle.qw_module.specs.declared.checker.Refusal.{Refusal}
-use Rattle.qw_module.specs.declared.checker.Refusal.TheVariants.{IllTyped, NoMemory}
+use Rattle.qw_module.specs.declared.checker.Refusal.TheVariants.{IllTyped}
 use Rattle.qw_module.specs.Syntax.{IsNumbered}
 use Rattle.qw_module.specs.Typing.{Scope}
 use Rattle.qw_module.specs.Checking.{nothing, conditions_of, checks}
@@ -42,10 +41,10 @@ checked_function m function type is =
 is_some_and_of : {A : Type 0} (o : Option A) (P : A → Type 0) (x : A) → o ≡ Some x → P x → IsSomeAnd o P
 is_some_and_of o P x e p = rw e p
 
-of_is_some_and : {A : Type 0} (o : Option A) (P : A → Type 0) (x : A) → o ≡ Some x → IsSomeAnd o P → P x
+pub of_is_some_and : {A : Type 0} (o : Option A) (P : A → Type 0) (x : A) → o ≡ Some x → IsSomeAnd o P → P x
 of_is_some_and o P x e p = rw e at p
 
-has_value : {A : Type 0} (o : Option A) (P : A → Type 0) → IsSomeAnd o P → (x : A) × (o ≡ Some x) × P x
+pub has_value : {A : Type 0} (o : Option A) (P : A → Type 0) → IsSomeAnd o P → (x : A) × (o ≡ Some x) × P x
 has_value None P valid = absurd valid
 has_value (Some x) P valid = (x, refl, valid)
 

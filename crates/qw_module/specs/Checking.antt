@@ -1,6 +1,6 @@
 -- The typing rules of `Typing`, computed from the first instruction on (WebAssembly Core Specification 1.0, appendix
 -- "Validation Algorithm").
-use Rattle.std.specs.Prelude.{◌≡◌, ℕ, ◌^◌, nat_lt, nat_le, Bool, true, false, ◌&&◌, if◌then◌else◌, List, [], ◌∷◌, ◌++◌, Option, Some, None, Result, Ok, Err, slice_get}
+use Rattle.std.specs.Prelude.{ℕ, ◌^◌, nat_lt, nat_le, Bool, true, false, ◌&&◌, if◌then◌else◌, List, [], ◌∷◌, ◌++◌, Option, Some, None, slice_get}
 use Rattle.std.specs.Option.{option_map, option_and_then}
 use Rattle.qw_module.specs.declared.instruction.ValType.{ValType}
 use Rattle.qw_module.specs.declared.instruction.ValType.TheVariants.{I32, I64}
@@ -9,7 +9,7 @@ use Rattle.qw_module.specs.declared.instruction.Op.TheVariants.{LocalGet, LocalS
 use Rattle.qw_module.specs.declared.instruction.Op.TheVariants as o
 use Rattle.qw_module.specs.declared.instruction.Instr.{Instr}
 use Rattle.qw_module.specs.declared.instruction.Instr.TheVariants as i
-use Rattle.qw_module.specs.Syntax.{Code, done, op, block, loop, if_else, br, br_if, nested}
+use Rattle.qw_module.specs.Syntax.{Code, done, op, block, loop, if_else, br, br_if}
 use Rattle.qw_module.specs.Numbers.{values_of, constant, type_of_constant, type_of_binary, type_of_relation, type_of_load, load_width, type_of_store, store_width}
 use Rattle.qw_module.specs.Typing.{types_of, Scope, within}
 

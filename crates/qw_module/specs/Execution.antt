@@ -13,7 +13,7 @@ use Rattle.qw_module.specs.Syntax.{Code, done, op, block, loop, if_else, br, br_
 use Rattle.qw_module.specs.Numbers.{constant, binary, relation, load_width, loaded_value, store_width}
 use Rattle.qw_module.specs.Memory.{number_at, with_number}
 
--- What awaits the end of the sequence that runs (4.4.7 to 4.4.9; the standard's evaluation contexts, written
+-- What awaits the end of the sequence that runs (4.2.12, 4.2.13, "Evaluation Contexts", written
 -- from the innermost out). A label has the code that a branch to it goes on with, how many operands
 -- the branch takes there, the operands below, and the code after the label's end. A frame has its
 -- caller's locals, its number of results, and the operands and the code of the caller.
@@ -37,7 +37,8 @@ pub data State : Type 0 where
   Raised : (code : ℕ) → State
   Trapped : State
 
--- what a step does outside the instance: a growth is granted or refused, `raise` is the imported function
+-- What a step does outside the instance: a growth is granted or refused, and the imported function `raise` is called
+-- (4.4.7, "Host Functions"). No instruction of today grows the memory or raises.
 pub data Event : Type 0 where
   Silent : Event
   Loads : (address width : ℕ) → Event
@@ -46,13 +47,13 @@ pub data Event : Type 0 where
   Raises : (code : ℕ) → Event
   Traps : Event
 
--- how many results a block's type has (2.4.5)
+-- how many results a block's type has (2.3.2)
 abbrev pub arity_of : Option ValType → ℕ
 arity_of None = 0
 arity_of (Some type) = 1
 
 -- Leaving what is finished, as part of the step before: a label's end leaves its operands on those below
--- (4.4.7, exit), a frame's end its results on the caller's (4.4.9), and the end of the last is the return.
+-- (4.4.6), a frame's end its results on the caller's (4.4.7), and the end of the last is the return.
 abbrev pub settled : List ℕ → List Context → Code → List ℕ → List ℕ → State
 settled globals [] done operands locals = Returned
 settled globals (label target arity below after ∷ contexts) done operands locals =
@@ -63,7 +64,7 @@ settled globals contexts code operands locals =
     Running (record { globals = globals; code = code; operands = operands; locals = locals; contexts = contexts })
 
 -- A branch to the label of an index, counted from the innermost: the operands that the label takes stay,
--- those between are dropped, and the label's target goes on (4.4.7, br). None where there is no such label in
+-- those between are dropped, and the label's target goes on (4.4.5, br). None where there is no such label in
 -- the frame, or too few operands.
 abbrev pub branched : List ℕ → ℕ → List Context → List ℕ → List ℕ → Option State
 branched globals index [] operands locals = None

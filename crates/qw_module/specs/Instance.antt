@@ -1,5 +1,5 @@
 -- Instances of valid modules: how one begins, and the state that it stands for.
-use Rattle.std.specs.Prelude.{◌≡◌, ℕ, ◌+◌, ◌<◌, List, [], ◌∷◌, length, map, replicate, Option, Some, None, slice_get}
+use Rattle.std.specs.Prelude.{ℕ, List, [], ◌∷◌, length, map, replicate, Option, Some, None, slice_get}
 use Rattle.qw_module.specs.declared.instruction.Instr.{Instr}
 use Rattle.qw_module.specs.declared.module.Module.{Module}
 use Rattle.qw_module.specs.declared.module.Function.{Function}
@@ -9,8 +9,8 @@ use Rattle.qw_module.specs.declared.machine.Stepped.{Stepped}
 use Rattle.qw_module.specs.declared.machine.Stepped.TheVariants.{Ran}
 use Rattle.qw_module.specs.declared.machine.Stepped.TheVariants as stepped
 use Rattle.qw_module.specs.Numbers.{constant}
-use Rattle.qw_module.specs.Syntax.{Code, done, code_of}
-use Rattle.qw_module.specs.Execution.{State, Running, Returned, Raised, Trapped, label, settled}
+use Rattle.qw_module.specs.Syntax.{done, code_of}
+use Rattle.qw_module.specs.Execution.{State, Running, Returned, Trapped, label, settled}
 use Rattle.qw_module.specs.Validity.{sequences_of, IsShaped}
 use Rattle.qw_module.specs.Machine.{state_at, IsRunning, point_of, rooms_of}
 

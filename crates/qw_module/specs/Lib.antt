@@ -9,6 +9,7 @@ pub mod Typing
 pub mod Soundness
 pub mod Checking
 pub mod Refusals
+pub mod Checkers
 pub mod Validity
 pub mod ValidFaults
 pub mod Map

@@ -1,5 +1,5 @@
 -- What the machine's arrays stand for, and what they keep from step to step.
-use Rattle.std.specs.Prelude.{◌≡◌, ℕ, zero, suc, ◌+◌, ◌-◌, ◌*◌, ◌<◌, ◌≤◌, ◌^◌, nat_le, Bool, true, false, List, [], ◌∷◌, ◌++◌, map, length, take, drop, slice_index, slice_get, Some, IfSome, nat_eq}
+use Rattle.std.specs.Prelude.{◌≡◌, ℕ, zero, suc, ◌+◌, ◌-◌, ◌*◌, ◌<◌, ◌≤◌, ◌^◌, nat_le, Bool, true, false, List, [], ◌∷◌, ◌++◌, length, take, drop, slice_index, slice_get, Some}
 use Rattle.std.specs.Bool.{MatchBool}
 use Rattle.qw_module.specs.declared.instruction.ValType.{ValType}
 use Rattle.qw_module.specs.declared.instruction.Instr.{Instr}
@@ -201,7 +201,7 @@ first_point sequences locals =
       sequence = last;
       place = 0;
       operands = [];
-      locals = locals
+      locals = locals;
     }
 
 -- the room that no point of a body needs more of

@@ -4,7 +4,7 @@ use Rattle.std.specs.List.{list_any, AllByRecursion}
 use Rattle.qw_module.specs.Memory.{AreOctets}
 use Rattle.qw_module.specs.Execution.{Event, Silent, Loads, Stores, Grows, Raises, Traps}
 
--- how many octets a page has, and how many pages a memory has at most (WebAssembly Core Specification 1.0, 4.2.8;
+-- how many octets a page has, and how many pages a memory has at most (WebAssembly Core Specification 1.0, 4.2.8 and 3.2.4;
 -- one page fewer than there, so that a memory's size is a number of 32 bits)
 abbrev pub page : ℕ
 page = 65536

@@ -1,5 +1,5 @@
 -- A memory is its octets; numbers in it are little endian (WebAssembly Core Specification 1.0, 4.2.8 and
--- 4.3, "Storage").
+-- 4.3.1, "Storage").
 use Rattle.std.specs.Prelude.{ℕ, zero, suc, ◌+◌, ◌*◌, ◌/◌, ◌%◌, ◌<◌, List, All, slice_index, slice_set}
 
 -- the number that so many octets from a place on stand for

@@ -17,7 +17,7 @@ use Rattle.qw_module.specs.declared.instruction.Load.TheVariants as load
 use Rattle.qw_module.specs.declared.instruction.Store.{Store}
 use Rattle.qw_module.specs.declared.instruction.Store.TheVariants as store
 
--- how many values a type has (4.3.1): each value is a number below it
+-- how many values a type has (2.2.2): each value is a number below it
 abbrev pub values_of : ValType → ℕ
 values_of type.I32 = 2 ^ 32
 values_of type.I64 = 2 ^ 64
@@ -61,7 +61,7 @@ type_of_relation I32Eq = type.I32
 type_of_relation I64Eq = type.I64
 type_of_relation (I64Le sign) = type.I64
 
--- four octets' number as a value of 64 bits (4.3.3, extend_u and extend_s)
+-- four octets' number as a value of 64 bits (4.3.4, extend_u and extend_s)
 abbrev pub extended : Sign → ℕ → ℕ
 extended Signed n = cast_unsigned w64 (cast_signed w32 n)
 extended Unsigned n = n

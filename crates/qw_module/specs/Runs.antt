@@ -1,7 +1,6 @@
 -- Open runs: an instance's steps over a memory that others change between them.
-use Rattle.std.specs.Prelude.{◌≡◌, ℕ, zero, suc, ◌<◌, ◌≤◌, ◌⊎◌, List, [], ◌∷◌, Option, Some, None}
-use Rattle.qw_module.specs.Syntax.{Code, done}
-use Rattle.qw_module.specs.Execution.{label, Config, State, Running, Returned, Raised, Trapped, Event, Step, settled}
+use Rattle.std.specs.Prelude.{◌≡◌, ℕ, zero, suc, ◌<◌, ◌≤◌, ◌⊎◌, List, Option, Some, None}
+use Rattle.qw_module.specs.Execution.{Config, State, Running, Returned, Raised, Trapped, Event, Step}
 use Rattle.qw_module.specs.Step.{Next, next}
 use Rattle.qw_module.specs.Map.{World, Others, IsFine, IsAnswered, world_after}
 
@@ -50,13 +49,14 @@ abbrev pub OnStep : World → List ℕ → (Moment → Type 0) → Option Next �
 OnStep w before Q None = ⊥
 OnStep w before Q (Some t) = IsFine w t.event × Q (moment_after w before t.event t.state t.memory)
 
--- Exactly n steps follow, each fine whatever others do before it, and then Q holds.
+-- an instance runs, and P holds of its configuration
 abbrev pub OnRunning : State → (Config → Type 0) → Type 0
 OnRunning (Running c) P = P c
 OnRunning Returned P = ⊥
 OnRunning (Raised code) P = ⊥
 OnRunning Trapped P = ⊥
 
+-- Exactly n steps follow, each fine whatever others do before it, and then Q holds.
 abbrev pub Steps : (Moment → Type 0) → ℕ → Moment → Type 0
 Steps Q zero a = Q a
 Steps Q (suc n) a = OnRunning a.state (λ c. (before : List ℕ) → Others a.world a.memory before → OnStep a.world before (Steps Q n) (next c before))
@@ -65,8 +65,3 @@ Steps Q (suc n) a = OnRunning a.state (λ c. (before : List ℕ) → Others a.wo
 abbrev pub Within : (Moment → Type 0) → ℕ → Moment → Type 0
 Within Q zero a = Q a
 Within Q (suc n) a = Q a ⊎ OnRunning a.state (λ c. (before : List ℕ) → Others a.world a.memory before → OnStep a.world before (Within Q n) (next c before))
-
--- The start of a call of a function: its locals are its arguments, then zeros; its body is a block, whose label
--- ends the call (WebAssembly Core Specification 1.0, 4.4.7, "Invocation").
-abbrev pub called : (code : Code) → (results : ℕ) → (locals : List ℕ) → State
-called code results locals = settled [] (label done results [] done ∷ []) code [] locals

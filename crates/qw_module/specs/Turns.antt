@@ -1,5 +1,5 @@
--- Several instances over one memory, and the turns that they are given. The atomic step is one instruction of one
--- instance.
+-- Several instances over one memory, and the turns that they are given. A step is one
+-- instruction, and is never divided.
 use Rattle.std.specs.Prelude.{◌≡◌, ◌≢◌, ℕ, zero, suc, ◌+◌, ◌-◌, ◌*◌, ◌≤◌, ◌==◌, nat_le, ◌||◌, ◌⊎◌, if◌then◌else◌, List, [], ◌∷◌, ◌++◌, length, Option, Some, None, slice_get, slice_set, is_some}
 use Rattle.std.specs.List.{AllByRecursion}
 use Rattle.qw_module.specs.Execution.{Config, Event, State, Running, Returned, Raised, Trapped}
@@ -36,10 +36,11 @@ abbrev pub end_of_refusal : Option ℕ → World → Option End
 end_of_refusal None w = Some Trap
 end_of_refusal (Some asked) w = Some (Pages w.held asked w.limit)
 
--- the end at a code that was raised: 1 and 2 are exceptions, 3 tells that the last request was refused
+-- the end at a code that was raised: 1 and 2 are exceptions, 3 tells that the last request was refused,
+-- and any other code counts as a trap
 abbrev pub end_of_raise : ℕ → World → Option End
 end_of_raise code w =
-    if (code == 1) || (code == 2) then Some (Exception code) else end_of_refusal w.refused w
+    if (code == 1) || (code == 2) then Some (Exception code) else (if code == 3 then end_of_refusal w.refused w else Some Trap)
 
 -- the end at a state, after so many instructions of at most `most`
 abbrev pub end_at : State → World → (ran most : ℕ) → Option End
@@ -108,7 +109,7 @@ pub record IsWhole (i : Instance) : Type 0 where
   pub within : i.ran ≤ i.most_steps
   pub end_is : i.end ≡ end_at i.state i.world i.ran i.most_steps
 
--- two areas have no octet in common
+-- one area ends before the other begins, or where it begins
 abbrev pub AreApart : Area → Area → Type 0
 AreApart a b = (a.start + a.size ≤ b.start) ⊎ (b.start + b.size ≤ a.start)
 

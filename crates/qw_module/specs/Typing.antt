@@ -14,7 +14,7 @@ use Rattle.qw_module.specs.declared.instruction.MemArg.{MemArg}
 use Rattle.qw_module.specs.Syntax.{Code, done, op, block, loop, if_else, br, br_if}
 use Rattle.qw_module.specs.Numbers.{values_of, constant, type_of_constant, type_of_binary, type_of_relation, type_of_load, load_width, type_of_store, store_width}
 
--- the types of a block's results (3.2.2)
+-- the types of a block's results (2.3.2)
 abbrev pub types_of : Option ValType → List ValType
 types_of None = []
 types_of (Some type) = type ∷ []

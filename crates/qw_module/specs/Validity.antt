@@ -75,6 +75,9 @@ IsExportedOf m (kind.Function index) = index < length (functions_of m)
 IsExportedOf m (kind.Memory index) = index < length (memories_of m)
 IsExportedOf m (kind.Global index) = index < length m.globals.items
 
+abbrev pub IsExport : Module → Export → Type 0
+IsExport m export = IsExportedOf m export.kind
+
 -- whether there is a load or a store in a sequence: these want a memory (3.3.4)
 abbrev pub is_access : Op → Bool
 is_access (Load load arg) = true
@@ -112,7 +115,7 @@ pub record IsValid (m : Module) : Type 0 where
   pub memory : IfSome m.memory IsValidMemory
   pub one_memory : length (memories_of m) ≤ 1
   pub globals : All IsValidGlobal m.globals.items
-  pub exports : All (λ (export : Export). IsExportedOf m export.kind) m.exports.items
+  pub exports : All (IsExport m) m.exports.items
   pub names : AllPairs AreApart m.exports.items
 
 -- a function's type: one i32, and no result

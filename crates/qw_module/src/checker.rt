@@ -1,14 +1,18 @@
 //! Whether a body is typed: its sequences are gone through from the first instruction on, and the types of
 //! the operands are kept (WebAssembly Core Specification 1.0, appendix "Validation Algorithm").
 
-ghost use Rattle.std.specs.Prelude.{◌≡◌, ℕ, List, [], ◌∷◌, ◌++◌, ◌<◌, ◌^◌, ◌≤◌, ◌↔◌, length, drop, map, IsTrue, ◌&&◌, nat_le, IfOk, OnOk, Some, slice_get};
-ghost use Rattle.std.specs.Option.{option_map};
-ghost use Rattle.qw_module.specs.Numbers.{values_of, constant, type_of_constant, type_of_binary, type_of_relation, type_of_load, load_width, type_of_store, store_width};
-ghost use Rattle.qw_module.specs.Typing.{types_of};
-ghost use Rattle.qw_module.specs.Syntax.{sequence_at, named, NamesBelow, IsNumbered};
-ghost use Rattle.qw_module.specs.Validity.{items_of};
+ghost use Rattle.std.specs.Prelude.{◌≡◌, ℕ, List, [], ◌∷◌, ◌++◌, ◌<◌, ◌^◌, ◌≤◌, ◌↔◌};
+ghost use Rattle.std.specs.Prelude.{length, drop, nat_le, IsTrue, ◌&&◌, OnOk, Some, slice_get};
 ghost use Rattle.qw_module.specs.declared.instruction.ValType.{ValType};
-ghost use Rattle.qw_module.specs.Checking.{nothing, anything, pushed, popped, all_pushed, all_popped, has_none, conditions_of, inside, after_op, checks, after_instruction};
+ghost use Rattle.qw_module.specs.Numbers.{values_of, constant, type_of_constant, type_of_binary};
+ghost use Rattle.qw_module.specs.Numbers.{type_of_relation, type_of_load, load_width};
+ghost use Rattle.qw_module.specs.Numbers.{type_of_store, store_width};
+ghost use Rattle.qw_module.specs.Syntax.{NamesBelow, IsNumbered};
+ghost use Rattle.qw_module.specs.Typing.{types_of};
+ghost use Rattle.qw_module.specs.Checking.{nothing, anything, pushed, popped, all_pushed};
+ghost use Rattle.qw_module.specs.Checking.{all_popped, has_none, inside, after_op, checks};
+ghost use Rattle.qw_module.specs.Checking.{after_instruction};
+ghost use Rattle.qw_module.specs.Checkers.{conditions, sequences_in, code_named};
 ghost use Rattle.qw_module.specs.Refusals.{Finds, Decides};
 
 use crate::instruction::{
@@ -232,7 +236,8 @@ pub(crate) struct Checker<'a> {
 
 impl Checker<'_> {
     fn local(&self, index: u32) -> Result<ValType, Refusal>
-        ensures { Finds result (slice_get (self.now.parameters.now ++ self.now.locals.now) index) (λ ty. ty) }
+        ensures { Finds result
+            (slice_get (self.now.parameters.now ++ self.now.locals.now) index) (λ ty. ty) }
     {
         let index = index as usize;
         let found = match self.parameters.get(index) {
@@ -254,7 +259,7 @@ impl Checker<'_> {
 
     fn operator(&self, op: Op, operands: &mut Operands) -> Result<(), Refusal>
         ensures { (labels : List (List ValType)) →
-            Finds result (after_op (conditions_of (self.now.parameters.now ++ self.now.locals.now) labels self.now.has_memory) op operands.old) (λ _. operands.new) }
+            Finds result (after_op (conditions self.now labels) op operands.old) (λ _. operands.new) }
     {
         match op {
             Op::LocalGet(x) => operands.push(self.local(x)?),
@@ -299,11 +304,12 @@ impl Checker<'_> {
         labels: &mut Labels,
         operands: &mut Operands,
     ) -> Result<(), Refusal>
-        requires numbered { IsNumbered (items_of self.now.sequences.now) }
+        requires numbered { IsNumbered (sequences_in self.now) }
         requires within { number < length self.now.sequences.now }
         requires names { NamesBelow number instr }
-        ensures follows { Finds result (after_instruction (named (items_of self.now.sequences.now))
-            (conditions_of (self.now.parameters.now ++ self.now.locals.now) labels.old self.now.has_memory) instr operands.old) (λ _. operands.new) }
+        ensures follows { Finds result
+            (after_instruction (code_named self.now) (conditions self.now labels.old) instr operands.old)
+            (λ _. operands.new) }
         ensures labels { OnOk result (labels.new ≡ labels.old) }
     {
         match instr {
@@ -350,10 +356,10 @@ impl Checker<'_> {
         ends: BlockType,
         labels: &mut Labels,
     ) -> Result<(), Refusal>
-        requires numbered { IsNumbered (items_of self.now.sequences.now) }
+        requires numbered { IsNumbered (sequences_in self.now) }
         requires within { number < length self.now.sequences.now }
-        ensures checks { Decides result (checks (named (items_of self.now.sequences.now) number)
-            (inside (conditions_of (self.now.parameters.now ++ self.now.locals.now) labels.old self.now.has_memory) (types_of taken)) nothing (types_of ends)) }
+        ensures checks { Decides result (checks (code_named self.now number)
+            (inside (conditions self.now labels.old) (types_of taken)) nothing (types_of ends)) }
         ensures labels { OnOk result (labels.new ≡ labels.old) }
     {
         labels.push(taken)?;
@@ -370,10 +376,10 @@ impl Checker<'_> {
         ends: BlockType,
         labels: &mut Labels,
     ) -> Result<(), Refusal>
-        requires numbered { IsNumbered (items_of self.now.sequences.now) }
+        requires numbered { IsNumbered (sequences_in self.now) }
         requires within { number < length self.now.sequences.now }
-        ensures checks { Decides result (checks (named (items_of self.now.sequences.now) number)
-            (conditions_of (self.now.parameters.now ++ self.now.locals.now) labels.old self.now.has_memory) nothing (types_of ends)) }
+        ensures checks { Decides result (checks (code_named self.now number)
+            (conditions self.now labels.old) nothing (types_of ends)) }
         ensures labels { OnOk result (labels.new ≡ labels.old) }
     {
         let mut operands = Operands::new(self.alloc);

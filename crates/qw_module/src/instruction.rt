@@ -5,7 +5,7 @@ pub enum ValType {
     I64,
 }
 
-/// The type of a block: its result, if it has one (2.4.5).
+/// The type of a block: its result, if it has one (2.3.2).
 pub type BlockType = Option<ValType>;
 
 /// How the bits of an operand are read where the instruction says so (2.4.1, `sx`).

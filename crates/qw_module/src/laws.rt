@@ -1,10 +1,13 @@
 //! What holds of the definitions of execution, stated as contracts. No function here computes anything.
 
-ghost use Rattle.std.specs.Prelude.{◌≡◌, ℕ, List, Some, IsSome, length};
+ghost use Rattle.std.specs.Prelude.{◌≡◌, ℕ, ◌^◌, ◌<◌, List, Some, IsSome, length};
 ghost use Rattle.qw_module.specs.Execution.{Config, Event, State, Step};
 ghost use Rattle.qw_module.specs.Step.{Next, next};
 ghost use Rattle.qw_module.specs.Memory.{AreOctets};
 ghost use Rattle.qw_module.specs.Soundness.{IsTyped, IsTypedState};
+ghost use Rattle.qw_module.specs.declared.module.Module.{Module};
+ghost use Rattle.qw_module.specs.Validity.{IsValid, IsShaped};
+ghost use Rattle.qw_module.specs.Instance.{begun};
 
 /// The rules of execution, one for each instruction, and the step that is computed say the same.
 pub fn step_is_computed()
@@ -23,4 +26,10 @@ pub fn typed_configurations_go_on()
     ensures preservation { (c : Config) (m : List ℕ) (n : Next) → IsTyped c → AreOctets m → next c m ≡ Some n → IsTypedState n.state }
     ensures memory { (c : Config) (m : List ℕ) (n : Next) → AreOctets m → next c m ≡ Some n → AreOctets n.memory }
     ensures size { (c : Config) (m : List ℕ) (n : Next) → next c m ≡ Some n → length n.memory ≡ length m }
+{}
+
+/// The run of a valid module of the shape begins typed, whatever its argument.
+pub fn valid_modules_begin_typed()
+    ensures { (m : Module) (number argument : ℕ) → IsValid m → IsShaped m number → argument < 2 ^ 32 →
+        IsTypedState (begun m number argument) }
 {}

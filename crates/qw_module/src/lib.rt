@@ -11,5 +11,5 @@ pub mod module;
 mod operators;
 mod shape;
 pub mod stack;
-pub mod valid;
 pub mod turn_laws;
+pub mod valid;

@@ -7,8 +7,6 @@ ghost use Rattle.qw_module.specs.Syntax.{IsNumbered, sequence_at};
 ghost use Rattle.qw_module.specs.Machine.{CanJump, IsExecuted, IsJump, IsLeft, IsPoint, IsStepped, LeadsTo, entered, first_point, instructions_below, whole_room, point_of, rooms_of, under};
 ghost use Rattle.qw_module.specs.Validity.{IsShaped, IsValid, items_of};
 
-use std::alloc::Global;
-
 use crate::instruction::{Instr, ValType};
 use crate::linear::Linear;
 use crate::module::{self, Module};
@@ -17,6 +15,7 @@ use crate::shape::shaped_run;
 use crate::stack::Stack;
 use crate::valid::ValidModule;
 use qw_types::NoMemory;
+use std::alloc::Global;
 use thiserror::Error;
 
 /// What a step came to.
@@ -99,7 +98,7 @@ impl Activity {
         })
     }
 
-    /// Enters a block that begins with a sequence of this number (4.4.7, `enter`).
+    /// Enters a block that begins with a sequence of this number (4.4.6).
     fn enter(&mut self, inner: usize, takes: bool, target: usize)
         requires room { length self.old.labels.values < self.old.labels.room }
         requires place { self.old.place < 2 ^ 64 - 1 }
@@ -117,7 +116,7 @@ impl Activity {
         self.place = 0;
     }
 
-    /// Branches to the label of an index, counted from the innermost (4.4.8, `br`).
+    /// Branches to the label of an index, counted from the innermost (4.4.5, `br`).
     fn branch(&mut self, index: usize)
         requires there { CanJump index (point_of self.old) }
         requires room { length self.old.operands.values ≤ self.old.operands.room }
@@ -184,7 +183,7 @@ impl Activity {
         }
     }
 
-    /// Leaves the labels whose sequences are finished (4.4.7, exit). Answers whether `run` was left.
+    /// Leaves the labels whose sequences are finished (4.4.6). Answers whether `run` was left.
     fn leave_finished(&mut self, sequences: &[Vec<Instr>]) -> Stepped
         requires { IsPoint (items_of sequences.now) (rooms_of self.old) (point_of self.old) }
         ensures left { IsLeft (items_of sequences.now) (rooms_of self.old) (point_of self.old) result (point_of self.new) }
@@ -322,3 +321,6 @@ fn unwind(operands: &mut Stack<u64>, base: usize, takes: bool)
     operands.truncate(base);
     operands.push(taken);
 }
+
+#[cfg(test)]
+mod tests;

@@ -99,9 +99,9 @@ pub(crate) fn operate(
         Op::LocalGet(x) => operands.push(locals[x as usize]),
         Op::LocalSet(x) => locals[x as usize] = operands.pop(),
         Op::LocalTee(x) => {
-            let value = operands.pop();
-            locals[x as usize] = value;
-            operands.push(value);
+            let kept = operands.pop();
+            locals[x as usize] = kept;
+            operands.push(kept);
         }
         Op::Const(number) => operands.push(value_of(number)),
         Op::Binary(operator) => {

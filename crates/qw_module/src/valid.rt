@@ -1,13 +1,18 @@
 //! Whether a module is valid (WebAssembly Core Specification 1.0, 3.4).
 
-ghost use Rattle.std.specs.Prelude.{◌≡◌, ◌≢◌, ◌↔◌, ℕ, List, [], ◌∷◌, ◌++◌, ◌<◌, ◌≤◌, length, All, IsTrue, IfOk, IfErr, IfSome, OnOk};
+ghost use Rattle.std.specs.Prelude.{◌≡◌, ◌≢◌, ◌↔◌, ℕ, List, [], ◌∷◌, ◌++◌, ◌<◌, ◌≤◌, length};
+ghost use Rattle.std.specs.Prelude.{All, IsTrue, IfOk, IfErr, IfSome, OnOk};
 ghost use Rattle.std.specs.List.{AllPairs, filter_map};
 ghost use Rattle.std.specs.String.{string_bytes};
 ghost use Rattle.qw_module.specs.declared.module.Export.{Export};
+ghost use Rattle.qw_module.specs.Syntax.{NamesBelow, IsNumbered};
 ghost use Rattle.qw_module.specs.Checking.{nothing, conditions_of, checks};
 ghost use Rattle.qw_module.specs.Refusals.{Decides};
-ghost use Rattle.qw_module.specs.Syntax.{NamesBelow, IsNumbered};
-ghost use Rattle.qw_module.specs.Validity.{items_of, sequences_of, code_of_body, imported_function, imported_memory, functions_of, memories_of, IsValidType, IsValidMemory, IsValidImport, IsValidGlobal, IsExportedOf, IsValidFunction, AreApart, IsValid};
+ghost use Rattle.qw_module.specs.Validity.{items_of, sequences_of, code_of_body};
+ghost use Rattle.qw_module.specs.Validity.{imported_function, imported_memory, functions_of};
+ghost use Rattle.qw_module.specs.Validity.{memories_of, IsValidType, IsValidMemory};
+ghost use Rattle.qw_module.specs.Validity.{IsValidImport, IsValidGlobal, IsExportedOf};
+ghost use Rattle.qw_module.specs.Validity.{IsExport, IsValidFunction, AreApart, IsValid};
 ghost use Rattle.qw_module.specs.ValidFaults.{IsAgainst};
 
 use crate::checker::{Checker, Labels, Refusal, constant_type};
@@ -149,7 +154,8 @@ fn are_globals(globals: &[Global]) -> bool
 }
 
 fn is_memory_part(module: &Module) -> bool
-    ensures { IsTrue result ↔ (IfSome «module».now.memory IsValidMemory × (length (memories_of «module».now) ≤ 1)) }
+    ensures { IsTrue result ↔
+        (IfSome «module».now.memory IsValidMemory × (length (memories_of «module».now) ≤ 1)) }
 {
     memories(module) <= 1
         && match module.memory {
@@ -186,7 +192,8 @@ fn names_differ(exports: &[Export]) -> bool
 }
 
 fn are_exports(module: &Module) -> bool
-    ensures { IsTrue result ↔ (All (λ (export : Export). IsExportedOf «module».now export.kind) «module».now.exports.items × AllPairs AreApart «module».now.exports.items) }
+    ensures { IsTrue result ↔ (All (IsExport «module».now) «module».now.exports.items
+        × AllPairs AreApart «module».now.exports.items) }
 {
     module
         .exports
@@ -237,7 +244,8 @@ fn check_body(
     requires results { IsValidType ty.now }
     requires numbered { IsNumbered (sequences_of function.now.body) }
     ensures { Decides result (checks (code_of_body function.now.body)
-        (conditions_of (ty.now.params.items ++ function.now.locals.items) (ty.now.results.items ∷ []) has_memory) nothing ty.now.results.items) }
+        (conditions_of (ty.now.params.items ++ function.now.locals.items) (ty.now.results.items ∷ []) has_memory)
+        nothing ty.now.results.items) }
 {
     let ends = ty.results.first().copied();
     let mut labels = Labels::new(alloc);
@@ -290,7 +298,7 @@ fn check_parts(module: &Module) -> Result<(), ValidFault>
     ensures memory { OnOk result (IfSome «module».now.memory IsValidMemory) }
     ensures one_memory { OnOk result (length (memories_of «module».now) ≤ 1) }
     ensures globals { OnOk result (All IsValidGlobal «module».now.globals.items) }
-    ensures exports { OnOk result (All (λ (export : Export). IsExportedOf «module».now export.kind) «module».now.exports.items) }
+    ensures exports { OnOk result (All (IsExport «module».now) «module».now.exports.items) }
     ensures names { OnOk result (AllPairs AreApart «module».now.exports.items) }
     ensures fault { IfErr result (λ fault. IsAgainst fault «module».now) }
 {
@@ -330,4 +338,69 @@ pub fn validate(alloc: alloc::Global, module: Module) -> Result<ValidModule, Val
 {
     check(alloc, &module)?;
     Ok(ValidModule { module })
+}
+
+#[cfg(test)]
+mod tests {
+    use super::*;
+    use crate::instruction::{Load, MemArg, Op, Store, ValType};
+    use crate::module::Body;
+    use std::alloc::AllocError;
+    use std::test::Fail;
+
+    /// A module with one function of type i32 to nothing, whose body has one inner sequence.
+    fn module_of(alloc: alloc::Global, inner: &[Instr]) -> Result<Module, AllocError> {
+        let outer = [Instr::Block {
+            result: None,
+            body: 0,
+        }];
+        let body = Body {
+            sequences: vec![in alloc; inner.to_vec(alloc)?, outer.to_vec(alloc)?]?,
+        };
+        let ty = FuncType {
+            params: vec![in alloc; ValType::I32]?,
+            results: Vec::new(alloc),
+        };
+        let function = Function {
+            type_index: 0,
+            locals: Vec::new(alloc),
+            body,
+        };
+        Ok(Module {
+            types: vec![in alloc; ty]?,
+            imports: vec![in alloc; Import::Memory(Limits { min: 1, max: None })]?,
+            functions: vec![in alloc; function]?,
+            memory: None,
+            globals: Vec::new(alloc),
+            exports: Vec::new(alloc),
+        })
+    }
+
+    #[test]
+    fn bodies(rt: HostRuntime) -> Result<(), Fail> {
+        let arg = MemArg {
+            align: 2,
+            offset: 0,
+        };
+        let get = Instr::Op(Op::LocalGet(0));
+        let load = Instr::Op(Op::Load(Load::I32, arg));
+        let store = Instr::Op(Op::Store(Store::I32, arg));
+        let stored = [get, get, load, store];
+        let after_branch = [Instr::Br(0), store];
+        let looped = [get, Instr::BrIf(1), get, load, Instr::BrIf(0)];
+        let short = [get, store];
+        let left = [get, load];
+        let cases: [(&[Instr], Option<ValidFault>); 5] = [
+            (&stored, None),
+            (&after_branch, None),
+            (&looped, None),
+            (&short, Some(ValidFault::Function { number: 0 })),
+            (&left, Some(ValidFault::Function { number: 0 })),
+        ];
+        for (inner, fault) in cases {
+            let module = module_of(rt.alloc(), inner)?;
+            assert_eq!(rt; validate(rt.alloc(), module).err(), fault);
+        }
+        Ok(())
+    }
 }

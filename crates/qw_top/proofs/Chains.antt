@@ -1,6 +1,6 @@
 -- A column's values and a chain of result rows in memory, and what keeps them.
-use Rattle.std.proofs.Common.{◌≡◌, ℕ, zero, suc, ◌+◌, ◌-◌, ◌*◌, ◌%◌, ◌^◌, ◌<◌, ◌≤◌, ◌⊎◌, inl, inr, ⊎_elim, List, [], ◌∷◌, ◌++◌, length, get_or, refl, sym, ap, ◌∙◌, subst, arith}
-use Rattle.qw_module.specs.Memory.{number_at, with_number}
+use Rattle.std.proofs.Common.{◌≡◌, ℕ, ◌+◌, ◌*◌, ◌≤◌, ◌⊎◌, inl, inr, ⊎_elim, List, [], ◌∷◌, ◌++◌, length, sym, ap, ◌∙◌, arith}
+use Rattle.qw_module.specs.Memory.{number_at}
 
 -- these words of four octets stand one after another
 abbrev pub Stands : List ℕ → ℕ → List ℕ → Type 0

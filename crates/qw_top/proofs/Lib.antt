@@ -22,3 +22,10 @@ pub mod Serving
 pub mod SeatSteps
 pub mod BenchTurns
 pub mod SinkLemmas
+pub mod TokenLemmas
+pub mod TokenRun
+pub mod TokenLongest
+pub mod ParseLemmas
+pub mod GrammarLemmas
+pub mod ReadLemmas
+pub mod TopLemmas

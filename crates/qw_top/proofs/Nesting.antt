@@ -1,5 +1,5 @@
 -- The emitted sequences, by number, stand for the nested code.
-use Rattle.std.proofs.Common.{◌≡◌, ℕ, ℤ, zero, suc, ◌<◌, length, arith, List, [], ◌∷◌, Some, None, refl, ap, ◌∙◌}
+use Rattle.std.proofs.Common.{◌≡◌, ℕ, ℤ, zero, suc, ◌<◌, length, arith, List, [], ◌∷◌, None, ap, ◌∙◌}
 use Rattle.std.specs.List.{AllByRecursion}
 use Rattle.qw_module.specs.declared.instruction.Instr.{Instr}
 use Rattle.qw_module.specs.Syntax.{Code, done, loop, nested, named_below, code_of, sequence_at, NamesBelow, IsNumbered}

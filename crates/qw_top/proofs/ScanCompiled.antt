@@ -1,10 +1,10 @@
 -- The emitted module is the compiled form of its statement.
-use Rattle.std.proofs.Common.{◌≡◌, ℕ, ℤ, zero, suc, ◌+◌, ◌*◌, ◌^◌, ◌<◌, ◌≤◌, List, [], ◌∷◌, ◌++◌, length, map, Option, Some, None, refl, sym, ap, ◌∙◌, subst, ap₂, ⊎_elim, arith, w32, w64, SFits}
+use Rattle.std.proofs.Common.{◌≡◌, ℕ, ℤ, zero, suc, ◌+◌, ◌*◌, ◌^◌, ◌<◌, ◌≤◌, List, [], ◌∷◌, length, map, Option, Some, None, refl, sym, ap, ◌∙◌, subst, ap₂, ⊎_elim, arith, w32, w64, SFits}
 use Rattle.std.specs.Prelude.{IsSomeAnd, slice_get, replicate}
 use Rattle.std.specs.Int.{cast_signed}
 use Rattle.std.specs.List.{AllByRecursion}
 use Rattle.std.proofs.lemmas.Bool.{cases_Bool, le-leb}
-use Rattle.std.proofs.lemmas.Option.{same_Some, none-some}
+use Rattle.std.proofs.lemmas.Option.{none-some}
 use Rattle.qw_types.specs.declared.value.Val.{Val}
 use Rattle.qw_types.specs.declared.value.Val.TheVariants.{Num}
 use Rattle.qw_module.specs.declared.instruction.ValType.{ValType}
@@ -15,22 +15,21 @@ use Rattle.qw_module.specs.Memory.{number_at}
 use Rattle.qw_module.specs.Execution.{State, Running, Returned, Raised, Trapped, label, settled}
 use Rattle.qw_module.specs.declared.module.Global.{Global}
 use Rattle.qw_module.specs.Numbers.{constant}
-use Rattle.qw_module.specs.Map.{World, page, most_pages}
-use Rattle.qw_module.specs.Runs.{Moment, IsOver, Behaves, Steps}
+use Rattle.qw_module.specs.Map.{page}
+use Rattle.qw_module.specs.Runs.{Moment, IsOver, Behaves}
 use Rattle.qw_module.specs.Validity.{IsOneI32, IsShaped, code_of_body}
-use Rattle.qw_module.specs.Start.{weight}
-use Rattle.qw_module.specs.Instance.{begun, body_of, sequences_of_function, locals_of_function}
+use Rattle.qw_module.specs.Instance.{sequences_of_function, locals_of_function}
 use Rattle.qw_module.proofs.MemoryFacts.{number_at-four}
 use Rattle.qw_module.proofs.OpenRuns.{Steps-more, Within-from_steps, behaves_within}
-use Rattle.qw_module.proofs.RunRules.{more, more-is}
+use Rattle.qw_module.proofs.RunRules.{more}
 use Rattle.qw_top.specs.declared.meaning.Query.{Query}
-use Rattle.qw_top.specs.Meaning.{Rows, outcome, results}
+use Rattle.qw_top.specs.Meaning.{results}
 use Rattle.qw_top.specs.Emit.{IsScan, contents_of, scan_code}
-use Rattle.qw_top.specs.Columns.{integer_at, StandsAt, HoldsColumn, value_of}
+use Rattle.qw_top.specs.Columns.{integer_at, StandsAt, value_of}
 use Rattle.qw_top.specs.Layout.{first_world, rows_at}
-use Rattle.qw_top.specs.Compiled.{IsReady, beginning, Answers, units, weight_of, IsCompiled}
+use Rattle.qw_top.specs.Compiled.{IsReady, Answers, units, weight_of, IsCompiled}
 use Rattle.qw_top.proofs.ScanSteps.{running, in_call}
-use Rattle.qw_top.proofs.ScanValid.{single, valid, shaped}
+use Rattle.qw_top.proofs.ScanValid.{contains, single, valid, shaped}
 use Rattle.qw_top.proofs.ScanRuns.{Over, passed_over, kept_of, count_of}
 use Rattle.qw_top.proofs.ScanStart.{words_at, length-words_at, words_at-are, Begun-fresh, starts}
 use Rattle.qw_top.proofs.ScanResult.{number, cell, kept_integers, chain_rows, result_rows, counted_within}
@@ -175,6 +174,12 @@ pub scan_compiled : (query : Query) (m : Module) → SFits w64 query.literal →
 scan_compiled query m fits scan = record {
   valid = valid query.literal fits m scan;
   shaped = (0, shaped query.literal fits m scan);
+  links = contains m.imports.items scan.imports 0 (omega arith) refl;
+  short = λ number f there.
+      let only = single contents_of m.functions.items _ scan.functions in
+      let same : f ≡ only.0 = only_there m.functions.items f only.0 number only.1 there in
+      let code : code_of_body f.body ≡ scan_code query.literal = rw same (ap (λ (c : ℕ × List ValType × Code). c.2) only.2) in
+      rw code (omega arith);
   light = λ number is_shaped.
       let is = the_scan query m scan number is_shaped in
       rw (is.there, is.code) (omega arith);

@@ -1,12 +1,12 @@
 -- What the memory holds while the emitted loop runs, and what keeps it.
-use Rattle.std.proofs.Common.{◌≡◌, ℕ, zero, suc, ◌+◌, ◌-◌, ◌*◌, ◌%◌, ◌^◌, ◌<◌, ◌≤◌, ◌⊎◌, inl, inr, ⊎_elim, true, false, List, [], ◌∷◌, ◌++◌, length, get_or, refl, sym, ap, ◌∙◌, subst, arith, length-append}
+use Rattle.std.proofs.Common.{◌≡◌, ℕ, zero, suc, ◌+◌, ◌-◌, ◌*◌, ◌%◌, ◌^◌, ◌<◌, ◌≤◌, ◌⊎◌, inl, inr, ⊎_elim, true, List, [], ◌∷◌, ◌++◌, length, get_or, refl, ◌∙◌, subst, arith}
 use Rattle.std.proofs.lemmas.Bool.{le-leb, and_from, or_left, or_right}
 use Rattle.qw_module.specs.Memory.{number_at, with_number}
-use Rattle.qw_module.specs.Map.{Area, World, Others, page, lies_in_one}
-use Rattle.qw_module.proofs.MemoryFacts.{length-with_number, with_number-above, number_at-same, number_at-with_number, number_at-apart}
+use Rattle.qw_module.specs.Map.{Others, page, lies_in_one}
+use Rattle.qw_module.proofs.MemoryFacts.{length-with_number, with_number-above, number_at-with_number, number_at-apart}
 use Rattle.qw_module.proofs.RunRules.{IsKept, number_at-kept}
 use Rattle.qw_top.specs.Layout.{first_world}
-use Rattle.qw_top.proofs.Chains.{Stands, Chain, Stands-same, Chain-link, Chain-same, Chain-same_rows, Chain-more}
+use Rattle.qw_top.proofs.Chains.{Stands, Chain, Stands-same, Chain-same, Chain-same_rows, Chain-more}
 
 -- zeros are the number 0
 pub number_at-zeros : (m : List ℕ) (at width : ℕ) → ((k : ℕ) → at ≤ k → k < at + width → get_or m k 0 ≡ 0) → number_at m at width ≡ 0

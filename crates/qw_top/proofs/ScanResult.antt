@@ -1,8 +1,8 @@
 -- The chain that the emitted code leaves is the statement's result, within the stated count.
-use Rattle.std.proofs.Common.{◌≡◌, ℕ, ℤ, pos, negsuc, zero, suc, ◌+◌, ◌-◌, ◌*◌, ◌%◌, ◌^◌, ◌<◌, ◌≤◌, ◌⊎◌, inl, inr, ⊎_elim, Bool, true, false, not, List, [], ◌∷◌, ◌++◌, length, map, filter, get_or, Option, Some, None, refl, sym, ap, ◌∙◌, subst, arith, w32, w64, to_z, of_z, SFits, FitsSigned}
-use Rattle.std.specs.Prelude.{◌==◌, if◌then◌else◌, int_le, int_lt, slice_get}
-use Rattle.std.specs.Int.{cast_signed, cast_unsigned}
-use Rattle.std.proofs.lemmas.Bool.{cases_Bool, eq-eqb, ne_eqb, and_from, or_left, le-leb}
+use Rattle.std.proofs.Common.{◌≡◌, ℕ, ℤ, pos, negsuc, ◌+◌, ◌*◌, ◌^◌, ◌<◌, ◌≤◌, ⊎_elim, true, false, not, List, [], ◌∷◌, length, map, Some, refl, ap, ◌∙◌, arith, w32, w64, SFits}
+use Rattle.std.specs.Prelude.{int_le, int_lt, slice_get}
+use Rattle.std.specs.Int.{cast_signed}
+use Rattle.std.proofs.lemmas.Bool.{cases_Bool, eq-eqb, and_from, or_left, le-leb}
 use Rattle.std.proofs.lemmas.Int.{ints, to_z-of_z}
 use Rattle.std.proofs.Math.Facts.{sfits_to_z, sfits_widen}
 use Rattle.qw_types.specs.declared.value.Val.{Val}
@@ -11,13 +11,12 @@ use Rattle.qw_module.specs.declared.instruction.Sign.TheVariants.{Signed}
 use Rattle.qw_module.specs.Numbers.{extended}
 use Rattle.qw_module.specs.Memory.{number_at}
 use Rattle.qw_module.specs.Map.{Area, page, lies_in_one}
-use Rattle.qw_module.proofs.RunRules.{more, more-is}
+use Rattle.qw_module.proofs.RunRules.{more-is}
 use Rattle.qw_top.specs.declared.meaning.Query.{Query}
 use Rattle.qw_top.specs.Meaning.{condition, is_true, selected, results}
 use Rattle.qw_top.specs.Layout.{is_integer, row_at, rows_from}
 use Rattle.qw_top.proofs.Chains.{Chain}
 use Rattle.qw_top.proofs.ScanRuns.{passed_over, kept_of, count_of, AreWords}
-use Rattle.qw_top.proofs.ScanStart.{words_at}
 
 -- the number that a word of four octets stands for, and that its 64 bits do
 abbrev pub number : ℕ → ℤ

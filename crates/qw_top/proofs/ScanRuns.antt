@@ -1,22 +1,21 @@
 -- The emitted code runs over the column: what it does at each value, and how many instructions that takes.
-use Rattle.std.proofs.Common.{◌≡◌, ℕ, ℤ, zero, suc, ◌+◌, ◌-◌, ◌*◌, ◌%◌, ◌^◌, ◌<◌, ◌≤◌, ◌⊎◌, inl, inr, ⊎_elim, Bool, true, false, cond, List, [], ◌∷◌, ◌++◌, length, get_or, refl, sym, ap, ◌∙◌, subst, arith, length-append, append-nil, append_assoc, w32, w64, add-zero}
+use Rattle.std.proofs.Common.{◌≡◌, ℕ, ℤ, suc, ◌+◌, ◌*◌, ◌%◌, ◌^◌, ◌<◌, ◌≤◌, inl, inr, ⊎_elim, Bool, false, List, [], ◌∷◌, ◌++◌, length, refl, sym, ap, ◌∙◌, subst, arith, length-append, append-nil, append_assoc, w64, add-zero}
 use Rattle.std.specs.Prelude.{◌==◌, if◌then◌else◌}
-use Rattle.std.specs.Int.{cast_unsigned, cast_signed}
+use Rattle.std.specs.Int.{cast_unsigned}
 use Rattle.std.proofs.lemmas.Int.{ints}
 use Rattle.std.proofs.lemmas.Bool.{cases_Bool, eq-eqb, ne_eqb, cases_eq}
 use Rattle.qw_module.specs.declared.instruction.Sign.TheVariants.{Signed}
 use Rattle.qw_module.specs.Numbers.{at_most, extended}
-use Rattle.qw_module.specs.Memory.{number_at, with_number}
-use Rattle.qw_module.specs.Execution.{State, Running, Returned}
+use Rattle.qw_module.specs.Memory.{number_at}
+use Rattle.qw_module.specs.Execution.{State, Returned}
 use Rattle.qw_module.specs.Map.{World, page}
 use Rattle.qw_module.specs.Runs.{Moment}
-use Rattle.qw_module.proofs.MemoryFacts.{length-with_number, number_at-with_number, number_at-apart}
+use Rattle.qw_module.proofs.MemoryFacts.{number_at-with_number}
 use Rattle.qw_module.proofs.RunRules.{more, Runs, Runs-weaker, IsKept, go, load, store}
-use Rattle.qw_top.specs.Emit.{scan_code}
 use Rattle.qw_top.specs.Layout.{first_world}
-use Rattle.qw_top.proofs.Chains.{Stands, Chain}
-use Rattle.qw_top.proofs.ScanMemory.{Scanned, Linked, Lies, in_column, in_own, in_page, Scanned-kept, Linked-kept, Scanned-apart, Scanned-linked, Linked-written}
-use Rattle.qw_top.proofs.ScanSteps.{running, in_call, in_loop, tests, links_last, counts_rows, at_loop, to_load, rejects, keeps, to_cell, counted, to_end, no_last, some_last, to_count, to_values, to_rows, to_free, to_loop}
+use Rattle.qw_top.proofs.Chains.{Chain}
+use Rattle.qw_top.proofs.ScanMemory.{Scanned, Linked, Lies, in_column, in_own, Scanned-kept, Linked-kept, Scanned-apart, Scanned-linked, Linked-written}
+use Rattle.qw_top.proofs.ScanSteps.{running, in_call, in_loop, tests, links_last, at_loop, to_load, rejects, keeps, to_cell, counted, to_end, no_last, some_last, to_count}
 
 -- the page at the return: the chain of these rows, ended, and their number
 pub record Ended (d : ℕ) (all : List ℕ) (m : List ℕ) : Type 0 where

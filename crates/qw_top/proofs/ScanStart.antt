@@ -1,16 +1,15 @@
 -- The emitted code from its start, over a memory that is ready.
-use Rattle.std.proofs.Common.{◌≡◌, ℕ, ℤ, zero, suc, ◌+◌, ◌-◌, ◌*◌, ◌%◌, ◌^◌, ◌<◌, ◌≤◌, ◌⊎◌, inl, inr, List, [], ◌∷◌, ◌++◌, length, get_or, refl, sym, ap, ◌∙◌, subst, arith, add-zero}
+use Rattle.std.proofs.Common.{◌≡◌, ℕ, ℤ, zero, suc, ◌+◌, ◌-◌, ◌*◌, ◌%◌, ◌^◌, ◌<◌, ◌≤◌, inl, List, [], ◌∷◌, length, get_or, refl, ap, ◌∙◌, subst, arith, add-zero}
 use Rattle.qw_module.specs.Memory.{number_at, AreOctets}
-use Rattle.qw_module.specs.Execution.{State, Running}
 use Rattle.qw_module.specs.Map.{World, page}
-use Rattle.qw_module.specs.Runs.{Moment, Steps}
+use Rattle.qw_module.specs.Runs.{Moment}
 use Rattle.qw_module.proofs.MemoryFacts.{number_at-below}
 use Rattle.qw_module.proofs.RunRules.{more, Runs, Runs-weaker, IsKept, go, load}
 use Rattle.qw_top.specs.Emit.{scan_code}
 use Rattle.qw_top.specs.Layout.{IsFresh, first_world}
-use Rattle.qw_top.proofs.Chains.{Stands, Chain}
+use Rattle.qw_top.proofs.Chains.{Stands}
 use Rattle.qw_top.proofs.ScanMemory.{Scanned, Lies, in_page, page_kept, number_at-zeros, Scanned-kept}
-use Rattle.qw_top.proofs.ScanSteps.{running, in_call, at_loop, to_values, to_rows, to_free, to_loop}
+use Rattle.qw_top.proofs.ScanSteps.{running, in_call, to_values, to_rows, to_free, to_loop}
 use Rattle.qw_top.proofs.ScanRuns.{Over, kept_of, count_of, AreWords, loops}
 
 -- the words of so many values

@@ -1,17 +1,17 @@
 -- The silent steps of the emitted code, over plain numbers.
-use Rattle.std.proofs.Common.{◌≡◌, ℕ, ℤ, zero, suc, ◌+◌, ◌*◌, ◌%◌, ◌^◌, ◌<◌, ◌≤◌, Bool, true, false, List, [], ◌∷◌, Option, Some, None, refl, ap, ◌∙◌, nat_eq, w64}
+use Rattle.std.proofs.Common.{◌≡◌, ℕ, ℤ, ◌+◌, ◌*◌, ◌%◌, ◌^◌, true, false, List, [], ◌∷◌, Some, None, refl, w64}
 use Rattle.std.specs.Prelude.{◌==◌}
 use Rattle.std.specs.Int.{cast_unsigned}
-use Rattle.qw_module.specs.declared.instruction.ValType.TheVariants.{I32, I64}
+use Rattle.qw_module.specs.declared.instruction.ValType.TheVariants.{I32}
 use Rattle.qw_module.specs.declared.instruction.Sign.TheVariants.{Signed}
 use Rattle.qw_module.specs.declared.instruction.Binary.TheVariants.{I32Add, I32Mul, I64Add}
-use Rattle.qw_module.specs.declared.instruction.Relation.TheVariants.{I32Eq, I64Eq, I64Le}
+use Rattle.qw_module.specs.declared.instruction.Relation.TheVariants.{I64Eq, I64Le}
 use Rattle.qw_module.specs.declared.instruction.Op.TheVariants as o
 use Rattle.qw_module.specs.Syntax.{Code, done, op, block, loop, if_else, br, br_if}
 use Rattle.qw_module.specs.Numbers.{at_most}
-use Rattle.qw_module.specs.Execution.{Context, label, Config, State, Running, Returned}
+use Rattle.qw_module.specs.Execution.{Context, label, State, Running}
 use Rattle.qw_module.proofs.RunRules.{Silently}
-use Rattle.qw_top.specs.Emit.{get, set, tee, i32, i64, load_i32, load_value, store_i32, store_i64, scan_row, scan_end, scan_frame, scan_code}
+use Rattle.qw_top.specs.Emit.{get, set, tee, i32, i64, load_i32, load_value, store_i32, store_i64, scan_row, scan_end, scan_code}
 
 -- what stands after the loop, the loop itself, and the parts of its body after the load and after each store
 abbrev pub the_end : Code

@@ -1,13 +1,13 @@
 -- The emitted code is typed.
-use Rattle.std.proofs.Common.{◌≡◌, ℕ, ℤ, ◌<◌, ◌≤◌, ◌^◌, List, [], ◌∷◌, Some, None, refl, arith, w64, SFits}
+use Rattle.std.proofs.Common.{ℤ, ◌<◌, ◌^◌, List, [], ◌∷◌, Some, None, refl, arith, w64, SFits}
 use Rattle.std.specs.Int.{cast_unsigned}
 use Rattle.std.proofs.lemmas.Int.{ints}
 use Rattle.qw_module.specs.declared.instruction.ValType.{ValType}
 use Rattle.qw_module.specs.declared.instruction.ValType.TheVariants.{I32, I64}
 use Rattle.qw_module.specs.declared.instruction.Op.{Op}
 use Rattle.qw_module.specs.Syntax.{Code, op, done}
-use Rattle.qw_module.specs.Typing.{Scope, within, OpTyped, typed-local_get, typed-local_set, typed-local_tee, typed-const, typed-binary, typed-relation, typed-load, typed-store, Typed, typed-done, typed-op, typed-block, typed-loop, typed-if_else, typed-br, typed-br_if}
-use Rattle.qw_top.specs.Emit.{scan_row, scan_end, scan_frame, scan_code, i32, get}
+use Rattle.qw_module.specs.Typing.{Scope, OpTyped, typed-local_get, typed-local_set, typed-local_tee, typed-const, typed-binary, typed-relation, typed-load, typed-store, Typed, typed-done, typed-op, typed-block, typed-loop, typed-if_else, typed-br, typed-br_if}
+use Rattle.qw_top.specs.Emit.{scan_row, scan_end, scan_code, i32, get}
 
 -- the locals of `run`
 abbrev pub scan_locals : List ValType

@@ -1,7 +1,7 @@
 -- The emitted module is valid, and of the shape that is executed.
-use Rattle.std.proofs.Common.{◌≡◌, ℕ, ℤ, ◌<◌, ◌≤◌, All, List, [], ◌∷◌, ◌++◌, length, map, Some, None, get_or, refl, sym, ap, ◌∙◌, subst, ◌+◌, arith, w64, SFits}
+use Rattle.std.proofs.Common.{◌≡◌, ℕ, ℤ, ◌<◌, All, List, [], ◌∷◌, ◌++◌, length, map, Some, None, get_or, refl, sym, ap, ◌∙◌, subst, ◌+◌, arith, w64, SFits}
 use Rattle.std.specs.Prelude.{codes, slice_get, Option, Contains}
-use Rattle.std.specs.List.{AllPairs, filter_map}
+use Rattle.std.specs.List.{filter_map}
 use Rattle.std.specs.Option.{option_to_list}
 use Rattle.std.specs.String.{string_bytes}
 use Rattle.std.proofs.lemmas.List.Elements.{All-nil, All-cons, All-same}
@@ -16,8 +16,8 @@ use Rattle.qw_module.specs.declared.module.Export.{Export}
 use Rattle.qw_module.specs.declared.module.ExportKind.{ExportKind}
 use Rattle.qw_module.specs.declared.module.ExportKind.TheVariants as kind
 use Rattle.qw_module.specs.declared.module.Module.{Module}
-use Rattle.qw_module.specs.Syntax.{Code, IsNumbered}
-use Rattle.qw_module.specs.Validity.{code_of_body, sequences_of, imported_function, imported_memory, functions_of, memories_of, TakesOneI32, IsOneI32, IsValidType, IsValidMemory, IsValidImport, IsValidGlobal, IsExportedOf, IsTypedFunction, IsValidFunction, AreApart, IsValid, IsShaped}
+use Rattle.qw_module.specs.Syntax.{Code}
+use Rattle.qw_module.specs.Validity.{code_of_body, imported_function, imported_memory, functions_of, memories_of, TakesOneI32, IsOneI32, IsValidType, IsValidImport, IsValidGlobal, IsExportedOf, IsTypedFunction, IsValidFunction, IsValid, IsShaped}
 use Rattle.qw_top.specs.Emit.{IsScan, signature_of, contents_of, exported, scan_code}
 use Rattle.qw_top.proofs.ScanTyped.{code_typed}
 
@@ -34,7 +34,7 @@ the_limits : Limits
 the_limits = record { min = 1; max = None }
 
 -- what stands at a place of a list is in it
-contains : {A : Type 0} (xs : List A) {ys : List A} {x : A} → xs ≡ ys → (k : ℕ) → k < length ys → get_or ys k x ≡ x → Contains xs x
+pub contains : {A : Type 0} (xs : List A) {ys : List A} {x : A} → xs ≡ ys → (k : ℕ) → k < length ys → get_or ys k x ≡ x → Contains xs x
 contains {A} xs {ys} {x} same k within there = subst (λ (zs : List A). Contains zs x) (sym same) (k, within, there)
 
 module _ (literal : ℤ) (fits : SFits w64 literal) (m : Module) (scan : IsScan literal m) (type : FuncType) (run : Function) (export : Export)

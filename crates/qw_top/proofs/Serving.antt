@@ -6,24 +6,21 @@ use Rattle.std.specs.Option.{option_and_then}
 use Rattle.std.specs.List.{AllByRecursion}
 use Rattle.std.proofs.lemmas.Bool.{leb-true}
 use Rattle.std.proofs.lemmas.Bool.Decides.{leb_tells}
-use Rattle.std.proofs.lemmas.Option.{same_Some, none-some, slice_get_within}
+use Rattle.std.proofs.lemmas.Option.{none-some, slice_get_within}
 use Rattle.qw_types.specs.declared.value.Val.{Val}
 use Rattle.qw_types.specs.declared.value.Val.TheVariants.{Num}
-use Rattle.qw_module.specs.Memory.{number_at}
 use Rattle.qw_module.specs.Execution.{Config, State, Running, Returned, Raised, Trapped}
 use Rattle.qw_module.specs.Map.{Area, World, SameIn, Others, page}
 use Rattle.qw_module.specs.Runs.{Moment, IsOver, Behaves, begins}
-use Rattle.qw_module.specs.Turns.{Done, Exception, Pages, Steps, Trap, End, Instance, Shared, end_at, turns, EachInstance, IsWhole, AreApart, AllApart, LiesWithin, AreSeparate, AreSafe, moment_of, StaysFine, LeadsTo}
-use Rattle.qw_module.specs.Validity.{IsShaped}
+use Rattle.qw_module.specs.Turns.{Steps, Instance, Shared, end_at, turns, EachInstance, IsWhole, LiesWithin, AreSeparate, moment_of, LeadsTo}
 use Rattle.qw_module.proofs.MemoryFacts.{number_at-four}
 use Rattle.qw_module.proofs.RunRules.{number_at-kept}
 use Rattle.qw_module.proofs.Separate.{safe-turns, runs-turns, worlds-turns, columns-turns, behaves-turns}
 use Rattle.qw_module.proofs.TurnSteps.{turns-many, turns-whole, limits-turns}
 use Rattle.qw_top.specs.declared.meaning.Query.{Query}
 use Rattle.qw_top.specs.Columns.{HoldsColumn, StandsAt, columns_start, integer_at, value_of}
-use Rattle.qw_top.specs.Layout.{first_world}
-use Rattle.qw_top.specs.Compiled.{Answers, bound, IsCompiled}
-use Rattle.qw_top.specs.Bench.{AreServing, EachTask, IsAt, IsStart, IsStarting, Serves, Task, starting}
+use Rattle.qw_top.specs.Compiled.{Answers, bound}
+use Rattle.qw_top.specs.Bench.{AreServing, EachTask, IsAt, IsStart, IsStarting, Serves, Task}
 use Rattle.qw_top.proofs.ResultLemmas.{results_stay}
 
 -- what is there at a place of a list

@@ -1,12 +1,12 @@
 -- Instances of compiled statements that share one memory: how they begin, and what holds of them whatever turns they are
 -- given.
-use Rattle.std.specs.Prelude.{◌≡◌, ◌≢◌, ℕ, ◌+◌, ◌-◌, ◌*◌, ◌<◌, ◌≤◌, if◌then◌else◌, List, [], ◌∷◌, ◌++◌, length, map, Option, Some, None, is_some, slice_get}
+use Rattle.std.specs.Prelude.{◌≡◌, ℕ, ◌+◌, ◌-◌, ◌*◌, ◌<◌, ◌≤◌, List, length, Option, Some, None, slice_get}
 use Rattle.qw_types.specs.declared.value.Val.{Val}
 use Rattle.qw_module.specs.declared.module.Module.{Module}
 use Rattle.qw_module.specs.Memory.{AreOctets}
 use Rattle.qw_module.specs.Map.{page, most_pages}
 use Rattle.qw_module.specs.Runs.{Behaves}
-use Rattle.qw_module.specs.Turns.{Done, Steps, End, Instance, Shared, end_at, turns, may_ask, IsWhole, AreSafe, moment_of}
+use Rattle.qw_module.specs.Turns.{Done, Steps, End, Instance, Shared, end_at, may_ask, IsWhole, AreSafe, moment_of}
 use Rattle.qw_module.specs.Validity.{IsShaped}
 use Rattle.qw_module.specs.Instance.{begun}
 use Rattle.qw_top.specs.declared.meaning.Query.{Query}

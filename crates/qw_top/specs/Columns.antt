@@ -18,7 +18,7 @@ abbrev pub integer_size : ℕ
 integer_size = 4
 
 -- the signed number at an address: four octets, the least significant first, in two's complement (WebAssembly Core
--- Specification 1.0, 4.3.1 "integers" and 4.3.2)
+-- Specification 1.0, 4.3.1 "Storage" and 4.3.2 "Sign Interpretation")
 abbrev pub integer_at : List ℕ → ℕ → ℤ
 integer_at memory address = cast_signed w32 (from_le_bytes w32 (take integer_size (drop address memory)))
 

@@ -1,5 +1,5 @@
 -- What an instance's first page holds: the descriptor of a statement over one column, and the result rows.
-use Rattle.std.specs.Prelude.{◌≡◌, ℕ, zero, suc, ◌+◌, ◌*◌, ◌<◌, ◌≤◌, ◌==◌, ◌&&◌, if◌then◌else◌, Bool, ℤ, pos, negsuc, int_le, List, [], ◌∷◌, length, Option, Some, None, slice_index}
+use Rattle.std.specs.Prelude.{◌≡◌, ℕ, zero, suc, ◌+◌, ◌*◌, ◌<◌, ◌≤◌, ◌==◌, ◌&&◌, if◌then◌else◌, Bool, ℤ, pos, negsuc, int_le, List, [], ◌∷◌, Option, Some, None, slice_index}
 use Rattle.std.specs.Int.{w64, cast_signed}
 use Rattle.qw_types.specs.declared.value.Val.{Val}
 use Rattle.qw_types.specs.declared.value.Val.TheVariants.{Num}
@@ -33,8 +33,9 @@ first_world start rows descriptor limit = record {
 abbrev pub is_integer : ℤ → Bool
 is_integer n = int_le (negsuc 2147483647) n && int_le n (pos 2147483647)
 
--- The result row at an address: 4 octets of the next row's address, 4 zeros, and a cell of 16 octets: a signed value of
--- 8, and 1 that is 0 as the value isn't null. It lies in an own area, and the value is an INTEGER.
+-- The result row at an address, of 24 octets: the next row's address in 4, and from octet 8 on a signed value of 8, and 1
+-- octet that is 0 as the value isn't null. Octets 4 to 7 and 17 to 23 are not read. It lies in an own area, and the value
+-- is an INTEGER.
 abbrev pub row_at : List Area → List ℕ → ℕ → Option (List Val)
 row_at own memory at =
     let value = cast_signed w64 (number_at memory (at + 8) 8) in

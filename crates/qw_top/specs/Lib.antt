@@ -13,3 +13,9 @@ pub mod Words
 pub mod Columns
 pub mod Loading
 pub mod Sink
+pub mod Token
+pub mod Scan
+pub mod Grammar
+pub mod Parse
+pub mod Reading
+pub mod Top

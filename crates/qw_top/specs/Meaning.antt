@@ -1,5 +1,5 @@
 -- The meaning of a statement: which rows it gives of a table's rows (ISO/IEC 9075:1992, 7.6 and 7.9).
-use Rattle.std.specs.Prelude.{ℕ, ℤ, int_lt, Bool, true, false, if◌then◌else◌, List, [], ◌∷◌, map, filter, Option, slice_get}
+use Rattle.std.specs.Prelude.{int_lt, Bool, true, false, if◌then◌else◌, List, map, filter, slice_get}
 use Rattle.std.specs.Option.{option_map_or, option_to_list}
 use Rattle.qw_types.specs.declared.value.Val.{Val}
 use Rattle.qw_types.specs.declared.value.Val.TheVariants.{Num}

@@ -10,10 +10,13 @@ pub mod layout;
 pub mod loading;
 pub mod meaning;
 pub mod output;
+pub mod parse;
 pub mod result_laws;
 pub mod results;
 pub mod sink;
 pub mod status;
+pub mod token;
+pub mod top;
+pub mod words;
 #[cfg(test)]
 mod tests;
-pub mod words;

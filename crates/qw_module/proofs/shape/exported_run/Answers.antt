@@ -1,4 +1,4 @@
-use Rattle.std.proofs.Common.{◌≡◌, ◌<◌, ◌∙◌, sym, length, arith}
+use Rattle.std.proofs.Common.{sym}
 use Rattle.qw_module.proofs.ShapeFacts.{no_run-more}
 use Rattle.qw_module.proofs.shape.exported_run.Goals as goal
 

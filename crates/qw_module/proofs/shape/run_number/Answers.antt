@@ -1,7 +1,6 @@
-use Rattle.std.proofs.Common.{◌≡◌, ◌+◌, ◌∙◌, ap, refl, length, sym, rules, arith}
+use Rattle.std.proofs.Common.{◌≡◌, ◌+◌, ◌∙◌, ap, refl, length, rules, arith}
 use Rattle.std.proofs.lemmas.Option.{slice_get_read}
 use Rattle.qw_module.specs.declared.module.ExportKind.TheVariants as kind
-use Rattle.qw_module.specs.Shape.{IsRun}
 use Rattle.qw_module.specs.Validity.{imported_functions}
 use Rattle.qw_module.proofs.shape.run_number.Goals as goal
 

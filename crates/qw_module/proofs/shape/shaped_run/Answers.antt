@@ -1,5 +1,3 @@
-use Rattle.std.proofs.Common.{sym}
-use Rattle.qw_module.specs.Shape.{ImportsMemory}
 use Rattle.qw_module.proofs.ShapeFacts.{shape-found}
 use Rattle.qw_module.proofs.shape.shaped_run.Goals as goal
 

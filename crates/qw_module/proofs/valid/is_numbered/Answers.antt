@@ -1,4 +1,4 @@
-use Rattle.std.proofs.Common.{◌≡◌, ◌≤◌, ◌∙◌, List, All, Bool, length, sym, ap, subst, arith}
+use Rattle.std.proofs.Common.{◌≤◌, ◌∙◌, List, All, length, sym, ap, subst, arith}
 use Rattle.std.specs.Global.{Vec}
 use Rattle.std.proofs.lemmas.Bool.{false≢true, not-true, not_from_false, eqb-false, ne_eqb}
 use Rattle.qw_module.specs.declared.instruction.Instr.{Instr}

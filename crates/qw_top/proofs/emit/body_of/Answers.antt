@@ -2,7 +2,7 @@ use Rattle.std.proofs.Common.{ap, ◌∙◌, List, refl, map, w64, arith}
 use Rattle.std.proofs.lemmas.Int.{to_z-of_z}
 use Rattle.std.specs.Global.{Vec}
 use Rattle.qw_module.specs.declared.instruction.Instr.{Instr}
-use Rattle.qw_module.specs.Syntax.{nested, code_of}
+use Rattle.qw_module.specs.Syntax.{code_of}
 use Rattle.qw_top.proofs.Nesting.{scan_nests, scan_numbered}
 use Rattle.qw_top.proofs.emit.body_of.Goals as goal
 

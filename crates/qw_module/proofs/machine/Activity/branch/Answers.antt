@@ -1,9 +1,7 @@
-use Rattle.std.proofs.Common.{◌≡◌, ◌∙◌, sym, ap, subst, ◌+◌, ◌-◌, ◌≤◌, length, arith}
+use Rattle.std.proofs.Common.{◌≡◌, ◌∙◌, sym, ap, ◌-◌, length, arith}
 use Rattle.std.proofs.lemmas.Option.{slice_get_within}
 use Rattle.qw_module.specs.declared.machine.Entry.{Entry}
-use Rattle.qw_module.specs.Numbers.{truth}
 use Rattle.qw_module.specs.Stacked.{Stacked}
-use Rattle.qw_module.proofs.Controlled.{label-room}
 use Rattle.qw_module.proofs.ListFacts.{first_dropped}
 use Rattle.qw_module.proofs.machine.Activity.branch.Goals as goal
 

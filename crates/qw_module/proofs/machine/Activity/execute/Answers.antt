@@ -1,9 +1,9 @@
-use Rattle.std.proofs.Common.{◌≡◌, ◌∙◌, sym, ap, ℕ, ◌∷◌, refl, length, arith}
+use Rattle.std.proofs.Common.{◌≡◌, ◌∙◌, ap, ℕ, ◌∷◌, refl, length, arith}
 use Rattle.std.proofs.lemmas.List.{take_at}
 use Rattle.qw_module.proofs.Arrays.{instruction-array, place-small}
 use Rattle.qw_module.proofs.Operated.{operator-ready, executed-operator}
 use Rattle.qw_module.proofs.Controlled.{operand-room, executed-block, executed-loop, executed-if, executed-else, if-operand, can-jump-br, executed-br, br_if-operand, can-jump-br_if, executed-br_if, executed-br_if-not}
-use Rattle.qw_module.specs.Machine.{entered, rooms_of, point_of}
+use Rattle.qw_module.specs.Machine.{rooms_of, point_of}
 use Rattle.qw_module.specs.Validity.{items_of}
 use Rattle.qw_module.proofs.machine.Activity.execute.Goals as goal
 

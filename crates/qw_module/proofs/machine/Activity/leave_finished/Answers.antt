@@ -1,6 +1,5 @@
-use Rattle.std.proofs.Common.{◌≡◌, ◌≢◌, ℕ, vec_len, ◌∙◌, sym, ap, refl, length, subst, arith}
-use Rattle.qw_module.specs.Machine.{Rooms, point_of, rooms_of, state_at}
-use Rattle.qw_module.specs.Validity.{items_of}
+use Rattle.std.proofs.Common.{◌≢◌, ℕ, vec_len, ◌∙◌, sym, ap, refl}
+use Rattle.qw_module.specs.Machine.{Rooms, point_of, rooms_of}
 use Rattle.qw_module.proofs.Arrays.{left-entry-point, left-entry-state, left-last, place-unfinished}
 use Rattle.qw_module.proofs.machine.Activity.leave_finished.Goals as goal
 

@@ -1,4 +1,3 @@
-use Rattle.std.proofs.Common.{◌≡◌, ◌∙◌, sym, ap, subst}
 use Rattle.qw_module.specs.Machine.{rooms_of}
 use Rattle.qw_module.proofs.Instances.{function-read, body-array}
 use Rattle.qw_module.proofs.Starts.{started-point, started-state, started-goes}
@@ -19,7 +18,7 @@ returns-clause-begun c =
     let body = body-array m c.args.number _ _ found c.as_slice-sequences.ensures.value in
     let left = rw (c.in_ok-activity.ensures.point, body, c.deref-2.ensures.value) at c.leave_finished-last.ensures.left in
     started-state m c.args.number _ c.requires.valid c.requires.shaped found c.args.argument c.ranges.argument.fits (rooms_of c.in_ok-activity.activity)
-      c.in_ok-globals.globals c.leave_finished-last.new.self c.leave_finished-last.result (rw c.deref.ensures.value at c.in_ok-globals.ensures) left
+    c.in_ok-globals.globals c.leave_finished-last.new.self c.leave_finished-last.result (rw c.deref.ensures.value at c.in_ok-globals.ensures) left
 
 pub returns-clause-goes_with : goal.returns-clause-goes_with
 returns-clause-goes_with c =
@@ -28,4 +27,4 @@ returns-clause-goes_with c =
     let body = body-array m c.args.number _ _ found c.as_slice-sequences.ensures.value in
     let left = rw (c.in_ok-activity.ensures.point, body, c.deref-2.ensures.value) at c.leave_finished-last.ensures.left in
     started-goes m c.args.number _ c.requires.valid c.requires.shaped found c.args.argument c.ranges.argument.fits (rooms_of c.in_ok-activity.activity)
-      c.in_ok-globals.globals c.leave_finished-last.new.self c.leave_finished-last.result c.leave_finished-last.ensures.rooms left
+    c.in_ok-globals.globals c.leave_finished-last.new.self c.leave_finished-last.result c.leave_finished-last.ensures.rooms left

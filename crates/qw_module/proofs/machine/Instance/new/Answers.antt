@@ -1,4 +1,4 @@
-use Rattle.std.proofs.Common.{◌≡◌, ℕ, ◌∙◌, sym, ap, refl}
+use Rattle.std.proofs.Common.{ℕ, ◌∙◌, ap, refl}
 use Rattle.qw_module.specs.Instance.{begun}
 use Rattle.qw_module.proofs.ShapeFacts.{shape-unique}
 use Rattle.qw_module.proofs.machine.Instance.new.Goals as goal

@@ -1,10 +1,3 @@
-use Rattle.std.proofs.Common.{◌≡◌, ◌∙◌, sym, ap, subst, List, get_or}
-use Rattle.qw_module.specs.declared.instruction.Instr.{Instr}
-use Rattle.qw_module.specs.declared.module.Module.{Module}
-use Rattle.qw_module.specs.Syntax.{IsNumbered}
-use Rattle.qw_module.specs.Validity.{items_of}
-use Rattle.qw_module.specs.Machine.{IsPoint, IsRunning, IsStepped, point_of, rooms_of}
-use Rattle.qw_module.specs.Instance.{body_of, GoesWith, WhileRunning, state_of}
 use Rattle.qw_module.proofs.Instances.{function-read, numbered-body, body-array, leads-from, answers, runs-on, not-over}
 use Rattle.qw_module.proofs.machine.Instance.step.Goals as goal
 

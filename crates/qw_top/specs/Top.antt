@@ -1,0 +1,181 @@
+-- What the files of a run hold, and which ends of a run the words and the files explain.
+use Rattle.std.specs.Prelude.{◌≡◌, ◌⊎◌, ℕ, ◌<◌, ◌≤◌, List, [], ◌∷◌, Option, None, Result, Err, length, slice_get}
+use Rattle.qw_io.specs.Faults.{IsCounted}
+use Rattle.qw_io.specs.Files.{OfFile}
+use Rattle.qw_types.specs.declared.schema.Column.{Column}
+use Rattle.qw_types.specs.declared.schema.Table.{Table}
+use Rattle.qw_types.specs.declared.value.Ty.{Ty}
+use Rattle.qw_types.specs.declared.value.Ty.TheVariants.{Integer}
+use Rattle.qw_types.specs.declared.value.Val.{Val}
+use Rattle.qw_top.specs.declared.files.TheConstants.{MAX_TABLE_FILE, MAX_TEXT_FILE}
+use Rattle.qw_top.specs.declared.loading.LoadFault.{LoadFault}
+use Rattle.qw_top.specs.declared.meaning.Query.{Query}
+use Rattle.qw_top.specs.declared.sink.Head.{Head}
+use Rattle.qw_top.specs.declared.sink.Kind.{Kind}
+use Rattle.qw_top.specs.declared.sink.Kind.TheVariants.{Number}
+use Rattle.qw_top.specs.declared.status.Status.{Status}
+use Rattle.qw_top.specs.declared.status.Status.TheVariants.{Done, WordsRefused, SchemaRefused, TableFileRefused, QueriesRefused, ReadFailed, WriteFailed, NoMemory}
+use Rattle.qw_top.specs.declared.words.RunWords.{RunWords}
+use Rattle.qw_top.specs.FileNames.{table_file_of}
+use Rattle.qw_top.specs.Loading.{IsFirstFault, IsOneInteger, Loads}
+use Rattle.qw_top.specs.Parse.{ReadsQuery, ReadsSchema}
+use Rattle.qw_top.specs.Words.{IsRun}
+
+-- The octets of each file by its name, where they are told. What is said of files below holds of the told
+-- ones; of files that aren't told it says only that some octets would do.
+abbrev pub Files : Type 0
+Files = Option (List ℕ → Option (List ℕ))
+
+-- the file of this name is these octets, which are within the limit
+pub record IsFile (files : Files) (name : List ℕ) (limit : ℕ) (bytes : List ℕ) : Type 0 where
+  pub there : OfFile files name (λ file. file ≡ bytes)
+  pub short : length bytes ≤ limit
+
+-- the file of this name is longer than the limit
+abbrev pub IsTooLong : Files → List ℕ → ℕ → Type 0
+IsTooLong files name limit = OfFile files name (λ file. limit < length file)
+
+-- the schema file of this name declares these tables
+pub record SchemaIs (files : Files) (name : List ℕ) (schema : List Table) : Type 0 where
+  pub text : List ℕ
+  pub file : IsFile files name MAX_TEXT_FILE text
+  pub reads : ReadsSchema text schema
+
+-- a text that declares no tables
+abbrev pub DeclaresNothing : List ℕ → Type 0
+DeclaresNothing text = (schema : List Table) → ReadsSchema text schema → ⊥
+
+-- the schema file of this name is refused: it is too long, or its text declares no tables
+abbrev pub IsNoSchema : Files → List ℕ → Type 0
+IsNoSchema files name = IsTooLong files name MAX_TEXT_FILE
+    ⊎ ((text : List ℕ) × IsFile files name MAX_TEXT_FILE text × DeclaresNothing text)
+
+-- the file of a table in this folder stands for these rows
+pub record TableIs (files : Files) (folder : List ℕ) (table : Table) (rows : List (List Val)) : Type 0 where
+  pub bytes : List ℕ
+  pub file : IsFile files (table_file_of folder table.name) MAX_TABLE_FILE bytes
+  pub loads : Loads table bytes rows
+
+-- the file of a table in this folder is refused: it is too long, or it has a first fault
+abbrev pub IsNoTable : Files → List ℕ → Table → Type 0
+IsNoTable files folder table = IsTooLong files (table_file_of folder table.name) MAX_TABLE_FILE
+    ⊎ ((bytes : List ℕ) × (fault : LoadFault) × IsFile files (table_file_of folder table.name) MAX_TABLE_FILE bytes × IsFirstFault table bytes fault)
+
+-- the queries file of this name is this query over the schema
+pub record QueryIs (files : Files) (name : List ℕ) (schema : List Table) (query : Query) : Type 0 where
+  pub text : List ℕ
+  pub file : IsFile files name MAX_TEXT_FILE text
+  pub reads : ReadsQuery schema text query
+
+-- a text that is no query over the schema
+abbrev pub AsksNothing : List Table → List ℕ → Type 0
+AsksNothing schema text = (query : Query) → ReadsQuery schema text query → ⊥
+
+-- the queries file of this name is refused: it is too long, or its text is no query over the schema
+abbrev pub IsNoQuery : Files → List ℕ → List Table → Type 0
+IsNoQuery files name schema = IsTooLong files name MAX_TEXT_FILE
+    ⊎ ((text : List ℕ) × IsFile files name MAX_TEXT_FILE text × AsksNothing schema text)
+
+-- what the words of `run` name: the schema file, the folder of the table files, the queries file
+pub record Names : Type 0 where
+  pub schema : List ℕ
+  pub folder : List ℕ
+  pub queries : List ℕ
+
+-- the names that words which were read give
+abbrev pub names_of : RunWords → Names
+names_of run = record { schema = run.schema.now; folder = run.folder.now; queries = run.queries.now }
+
+-- the words are those of `run` with these names
+abbrev pub AreNames : List (List ℕ) → Names → Type 0
+AreNames words names = IsRun words names.schema names.folder names.queries
+
+-- the schema file declares this one table, and its file stands for these rows
+pub record HasRows (files : Files) (names : Names) (table : Table) (rows : List (List Val)) : Type 0 where
+  pub declared : SchemaIs files names.schema (table ∷ [])
+  pub loaded : TableIs files names.folder table rows
+
+-- and the queries file is this query over that table
+pub record HasQuery (files : Files) (names : Names) (table : Table) (rows : List (List Val)) (query : Query) : Type 0 where
+  pub before : HasRows files names table rows
+  pub asked : QueryIs files names.queries (table ∷ []) query
+
+-- The files of these names explain how a run ended, once its words were read. A file is refused only where
+-- all files before it were accepted.
+abbrev pub FilesExplain : Files → Names → Status → Type 0
+FilesExplain files names Done = (table : Table) × (rows : List (List Val)) × (query : Query) × HasQuery files names table rows query
+FilesExplain files names WordsRefused = ⊥
+FilesExplain files names SchemaRefused = IsNoSchema files names.schema
+FilesExplain files names TableFileRefused = (table : Table) × SchemaIs files names.schema (table ∷ []) × IsNoTable files names.folder table
+FilesExplain files names QueriesRefused = (table : Table) × (rows : List (List Val)) × HasRows files names table rows × IsNoQuery files names.queries (table ∷ [])
+FilesExplain files names ReadFailed = Unit {0}
+FilesExplain files names WriteFailed = Unit {0}
+FilesExplain files names NoMemory = Unit {0}
+
+-- The words and the files explain how a run ended: the words are no words of `run`, or they give names whose
+-- files explain it. Words come first, so a fault comes only where they were read.
+abbrev pub Explains : Files → List (List ℕ) → Status → Type 0
+Explains files words WordsRefused = (names : Names) → AreNames words names → ⊥
+Explains files words status = (names : Names) × AreNames words names × FilesExplain files names status
+
+-- an end that the words and the files settle, and no fault on the way
+abbrev pub IsSettled : Status → Type 0
+IsSettled Done = Unit {0}
+IsSettled WordsRefused = Unit {0}
+IsSettled SchemaRefused = Unit {0}
+IsSettled TableFileRefused = Unit {0}
+IsSettled QueriesRefused = Unit {0}
+IsSettled ReadFailed = ⊥
+IsSettled WriteFailed = ⊥
+IsSettled NoMemory = ⊥
+
+-- an end that the reading of the files can come to
+abbrev pub StopsReading : Status → Type 0
+StopsReading Done = ⊥
+StopsReading WordsRefused = ⊥
+StopsReading SchemaRefused = Unit {0}
+StopsReading TableFileRefused = Unit {0}
+StopsReading QueriesRefused = Unit {0}
+StopsReading ReadFailed = Unit {0}
+StopsReading WriteFailed = ⊥
+StopsReading NoMemory = Unit {0}
+
+-- the column that a query over a schema of one table selects
+abbrev pub selected : List Table → Query → Option Column
+selected [] query = None
+selected (table ∷ []) query = slice_get table.columns query.column
+selected (table ∷ next ∷ tables) query = None
+
+-- how the values of a type are printed: an INTEGER with no digits behind a point
+abbrev pub kind_of : Ty → Kind
+kind_of Integer = Number 0
+
+-- the header of the rows that hold this column alone
+abbrev pub header_of : Column → List Head
+header_of column = record { name = column.name; kind = kind_of column.ty } ∷ []
+
+-- a schema of one table that has one INTEGER column
+abbrev pub IsOneTable : List Table → Type 0
+IsOneTable [] = ⊥
+IsOneTable (table ∷ []) = IsOneInteger table.columns
+IsOneTable (table ∷ next ∷ tables) = ⊥
+
+-- a stage stopped: with its own refusal, for this reason, or with a fault
+abbrev pub StopsAs : Status → Type 0 → Status → Type 0
+StopsAs refusal reason status = ((status ≡ refusal) × reason) ⊎ (status ≡ ReadFailed) ⊎ (status ≡ NoMemory)
+
+-- a read that failed is counted, and no other answer is
+abbrev pub CountsStop : {T : Type 0} → Result T Status → ℕ → ℕ → Type 0
+CountsStop (Err ReadFailed) before after = IsCounted before after
+CountsStop _ before after = after ≡ before
+
+-- an end that the writing of a report can come to
+abbrev pub StopsWriting : Status → Type 0
+StopsWriting WriteFailed = Unit {0}
+StopsWriting NoMemory = Unit {0}
+StopsWriting _ = ⊥
+
+-- a write that failed is counted, and no other answer is
+abbrev pub CountsWritten : {T : Type 0} → Result T Status → ℕ → ℕ → Type 0
+CountsWritten (Err WriteFailed) before after = IsCounted before after
+CountsWritten _ before after = after ≡ before
