@@ -15,12 +15,8 @@ use Rattle.qw_module.specs.Syntax.{Code, done, nested, sequence_at, IsNumbered}
 use Rattle.qw_module.specs.Execution.{Config, Running}
 use Rattle.qw_module.specs.Validity.{items_of, IsValid, IsValidFunction, IsTypedFunction, IsShaped, IsOneI32}
 use Rattle.qw_module.specs.Machine.{code_at, base_of, above, under, contexts_of, Point, Rooms, state_at, config_at, IsPoint, IsRunning, IsStepped, LeadsTo, point_of, rooms_of}
-<<<<<<< HEAD
-use Rattle.qw_module.specs.Instance.{body_of, state_after, state_of, WhileRunning, IsAnswer}
+use Rattle.qw_module.specs.Instance.{body_of, state_after, state_of, WhileRunning, GoesWith, IsAnswer}
 use Rattle.qw_module.specs.Runs.{IsOver}
-=======
-use Rattle.qw_module.specs.Instance.{body_of, state_after, state_of, WhileRunning, GoesWith, IsAnswer, IsOver}
->>>>>>> 731d77bfbd5aa702d47cb6844fbc0c6652b71f8d
 use Rattle.qw_module.proofs.Numbered.{named}
 use Rattle.qw_module.proofs.Points.{code_at-instruction}
 use Rattle.qw_module.proofs.Sound.{settled-unfinished}
