@@ -36,7 +36,7 @@ effect m (Puts address width value s) t e = ⊎_elim
     (cases_Bool (nat_le (address + width) (length m)))
 
 -- and no step changes what the instance has, since none asks for pages
-world_stays : (w : World) (m : List ℕ) (want : Want) (t : Next) → answered m want ≡ Some t → world_after w m t.event ≡ w
+pub world_stays : (w : World) (m : List ℕ) (want : Want) (t : Next) → answered m want ≡ Some t → world_after w m t.event ≡ w
 world_stays w m Stuck t e = absurd (none-some t e)
 world_stays w m (Goes s) t e = subst (λ (x : Next). world_after w m x.event ≡ w) (same_Some _ t e) refl
 world_stays w m (Asks address width make) t e = ⊎_elim

@@ -12,6 +12,8 @@ use Rattle.std.proofs.lemmas.List.Elements.{All-cons, All-get_or, All-head, All-
 use Rattle.std.proofs.lemmas.Nat.{from_le_bytes-to_le_bytes_4}
 use Rattle.qw_types.specs.declared.value.Val.{Val}
 use Rattle.qw_types.specs.declared.value.Val.TheVariants.{Num}
+use Rattle.qw_module.specs.Memory.{with_number}
+use Rattle.qw_module.proofs.MemoryFacts.{with_number-octets}
 use Rattle.qw_top.specs.Columns.{Holds, SameOutside, StandsAt, columns_end, columns_start, value_of}
 use Rattle.qw_top.specs.Loading.{AreLoaded, IsIntegerRow, integer_rows}
 use Rattle.qw_top.proofs.NumberLemmas.{fits}
@@ -84,6 +86,12 @@ outside memory old ns long written above = record { below = below; above = rw (l
 
     below : take columns_start memory ≡ take columns_start old
     below = sym (take-take columns_start (columns_start + 4 * length ns) memory (omega arith)) ∙ rw written (kept (take columns_start old) (octets_of ns) front)
+
+-- a stored number's octets are put in its place
+pub stored_is_put : (memory : List ℕ) (at number : ℕ) → at + 4 ≤ length memory → with_number memory at 4 number ≡ put_mid at 4 memory (to_le_bytes w32 number)
+stored_is_put memory at number inside =
+    with_number-octets memory at 4 number inside
+    ∙ ap (λ (rest : List ℕ). take at memory ++ (to_le_bytes w32 number ++ rest)) (sym (drop-drop 4 at memory))
 
 -- one more value written
 pub written_more : (memory old ys : List ℕ) (ns : List ℤ) (row k : ℕ) → row < length ns → ys ≡ integer_octets (get_or ns row (pos 0)) → columns_start + 4 * row ≤ length memory

@@ -15,6 +15,11 @@ use Rattle.qw_top.specs.Columns.{HoldsColumn, columns_start}
 use Rattle.qw_top.specs.Layout.{first_world, rows_at}
 use Rattle.qw_top.specs.Compiled.{IsReady, Answers, bound, IsCompiled}
 
+-- a statement and the module that it was compiled to
+pub record CompiledQuery : Type 0 where
+  pub query : Query
+  pub program : Module
+
 -- What an instance is to do: the statement and its module, the address of its descriptor, which begins its first page,
 -- and how many pages it may hold and how many instructions it may run.
 pub record Task : Type 0 where

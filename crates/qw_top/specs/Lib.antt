@@ -3,6 +3,7 @@ pub mod Layout
 pub mod Meaning
 pub mod Compiled
 pub mod Bench
+pub mod Seats
 pub mod Counts
 pub mod FileNames
 pub mod Output

@@ -1,6 +1,7 @@
 //! From the bytes of the files to the bytes of the report.
 #![tactic(auto)]
 
+pub mod bench;
 pub mod bench_laws;
 pub mod columns;
 pub mod emit;

@@ -1,4 +1,4 @@
-use Rattle.std.proofs.Common.{◌≡◌, ◌+◌, ◌*◌, ◌++◌, take, drop}
+use Rattle.std.proofs.Common.{◌≡◌, ◌+◌, ◌*◌, ◌++◌, length, take, drop}
 use Rattle.qw_top.specs.Columns.{columns_start}
 use Rattle.qw_top.proofs.ColumnLemmas.{octets_of}
 use Rattle.qw_top.proofs.columns.place.Given as goal
@@ -7,4 +7,5 @@ abbrev pub invariant-loop-row : goal.invariant-loop-row
 invariant-loop-row l = record {
   written : take (columns_start + 4 * l.row) l.memory ≡ take columns_start l.fn.memory ++ octets_of (take l.row l.value-items);
   above : drop (columns_start + 4 * l.row) l.memory ≡ drop (columns_start + 4 * l.row) l.fn.memory;
+  len : length l.memory ≡ length l.fn.memory;
 }

@@ -1,0 +1,195 @@
+//! Instances of compiled statements that share one linear memory, and the turns that they are given.
+
+ghost use Rattle.std.specs.Prelude.{◌≡◌, ◌+◌, ◌-◌, ◌<◌, ◌≤◌, ℕ, None, length, IfSome, IsSome, slice_get};
+
+use crate::meaning::Query;
+use qw_module::linear::Linear;
+use qw_module::machine::{Instance, Stepped};
+use qw_module::valid::ValidModule;
+use std::marker::Model;
+
+/// How much an instance may use.
+#[derive(Clone, Copy, Debug, PartialEq, Eq)]
+pub struct Limits {
+    /// How many pages it may hold.
+    pub pages: u32,
+    /// How many instructions it may run.
+    pub steps: u64,
+}
+
+/// The limits where none are given.
+pub const DEFAULT_LIMITS: Limits = Limits {
+    pages: 128,
+    steps: 999_999_999_999_999_999,
+};
+
+/// How an instance ended.
+#[derive(Clone, Copy, Debug, PartialEq, Eq)]
+pub enum Ended {
+    /// Its `run` returned.
+    Done,
+    /// It ran as many instructions as its limit says.
+    Steps { limit: u64 },
+}
+
+/// A statement and the module that it was compiled to.
+#[derive(Drop)]
+pub struct Job {
+    query: Query,
+    valid: ValidModule,
+}
+
+impl Model for Job {
+    ghost use Rattle.qw_top.specs.Bench.{CompiledQuery};
+
+    ghost Value = { CompiledQuery };
+
+    ghost use Rattle.qw_top.specs.Compiled.{IsCompiled};
+
+    ghost view = { λ job. record { query = job.query; program = job.valid } };
+
+    ghost invariant = { λ job. IsCompiled job.query job.valid };
+}
+
+impl Job {
+    ghost use Rattle.qw_top.specs.Compiled.{IsCompiled};
+
+    pub fn new(query: Query, valid: ValidModule) -> Self
+        requires { IsCompiled query valid }
+        ensures { result ≡ record { query = query; program = valid } }
+    {
+        Job { query, valid }
+    }
+}
+
+/// An instance, with what it may use and how far it has come.
+#[derive(Drop)]
+struct Seat {
+    query: Query,
+    valid: ValidModule,
+    instance: Instance,
+    /// How many rows the column has that it reads.
+    rows: usize,
+    /// The address of its descriptor, where its first page begins.
+    descriptor: u64,
+    limits: Limits,
+    /// How many instructions it has run.
+    ran: u64,
+    ended: Option<Ended>,
+}
+
+impl Seat {
+    ghost use Rattle.qw_module.specs.Turns.{IsWhole, steps_of};
+    ghost use Rattle.qw_module.specs.Instance.{GoesWith};
+    ghost use Rattle.qw_top.specs.Seats.{IsEndOf, NeverTraps, StaysSeated, counting, instance_of, state_in, task_of};
+
+    /// Runs the instance until it ends or has run `quantum` instructions. Answers how many it ran.
+    fn turn(&mut self, memory: &mut Linear, quantum: u64) -> u64
+        requires goes_with { GoesWith self.old.valid self.old.instance }
+        requires whole { IsWhole (instance_of self.old) }
+        requires no_trap { NeverTraps (instance_of self.old) memory.old }
+        ensures turned { (instance_of self.new, memory.new) ≡ steps_of quantum (instance_of self.old) memory.old }
+        ensures task { task_of self.new ≡ task_of self.old }
+        ensures goes_with { GoesWith self.new.valid self.new.instance }
+        ensures counted { self.new.ran ≡ self.old.ran + result }
+        ensures progress { self.old.ended ≡ None → 1 ≤ quantum → 1 ≤ result }
+    {
+        if self.ended.is_some() {
+            return 0;
+        }
+        let taken = self.run(memory, quantum.min(self.limits.steps - self.ran));
+        self.ran += taken;
+        if self.ended.is_none() && self.ran == self.limits.steps {
+            self.ended = Some(Ended::Steps {
+                limit: self.limits.steps,
+            });
+        }
+        taken
+    }
+
+    /// Executes up to `budget` instructions, and answers how many. They aren't counted yet.
+    fn run(&mut self, memory: &mut Linear, budget: u64) -> u64
+        requires goes_with { GoesWith self.old.valid self.old.instance }
+        requires runs { IsEndOf (state_in self.old) None }
+        requires unended { self.old.ended ≡ None }
+        requires room { self.old.ran + budget ≤ self.old.limits.steps }
+        requires no_trap { NeverTraps (counting self.old 0) memory.old }
+        ensures ran { (counting self.new result, memory.new) ≡ steps_of budget (counting self.old 0) memory.old }
+        ensures seated { StaysSeated self.old self.new }
+        ensures goes_with { GoesWith self.new.valid self.new.instance }
+        ensures end { IsEndOf (state_in self.new) self.new.ended }
+        ensures count { self.new.ended ≡ None → result ≡ budget }
+        ensures within { result ≤ budget }
+        ensures progress { 1 ≤ budget → 1 ≤ result }
+    {
+        for taken in 0..budget {
+            match self.instance.step(&self.valid, memory) {
+                Stepped::Ran => {}
+                Stepped::Returned => {
+                    self.ended = Some(Ended::Done);
+                    return taken + 1;
+                }
+                Stepped::Trapped => unreachable!(),
+            }
+        }
+        budget
+    }
+}
+
+/// Instances over one memory, which holds the column that they read.
+#[derive(Drop)]
+pub struct Bench {
+    memory: Linear,
+    seats: Vec<Seat>,
+}
+
+impl Model for Bench {
+    ghost use Rattle.qw_top.specs.Seats.{IsBench, Standing};
+
+    ghost Value = { Standing };
+
+    ghost view = { λ b. record { memory = b.memory; seats = b.seats.items } };
+
+    ghost invariant = { λ b. IsBench (record { memory = b.memory; seats = b.seats.items }) };
+}
+
+impl Bench {
+    ghost use Rattle.qw_top.specs.Seats.{end_of, shared_of, tasks_of};
+
+    /// How many instances there are.
+    pub fn len(&self) -> usize
+        ensures { result ≡ length (shared_of self.now).instances }
+    {
+        self.seats.len()
+    }
+
+    /// How an instance ended, if it has.
+    pub fn ended(&self, i: usize) -> Option<Ended>
+        requires { i < length (shared_of self.now).instances }
+        ensures { IfSome (slice_get (shared_of self.now).instances i) (λ instance. end_of result ≡ instance.end) }
+    {
+        self.seats[i].ended
+    }
+
+    /// How many instructions an instance has run.
+    pub fn steps(&self, i: usize) -> u64
+        requires { i < length (shared_of self.now).instances }
+        ensures { IfSome (slice_get (shared_of self.now).instances i) (λ instance. result ≡ instance.ran) }
+    {
+        self.seats[i].ran
+    }
+
+    /// The address of an instance's descriptor.
+    pub fn descriptor(&self, i: usize) -> u64
+        requires { i < length (tasks_of self.now) }
+        ensures { IfSome (slice_get (tasks_of self.now) i) (λ task. result ≡ task.descriptor) }
+    {
+        self.seats[i].descriptor
+    }
+
+    pub fn memory(&self) -> &Linear
+        ensures { result.now ≡ (shared_of self.now).memory }
+    {
+        &self.memory
+    }
+}
