@@ -20,6 +20,7 @@ pub mod RowLemmas
 pub mod RowReading
 pub mod Serving
 pub mod SeatSteps
+pub mod BenchTurns
 pub mod SinkLemmas
 pub mod TokenLemmas
 pub mod TokenRun

@@ -1,5 +1,6 @@
 -- What a bench stands for: one memory, and the instances that share it.
-use Rattle.std.specs.Prelude.{◌≡◌, ◌≢◌, ℕ, ◌+◌, List, length, map, All, Option, Some, None}
+use Rattle.std.specs.Prelude.{◌≡◌, ◌≢◌, ℕ, ◌+◌, List, length, map, All, Option, Some, None, slice_get}
+use Rattle.std.specs.Option.{option_and_then, option_map_or}
 use Rattle.qw_types.specs.declared.value.Val.{Val}
 use Rattle.qw_module.specs.declared.module.Module.{Module}
 use Rattle.qw_module.specs.Execution.{State, Running, Returned, Raised, Trapped}
@@ -80,6 +81,13 @@ shared_of b = record { memory = b.memory; instances = map instance_of b.seats }
 
 abbrev pub tasks_of : Standing → List Task
 tasks_of b = map task_of b.seats
+
+-- how the instance of a number ended, if it has, and how many instructions it has run
+abbrev pub end_in : Shared → ℕ → Option End
+end_in s i = option_and_then (λ (instance : Instance). instance.end) (slice_get s.instances i)
+
+abbrev pub ran_in : Shared → ℕ → ℕ
+ran_in s i = option_map_or (λ (instance : Instance). instance.ran) (slice_get s.instances i) 0
 
 -- what every bench keeps: its instances serve their tasks over a table, and each goes with its module
 pub record IsBench (b : Standing) : Type 0 where

@@ -1,6 +1,6 @@
 //! Instances of compiled statements that share one linear memory, and the turns that they are given.
 
-ghost use Rattle.std.specs.Prelude.{◌≡◌, ◌+◌, ◌-◌, ◌<◌, ◌≤◌, ℕ, None, length, IfSome, IsSome, slice_get};
+ghost use Rattle.std.specs.Prelude.{◌≡◌, ◌↔◌, ◌+◌, ◌-◌, ◌<◌, ◌≤◌, ℕ, None, length, IfSome, IsSome, slice_get};
 
 use crate::meaning::Query;
 use qw_module::linear::Linear;
@@ -92,6 +92,7 @@ impl Seat {
         ensures task { task_of self.new ≡ task_of self.old }
         ensures goes_with { GoesWith self.new.valid self.new.instance }
         ensures counted { self.new.ran ≡ self.old.ran + result }
+        ensures over { IsSome self.old.ended → result ≡ 0 }
         ensures progress { self.old.ended ≡ None → 1 ≤ quantum → 1 ≤ result }
     {
         if self.ended.is_some() {
@@ -154,7 +155,22 @@ impl Model for Bench {
 }
 
 impl Bench {
-    ghost use Rattle.qw_top.specs.Seats.{end_of, shared_of, tasks_of};
+    ghost use Rattle.qw_module.specs.Turns.{turn};
+    ghost use Rattle.qw_top.specs.Seats.{end_in, end_of, ran_in, shared_of, tasks_of};
+
+    /// Gives an instance a turn: it runs until it ends or has run `quantum` instructions. Answers how many
+    /// it ran.
+    pub fn turn(&mut self, i: usize, quantum: u64) -> u64
+        requires there { i < length (shared_of self.old).instances }
+        requires some { 1 ≤ quantum }
+        ensures turn { shared_of self.new ≡ turn (shared_of self.old) (i, quantum) }
+        ensures tasks { tasks_of self.new ≡ tasks_of self.old }
+        ensures counted { ran_in (shared_of self.new) i ≡ ran_in (shared_of self.old) i + result }
+        ensures none { (result ≡ 0) ↔ IsSome (end_in (shared_of self.old) i) }
+    {
+        let seat = &mut self.seats[i];
+        seat.turn(&mut self.memory, quantum)
+    }
 
     /// How many instances there are.
     pub fn len(&self) -> usize
@@ -166,7 +182,7 @@ impl Bench {
     /// How an instance ended, if it has.
     pub fn ended(&self, i: usize) -> Option<Ended>
         requires { i < length (shared_of self.now).instances }
-        ensures { IfSome (slice_get (shared_of self.now).instances i) (λ instance. end_of result ≡ instance.end) }
+        ensures { end_of result ≡ end_in (shared_of self.now) i }
     {
         self.seats[i].ended
     }
@@ -174,7 +190,7 @@ impl Bench {
     /// How many instructions an instance has run.
     pub fn steps(&self, i: usize) -> u64
         requires { i < length (shared_of self.now).instances }
-        ensures { IfSome (slice_get (shared_of self.now).instances i) (λ instance. result ≡ instance.ran) }
+        ensures { result ≡ ran_in (shared_of self.now) i }
     {
         self.seats[i].ran
     }

@@ -1,0 +1,102 @@
+-- A turn of a bench is a turn of the state that it stands for.
+use Rattle.std.proofs.Common.{◌≡◌, ◌≢◌, ℕ, ◌+◌, ◌<◌, ◌≤◌, List, [], ◌∷◌, length, map, Option, Some, None, IsSome, is_some, slice_get, slice_set, get_or, refl, sym, ap, ◌∙◌, subst, arith}
+use Rattle.std.specs.Prelude.{All, ◌↔◌}
+use Rattle.std.specs.Option.{option_map}
+use Rattle.std.proofs.Math.Seq.{map-set_same}
+use Rattle.std.proofs.lemmas.List.{length-map, map-set}
+use Rattle.std.proofs.lemmas.List.Elements.{All-get_or, All-set}
+use Rattle.std.proofs.lemmas.Option.{get_or_from_slice_get, slice_get-get_or, slice_get-map, slice_get_within}
+use Rattle.qw_types.specs.declared.value.Val.{Val}
+use Rattle.qw_module.specs.Instance.{GoesWith}
+use Rattle.qw_module.specs.Turns.{End, Trap, Instance, Shared, IsWhole, steps_of, turn, turns, turn_at, with_instance}
+use Rattle.qw_module.proofs.TurnFacts.{slice_get-set_same}
+use Rattle.qw_top.specs.declared.bench.Ended.{Ended}
+use Rattle.qw_top.specs.declared.bench.Ended.TheVariants as ended
+use Rattle.qw_top.specs.declared.bench.Seat.{Seat}
+use Rattle.qw_top.specs.Bench.{AreServing, IsAt, Task}
+use Rattle.qw_top.specs.Seats.{IsBench, NeverTraps, Standing, end_of, instance_of, ran_in, end_in, shared_of, task_of, tasks_of}
+use Rattle.qw_top.proofs.Serving.{served-at, turns-serving}
+
+-- the seat of a number
+pub seat-found : (b : Standing) (memory : List ℕ) (seats : List Seat) (i : ℕ) (seat : Seat) → record { memory = memory; seats = seats } ≡ b →
+    i < length (map instance_of b.seats) → seat ≡ get_or seats i seat → slice_get seats i ≡ Some seat
+seat-found b memory seats i seat view within is =
+    let many : length (map instance_of b.seats) ≡ length seats = ap (λ (x : Standing). length (map instance_of x.seats)) (sym view) ∙ length-map seats instance_of in
+    slice_get-get_or seats i seat (omega arith) ∙ ap Some (sym is)
+
+module _ (memory : List ℕ) (seats : List Seat) (i : ℕ) (seat : Seat) (found : slice_get seats i ≡ Some seat) where
+  instance_there : slice_get (map instance_of seats) i ≡ Some (instance_of seat)
+  instance_there = slice_get-map instance_of seats i ∙ ap (option_map instance_of) found
+
+  task_there : slice_get (map task_of seats) i ≡ Some (task_of seat)
+  task_there = slice_get-map task_of seats i ∙ ap (option_map task_of) found
+
+  b : Standing
+  b = record { memory = memory; seats = seats }
+
+  turned_at : (quantum : ℕ) → turn (shared_of (record { memory = memory; seats = seats })) (i, quantum)
+      ≡ with_instance (shared_of (record { memory = memory; seats = seats })) i (steps_of quantum (instance_of seat) memory)
+  turned_at quantum = ap (turn_at (shared_of (record { memory = memory; seats = seats })) i quantum) instance_there
+
+  -- the instance that was given a turn
+  turned_there : (x : Instance) → slice_get (slice_set (map instance_of seats) i x) i ≡ Some x
+  turned_there x = slice_get-set_same (map instance_of seats) i x (slice_get_within (map instance_of seats) i (instance_of seat) instance_there)
+
+  pub turned-shared : (quantum : ℕ) (new : Seat) (after : List ℕ) → (instance_of new, after) ≡ steps_of quantum (instance_of seat) memory →
+      shared_of (record { memory = after; seats = slice_set seats i new }) ≡ turn (shared_of (record { memory = memory; seats = seats })) (i, quantum)
+  turned-shared quantum new after is =
+      ap (λ (instances : List Instance). record { memory = after; instances = instances }) (map-set instance_of seats i new)
+      ∙ ap (with_instance (shared_of (record { memory = memory; seats = seats })) i) is
+      ∙ sym (turned_at quantum)
+
+  pub turned-tasks : (new : Seat) → task_of new ≡ task_of seat → map task_of (slice_set seats i new) ≡ map task_of seats
+  turned-tasks new same = map-set_same task_of seats i new seat (same ∙ ap task_of (sym (get_or_from_slice_get seats i seat seat found)))
+
+  pub turned-ran : (new : Seat) (after : List ℕ) (result : ℕ) → new.ran ≡ seat.ran + result →
+      ran_in (shared_of (record { memory = after; seats = slice_set seats i new })) i ≡ ran_in (shared_of (record { memory = memory; seats = seats })) i + result
+  turned-ran new after result count =
+      let now : slice_get (map instance_of (slice_set seats i new)) i ≡ Some (instance_of new) =
+      ap (λ (instances : List Instance). slice_get instances i) (map-set instance_of seats i new) ∙ turned_there (instance_of new) in
+      rw (now, instance_there) count
+
+  pub end-is : end_in (shared_of (record { memory = memory; seats = seats })) i ≡ (instance_of seat).end
+  end-is = rw instance_there refl
+
+  module _ (kept : IsBench (record { memory = memory; seats = seats })) where
+    pub seat-whole : IsWhole (instance_of seat)
+    seat-whole = (kept.serving.serving i (task_of seat) (instance_of seat) task_there instance_there).whole
+
+    pub seat-fits : GoesWith seat.valid seat.instance
+    seat-fits =
+        let at = All-get_or (λ (s : Seat). GoesWith s.valid s.instance) seats i seat (slice_get_within seats i seat found) kept.fitting in
+        subst (λ (s : Seat). GoesWith s.valid s.instance) (get_or_from_slice_get seats i seat seat found) at
+
+    -- its instance serves its task after a turn, so it hasn't trapped
+    pub seat-untrapped : NeverTraps (instance_of seat) memory
+    seat-untrapped quantum trapped =
+        let s = shared_of (record { memory = memory; seats = seats }) in
+        let after = steps_of quantum (instance_of seat) memory in
+        let serving : AreServing kept.table (map task_of seats) (with_instance s i after) =
+        subst (AreServing kept.table (map task_of seats)) (turned_at quantum) (turns-serving kept.table (map task_of seats) s ((i, quantum) ∷ []) kept.serving) in
+        let serves = serving.serving i (task_of seat) after.0 task_there (turned_there after.0) in
+        subst (IsAt kept.table after.1 (task_of seat) serves.number after.0) trapped (served-at kept.table after.1 (task_of seat) after.0 serves)
+
+    pub turned-bench : (quantum : ℕ) (new : Seat) (after : List ℕ) → (instance_of new, after) ≡ steps_of quantum (instance_of seat) memory →
+        task_of new ≡ task_of seat → GoesWith new.valid new.instance → IsBench (record { memory = after; seats = slice_set seats i new })
+    turned-bench quantum new after is same fits = record {
+      table = kept.table;
+      serving = rw (turned-tasks new same)
+          (subst (AreServing kept.table (map task_of seats)) (sym (turned-shared quantum new after is))
+          (turns-serving kept.table (map task_of seats) (shared_of (record { memory = memory; seats = seats })) ((i, quantum) ∷ []) kept.serving));
+      fitting = All-set (λ (s : Seat). GoesWith s.valid s.instance) seats i new fits kept.fitting;
+    }
+
+  -- no instruction was run exactly where the instance had ended
+  pub turned-none : (result : ℕ) → (IsSome seat.ended → result ≡ 0) → (seat.ended ≡ None → 1 ≤ result) →
+      (result ≡ 0) ↔ IsSome (end_in (shared_of (record { memory = memory; seats = seats })) i)
+  turned-none result over progress = rw end-is (by_end seat.ended over progress)
+    where
+      by_end : (o : Option Ended) → (IsSome o → result ≡ 0) → (o ≡ None → 1 ≤ result) → (result ≡ 0) ↔ IsSome (end_of o)
+      by_end None over progress = (λ none. absurd (omega (arith, progress refl, none)), λ h. absurd (cc h))
+      by_end (Some ended.Done) over progress = (λ none. refl, λ h. over refl)
+      by_end (Some (ended.Steps limit)) over progress = (λ none. refl, λ h. over refl)
