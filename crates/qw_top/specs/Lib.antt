@@ -19,3 +19,4 @@ pub mod Grammar
 pub mod Parse
 pub mod Reading
 pub mod Top
+pub mod Delivered

@@ -2,10 +2,13 @@
 
 ghost use Rattle.std.specs.Prelude.{◌≡◌, ◌↔◌, ◌+◌, ◌-◌, ◌<◌, ◌≤◌, ℕ, None, length, IfSome, IsSome, slice_get};
 
+use crate::loading::Loaded;
 use crate::meaning::Query;
 use qw_module::linear::Linear;
 use qw_module::machine::{Instance, Stepped};
 use qw_module::valid::ValidModule;
+use qw_types::NoMemory;
+use std::alloc::Global;
 use std::marker::Model;
 
 /// How much an instance may use.
@@ -155,8 +158,31 @@ impl Model for Bench {
 }
 
 impl Bench {
-    ghost use Rattle.qw_module.specs.Turns.{turn};
-    ghost use Rattle.qw_top.specs.Seats.{end_in, end_of, ran_in, shared_of, tasks_of};
+    ghost use Rattle.std.specs.Prelude.{◌∷◌, [], List, IfOk, Some};
+    ghost use Rattle.qw_types.specs.declared.value.Val.{Val};
+    ghost use Rattle.qw_module.specs.Turns.{turn, turns, Done, Instance};
+    ghost use Rattle.qw_top.specs.Layout.{rows_at};
+    ghost use Rattle.qw_top.specs.Bench.{IsStart, Task};
+    ghost use Rattle.qw_top.specs.Seats.{end_in, end_of, first_task, ran_in, shared_of, tasks_of};
+
+    pub fn new(alloc: Global, loaded: &Loaded, job: Job, limits: Limits) -> Result<Self, NoMemory>
+        requires column { job.query.column ≡ 0 }
+        requires steps { 1 ≤ limits.steps }
+        requires pages { 1 ≤ limits.pages }
+        requires few { limits.pages ≤ 65533 }
+        ensures tasks { IfOk result (λ bench. tasks_of bench ≡ first_task job limits ∷ []) }
+        ensures start { IfOk result (λ bench. IsStart loaded.now (tasks_of bench) (shared_of bench)) }
+    {
+        Err(NoMemory)
+    }
+
+    pub fn run_all(&mut self, quantum: u64)
+        requires { 1 ≤ quantum }
+        ensures tasks { tasks_of self.new ≡ tasks_of self.old }
+        ensures turned { (ts : List (ℕ × ℕ)) × (shared_of self.new ≡ turns ts (shared_of self.old)) }
+        ensures ended { (i : ℕ) → i < length (shared_of self.new).instances → IsSome (end_in (shared_of self.new) i) }
+    {
+    }
 
     /// Gives an instance a turn: it runs until it ends or has run `quantum` instructions. Answers how many
     /// it ran.

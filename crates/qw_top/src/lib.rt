@@ -20,3 +20,6 @@ pub mod top;
 pub mod words;
 #[cfg(test)]
 mod tests;
+
+pub use status::Status;
+pub use top::qwasm;

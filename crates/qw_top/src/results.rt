@@ -6,13 +6,23 @@ ghost use Rattle.std.specs.List.{AllByRecursion};
 ghost use Rattle.qw_types.specs.declared.value.Val.TheVariants.{Num};
 ghost use Rattle.qw_module.specs.Map.{Area};
 ghost use Rattle.qw_module.specs.Memory.{number_at};
-ghost use Rattle.qw_module.specs.Turns.{LiesWithin};
+ghost use Rattle.qw_module.specs.Turns.{Done, LiesWithin};
 ghost use Rattle.qw_top.specs.Layout.{rows_at, rows_from};
+ghost use Rattle.qw_top.specs.Seats.{end_in, rows_in, shared_of};
 
+use crate::bench::Bench;
 use crate::layout::{CELL_OFFSET, COUNT_OFFSET, FIRST_ROW_OFFSET};
 use qw_module::linear::Linear;
 use qw_types::{NoMemory, Row, Val};
 use std::alloc::Global;
+
+/// The result rows of an instance that is done.
+pub fn received(alloc: Global, bench: &Bench, i: usize) -> Result<Vec<Row>, NoMemory>
+    requires { end_in (shared_of bench.now) i ≡ Some Done }
+    ensures { IfOk result (λ rows. rows_in bench.now i ≡ Some rows.items) }
+{
+    Err(NoMemory)
+}
 
 /// The result rows that a descriptor leads to.
 pub fn rows_of(alloc: Global, memory: &Linear, descriptor: u64) -> Result<Vec<Row>, NoMemory>
