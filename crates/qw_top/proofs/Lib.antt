@@ -19,6 +19,7 @@ pub mod RecordLemmas
 pub mod RowLemmas
 pub mod RowReading
 pub mod Serving
+pub mod FirstPages
 pub mod SeatSteps
 pub mod BenchTurns
 pub mod SinkLemmas
