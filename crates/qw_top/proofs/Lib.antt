@@ -22,6 +22,7 @@ pub mod Serving
 pub mod FirstPages
 pub mod SeatSteps
 pub mod BenchTurns
+pub mod BenchStart
 pub mod SinkLemmas
 pub mod TokenLemmas
 pub mod TokenRun
