@@ -198,12 +198,7 @@ impl Bench {
     ghost use Rattle.qw_top.specs.Seats.{end_in, end_of, first_task, ran_in, shared_of, tasks_of};
 
     /// A bench with one instance of the job over a table of one column. Its error is want of memory.
-    pub fn new(
-        alloc: Global,
-        loaded: &Loaded,
-        job: Job,
-        limits: Limits,
-    ) -> Result<Self, NoMemory>
+    pub fn new(alloc: Global, loaded: &Loaded, job: Job, limits: Limits) -> Result<Self, NoMemory>
         requires column { job.query.column ≡ 0 }
         requires pages { (1 ≤ limits.pages) × (limits.pages ≤ MAX_INSTANCE_PAGES) }
         requires steps { 1 ≤ limits.steps }

@@ -23,8 +23,16 @@ pub fn begin_page(memory: &mut Linear, descriptor: u32, rows: u32)
     ensures len { length memory.new ≡ length memory.old }
     ensures octets { AreOctets memory.old → AreOctets memory.new }
 {
-    put(memory, descriptor + FREE_OFFSET, descriptor + DESCRIPTOR_SIZE);
-    put(memory, descriptor + PAGE_END_OFFSET, descriptor + PAGE as u32);
+    put(
+        memory,
+        descriptor + FREE_OFFSET,
+        descriptor + DESCRIPTOR_SIZE,
+    );
+    put(
+        memory,
+        descriptor + PAGE_END_OFFSET,
+        descriptor + PAGE as u32,
+    );
     put(memory, descriptor + VALUES_OFFSET, COLUMNS_START as u32);
     put(memory, descriptor + COLUMN_ROWS_OFFSET, rows);
 }
