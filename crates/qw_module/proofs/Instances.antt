@@ -15,7 +15,7 @@ use Rattle.qw_module.specs.Syntax.{Code, done, nested, sequence_at, IsNumbered}
 use Rattle.qw_module.specs.Execution.{Config, Running}
 use Rattle.qw_module.specs.Validity.{items_of, IsValid, IsValidFunction, IsTypedFunction, IsShaped, IsOneI32}
 use Rattle.qw_module.specs.Machine.{code_at, base_of, above, under, contexts_of, Point, Rooms, state_at, config_at, IsPoint, IsRunning, IsStepped, LeadsTo, point_of, rooms_of}
-use Rattle.qw_module.specs.Instance.{body_of, state_after, state_of, WhileRunning, IsAnswer, IsOver}
+use Rattle.qw_module.specs.Instance.{body_of, state_after, state_of, WhileRunning, GoesWith, IsAnswer, IsOver}
 use Rattle.qw_module.proofs.Numbered.{named}
 use Rattle.qw_module.proofs.Points.{code_at-instruction}
 use Rattle.qw_module.proofs.Sound.{settled-unfinished}
@@ -118,3 +118,12 @@ numbered-body m number function valid found =
 pub not-over : (m : Module) (i : Instance) → i.last ≡ Ran → IsRunning (body_of m i.function) (rooms_of i.activity) (point_of i.activity) →
     IsOver (state_of m i) → ⊥
 not-over m i ran running over = subst IsOver (state-before m i ran running [] []) over
+
+-- what its last step came to tells what became of it
+pub last-answer : (m : Module) (i : Instance) (last : Stepped) → i.last ≡ last → GoesWith m i → IsAnswer last (state_of m i)
+last-answer m i Ran is fits =
+    let running = subst (λ (s : Stepped). WhileRunning s (IsRunning (body_of m i.function) (rooms_of i.activity) (point_of i.activity))) is fits.running in
+    let state = state_at-running (body_of m i.function) i.globals.items (point_of i.activity) running.unfinished in
+    rw (is, state) tt
+last-answer m i stepped.Returned is fits = rw is tt
+last-answer m i stepped.Trapped is fits = rw is tt

@@ -266,6 +266,13 @@ impl Instance {
         })
     }
 
+    /// What the last step came to. It is `Ran` as long as `run` goes on, also before the first step.
+    pub fn last(&self) -> Stepped
+        ensures { (m : Module) → GoesWith m self.now → IsAnswer result (state_of m self.now) }
+    {
+        self.last
+    }
+
     /// Executes one instruction, and leaves what it finishes. After `Returned` or `Trapped` nothing
     /// changes any more, and the answer is the same again.
     pub fn step(&mut self, valid: &ValidModule, memory: &mut Linear) -> Stepped

@@ -19,8 +19,10 @@ pub mod RecordLemmas
 pub mod RowLemmas
 pub mod RowReading
 pub mod Serving
+pub mod FirstPages
 pub mod SeatSteps
 pub mod BenchTurns
+pub mod BenchStart
 pub mod SinkLemmas
 pub mod TokenLemmas
 pub mod TokenRun
