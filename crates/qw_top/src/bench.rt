@@ -236,6 +236,17 @@ impl Bench {
         ensures turned { (ts : List (ℕ × ℕ)) × (shared_of self.new ≡ turns ts (shared_of self.old)) }
         ensures ended { (i : ℕ) → i < length (shared_of self.new).instances → IsSome (end_in (shared_of self.new) i) }
     {
+        while self.round(quantum) {}
+    }
+
+    fn round(&mut self, quantum: u64) -> bool
+        requires { 1 ≤ quantum }
+    {
+        let mut open = false;
+        for i in 0..self.seats.len() {
+            open = self.turn(i, quantum) > 0 || open;
+        }
+        open
     }
 
     /// Gives an instance a turn: it runs until it ends or has run `quantum` instructions. Answers how many

@@ -21,7 +21,7 @@ pub fn received(alloc: Global, bench: &Bench, i: usize) -> Result<Vec<Row>, NoMe
     requires { end_in (shared_of bench.now) i ≡ Some Done }
     ensures { IfOk result (λ rows. rows_in bench.now i ≡ Some rows.items) }
 {
-    Err(NoMemory)
+    rows_of(alloc, bench.memory(), bench.descriptor(i))
 }
 
 /// The result rows that a descriptor leads to.

@@ -276,3 +276,6 @@ fn one_table(schema: &Schema) -> &Table
 {
     &schema.as_slice()[0]
 }
+
+#[cfg(test)]
+mod tests;
