@@ -195,7 +195,7 @@ fn first_instance(alloc: Global, valid: &ValidModule) -> Result<Instance, NoMemo
 impl Bench {
     ghost use Rattle.qw_module.specs.Turns.{turn};
     ghost use Rattle.qw_top.specs.Bench.{IsStart};
-    ghost use Rattle.qw_top.specs.Seats.{end_in, end_of, first_task, ran_in, shared_of, tasks_of};
+    ghost use Rattle.qw_top.specs.Seats.{IsBench, end_in, end_of, first_task, ran_in, shared_of, tasks_of};
 
     /// A bench with one instance of the job over a table of one column. Its error is want of memory.
     pub fn new(alloc: Global, loaded: &Loaded, job: Job, limits: Limits) -> Result<Self, NoMemory>
@@ -275,7 +275,8 @@ impl Bench {
     }
 
     pub fn memory(&self) -> &Linear
-        ensures { result.now ≡ (shared_of self.now).memory }
+        ensures memory { result.now ≡ (shared_of self.now).memory }
+        ensures kept { IsBench self.now }
     {
         &self.memory
     }
