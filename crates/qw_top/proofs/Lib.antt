@@ -18,6 +18,7 @@ pub mod ReaderLemmas
 pub mod RecordLemmas
 pub mod RowLemmas
 pub mod RowReading
+pub mod Received
 pub mod Serving
 pub mod FirstPages
 pub mod SeatSteps

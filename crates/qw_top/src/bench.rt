@@ -196,7 +196,7 @@ impl Bench {
     ghost use Rattle.std.specs.Prelude.{List};
     ghost use Rattle.qw_module.specs.Turns.{turn, turns};
     ghost use Rattle.qw_top.specs.Bench.{IsStart};
-    ghost use Rattle.qw_top.specs.Seats.{end_in, end_of, first_task, ran_in, shared_of, tasks_of};
+    ghost use Rattle.qw_top.specs.Seats.{IsBench, end_in, end_of, first_task, ran_in, shared_of, tasks_of};
 
     /// A bench with one instance of the job over a table of one column. Its error is want of memory.
     pub fn new(alloc: Global, loaded: &Loaded, job: Job, limits: Limits) -> Result<Self, NoMemory>
@@ -295,7 +295,8 @@ impl Bench {
     }
 
     pub fn memory(&self) -> &Linear
-        ensures { result.now ≡ (shared_of self.now).memory }
+        ensures memory { result.now ≡ (shared_of self.now).memory }
+        ensures kept { IsBench self.now }
     {
         &self.memory
     }

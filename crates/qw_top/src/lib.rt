@@ -18,6 +18,9 @@ pub mod sink;
 pub mod status;
 #[cfg(test)]
 mod tests;
+pub mod token;
+pub mod top;
+pub mod words;
 
 pub use status::Status;
 pub use top::qwasm;
