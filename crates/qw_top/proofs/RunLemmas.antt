@@ -90,9 +90,6 @@ serving_after : (rows : List (List Val)) (t : Task) (start : Shared) (b : Standi
 serving_after rows t start b given began turned =
     subst (λ (s : Shared). AreServing rows (t ∷ []) s) (sym turned) (turns-serving rows (t ∷ []) start given (start-serving rows (t ∷ []) start began))
 
-pub some_instance : (b : Standing) (t : Task) → tasks_of b ≡ t ∷ [] → 0 < length (shared_of b).instances
-some_instance b t is = omega (arith, ap length is, length-map b.seats task_of, length-map b.seats instance_of)
-
 abbrev pub task_for : Query → Module → Task
 task_for query program = first_task (record { query = query; program = program }) DEFAULT_LIMITS
 
