@@ -18,9 +18,12 @@ pub mod ReaderLemmas
 pub mod RecordLemmas
 pub mod RowLemmas
 pub mod RowReading
+pub mod Received
 pub mod Serving
+pub mod FirstPages
 pub mod SeatSteps
 pub mod BenchTurns
+pub mod BenchStart
 pub mod SinkLemmas
 pub mod TokenLemmas
 pub mod TokenRun
@@ -29,3 +32,5 @@ pub mod ParseLemmas
 pub mod GrammarLemmas
 pub mod ReadLemmas
 pub mod TopLemmas
+pub mod RunLemmas
+pub mod DeliverLemmas

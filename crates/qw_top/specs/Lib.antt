@@ -1,5 +1,6 @@
 pub mod Emit
 pub mod Layout
+pub mod FirstPage
 pub mod Meaning
 pub mod Compiled
 pub mod Bench
@@ -19,3 +20,4 @@ pub mod Grammar
 pub mod Parse
 pub mod Reading
 pub mod Top
+pub mod Delivered

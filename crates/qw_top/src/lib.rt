@@ -6,6 +6,7 @@ pub mod bench_laws;
 pub mod columns;
 pub mod emit;
 pub mod files;
+pub mod first_page;
 pub mod layout;
 pub mod loading;
 pub mod meaning;
@@ -15,8 +16,11 @@ pub mod result_laws;
 pub mod results;
 pub mod sink;
 pub mod status;
+#[cfg(test)]
+mod tests;
 pub mod token;
 pub mod top;
 pub mod words;
-#[cfg(test)]
-mod tests;
+
+pub use status::Status;
+pub use top::qwasm;
