@@ -191,9 +191,9 @@ unended-some s (suc n) k below unended none =
     let parts = empty-append (unended_below s n) (if is_some (end_in s n) then [] else n ∷ []) none in
     ⊎_elim
     (λ (here : k ≡ n).
-      let open_end : is_some (end_in s n) ≡ false = subst (λ (x : ℕ). is_some (end_in s x) ≡ false) here unended in
-      let last : (if is_some (end_in s n) then [] else n ∷ []) ≡ n ∷ [] = rw open_end refl in
-      one (sym last ∙ parts.1))
+    let open_end : is_some (end_in s n) ≡ false = subst (λ (x : ℕ). is_some (end_in s x) ≡ false) here unended in
+    let last : (if is_some (end_in s n) then [] else n ∷ []) ≡ n ∷ [] = rw open_end refl in
+    one (sym last ∙ parts.1))
     (λ before. unended-some s n k before unended parts.0)
     (eq-or-lt_of_le (below_suc k n below))
   where
