@@ -4,7 +4,8 @@ use Rattle.std.specs.Prelude.{if◌then◌else◌}
 use Rattle.std.specs.List.{list_any}
 use Rattle.std.specs.Option.{option_and_then, option_map, option_map_or}
 use Rattle.std.proofs.lemmas.Bool.{cases_Bool, false≢true}
-use Rattle.std.proofs.lemmas.List.{append-nil, map-append}
+use Rattle.std.proofs.Math.Nat.{eq-or-lt_of_le}
+use Rattle.std.proofs.lemmas.List.{append-nil, length-map, map-append}
 use Rattle.std.proofs.lemmas.Option.{none-some, same_Some, slice_get-map, slice_get_within}
 use Rattle.qw_types.specs.declared.value.Val.{Val}
 use Rattle.qw_module.specs.Turns.{End, Instance, Shared, EachInstance, IsWhole, steps_of, turn, turns, with_instance}
@@ -129,3 +130,89 @@ turned-next b kept quantum k result self new o so_far within told is turned coun
 pub passed-next : (quantum k : ℕ) (s : Shared) (self : Standing) (o : Option Ended) → IsRounding quantum s k (shared_of self) →
     end_of o ≡ end_in (shared_of self) k → is_some o ≡ true → IsRounding quantum s (k + 1) (shared_of self)
 passed-next quantum k s self o so_far told is = rounding-ended quantum s k (shared_of self) (end-test (shared_of self) k o true told is) so_far
+
+-- ---- all rounds
+-- rounds led from s to this state, and go on with what follows from it
+pub record HasRounded (quantum : ℕ) (s now : Shared) : Type 0 where
+  pub before : List (ℕ × ℕ)
+  pub state : now ≡ turns before s
+  pub goes_on : (rest : List (ℕ × ℕ)) → AreRounds quantum rest now → AreRounds quantum (before ++ rest) s
+
+pub rounded-none : (quantum : ℕ) (s : Shared) → HasRounded quantum s s
+rounded-none quantum s = record { before = []; state = refl; goes_on = λ rest h. h }
+
+pub rounded-more : (quantum : ℕ) (s now new : Shared) → HasRounded quantum s now → new ≡ turns (round quantum now) now → HasRounded quantum s new
+rounded-more quantum s now new so_far is = record {
+  before = so_far.before ++ round quantum now;
+  state = is ∙ ap (turns (round quantum now)) so_far.state ∙ sym (turns-append so_far.before (round quantum now) s);
+  goes_on = λ rest h. rw append_assoc (so_far.goes_on (round quantum now ++ rest) (rounds.first now rest (rw (← is) h)));
+}
+
+-- the tests over the seats
+any-none : (seats : List Seat) → list_any (λ (seat : Seat). not (is_some seat.ended)) seats ≡ false → (k : ℕ) (i : Instance) → slice_get (map instance_of seats) k ≡ Some i → is_some i.end ≡ true
+any-none [] none k i found = absurd (none-some i found)
+any-none (seat ∷ seats) none zero i found = ⊎_elim
+    (λ some. ap (λ (x : Instance). is_some x.end) (sym (same_Some (instance_of seat) i found)) ∙ is_some-end_of seat.ended ∙ some)
+    (λ open_end. absurd (false≢true (sym (rw open_end at none))))
+    (cases_Bool (is_some seat.ended))
+any-none (seat ∷ seats) none (suc k) i found = ⊎_elim
+    (λ some. any-none seats (rw some at none) k i found)
+    (λ open_end. absurd (false≢true (sym (rw open_end at none))))
+    (cases_Bool (is_some seat.ended))
+
+record IsOpen (seats : List Seat) : Type 0 where
+  k : ℕ
+  within : k < length seats
+  unended : is_some (option_and_then (λ (x : Instance). x.end) (slice_get (map instance_of seats) k)) ≡ false
+
+any-some : (seats : List Seat) → list_any (λ (seat : Seat). not (is_some seat.ended)) seats ≡ true → IsOpen seats
+any-some [] some = absurd (false≢true some)
+any-some (seat ∷ seats) some = ⊎_elim
+    (λ ended. let further = any-some seats (rw ended at some) in record { k = suc further.k; within = omega (arith, further.within); unended = further.unended })
+    (λ open_end. record { k = 0; within = omega arith; unended = is_some-end_of seat.ended ∙ open_end })
+    (cases_Bool (is_some seat.ended))
+
+-- which instances have a turn in a round
+unended-none : (s : Shared) (n : ℕ) → ((k : ℕ) → k < n → is_some (end_in s k) ≡ true) → unended_below s n ≡ []
+unended-none s zero all = refl
+unended-none s (suc n) all = rw (unended-none s n (λ k below. all k (omega arith)), all n (omega arith)) refl
+
+empty-append : (xs ys : List ℕ) → xs ++ ys ≡ [] → (xs ≡ []) × (ys ≡ [])
+empty-append [] ys none = (refl, none)
+empty-append (x ∷ xs) ys none = cc
+
+empty-map : (quantum : ℕ) (xs : List ℕ) → map {A = ℕ} {B = ℕ × ℕ} (λ i. (i, quantum)) xs ≡ [] → xs ≡ []
+empty-map quantum [] none = refl
+empty-map quantum (x ∷ xs) none = cc
+
+unended-some : (s : Shared) (n k : ℕ) → k < n → is_some (end_in s k) ≡ false → unended_below s n ≢ []
+unended-some s zero k below unended none = absurd (omega arith)
+unended-some s (suc n) k below unended none =
+    let parts = empty-append (unended_below s n) (if is_some (end_in s n) then [] else n ∷ []) none in
+    ⊎_elim
+    (λ (here : k ≡ n).
+    let open_end : is_some (end_in s n) ≡ false = subst (λ (x : ℕ). is_some (end_in s x) ≡ false) here unended in
+    let last : (if is_some (end_in s n) then [] else n ∷ []) ≡ n ∷ [] = rw open_end refl in
+    one (sym last ∙ parts.1))
+    (λ before. unended-some s n k before unended parts.0)
+    (eq-or-lt_of_le (below_suc k n below))
+  where
+    one : {m : ℕ} → m ∷ [] ≡ [] → ⊥
+    one e = cc
+
+    below_suc : (k n : ℕ) → k < suc n → k ≤ n
+    below_suc k n h = omega arith
+
+pub all-ended : (b : Standing) → list_any (λ (seat : Seat). not (is_some seat.ended)) b.seats ≡ false → EachInstance (λ i. IsSome i.end) (shared_of b)
+all-ended b none k i found = any-none b.seats none k i found
+
+pub no-round : (b : Standing) (quantum : ℕ) → list_any (λ (seat : Seat). not (is_some seat.ended)) b.seats ≡ false → round quantum (shared_of b) ≡ []
+no-round b quantum none = ap (map (λ (i : ℕ). (i, quantum))) (unended-none (shared_of b) (length (shared_of b).instances)
+    (λ k below. let i = there (shared_of b).instances k below in rw i.1 (any-none b.seats none k i.0 i.1)))
+
+pub some-round : (b : Standing) (quantum : ℕ) → list_any (λ (seat : Seat). not (is_some seat.ended)) b.seats ≡ true → round quantum (shared_of b) ≢ []
+some-round b quantum some none =
+    let left = any-some b.seats some in
+    let within : left.k < length (shared_of b).instances = rw (length-map b.seats instance_of) left.within in
+    unended-some (shared_of b) (length (shared_of b).instances) left.k within left.unended
+    (empty-map quantum (unended_below (shared_of b) (length (shared_of b).instances)) none)

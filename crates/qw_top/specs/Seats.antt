@@ -36,7 +36,7 @@ abbrev pub state_in : Seat → State
 state_in seat = state_of seat.valid seat.instance
 
 abbrev pub world_of : Seat → World
-world_of seat = first_world columns_start seat.rows seat.descriptor seat.limits.pages
+world_of seat = record (first_world columns_start seat.rows seat.descriptor seat.limits.pages) { held = seat.held }
 
 -- the instance of a seat
 abbrev pub instance_of : Seat → Instance

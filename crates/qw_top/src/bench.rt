@@ -88,6 +88,8 @@ struct Seat {
     /// The address of its descriptor, where its first page begins.
     descriptor: u64,
     limits: Limits,
+    /// How many pages it holds.
+    held: u32,
     /// How many instructions it has run.
     ran: u64,
     ended: Option<Ended>,
@@ -224,6 +226,7 @@ impl Bench {
                 rows,
                 descriptor: u64::from(FIRST_PAGE),
                 limits,
+                held: 1,
                 ran: 0,
                 ended,
             },
@@ -303,6 +306,14 @@ impl Bench {
         ensures { result ≡ ran_in (shared_of self.now) i }
     {
         self.seats[i].ran
+    }
+
+    /// How many pages an instance holds.
+    pub fn pages(&self, i: usize) -> u32
+        requires { i < length (shared_of self.now).instances }
+        ensures { IfSome (slice_get (shared_of self.now).instances i) (λ instance. result ≡ instance.world.held) }
+    {
+        self.seats[i].held
     }
 
     /// The address of an instance's descriptor.
