@@ -22,6 +22,7 @@ pub mod Serving
 pub mod SeatSteps
 pub mod BenchTurns
 pub mod SinkLemmas
+pub mod PlainLemmas
 pub mod TokenLemmas
 pub mod TokenRun
 pub mod TokenLongest

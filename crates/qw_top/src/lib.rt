@@ -11,12 +11,13 @@ pub mod loading;
 pub mod meaning;
 pub mod output;
 pub mod parse;
+pub mod plain;
 pub mod result_laws;
 pub mod results;
 pub mod sink;
 pub mod status;
+#[cfg(test)]
+mod tests;
 pub mod token;
 pub mod top;
 pub mod words;
-#[cfg(test)]
-mod tests;
