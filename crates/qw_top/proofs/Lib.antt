@@ -18,9 +18,12 @@ pub mod ReaderLemmas
 pub mod RecordLemmas
 pub mod RowLemmas
 pub mod RowReading
+pub mod Received
 pub mod Serving
+pub mod FirstPages
 pub mod SeatSteps
 pub mod BenchTurns
+pub mod BenchStart
 pub mod SinkLemmas
 pub mod PlainLemmas
 pub mod TokenLemmas

@@ -149,11 +149,11 @@ module _ (seat mid : Seat) (m0 m : List ℕ) (quantum budget result : ℕ) (whol
       ap (λ (i : t.Instance). (i, m)) (sym same) ∙ ran ∙ ap (λ (i : t.Instance). steps_of budget i m0) (counting-none seat whole) in
       ⊎_elim
       (λ ended.
-        let rest : quantum ≡ budget + (quantum - budget) = omega arith in
-        sym (ap (λ (n : ℕ). steps_of n (instance_of seat) m0) rest
-        ∙ steps_of-added budget (quantum - budget) (instance_of seat) m0
-        ∙ ap (λ (p : t.Instance × List ℕ). steps_of (quantum - budget) p.0 p.1) (sym first)
-        ∙ steps_of-ended (quantum - budget) now m ended))
+      let rest : quantum ≡ budget + (quantum - budget) = omega arith in
+      sym (ap (λ (n : ℕ). steps_of n (instance_of seat) m0) rest
+      ∙ steps_of-added budget (quantum - budget) (instance_of seat) m0
+      ∙ ap (λ (p : t.Instance × List ℕ). steps_of (quantum - budget) p.0 p.1) (sym first)
+      ∙ steps_of-ended (quantum - budget) now m ended))
       (λ all. first ∙ ap (λ (n : ℕ). steps_of n (instance_of seat) m0) all)
       over
 

@@ -1,5 +1,6 @@
 pub mod Emit
 pub mod Layout
+pub mod FirstPage
 pub mod Meaning
 pub mod Compiled
 pub mod Bench

@@ -4,15 +4,16 @@ use Rattle.std.specs.Option.{option_and_then, option_map_or}
 use Rattle.qw_types.specs.declared.value.Val.{Val}
 use Rattle.qw_module.specs.declared.module.Module.{Module}
 use Rattle.qw_module.specs.Execution.{State, Running, Returned, Raised, Trapped}
-use Rattle.qw_module.specs.Map.{World}
+use Rattle.qw_module.specs.Map.{World, page}
 use Rattle.qw_module.specs.Turns.{Done, Steps, Trap, End, Instance, Shared, end_at, steps_of}
 use Rattle.qw_module.specs.Instance.{GoesWith, state_of}
 use Rattle.qw_top.specs.declared.bench.Ended.{Ended}
 use Rattle.qw_top.specs.declared.bench.Ended.TheVariants as ended
+use Rattle.qw_top.specs.declared.bench.Limits.{Limits}
 use Rattle.qw_top.specs.declared.bench.Seat.{Seat}
 use Rattle.qw_top.specs.Columns.{columns_start}
-use Rattle.qw_top.specs.Layout.{first_world}
-use Rattle.qw_top.specs.Bench.{AreServing, Task}
+use Rattle.qw_top.specs.Layout.{first_world, rows_at}
+use Rattle.qw_top.specs.Bench.{AreServing, CompiledQuery, Task}
 
 -- the end that is meant
 abbrev pub end_of : Option Ended → Option End
@@ -88,6 +89,20 @@ end_in s i = option_and_then (λ (instance : Instance). instance.end) (slice_get
 
 abbrev pub ran_in : Shared → ℕ → ℕ
 ran_in s i = option_map_or (λ (instance : Instance). instance.ran) (slice_get s.instances i) 0
+
+-- the first task on a bench: its first page follows the page of the columns
+abbrev pub first_task : CompiledQuery → Limits → Task
+first_task job limits = record {
+  query = job.query;
+  program = job.program;
+  descriptor = page;
+  pages = limits.pages;
+  steps = limits.steps;
+}
+
+-- the result rows of the instance of a number
+abbrev pub rows_in : Standing → ℕ → Option (List (List Val))
+rows_in b i = option_and_then (λ (seat : Seat). rows_at (world_of seat).own b.memory seat.descriptor) (slice_get b.seats i)
 
 -- what every bench keeps: its instances serve their tasks over a table, and each goes with its module
 pub record IsBench (b : Standing) : Type 0 where

@@ -1,11 +1,19 @@
 //! Instances of compiled statements that share one linear memory, and the turns that they are given.
 
-ghost use Rattle.std.specs.Prelude.{◌≡◌, ◌↔◌, ◌+◌, ◌-◌, ◌<◌, ◌≤◌, ℕ, None, length, IfSome, IsSome, slice_get};
+ghost use Rattle.std.specs.Prelude.{◌≡◌, ◌↔◌, ◌+◌, ◌-◌, ◌<◌, ◌≤◌, ℕ, [], ◌∷◌, None, length, IfOk, IfSome, IsSome, slice_get};
+ghost use Rattle.qw_module.specs.Instance.{GoesWith, begun, state_of};
+ghost use Rattle.qw_module.specs.Validity.{IsShaped};
+ghost use Rattle.qw_top.specs.FirstPage.{IsFirstMemory};
 
+use crate::columns::place;
+use crate::first_page::begin_page;
+use crate::loading::Loaded;
 use crate::meaning::Query;
-use qw_module::linear::Linear;
-use qw_module::machine::{Instance, Stepped};
+use qw_module::linear::{Linear, MAX_PAGES};
+use qw_module::machine::{Instance, InstanceFault, Stepped};
 use qw_module::valid::ValidModule;
+use qw_types::NoMemory;
+use std::alloc::Global;
 use std::marker::Model;
 
 /// How much an instance may use.
@@ -22,6 +30,12 @@ pub const DEFAULT_LIMITS: Limits = Limits {
     pages: 128,
     steps: 999_999_999_999_999_999,
 };
+
+/// The most pages that an instance may hold: all but that of the columns.
+pub const MAX_INSTANCE_PAGES: u32 = MAX_PAGES - 1;
+
+/// The address of the first page of the instance, behind that of the columns.
+const FIRST_PAGE: u32 = 65_536;
 
 /// How an instance ended.
 #[derive(Clone, Copy, Debug, PartialEq, Eq)]
@@ -154,9 +168,66 @@ impl Model for Bench {
     ghost invariant = { λ b. IsBench (record { memory = b.memory; seats = b.seats.items }) };
 }
 
+/// A memory of two pages: that of the columns, which has the table, and the first page of the instance.
+fn first_memory(alloc: Global, loaded: &Loaded) -> Result<Linear, NoMemory>
+    ensures { IfOk result (IsFirstMemory loaded.now) }
+{
+    let mut memory = Linear::new(alloc, 2)?;
+    place(loaded, &mut memory);
+    begin_page(&mut memory, FIRST_PAGE, loaded.values().len() as u32);
+    Ok(memory)
+}
+
+/// An instance of a module of the shape that is executed, whose `run` has the first page as its argument.
+fn first_instance(alloc: Global, valid: &ValidModule) -> Result<Instance, NoMemory>
+    requires { (number : ℕ) × IsShaped valid.now number }
+    ensures begun { (number : ℕ) → IsShaped valid.now number
+        → IfOk result (λ instance. state_of valid.now instance ≡ begun valid.now number FIRST_PAGE) }
+    ensures goes_with { IfOk result (GoesWith valid.now) }
+{
+    match Instance::new(alloc, valid, FIRST_PAGE) {
+        Ok(instance) => Ok(instance),
+        Err(InstanceFault::NoMemory) => Err(NoMemory),
+        Err(InstanceFault::NotShaped) => unreachable!(),
+    }
+}
+
 impl Bench {
     ghost use Rattle.qw_module.specs.Turns.{turn};
-    ghost use Rattle.qw_top.specs.Seats.{end_in, end_of, ran_in, shared_of, tasks_of};
+    ghost use Rattle.qw_top.specs.Bench.{IsStart};
+    ghost use Rattle.qw_top.specs.Seats.{IsBench, end_in, end_of, first_task, ran_in, shared_of, tasks_of};
+
+    /// A bench with one instance of the job over a table of one column. Its error is want of memory.
+    pub fn new(alloc: Global, loaded: &Loaded, job: Job, limits: Limits) -> Result<Self, NoMemory>
+        requires column { job.query.column ≡ 0 }
+        requires pages { (1 ≤ limits.pages) × (limits.pages ≤ MAX_INSTANCE_PAGES) }
+        requires steps { 1 ≤ limits.steps }
+        ensures tasks { IfOk result (λ bench. tasks_of bench ≡ first_task job limits ∷ []) }
+        ensures start { IfOk result (λ bench. IsStart loaded.now (tasks_of bench) (shared_of bench)) }
+    {
+        let rows = loaded.values().len();
+        let memory = first_memory(alloc, loaded)?;
+        let Job { query, valid } = job;
+        let instance = first_instance(alloc, &valid)?;
+        let ended = match instance.last() {
+            Stepped::Ran => None,
+            Stepped::Returned => Some(Ended::Done),
+            Stepped::Trapped => unreachable!(),
+        };
+        let seats = vec![in alloc;
+            Seat {
+                query,
+                valid,
+                instance,
+                rows,
+                descriptor: u64::from(FIRST_PAGE),
+                limits,
+                ran: 0,
+                ended,
+            },
+        ]?;
+        Ok(Bench { memory, seats })
+    }
 
     /// Gives an instance a turn: it runs until it ends or has run `quantum` instructions. Answers how many
     /// it ran.
@@ -204,7 +275,8 @@ impl Bench {
     }
 
     pub fn memory(&self) -> &Linear
-        ensures { result.now ≡ (shared_of self.now).memory }
+        ensures memory { result.now ≡ (shared_of self.now).memory }
+        ensures kept { IsBench self.now }
     {
         &self.memory
     }

@@ -1,6 +1,7 @@
 //! The columns in the linear memory.
 
 ghost use Rattle.std.specs.Prelude.{◌≡◌, ◌≤◌, length};
+ghost use Rattle.qw_module.specs.Memory.{AreOctets};
 ghost use Rattle.qw_top.specs.Columns.{Holds, SameOutside, columns_end, columns_start, page_size};
 
 use crate::loading::Loaded;
@@ -18,6 +19,7 @@ pub fn place(loaded: &Loaded, memory: &mut Linear)
     ensures holds { Holds memory.new loaded.now }
     ensures outside { SameOutside memory.old memory.new columns_start (columns_end loaded.now) }
     ensures len { length memory.new ≡ length memory.old }
+    ensures octets { AreOctets memory.old → AreOctets memory.new }
 {
     for (row, value) in loaded.values().iter().enumerate() {
         let address = COLUMNS_START + INTEGER_SIZE * row as u64;

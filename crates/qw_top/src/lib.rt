@@ -6,6 +6,7 @@ pub mod bench_laws;
 pub mod columns;
 pub mod emit;
 pub mod files;
+pub mod first_page;
 pub mod layout;
 pub mod loading;
 pub mod meaning;

@@ -1,21 +1,36 @@
 //! The result rows of an instance, read from the memory.
 
-ghost use Rattle.std.specs.Prelude.{◌≡◌, ◌+◌, ◌<◌, ◌≤◌, ◌^◌, ◌∷◌, [], List, length, IfOk, IsSome, Some};
+ghost use Rattle.std.specs.Prelude.{◌≡◌, ◌+◌, ◌<◌, ◌≤◌, ◌^◌, ◌∷◌, [], List, length, IfOk, IfSome, IsSome, Some, slice_get};
 ghost use Rattle.std.specs.Int.{cast_signed, w64};
 ghost use Rattle.std.specs.List.{AllByRecursion};
+ghost use Rattle.qw_types.specs.declared.value.Val.{Val};
 ghost use Rattle.qw_types.specs.declared.value.Val.TheVariants.{Num};
 ghost use Rattle.qw_module.specs.Map.{Area};
 ghost use Rattle.qw_module.specs.Memory.{number_at};
-ghost use Rattle.qw_module.specs.Turns.{LiesWithin};
+ghost use Rattle.qw_module.specs.Turns.{Done, LiesWithin};
+ghost use Rattle.qw_top.specs.Bench.{AreServing};
 ghost use Rattle.qw_top.specs.Layout.{rows_at, rows_from};
+ghost use Rattle.qw_top.specs.Meaning.{Rows, outcome};
+ghost use Rattle.qw_top.specs.Seats.{end_in, rows_in, shared_of, tasks_of};
 
+use crate::bench::Bench;
 use crate::layout::{CELL_OFFSET, COUNT_OFFSET, FIRST_ROW_OFFSET};
 use qw_module::linear::Linear;
 use qw_types::{NoMemory, Row, Val};
 use std::alloc::Global;
 
+/// The result rows of an instance that is done. The error is want of memory.
+pub fn received(alloc: Global, bench: &Bench, i: usize) -> Result<Vec<Row>, NoMemory>
+    requires { end_in (shared_of bench.now) i ≡ Some Done }
+    ensures rows { IfOk result (λ rows. rows_in bench.now i ≡ Some rows.items) }
+    ensures answer { IfOk result (λ rows. (table : List (List Val)) → AreServing table (tasks_of bench.now) (shared_of bench.now)
+        → IfSome (slice_get (tasks_of bench.now) i) (λ task. outcome task.query table ≡ Rows rows.items)) }
+{
+    rows_of(alloc, bench.memory(), bench.descriptor(i))
+}
+
 /// The result rows that a descriptor leads to.
-pub fn rows_of(alloc: Global, memory: &Linear, descriptor: u64) -> Result<Vec<Row>, NoMemory>
+fn rows_of(alloc: Global, memory: &Linear, descriptor: u64) -> Result<Vec<Row>, NoMemory>
     ghost own: { List Area }
     requires inside { AllByRecursion (LiesWithin (length memory.now)) own }
     requires small { descriptor < 2 ^ 32 }

@@ -4,13 +4,13 @@ use Rattle.std.proofs.lemmas.List.{append-nil}
 use borrow.Rule.Slice.PartMut.{put_mid}
 use Rattle.std.specs.Int.{to_le_bytes}
 use Rattle.qw_module.specs.Memory.{with_number}
-use Rattle.qw_module.proofs.MemoryFacts.{length-with_number}
+use Rattle.qw_module.proofs.MemoryFacts.{AreOctets-with_number, length-with_number}
 use Rattle.qw_top.specs.Columns.{columns_start}
 use Rattle.qw_top.proofs.ColumnLemmas.{above_more, all_fit, few_numbers, holds, octets_same, outside, stored_is_put, written_more}
 use Rattle.qw_top.proofs.columns.place.Goals as goal
 
 pub loop-row-init : goal.loop-row-init
-loop-row-init c = record { written = sym (append-nil (take columns_start c.args.memory.now)); above = refl; len = refl }
+loop-row-init c = record { written = sym (append-nil (take columns_start c.args.memory.now)); above = refl; len = refl; octets = λ h. h }
 
 pub unwrap-requires : goal.unwrap-requires
 unwrap-requires c =
@@ -34,6 +34,7 @@ loop-row-preserved c =
     record {
       written = rw put (written_more memory c.args.memory.now (to_le_bytes w32 number) ns c.loop-row.row 4 c.loop-row-test.true octets room c.loop-row.invariant.written);
       above = rw put (above_more memory c.args.memory.now (to_le_bytes w32 number) c.loop-row.row 4 (get_or ns c.loop-row.row (pos 0)) refl octets room c.loop-row.invariant.above);
+      octets = λ h. rw stored (AreOctets-with_number memory (c.loop-row.invariant.octets h) at 4 number);
       len = ap length stored ∙ length-with_number memory at 4 number ∙ c.loop-row.invariant.len;
     }
 
