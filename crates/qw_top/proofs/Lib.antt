@@ -33,3 +33,5 @@ pub mod ParseLemmas
 pub mod GrammarLemmas
 pub mod ReadLemmas
 pub mod TopLemmas
+pub mod RunLemmas
+pub mod DeliverLemmas

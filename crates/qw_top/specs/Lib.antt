@@ -20,3 +20,4 @@ pub mod Grammar
 pub mod Parse
 pub mod Reading
 pub mod Top
+pub mod Delivered

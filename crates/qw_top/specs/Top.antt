@@ -129,6 +129,13 @@ IsSettled ReadFailed = ⊥
 IsSettled WriteFailed = ⊥
 IsSettled NoMemory = ⊥
 
+-- a fault of the outside, or want of memory
+abbrev pub IsFault : Status → Type 0
+IsFault ReadFailed = Unit {0}
+IsFault WriteFailed = Unit {0}
+IsFault NoMemory = Unit {0}
+IsFault _ = ⊥
+
 -- an end that the reading of the files can come to
 abbrev pub StopsReading : Status → Type 0
 StopsReading Done = ⊥

@@ -193,7 +193,8 @@ fn first_instance(alloc: Global, valid: &ValidModule) -> Result<Instance, NoMemo
 }
 
 impl Bench {
-    ghost use Rattle.qw_module.specs.Turns.{turn};
+    ghost use Rattle.std.specs.Prelude.{List};
+    ghost use Rattle.qw_module.specs.Turns.{turn, turns};
     ghost use Rattle.qw_top.specs.Bench.{IsStart};
     ghost use Rattle.qw_top.specs.Seats.{IsBench, end_in, end_of, first_task, ran_in, shared_of, tasks_of};
 
@@ -227,6 +228,25 @@ impl Bench {
             },
         ]?;
         Ok(Bench { memory, seats })
+    }
+
+    pub fn run_all(&mut self, quantum: u64)
+        requires { 1 ≤ quantum }
+        ensures tasks { tasks_of self.new ≡ tasks_of self.old }
+        ensures turned { (ts : List (ℕ × ℕ)) × (shared_of self.new ≡ turns ts (shared_of self.old)) }
+        ensures ended { (i : ℕ) → i < length (shared_of self.new).instances → IsSome (end_in (shared_of self.new) i) }
+    {
+        while self.round(quantum) {}
+    }
+
+    fn round(&mut self, quantum: u64) -> bool
+        requires { 1 ≤ quantum }
+    {
+        let mut open = false;
+        for i in 0..self.seats.len() {
+            open = self.turn(i, quantum) > 0 || open;
+        }
+        open
     }
 
     /// Gives an instance a turn: it runs until it ends or has run `quantum` instructions. Answers how many

@@ -22,3 +22,6 @@ mod tests;
 pub mod token;
 pub mod top;
 pub mod words;
+
+pub use status::Status;
+pub use top::qwasm;

@@ -1,6 +1,8 @@
 ghost use Rattle.std.specs.Prelude.{◌≡◌};
 ghost use Rattle.qw_top.specs.Status.{code_of};
 
+use qw_types::NoMemory;
+
 /// How a run of the program ended.
 #[derive(Clone, Copy, Debug, PartialEq, Eq)]
 pub enum Status {
@@ -20,6 +22,16 @@ pub enum Status {
     WriteFailed,
     /// There was no memory left.
     NoMemory,
+}
+
+impl From<NoMemory> for Status {
+    ghost use Rattle.qw_top.specs.declared.status.Status.TheVariants.{NoMemory};
+
+    ghost from_gives = { λ _ status. status ≡ NoMemory };
+
+    fn from(_fault: NoMemory) -> Status {
+        Status::NoMemory
+    }
 }
 
 impl Status {

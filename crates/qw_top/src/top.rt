@@ -1,14 +1,18 @@
 //! A run, from the words of the command line on.
 
-ghost use Rattle.std.specs.Prelude.{◌≡◌, ◌≢◌, ◌≤◌, ℕ, List, [], ◌∷◌, Option, Some, IfOk, IfErr, IsSome, OnOk, OnErr};
+ghost use Rattle.std.specs.Prelude.{◌≡◌, ◌≢◌, ◌≤◌, ◌⊎◌, ℕ, List, [], ◌∷◌, map, Option, Some, IfOk, IfErr, IsSome, OnOk, OnErr};
+ghost use Rattle.std.specs.String.{string_bytes};
+ghost use Rattle.qw_io.specs.Faults.{IsCounted};
 ghost use Rattle.qw_types.specs.declared.schema.Table.{Table};
 ghost use Rattle.qw_types.specs.declared.value.Val.{Val};
 ghost use Rattle.qw_top.specs.declared.meaning.Query.{Query};
 ghost use Rattle.qw_top.specs.declared.status.Status.{Status};
+ghost use Rattle.qw_top.specs.Delivered.{Leaves};
 ghost use Rattle.qw_top.specs.Loading.{IsOneInteger};
 ghost use Rattle.qw_top.specs.Output.{TookFront, with_text};
-ghost use Rattle.qw_top.specs.Top.{CountsStop, CountsWritten, Explains, FilesExplain, HasQuery, IsFile, IsNoQuery, IsNoSchema, IsNoTable, IsOneTable, IsSettled, IsTooLong, Names, QueryIs, SchemaIs, StopsAs, StopsReading, StopsWriting, TableIs, header_of, names_of, selected};
+ghost use Rattle.qw_top.specs.Top.{CountsStop, CountsWritten, Explains, FilesExplain, HasQuery, IsFault, IsFile, IsNoQuery, IsNoSchema, IsNoTable, IsOneTable, IsSettled, IsTooLong, Names, QueryIs, SchemaIs, StopsAs, StopsReading, StopsWriting, TableIs, header_of, names_of, selected};
 
+use crate::bench::Bench;
 use crate::files::{MAX_TABLE_FILE, MAX_TEXT_FILE, ReadFault, read_whole, table_file_name};
 use crate::loading::{LoadFault, Loaded, load};
 use crate::meaning::Query;
@@ -17,9 +21,50 @@ use crate::parse::{ParseFault, query_of, schema_of};
 use crate::sink::{Head, Kind};
 use crate::status::Status;
 use crate::words::RunWords;
+use finish::{deliver, run};
 use qw_io::{IoFault, Shelf, Sink};
 use qw_types::{Column, NoMemory, Schema, Table, Text, Ty};
 use std::alloc::Global;
+
+mod finish;
+
+/// How many instructions an instance runs before the next one has its turn.
+pub const QUANTUM: u64 = 10_000;
+
+/// Runs what the words of a command line ask for, and writes its report to `out`. The words come without
+/// the program's own name. Nothing is written to `notes`.
+///
+/// `kept` holds the bench afterwards wherever its turns were made, and nothing else.
+pub fn qwasm<F: Shelf, O: Sink, E: Sink>(
+    alloc: Global,
+    words: &[String],
+    files: &mut F,
+    out: &mut O,
+    notes: &mut E,
+    kept: &mut Option<Bench>,
+) -> Status
+    ensures explained { Explains (F.files files.old) (map string_bytes words.now) result }
+    ensures exactly { (told : List ℕ → Option (List ℕ)) (status : Status) → F.files files.old ≡ Some told
+        → Explains (Some told) (map string_bytes words.now) status → IsSettled status
+        → (result ≡ status) ⊎ IsFault result }
+    ensures left { Leaves (F.files files.old) (map string_bytes words.now) result kept.new (O.taken out.old) (O.taken out.new) }
+    ensures read_fault { result ≡ Status.ReadFailed → IsCounted (F.faults files.old) (F.faults files.new) }
+    ensures no_read_fault { result ≢ Status.ReadFailed → F.faults files.new ≡ F.faults files.old }
+    ensures write_fault { result ≡ Status.WriteFailed → IsCounted (O.faults out.old) (O.faults out.new) }
+    ensures no_write_fault { result ≢ Status.WriteFailed → O.faults out.new ≡ O.faults out.old }
+    ensures no_note { notes.new ≡ notes.old }
+{
+    let _ = notes;
+    *kept = None;
+    match run(alloc, words, files) {
+        Ok(turned) => {
+            let status = deliver(alloc, &turned.prepared, &turned.bench, out);
+            *kept = Some(turned.bench);
+            status
+        }
+        Err(status) => status,
+    }
+}
 
 /// What the files of a run hold.
 #[derive(Debug, Drop)]
@@ -44,6 +89,7 @@ pub fn prepare<F: Shelf>(
     ensures accepted { IfOk result (λ run. (table : Table) × (run.schema ≡ table ∷ [])
         × HasQuery (F.files files.old) (names_of names.now) table run.loaded run.query) }
     ensures explained { IfErr result (λ status. FilesExplain (F.files files.old) (names_of names.now) status) }
+    ensures one_table { IfOk result (λ run. IsOneTable run.schema) }
     ensures selects { IfOk result (λ run. IsSome (selected run.schema run.query)) }
     ensures stops { IfErr result (λ status. StopsReading status) }
     ensures counts { CountsStop result (F.faults files.old) (F.faults files.new) }
@@ -230,3 +276,6 @@ fn one_table(schema: &Schema) -> &Table
 {
     &schema.as_slice()[0]
 }
+
+#[cfg(test)]
+mod tests;
