@@ -4,6 +4,8 @@
 pub mod bench;
 pub mod bench_laws;
 pub mod columns;
+#[cfg(test)]
+mod comparison_tests;
 pub mod emit;
 pub mod files;
 pub mod first_page;
