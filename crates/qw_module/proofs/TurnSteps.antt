@@ -110,7 +110,7 @@ limit-ends : (c : Config) (w : World) (ran most : ℕ) → nat_le most ran ≡ t
 limit-ends c w ran most reached = rw reached refl
 
 -- an instance that has not ended runs, and may run one more instruction
-unended-runs : (i : Instance) → IsWhole i → is_some i.end ≡ false → (state : State) → i.state ≡ state → (c : Config) × (i.state ≡ Running c) × (i.ran < i.most_steps)
+pub unended-runs : (i : Instance) → IsWhole i → is_some i.end ≡ false → (state : State) → i.state ≡ state → (c : Config) × (i.state ≡ Running c) × (i.ran < i.most_steps)
 unended-runs i whole unended (Running c) is = (
   c,
   is,

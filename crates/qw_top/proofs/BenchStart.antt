@@ -109,7 +109,7 @@ made most s t w v m n e f one two three four =
 
 module _ (rows : List (List Val)) (memory : List ℕ) (seat : Seat) (first : IsFirstMemory rows memory) (loaded : AreLoaded rows)
     (compiled : IsCompiled seat.query seat.valid) (column : seat.query.column ≡ 0) (place : seat.descriptor ≡ page) (many : seat.rows ≡ length rows)
-    (steps : 1 ≤ seat.limits.steps) (pages : seat.limits.pages ≤ 65534) (none : seat.ran ≡ 0)
+    (steps : 1 ≤ seat.limits.steps) (pages : seat.limits.pages ≤ 65534) (one_page : seat.held ≡ 1) (none : seat.ran ≡ 0)
     (begins : state_in seat ≡ begun seat.valid compiled.shaped.0 page) (end : IsEndOf (state_in seat) seat.ended) where
   ready : IsReady seat.query rows columns_start page memory
   ready = record {
@@ -134,7 +134,8 @@ module _ (rows : List (List Val)) (memory : List ℕ) (seat : Seat) (first : IsF
       let first_end : end_of seat.ended ≡ end_at from world 0 seat.limits.steps =
       end-first from seat.ended world seat.limits.steps steps (subst (λ (s : State). IsEndOf s seat.ended) state end) in
       made seat.limits.steps (state_in seat) from (world_of seat) world seat.ran 0 (end_of seat.ended) (end_at from world 0 seat.limits.steps)
-      state (ap (λ (n : ℕ). first_world columns_start n seat.descriptor seat.limits.pages) many) none first_end
+      state (ap (λ (n : ℕ). record (first_world columns_start n seat.descriptor seat.limits.pages) { held = seat.held }) many
+      ∙ ap (λ (n : ℕ). record (first_world columns_start (length rows) seat.descriptor seat.limits.pages) { held = n }) one_page) none first_end
 
   starting_first : (k : ℕ) (t : Task) (i : Instance) → slice_get (task_of seat ∷ []) k ≡ Some t → slice_get (instance_of seat ∷ []) k ≡ Some i → IsStarting rows memory t i
   starting_first zero t i task found = subst (λ (x : Task). IsStarting rows memory x i) (same_Some (task_of seat) t task)

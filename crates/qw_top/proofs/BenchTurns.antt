@@ -14,7 +14,8 @@ use Rattle.qw_top.specs.declared.bench.Ended.{Ended}
 use Rattle.qw_top.specs.declared.bench.Ended.TheVariants as ended
 use Rattle.qw_top.specs.declared.bench.Seat.{Seat}
 use Rattle.qw_top.specs.Bench.{AreServing, IsAt, Task}
-use Rattle.qw_top.specs.Seats.{IsBench, NeverTraps, Standing, end_of, instance_of, ran_in, end_in, shared_of, task_of, tasks_of}
+use Rattle.qw_top.specs.Seats.{IsBench, NeverTraps, Standing, end_of, instance_of, shared_of, task_of, tasks_of}
+use Rattle.qw_top.specs.Bench.{ran_in, end_in}
 use Rattle.qw_top.proofs.Serving.{served-at, turns-serving}
 
 -- the seat of a number

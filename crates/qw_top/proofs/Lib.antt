@@ -24,6 +24,7 @@ pub mod FirstPages
 pub mod SeatSteps
 pub mod BenchTurns
 pub mod BenchStart
+pub mod Rounds
 pub mod SinkLemmas
 pub mod PlainLemmas
 pub mod TokenLemmas

@@ -11,7 +11,8 @@ use Rattle.qw_top.specs.declared.bench.Seat.{Seat}
 use Rattle.qw_top.specs.Bench.{AreServing, IsAt, Task}
 use Rattle.qw_top.specs.Layout.{rows_at}
 use Rattle.qw_top.specs.Meaning.{Rows, outcome}
-use Rattle.qw_top.specs.Seats.{IsBench, Standing, end_in, end_of, instance_of, rows_in, shared_of, task_of, tasks_of, world_of}
+use Rattle.qw_top.specs.Seats.{IsBench, Standing, end_of, instance_of, rows_in, shared_of, task_of, tasks_of, world_of}
+use Rattle.qw_top.specs.Bench.{end_in}
 use Rattle.qw_top.proofs.Serving.{served-at}
 
 -- the seat whose instance is done

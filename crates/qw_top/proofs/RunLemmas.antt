@@ -16,7 +16,7 @@ use Rattle.qw_module.specs.declared.module.Module.{Module}
 use Rattle.qw_module.specs.Map.{Area, lies_in_one}
 use Rattle.qw_module.specs.Memory.{number_at}
 use Rattle.qw_module.specs.Validity.{IsShaped}
-use Rattle.qw_module.specs.Turns.{Instance, Shared, turns, End, Exception, Pages, Trap}
+use Rattle.qw_module.specs.Turns.{EachInstance, Instance, Shared, turns, End, Exception, Pages, Trap}
 use Rattle.qw_module.specs.Turns.{Done, Steps}
 use Rattle.qw_top.specs.declared.bench.Seat.{Seat}
 use Rattle.qw_top.specs.declared.bench.TheConstants.{DEFAULT_LIMITS}
@@ -24,12 +24,13 @@ use Rattle.qw_top.specs.declared.loading.TheConstants.{MAX_ROWS}
 use Rattle.qw_top.specs.declared.meaning.Query.{Query}
 use Rattle.qw_top.specs.declared.sink.Head.{Head}
 use Rattle.qw_top.specs.declared.sink.Kind.TheVariants.{Number}
-use Rattle.qw_top.specs.Bench.{AreServing, IsAt, IsStart, Serves, Task}
+use Rattle.qw_top.specs.declared.top.TheConstants.{QUANTUM}
+use Rattle.qw_top.specs.Bench.{AreRounds, AreServing, end_in, IsAt, IsStart, Serves, Task}
 use Rattle.qw_top.specs.Compiled.{IsCompiled, bound, units, weight_of}
 use Rattle.qw_top.specs.Delivered.{HasRun}
 use Rattle.qw_top.specs.Layout.{is_integer, row_at, row_before, rows_at, rows_from}
 use Rattle.qw_top.specs.Meaning.{Rows, condition, is_true, outcome, results, selected}
-use Rattle.qw_top.specs.Seats.{Standing, end_in, first_task, instance_of, rows_in, shared_of, task_of, tasks_of, world_of}
+use Rattle.qw_top.specs.Seats.{Standing, first_task, instance_of, rows_in, shared_of, task_of, tasks_of, world_of}
 use Rattle.qw_top.specs.Sink.{AreRowsOf}
 use Rattle.qw_top.specs.Top.{header_of, kind_of}
 use Rattle.qw_top.proofs.Serving.{served-at, start-serving, there, turns-serving}
@@ -76,9 +77,12 @@ end_is b seat is = ap (λ (seats : List Seat). end_in (record { memory = b.memor
 rows_are : (b : Standing) (seat : Seat) → b.seats ≡ seat ∷ [] → rows_in b 0 ≡ rows_at (world_of seat).own b.memory seat.descriptor
 rows_are b seat is = ap (λ (seats : List Seat). rows_in (record { memory = b.memory; seats = seats }) 0) is
 
+first_is : (b : Standing) (seat : Seat) → b.seats ≡ seat ∷ [] → slice_get (shared_of b).instances 0 ≡ Some (instance_of seat)
+first_is b seat is = ap (λ (seats : List Seat). slice_get (map instance_of seats) 0) is
+
 -- it serves the one task
 serves_first : (rows : List (List Val)) (t : Task) (b : Standing) (seat : Seat) → b.seats ≡ seat ∷ [] → AreServing rows (t ∷ []) (shared_of b) → Serves rows b.memory t (instance_of seat)
-serves_first rows t b seat is serving = serving.serving 0 t (instance_of seat) refl (ap (λ (seats : List Seat). slice_get (map instance_of seats) 0) is)
+serves_first rows t b seat is serving = serving.serving 0 t (instance_of seat) refl (first_is b seat is)
 
 few_at_start : (rows : List (List Val)) (t : Task) (start : Shared) → IsStart rows (t ∷ []) start → length rows ≤ 2727
 few_at_start rows t start began =
@@ -90,17 +94,15 @@ serving_after : (rows : List (List Val)) (t : Task) (start : Shared) (b : Standi
 serving_after rows t start b given began turned =
     subst (λ (s : Shared). AreServing rows (t ∷ []) s) (sym turned) (turns-serving rows (t ∷ []) start given (start-serving rows (t ∷ []) start began))
 
-pub some_instance : (b : Standing) (t : Task) → tasks_of b ≡ t ∷ [] → 0 < length (shared_of b).instances
-some_instance b t is = omega (arith, ap length is, length-map b.seats task_of, length-map b.seats instance_of)
-
 abbrev pub task_for : Query → Module → Task
 task_for query program = first_task (record { query = query; program = program }) DEFAULT_LIMITS
 
 -- turns from the start of a statement on, after which its instance has ended
 pub HasRun-from : (rows : List (List Val)) (query : Query) (program : Module) (before b : Standing) → IsCompiled query program →
     tasks_of before ≡ task_for query program ∷ [] → IsStart rows (tasks_of before) (shared_of before) → tasks_of b ≡ tasks_of before →
-    ((given : List (ℕ × ℕ)) × (shared_of b ≡ turns given (shared_of before))) → IsSome (end_in (shared_of b) 0) → HasRun rows query b
-HasRun-from rows query program before b compiled task start same (given, turned) ended =
+    ((given : List (ℕ × ℕ)) × AreRounds QUANTUM given (shared_of before) × (shared_of b ≡ turns given (shared_of before))) →
+    EachInstance (λ instance. IsSome instance.end) (shared_of b) → HasRun rows query b
+HasRun-from rows query program before b compiled task start same (given, rounds, turned) ended =
     let t = task_for query program in
     let began : IsStart rows (t ∷ []) (shared_of before) = subst (λ (tasks : List Task). IsStart rows tasks (shared_of before)) task start in
     let tasks : tasks_of b ≡ t ∷ [] = same ∙ task in
@@ -115,8 +117,9 @@ HasRun-from rows query program before b compiled task start same (given, turned)
       start = shared_of before;
       began = subst (λ (tasks : List Task). IsStart rows tasks (shared_of before)) (sym same) start;
       given = given;
+      rounds = rounds;
       turned = turned;
-      ended = end ∙ done_at rows b.memory t serves.number (instance_of one.0) (instance_of one.0).end enough (served-at rows b.memory t (instance_of one.0) serves) (subst (λ (e : Option End). IsSome e) end ended);
+      ended = end ∙ done_at rows b.memory t serves.number (instance_of one.0) (instance_of one.0).end enough (served-at rows b.memory t (instance_of one.0) serves) (ended 0 (instance_of one.0) (first_is b one.0 one.1));
     }
 
 rows_at-same : (own : List Area) (memory : List ℕ) (here there : ℕ) (rows : List (List Val)) → here ≡ there → rows_at own memory there ≡ Some rows → rows_at own memory here ≡ Some rows

@@ -84,7 +84,7 @@ before s ts k later found =
     let i = there s.instances k within in
     record { i = i.0; found = i.1 }
 
-each-whole : (rows : List (List Val)) (tasks : List Task) (s : Shared) → AreServing rows tasks s → EachInstance IsWhole s
+pub each-whole : (rows : List (List Val)) (tasks : List Task) (s : Shared) → AreServing rows tasks s → EachInstance IsWhole s
 each-whole rows tasks s serving k i found =
     let within : k < length tasks = omega (arith, slice_get_within s.instances k i found, serving.many) in
     let t = there tasks k within in

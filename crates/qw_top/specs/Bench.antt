@@ -1,12 +1,13 @@
 -- Instances of compiled statements that share one memory: how they begin, and what holds of them whatever turns they are
 -- given.
-use Rattle.std.specs.Prelude.{◌≡◌, ℕ, ◌+◌, ◌-◌, ◌*◌, ◌<◌, ◌≤◌, List, length, Option, Some, None, slice_get}
+use Rattle.std.specs.Prelude.{◌≡◌, ℕ, zero, suc, ◌+◌, ◌-◌, ◌*◌, ◌<◌, ◌≤◌, if◌then◌else◌, List, [], ◌∷◌, ◌++◌, length, map, Option, Some, None, is_some, slice_get}
+use Rattle.std.specs.Option.{option_and_then, option_map_or}
 use Rattle.qw_types.specs.declared.value.Val.{Val}
 use Rattle.qw_module.specs.declared.module.Module.{Module}
 use Rattle.qw_module.specs.Memory.{AreOctets}
 use Rattle.qw_module.specs.Map.{page, most_pages}
 use Rattle.qw_module.specs.Runs.{Behaves}
-use Rattle.qw_module.specs.Turns.{Done, Steps, End, Instance, Shared, end_at, may_ask, IsWhole, AreSafe, moment_of}
+use Rattle.qw_module.specs.Turns.{Done, Steps, End, Instance, Shared, end_at, turns, may_ask, IsWhole, AreSafe, moment_of}
 use Rattle.qw_module.specs.Validity.{IsShaped}
 use Rattle.qw_module.specs.Instance.{begun}
 use Rattle.qw_top.specs.declared.meaning.Query.{Query}
@@ -86,3 +87,29 @@ IsAt rows memory t number i (Some Done) =
 IsAt rows memory t number i (Some (Steps limit)) =
     (i.ran ≡ limit) × (limit ≡ t.steps) × (limit < bound t.query rows t.program number)
 IsAt rows memory t number i _ = ⊥
+
+-- how the instance of a number ended, if it has, and how many instructions it has run
+abbrev pub end_in : Shared → ℕ → Option End
+end_in s i = option_and_then (λ (instance : Instance). instance.end) (slice_get s.instances i)
+
+abbrev pub ran_in : Shared → ℕ → ℕ
+ran_in s i = option_map_or (λ (instance : Instance). instance.ran) (slice_get s.instances i) 0
+
+-- the numbers below n of the instances that haven't ended, in order
+abbrev pub unended_below : Shared → (n : ℕ) → List ℕ
+unended_below s zero = []
+unended_below s (suc n) = unended_below s n ++ (if is_some (end_in s n) then [] else n ∷ [])
+
+-- a round: a turn for each instance that hasn't ended, in order
+abbrev pub round : (quantum : ℕ) → Shared → List (ℕ × ℕ)
+round quantum s = map (λ i. (i, quantum)) (unended_below s (length s.instances))
+
+-- These turns are rounds, one after another, until no instance is left that hasn't ended.
+pub data AreRounds (quantum : ℕ) : List (ℕ × ℕ) → Shared → Type 0 where
+  none : (s : Shared) → round quantum s ≡ [] → AreRounds quantum [] s
+  first : (s : Shared) (ts : List (ℕ × ℕ)) → AreRounds quantum ts (turns (round quantum s) s) → AreRounds quantum (round quantum s ++ ts) s
+
+-- how many instructions instances may still run before their limits
+abbrev pub steps_left : List Instance → ℕ
+steps_left [] = 0
+steps_left (i ∷ instances) = (i.most_steps - i.ran) + steps_left instances

@@ -9,11 +9,12 @@ use Rattle.qw_top.specs.declared.bench.TheConstants.{DEFAULT_LIMITS}
 use Rattle.qw_top.specs.declared.meaning.Query.{Query}
 use Rattle.qw_top.specs.declared.status.Status.{Status}
 use Rattle.qw_top.specs.declared.status.Status.TheVariants.{Done, WordsRefused, SchemaRefused, TableFileRefused, QueriesRefused, ReadFailed, WriteFailed, NoMemory}
-use Rattle.qw_top.specs.Bench.{IsStart}
+use Rattle.qw_top.specs.declared.top.TheConstants.{QUANTUM}
+use Rattle.qw_top.specs.Bench.{AreRounds, IsStart, end_in}
 use Rattle.qw_top.specs.Compiled.{IsCompiled}
 use Rattle.qw_top.specs.Meaning.{Rows, outcome}
 use Rattle.qw_top.specs.Output.{TookFront, with_text}
-use Rattle.qw_top.specs.Seats.{Standing, end_in, first_task, rows_in, shared_of, tasks_of}
+use Rattle.qw_top.specs.Seats.{Standing, first_task, rows_in, shared_of, tasks_of}
 use Rattle.qw_top.specs.Sink.{report_of_rows}
 use Rattle.qw_top.specs.Top.{AreNames, Files, HasQuery, Names, header_of, selected}
 
@@ -25,7 +26,7 @@ pub record Asks (files : Files) (words : List (List ℕ)) (table : Table) (rows 
   pub selects : selected (table ∷ []) query ≡ Some column
 
 -- A bench has run a statement over these rows to its end: it has one task, the statement's compiled module under the limits
--- where none are given; it stands where turns led from a start of that task; and the instance is done.
+-- where none are given; it stands where rounds of turns led from a start of that task; and the instance is done.
 pub record HasRun (rows : List (List Val)) (query : Query) (b : Standing) : Type 0 where
   pub program : Module
   pub compiled : IsCompiled query program
@@ -33,6 +34,7 @@ pub record HasRun (rows : List (List Val)) (query : Query) (b : Standing) : Type
   pub start : Shared
   pub began : IsStart rows (tasks_of b) start
   pub given : List (ℕ × ℕ)
+  pub rounds : AreRounds QUANTUM given start
   pub turned : shared_of b ≡ turns given start
   pub ended : end_in (shared_of b) 0 ≡ Some EndedDone
 

@@ -36,7 +36,7 @@ abbrev pub state_in : Seat → State
 state_in seat = state_of seat.valid seat.instance
 
 abbrev pub world_of : Seat → World
-world_of seat = first_world columns_start seat.rows seat.descriptor seat.limits.pages
+world_of seat = record (first_world columns_start seat.rows seat.descriptor seat.limits.pages) { held = seat.held }
 
 -- the instance of a seat
 abbrev pub instance_of : Seat → Instance
@@ -82,13 +82,6 @@ shared_of b = record { memory = b.memory; instances = map instance_of b.seats }
 
 abbrev pub tasks_of : Standing → List Task
 tasks_of b = map task_of b.seats
-
--- how the instance of a number ended, if it has, and how many instructions it has run
-abbrev pub end_in : Shared → ℕ → Option End
-end_in s i = option_and_then (λ (instance : Instance). instance.end) (slice_get s.instances i)
-
-abbrev pub ran_in : Shared → ℕ → ℕ
-ran_in s i = option_map_or (λ (instance : Instance). instance.ran) (slice_get s.instances i) 0
 
 -- the first task on a bench: its first page follows the page of the columns
 abbrev pub first_task : CompiledQuery → Limits → Task

@@ -1,6 +1,7 @@
 //! Instances of compiled statements that share one linear memory, and the turns that they are given.
 
-ghost use Rattle.std.specs.Prelude.{◌≡◌, ◌↔◌, ◌+◌, ◌-◌, ◌<◌, ◌≤◌, ℕ, [], ◌∷◌, None, length, IfOk, IfSome, IsSome, slice_get};
+ghost use Rattle.std.specs.Prelude.{◌≡◌, ◌≢◌, List, not, is_some, ◌↔◌, ◌+◌, ◌-◌, ◌<◌, ◌≤◌, ℕ, [], ◌∷◌, None, length, IfOk, IfSome, IsSome, slice_get};
+ghost use Rattle.std.specs.List.{list_any};
 ghost use Rattle.qw_module.specs.Instance.{GoesWith, begun, state_of};
 ghost use Rattle.qw_module.specs.Validity.{IsShaped};
 ghost use Rattle.qw_top.specs.FirstPage.{IsFirstMemory};
@@ -87,6 +88,8 @@ struct Seat {
     /// The address of its descriptor, where its first page begins.
     descriptor: u64,
     limits: Limits,
+    /// How many pages it holds.
+    held: u32,
     /// How many instructions it has run.
     ran: u64,
     ended: Option<Ended>,
@@ -193,10 +196,10 @@ fn first_instance(alloc: Global, valid: &ValidModule) -> Result<Instance, NoMemo
 }
 
 impl Bench {
-    ghost use Rattle.std.specs.Prelude.{List};
-    ghost use Rattle.qw_module.specs.Turns.{turn, turns};
-    ghost use Rattle.qw_top.specs.Bench.{IsStart};
-    ghost use Rattle.qw_top.specs.Seats.{IsBench, end_in, end_of, first_task, ran_in, shared_of, tasks_of};
+    ghost use Rattle.qw_module.specs.Turns.{EachInstance, turn, turns};
+    ghost use Rattle.qw_top.specs.Bench.{AreRounds, IsStart, round, steps_left};
+    ghost use Rattle.qw_top.specs.Seats.{IsBench, end_of, first_task, shared_of, tasks_of};
+    ghost use Rattle.qw_top.specs.Bench.{end_in, ran_in};
 
     /// A bench with one instance of the job over a table of one column. Its error is want of memory.
     pub fn new(alloc: Global, loaded: &Loaded, job: Job, limits: Limits) -> Result<Self, NoMemory>
@@ -223,30 +226,12 @@ impl Bench {
                 rows,
                 descriptor: u64::from(FIRST_PAGE),
                 limits,
+                held: 1,
                 ran: 0,
                 ended,
             },
         ]?;
         Ok(Bench { memory, seats })
-    }
-
-    pub fn run_all(&mut self, quantum: u64)
-        requires { 1 ≤ quantum }
-        ensures tasks { tasks_of self.new ≡ tasks_of self.old }
-        ensures turned { (ts : List (ℕ × ℕ)) × (shared_of self.new ≡ turns ts (shared_of self.old)) }
-        ensures ended { (i : ℕ) → i < length (shared_of self.new).instances → IsSome (end_in (shared_of self.new) i) }
-    {
-        while self.round(quantum) {}
-    }
-
-    fn round(&mut self, quantum: u64) -> bool
-        requires { 1 ≤ quantum }
-    {
-        let mut open = false;
-        for i in 0..self.seats.len() {
-            open = self.turn(i, quantum) > 0 || open;
-        }
-        open
     }
 
     /// Gives an instance a turn: it runs until it ends or has run `quantum` instructions. Answers how many
@@ -263,9 +248,46 @@ impl Bench {
         seat.turn(&mut self.memory, quantum)
     }
 
+    /// Gives turns of `quantum` instructions to the instances that haven't ended, in order, round after
+    /// round, until all have ended.
+    pub fn run_all(&mut self, quantum: u64)
+        requires { 1 ≤ quantum }
+        ensures rounds { (ts : List (ℕ × ℕ)) × AreRounds quantum ts (shared_of self.old)
+            × (shared_of self.new ≡ turns ts (shared_of self.old)) }
+        ensures ended { EachInstance (λ instance. IsSome instance.end) (shared_of self.new) }
+        ensures tasks { tasks_of self.new ≡ tasks_of self.old }
+    {
+        while self.runs() {
+            self.round(quantum);
+        }
+    }
+
+    /// Whether an instance hasn't ended.
+    fn runs(&self) -> bool
+        ensures { result ≡ list_any (λ seat. not (is_some seat.ended)) self.now.seats }
+    {
+        self.seats.iter().any(|seat| seat.ended.is_none())
+    }
+
+    /// One round of turns.
+    fn round(&mut self, quantum: u64)
+        requires { 1 ≤ quantum }
+        ensures turns { shared_of self.new ≡ turns (round quantum (shared_of self.old)) (shared_of self.old) }
+        ensures tasks { tasks_of self.new ≡ tasks_of self.old }
+        ensures falls { round quantum (shared_of self.old) ≢ []
+            → steps_left (shared_of self.new).instances < steps_left (shared_of self.old).instances }
+    {
+        for i in 0..self.len() {
+            if self.ended(i).is_none() {
+                self.turn(i, quantum);
+            }
+        }
+    }
+
     /// How many instances there are.
     pub fn len(&self) -> usize
-        ensures { result ≡ length (shared_of self.now).instances }
+        ensures many { result ≡ length (shared_of self.now).instances }
+        ensures kept { IsBench self.now }
     {
         self.seats.len()
     }
@@ -284,6 +306,14 @@ impl Bench {
         ensures { result ≡ ran_in (shared_of self.now) i }
     {
         self.seats[i].ran
+    }
+
+    /// How many pages an instance holds.
+    pub fn pages(&self, i: usize) -> u32
+        requires { i < length (shared_of self.now).instances }
+        ensures { IfSome (slice_get (shared_of self.now).instances i) (λ instance. result ≡ instance.world.held) }
+    {
+        self.seats[i].held
     }
 
     /// The address of an instance's descriptor.

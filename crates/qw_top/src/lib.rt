@@ -19,11 +19,11 @@ pub mod result_laws;
 pub mod results;
 pub mod sink;
 pub mod status;
-#[cfg(test)]
-mod tests;
 pub mod token;
 pub mod top;
 pub mod words;
+#[cfg(test)]
+mod tests;
 
 pub use status::Status;
 pub use top::qwasm;

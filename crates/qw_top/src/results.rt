@@ -11,7 +11,8 @@ ghost use Rattle.qw_module.specs.Turns.{Done, LiesWithin};
 ghost use Rattle.qw_top.specs.Bench.{AreServing};
 ghost use Rattle.qw_top.specs.Layout.{rows_at, rows_from};
 ghost use Rattle.qw_top.specs.Meaning.{Rows, outcome};
-ghost use Rattle.qw_top.specs.Seats.{end_in, rows_in, shared_of, tasks_of};
+ghost use Rattle.qw_top.specs.Seats.{rows_in, shared_of, tasks_of};
+ghost use Rattle.qw_top.specs.Bench.{end_in};
 
 use crate::bench::Bench;
 use crate::layout::{CELL_OFFSET, COUNT_OFFSET, FIRST_ROW_OFFSET};

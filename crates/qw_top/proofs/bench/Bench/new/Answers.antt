@@ -18,6 +18,7 @@ seat c = record {
   rows = length c.values-rows.result.now;
   descriptor = c.from.result;
   limits = c.args.limits;
+  held = 1;
   ran = 0;
   ended = c.match-last.ended;
 }
@@ -44,7 +45,7 @@ invariant_of-result c =
     let begins = c.in_ok-instance.ensures.begun shaped.0 shaped.1 in
     rw c.in_ok-seats.ensures.items
     (bench c.args.loaded.now c.in_ok-memory.memory (seat c) c.in_ok-memory.ensures c.values-rows.ensures.limits c.job.invariant (column c) c.from.ensures (many c)
-    c.requires.steps c.requires.pages.1 refl begins (end c) c.in_ok-instance.ensures.goes_with)
+    c.requires.steps c.requires.pages.1 refl refl begins (end c) c.in_ok-instance.ensures.goes_with)
 
 pub returns-clause-start : goal.returns-clause-start
 returns-clause-start c =
@@ -52,4 +53,4 @@ returns-clause-start c =
     let begins = c.in_ok-instance.ensures.begun shaped.0 shaped.1 in
     rw c.in_ok-seats.ensures.items
     (start c.args.loaded.now c.in_ok-memory.memory (seat c) c.in_ok-memory.ensures c.values-rows.ensures.limits c.job.invariant (column c) c.from.ensures (many c)
-    c.requires.steps c.requires.pages.1 refl begins (end c))
+    c.requires.steps c.requires.pages.1 refl refl begins (end c))

@@ -1,6 +1,7 @@
 use Rattle.std.proofs.Common.{◌≡◌, List, Some, ap, ◌+◌, ◌∙◌}
 use Rattle.qw_module.specs.Turns.{Shared, turn}
-use Rattle.qw_top.specs.Seats.{Standing, end_in, ran_in, shared_of, tasks_of}
+use Rattle.qw_top.specs.Seats.{Standing, shared_of, tasks_of}
+use Rattle.qw_top.specs.Bench.{end_in, ran_in}
 use Rattle.qw_top.proofs.BenchTurns.{seat-fits, seat-found, seat-untrapped, seat-whole, turned-bench, turned-none, turned-ran, turned-shared, turned-tasks}
 use Rattle.qw_top.proofs.bench.Bench.turn.Goals as goal
 

@@ -1,13 +1,12 @@
 use Rattle.std.proofs.Common.{[], ◌∷◌, ◌∙◌, ap}
 use Rattle.qw_top.specs.Seats.{first_task}
 use Rattle.qw_top.specs.declared.bench.TheConstants.{DEFAULT_LIMITS}
-use Rattle.qw_top.proofs.RunLemmas.{HasRun-from, some_instance, task_for}
+use Rattle.qw_top.proofs.RunLemmas.{HasRun-from}
 use Rattle.qw_top.proofs.top.finish.finished.Goals as goal
 
 pub returns : goal.returns
 returns c =
     let job = c.in_ok-job.job in
     let task = c.in_ok-bench.ensures.tasks ∙ ap (λ query. first_task (record { query = query; program = job.program }) DEFAULT_LIMITS ∷ []) c.in_ok-job.ensures.query in
-    let ended = c.run_all.ensures.ended 0 (some_instance c.run_all.new.self (task_for c.args.query job.program) (c.run_all.ensures.tasks ∙ task)) in
     HasRun-from c.args.loaded.now c.args.query job.program c.in_ok-bench.bench c.run_all.new.self
-    c.in_ok-job.ensures.compiled task c.in_ok-bench.ensures.start c.run_all.ensures.tasks c.run_all.ensures.turned ended
+    c.in_ok-job.ensures.compiled task c.in_ok-bench.ensures.start c.run_all.ensures.tasks c.run_all.ensures.rounds c.run_all.ensures.ended
