@@ -26,6 +26,7 @@ pub mod BenchTurns
 pub mod BenchStart
 pub mod Rounds
 pub mod SinkLemmas
+pub mod PlainLemmas
 pub mod TokenLemmas
 pub mod TokenRun
 pub mod TokenLongest

@@ -4,6 +4,8 @@
 pub mod bench;
 pub mod bench_laws;
 pub mod columns;
+#[cfg(test)]
+mod comparison_tests;
 pub mod emit;
 pub mod files;
 pub mod first_page;
@@ -12,6 +14,7 @@ pub mod loading;
 pub mod meaning;
 pub mod output;
 pub mod parse;
+pub mod plain;
 pub mod result_laws;
 pub mod results;
 pub mod sink;

@@ -1,0 +1,55 @@
+//! The meaning of a statement as a slow program: it reads the rows one by one, without a module or a linear memory. What
+//! compiled statements give is compared with it.
+
+ghost use Rattle.std.specs.Prelude.{◌≡◌, ◌++◌, [], ◌∷◌, IfOk, OnOk};
+ghost use Rattle.qw_top.specs.Meaning.{Rows, condition, is_true, outcome, results, selected};
+
+use crate::meaning::Query;
+use qw_types::{NoMemory, Row, Val};
+use std::alloc::Global;
+
+/// The rows that a statement gives of a table's rows, in their order (ISO/IEC 9075:1992, 7.6 and 7.9).
+///
+/// # Errors
+///
+/// [`NoMemory`] where the rows do not fit memory, and nowhere else.
+pub fn plain_rows(alloc: Global, query: &Query, rows: &[Row]) -> Result<Vec<Row>, NoMemory>
+    ensures { IfOk result (λ bag. outcome query.now rows.now ≡ Rows bag.items) }
+{
+    let mut bag = Vec::new(alloc);
+    for row in rows {
+        add_result(alloc, query, row, &mut bag)?;
+    }
+    Ok(bag)
+}
+
+/// Adds what the statement gives of one row.
+fn add_result(alloc: Global, query: &Query, row: &Row, bag: &mut Vec<Row>) -> Result<(), NoMemory>
+    ensures { OnOk result (bag.new.items ≡ bag.old.items ++ results query.now (row.now ∷ [])) }
+{
+    if is_kept(query, row) {
+        bag.push(selected_row(alloc, query, row)?)?;
+    }
+    Ok(())
+}
+
+/// Whether the statement's condition is true at a row. It isn't where the row has no such column.
+fn is_kept(query: &Query, row: &Row) -> bool
+    ensures { result ≡ is_true (condition query.now row.now) }
+{
+    match row.values().get(query.column) {
+        Some(Val::Num(value)) => *value > query.literal,
+        None => false,
+    }
+}
+
+/// The row that the statement makes of a row: the value of its column.
+fn selected_row(alloc: Global, query: &Query, row: &Row) -> Result<Row, NoMemory>
+    ensures { IfOk result (λ made. made ≡ selected query.now row.now) }
+{
+    let mut values = Vec::new(alloc);
+    if let Some(value) = row.values().get(query.column) {
+        values.push(*value)?;
+    }
+    Ok(Row::new(values))
+}
