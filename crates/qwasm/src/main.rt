@@ -4,10 +4,9 @@
 
 use qw_io::{FileShelf, StdSink};
 use qw_top::{Status, qwasm};
-use std::env;
-use std::io;
 use std::process::ExitCode;
 use std::rt::Env;
+use std::{env, io};
 
 /// The words of the command line, without the program's own name. A word that is not UTF-8 is an error
 /// of another kind than want of memory.
