@@ -5,14 +5,15 @@ use crate::emit::module_of;
 use crate::meaning::Query;
 use crate::plain::plain_rows;
 use crate::results::received;
-use crate::status::Status;
-use crate::top::{prepare, qwasm};
+use crate::top::prepare;
 use crate::words::RunWords;
-use qw_io::{MemoryShelf, MemorySink, NamedFile};
+use qw_io::{MemoryShelf, NamedFile};
 use qw_module::valid::validate;
 use qw_types::{NoMemory, Row, Val};
 use std::alloc::{AllocError, Global};
 use std::test::Fail;
+
+mod columns;
 
 const STORED: [i32; 3] = [4, 1, 7];
 
