@@ -1,105 +1,22 @@
 -- Instances that share a memory: a step of one is what others may do to the rest, so turns are open runs.
-use Rattle.std.proofs.Common.{◌≡◌, ◌≢◌, ℕ, zero, suc, ◌+◌, ◌-◌, ◌<◌, ◌≤◌, nat_le, Bool, true, false, IsTrue, ◌&&◌, List, [], ◌∷◌, length, Some, slice_get, slice_set, ◌⊎◌, inl, inr, refl, sym, ap, ◌∙◌, subst, ⊎_elim, arith, length-set}
+use Rattle.std.proofs.Common.{◌≡◌, ◌≢◌, ℕ, zero, suc, ◌+◌, ◌-◌, ◌*◌, ◌<◌, ◌≤◌, List, [], ◌∷◌, ◌++◌, length, Some, slice_get, slice_set, ◌⊎◌, inl, inr, refl, sym, ap, ◌∙◌, subst, ⊎_elim, arith, length-set}
 use Rattle.std.specs.List.{AllByRecursion}
-use Rattle.std.proofs.lemmas.Bool.{cases_Bool, leb-true, false≢true}
+use Rattle.std.proofs.lemmas.Bool.{leb-true}
 use Rattle.std.proofs.lemmas.Option.{same_Some, none-some, slice_get_within}
-use Rattle.qw_module.specs.Execution.{Config, State, Running, Event, Stores}
-use Rattle.qw_module.specs.Memory.{with_number}
-use Rattle.qw_module.specs.Step.{Want, Stuck, Goes, Asks, Puts, wants, answered, Next, next}
-use Rattle.qw_module.specs.Map.{Area, World, SameIn, Others, lies_in, lies_in_one, IsFine, world_after}
+use Rattle.qw_linear.specs.Memory.{page}
+use Rattle.qw_module.specs.Execution.{Config, State, Running, Event, pages_gained}
+use Rattle.qw_module.specs.Step.{wants, Next, next}
+use Rattle.qw_module.specs.Map.{Area, World, SameIn, Others, IsFine, grants, world_after}
 use Rattle.qw_module.specs.Runs.{Moment, moment_after, OpenStep, OpenRun, begins, goes_on, Behaves}
-use Rattle.qw_module.specs.Turns.{Instance, Shared, moved, turns, EachInstance, EachAfter, AreApart, AllApart, may_ask, AreSeparate, moment_of, StaysFine, AreSafe, LeadsTo}
-use Rattle.qw_module.proofs.MemoryFacts.{with_number-below, with_number-above}
-use Rattle.qw_module.proofs.OpenRuns.{unasked}
-use Rattle.qw_module.proofs.Sound.{octets_stay, length_stays}
+use Rattle.qw_module.specs.Turns.{Instance, Shared, moved, turns, EachInstance, EachAfter, AreApart, AllApart, LiesWithin, may_ask, AreSeparate, moment_of, StaysFine, AreSafe, LeadsTo}
+use Rattle.qw_module.proofs.Areas.{all-append, all-front, all-back, all-weaker, all-same, all-then, outcome-kept, all-behind-apart, all-apart-behind, Gains, outcome-gains, inside-gains}
+use Rattle.qw_module.proofs.OpenRuns.{answered-rightly}
+use Rattle.qw_module.proofs.Outcomes.{outcome}
+use Rattle.qw_module.proofs.Sound.{octets_stay, length_grows}
 use Rattle.qw_module.proofs.Steps.{rule_from_next}
-use Rattle.qw_module.proofs.TurnFacts.{slice_get-set_same, after_step, each-step, turns-keep}
-
--- ---- what a step does to the memory
--- it is left as it is, or a number is put in it
-abbrev Effect : List ℕ → Next → Type 0
-Effect m t = (t.memory ≡ m) ⊎ ((address : ℕ) × (width : ℕ) × (value : ℕ) × (t.event ≡ Stores address width) × (t.memory ≡ with_number m address width value))
-
-made-by : (m : List ℕ) (made t : Next) → Some made ≡ Some t → Effect m made → Effect m t
-made-by m made t e effect = subst (Effect m) (same_Some made t e) effect
-
-effect : (m : List ℕ) (want : Want) (t : Next) → answered m want ≡ Some t → Effect m t
-effect m Stuck t e = absurd (none-some t e)
-effect m (Goes s) t e = made-by m _ t e (inl refl)
-effect m (Asks address width make) t e = ⊎_elim
-    (λ is. made-by m _ t (rw is at e) (inl refl))
-    (λ is_not. made-by m _ t (rw is_not at e) (inl refl))
-    (cases_Bool (nat_le (address + width) (length m)))
-effect m (Puts address width value s) t e = ⊎_elim
-    (λ is. made-by m _ t (rw is at e) (inr (address, width, value, refl, refl)))
-    (λ is_not. made-by m _ t (rw is_not at e) (inl refl))
-    (cases_Bool (nat_le (address + width) (length m)))
-
--- and no step changes what the instance has, since none asks for pages
-pub world_stays : (w : World) (m : List ℕ) (want : Want) (t : Next) → answered m want ≡ Some t → world_after w m t.event ≡ w
-world_stays w m Stuck t e = absurd (none-some t e)
-world_stays w m (Goes s) t e = subst (λ (x : Next). world_after w m x.event ≡ w) (same_Some _ t e) refl
-world_stays w m (Asks address width make) t e = ⊎_elim
-    (λ is. subst (λ (x : Next). world_after w m x.event ≡ w) (same_Some _ t (rw is at e)) refl)
-    (λ is_not. subst (λ (x : Next). world_after w m x.event ≡ w) (same_Some _ t (rw is_not at e)) refl)
-    (cases_Bool (nat_le (address + width) (length m)))
-world_stays w m (Puts address width value s) t e = ⊎_elim
-    (λ is. subst (λ (x : Next). world_after w m x.event ≡ w) (same_Some _ t (rw is at e)) refl)
-    (λ is_not. subst (λ (x : Next). world_after w m x.event ≡ w) (same_Some _ t (rw is_not at e)) refl)
-    (cases_Bool (nat_le (address + width) (length m)))
-
--- ---- areas that a step leaves alone
-and-left : (a b : Bool) → IsTrue (a && b) → IsTrue a
-and-left true b h = refl
-and-left false b h = h
-
-and-right : (a b : Bool) → IsTrue (a && b) → IsTrue b
-and-right true b h = h
-and-right false b h = absurd (false≢true h)
-
-SameIn-apart : (m : List ℕ) (address width value : ℕ) (own area : Area) → IsTrue (lies_in address width own) → AreApart own area →
-    SameIn m (with_number m address width value) area
-SameIn-apart m address width value own area inside apart k within =
-    let low : own.start ≤ address = leb-true own.start address (and-left (nat_le own.start address) (nat_le (address + width) (own.start + own.size)) inside) in
-    let high : address + width ≤ own.start + own.size =
-    leb-true (address + width) (own.start + own.size) (and-right (nat_le own.start address) (nat_le (address + width) (own.start + own.size)) inside) in
-    ⊎_elim
-    (λ above. with_number-above m address width value (area.start + k) (omega arith))
-    (λ below. with_number-below m address width value (area.start + k) (omega arith))
-    apart
-
-all-apart : (m : List ℕ) (address width value : ℕ) (own : Area) → IsTrue (lies_in address width own) → (areas : List Area) →
-    AllByRecursion (AreApart own) areas → AllByRecursion (SameIn m (with_number m address width value)) areas
-all-apart m address width value own inside [] apart = tt
-all-apart m address width value own inside (area ∷ areas) (here, rest) =
-    (SameIn-apart m address width value own area inside here, all-apart m address width value own inside areas rest)
-
-all-same : (m : List ℕ) (areas : List Area) → AllByRecursion (SameIn m m) areas
-all-same m [] = tt
-all-same m (area ∷ areas) = (λ k within. refl, all-same m areas)
-
-stored-apart : (m : List ℕ) (address width value : ℕ) (own areas : List Area) → IsTrue (lies_in_one own address width) → AllApart own areas →
-    AllByRecursion (SameIn m (with_number m address width value)) areas
-stored-apart m address width value [] areas inside apart = absurd (false≢true inside)
-stored-apart m address width value (first ∷ own) areas inside (here, rest) = ⊎_elim
-    (λ is. all-apart m address width value first is areas here)
-    (λ is_not. stored-apart m address width value own areas (rw is_not at inside) rest)
-    (cases_Bool (lies_in address width first))
-
--- areas that are apart from the own ones of an instance are kept by its fine steps
-kept-apart : (w : World) (c : Config) (m : List ℕ) (t : Next) (areas : List Area) → next c m ≡ Some t → IsFine w t.event → AllApart w.own areas →
-    AllByRecursion (SameIn m t.memory) areas
-kept-apart w c m t areas made fine apart = ⊎_elim
-    (λ same. rw same (all-same m areas))
-    (λ stores. let inside : IsTrue (lies_in_one w.own stores.0 stores.1) = rw (stores.3) at fine in
-    rw (stores.4) (stored-apart m stores.0 stores.1 stores.2 w.own areas inside apart))
-    (effect m (wants c) t made)
+use Rattle.qw_module.proofs.TurnFacts.{slice_get-set_same, slice_get-set_other, after_step, each-step, turns-keep}
 
 -- ---- what others may do, one after another
-all-then : (a b c : List ℕ) (areas : List Area) → AllByRecursion (SameIn a b) areas → AllByRecursion (SameIn b c) areas → AllByRecursion (SameIn a c) areas
-all-then a b c [] one two = tt
-all-then a b c (area ∷ areas) (one, ones) (two, twos) = (λ k within. two k within ∙ one k within, all-then a b c areas ones twos)
-
 pub Others-then : (w : World) (a b c : List ℕ) → Others w a b → Others w b c → Others w a c
 Others-then w a b c one two = record {
   grown = one.grown + two.grown;
@@ -169,9 +86,9 @@ fine-after n a b to fine k c d before event state after run step =
     fine (k + n) (record c { memory = on.left }) d before event state after on.run (step-on (k + n) a c d before event state after on step)
 
 -- and an instance that behaves goes on to behave, if others keep what it ends with
-pub behaves-after : (n most : ℕ) (P : Moment → Type 0) → ((b : Moment) (after : List ℕ) → Others b.world b.memory after → P b → P (record b { memory = after })) →
-    (a b : Moment) → LeadsTo n a b → Behaves most P a → Behaves (most - n) P b
-behaves-after n most P kept a b to behaves = record {
+pub behaves-after : (n most pages : ℕ) (P : Moment → Type 0) → ((b : Moment) (after : List ℕ) → Others b.world b.memory after → P b → P (record b { memory = after })) →
+    (a b : Moment) → LeadsTo n a b → Behaves most pages P a → Behaves (most - n) pages P b
+behaves-after n most pages P kept a b to behaves = record {
   goes_on = λ k c d before run running others.
       let on : GoesOn (k + n) a c = run-on n k a b c to run in
       let made = behaves.goes_on (k + n) (record c { memory = on.left }) d before on.run running (others-on (k + n) a c before on others) in (
@@ -181,6 +98,9 @@ behaves-after n most P kept a b to behaves = record {
         record { running = running; others = others; step = made.3.step; answered = made.3.answered },
       );
   fine = fine-after n a b to behaves.fine;
+  asks = λ k c d before event state after run step.
+      let on : GoesOn (k + n) a c = run-on n k a b c to run in
+      behaves.asks (k + n) (record c { memory = on.left }) d before event state after on.run (step-on (k + n) a c d before event state after on step);
   bounded = λ k c d run running.
       let on : GoesOn (k + n) a c = run-on n k a b c to run in
       let below : k + n < most = behaves.bounded (k + n) (record c { memory = on.left }) d on.run running in
@@ -202,13 +122,15 @@ asks_within [] k i found = absurd (none-some i found)
 asks_within (one ∷ instances) zero i found = let same : one ≡ i = same_Some one i found in rw (← same) (omega arith)
 asks_within (one ∷ instances) (suc k) i found = let rest : i.world.limit - i.world.held ≤ may_ask instances = asks_within instances k i found in omega arith
 
-asks_same : (instances : List Instance) (j : ℕ) (one put : Instance) → slice_get instances j ≡ Some one → put.world ≡ one.world →
-    may_ask (slice_set instances j put) ≡ may_ask instances
-asks_same [] j one put found same = refl
-asks_same (first ∷ instances) zero one put found same =
-    let is : first ≡ one = same_Some first one found in
-    ap (λ (w : World). (w.limit - w.held) + may_ask instances) (same ∙ ap (λ (i : Instance). i.world) (sym is))
-asks_same (first ∷ instances) (suc j) one put found same = ap (λ (n : ℕ). (first.world.limit - first.world.held) + n) (asks_same instances j one put found same)
+-- the sum changes as what one of them may ask for
+asks_changed : (instances : List Instance) (j : ℕ) (one put : Instance) → slice_get instances j ≡ Some one →
+    may_ask (slice_set instances j put) + (one.world.limit - one.world.held) ≡ may_ask instances + (put.world.limit - put.world.held)
+asks_changed [] j one put found = absurd (none-some one found)
+asks_changed (first ∷ instances) zero one put found = let is : first ≡ one = same_Some first one found in rw (← is) (omega arith)
+asks_changed (first ∷ instances) (suc j) one put found =
+    let rest : may_ask (slice_set instances j put) + (one.world.limit - one.world.held) ≡ may_ask instances + (put.world.limit - put.world.held) =
+    asks_changed instances j one put found in
+    omega arith
 
 -- ---- a step of one of the instances
 -- between steps others need make nothing of the memory
@@ -223,62 +145,116 @@ others-none s separate k i found = record {
 }
 
 module _ (s : Shared) (separate : AreSeparate s) (j : ℕ) (one : Instance) (c : Config) (t : Next)
-    (there : slice_get s.instances j ≡ Some one) (running : one.state ≡ Running c) (made : next c s.memory ≡ Some t) where
+    (there : slice_get s.instances j ≡ Some one) (running : one.state ≡ Running c) (made : next (grants one.world) c s.memory ≡ Some t) where
   abbrev put : Instance
   put = moved one (world_after one.world s.memory t.event) t.state
 
-  world-put : put.world ≡ one.world
-  world-put = world_stays one.world s.memory (wants c) t made
+  length-put : length t.memory ≡ length s.memory + pages_gained t.event * page
+  length-put = length_grows (grants one.world) c s.memory t made
 
-  length-put : length t.memory ≡ length s.memory
-  length-put = length_stays c s.memory t made
+  gains-put : Gains (length s.memory) (length t.memory) one.world put.world
+  gains-put = outcome-gains one.world (grants one.world) s.memory (wants c) t (outcome (grants one.world) s.memory (wants c) t made)
+      (λ asked is. leb-true (one.world.held + asked) one.world.limit is)
 
   pub put_there : slice_get (after_step s j one t).instances j ≡ Some put
   put_there = slice_get-set_same s.instances j put (slice_get_within s.instances j one there)
 
-  -- each instance was there before, with the same areas
+  -- each instance is the one that was put, or was there before
+  abbrev IsPutOrOld : ℕ → Instance → Type 0
+  IsPutOrOld k i = ((k ≡ j) × (i ≡ put)) ⊎ ((k ≢ j) × (slice_get s.instances k ≡ Some i))
+
+  put_or_old : (k : ℕ) (i : Instance) → slice_get (after_step s j one t).instances k ≡ Some i → IsPutOrOld k i
+  put_or_old = each-step IsPutOrOld s j one t there (inl (refl, refl)) (λ k i elsewhere found. inr (elsewhere, found))
+
+  -- it was there with the same columns and limit
   pub before_step : (k : ℕ) (i : Instance) → slice_get (after_step s j one t).instances k ≡ Some i →
-      (old : Instance) × (slice_get s.instances k ≡ Some old) × (i.world ≡ old.world)
-  before_step = each-step (λ k i. (old : Instance) × (slice_get s.instances k ≡ Some old) × (i.world ≡ old.world)) s j one t there
-      (one, there, world-put)
-      (λ k i elsewhere found. (i, found, refl))
+      (old : Instance) × (slice_get s.instances k ≡ Some old) × (i.world.mapped ≡ old.world.mapped) × (i.world.limit ≡ old.world.limit)
+  before_step = each-step
+      (λ k i. (old : Instance) × (slice_get s.instances k ≡ Some old) × (i.world.mapped ≡ old.world.mapped) × (i.world.limit ≡ old.world.limit))
+      s j one t there
+      (one, there, gains-put.mapped_is, gains-put.limit_is)
+      (λ k i elsewhere found. (i, found, refl, refl))
+
+  -- the areas of each lie in the memory
+  own_inside : (k : ℕ) (i : Instance) → slice_get s.instances k ≡ Some i → AllByRecursion (LiesWithin (length s.memory)) i.world.own
+  own_inside k i found = all-back (LiesWithin (length s.memory)) i.world.mapped i.world.own (separate.inside k i found)
+
+  mapped_inside : (k : ℕ) (i : Instance) → slice_get s.instances k ≡ Some i → AllByRecursion (LiesWithin (length s.memory)) i.world.mapped
+  mapped_inside k i found = all-front (LiesWithin (length s.memory)) i.world.mapped i.world.own (separate.inside k i found)
+
+  inside-step : (k : ℕ) (i : Instance) → IsPutOrOld k i → AllByRecursion (LiesWithin (length t.memory)) (i.world.mapped ++ i.world.own)
+  inside-step k i (inl (here, is)) = rw is (inside-gains (length s.memory) (length t.memory) one.world put.world gains-put (separate.inside j one there))
+  inside-step k i (inr (elsewhere, found)) =
+      let longer : length s.memory ≤ length t.memory = gains-put.longer in
+      all-weaker (LiesWithin (length s.memory)) (LiesWithin (length t.memory)) (λ area h. omega arith) (i.world.mapped ++ i.world.own)
+      (separate.inside k i found)
+
+  -- areas in the memory that are apart from the own ones of the instance are apart from those that it has then
+  put-apart : (areas : List Area) → AllByRecursion (LiesWithin (length s.memory)) areas → AllApart one.world.own areas → AllApart put.world.own areas
+  put-apart areas inside apart = rw (gains-put.own_is)
+      (all-append (λ area. AllByRecursion (AreApart area) areas) one.world.own gains-put.gained apart
+      (all-behind-apart (length s.memory) (length t.memory) gains-put.gained areas gains-put.behind inside))
+
+  apart-put : (areas : List Area) → AllByRecursion (LiesWithin (length s.memory)) areas → AllApart areas one.world.own → AllApart areas put.world.own
+  apart-put areas inside apart = rw (gains-put.own_is)
+      (all-apart-behind (length s.memory) (length t.memory) gains-put.gained areas one.world.own gains-put.behind inside apart)
+
+  own_apart-step : (k l : ℕ) (i other : Instance) → k ≢ l → IsPutOrOld k i → IsPutOrOld l other → AllApart i.world.own other.world.own
+  own_apart-step k l i other differ (inl (here, is)) (inl (also_here, other_is)) = absurd (differ (here ∙ sym also_here))
+  own_apart-step k l i other differ (inl (here, is)) (inr (elsewhere, found)) = rw is
+      (put-apart other.world.own (own_inside l other found) (separate.own_apart j l one other (λ e. elsewhere (sym e)) there found))
+  own_apart-step k l i other differ (inr (elsewhere, found)) (inl (here, other_is)) = rw other_is
+      (apart-put i.world.own (own_inside k i found) (separate.own_apart k j i one elsewhere found there))
+  own_apart-step k l i other differ (inr (elsewhere, found)) (inr (also_elsewhere, found_other)) =
+      separate.own_apart k l i other differ found found_other
+
+  columns_apart-step : (k l : ℕ) (i old : Instance) → IsPutOrOld k i → slice_get s.instances l ≡ Some old → AllApart i.world.own old.world.mapped
+  columns_apart-step k l i old (inl (here, is)) found = rw is
+      (put-apart old.world.mapped (mapped_inside l old found) (separate.columns_apart j l one old there found))
+  columns_apart-step k l i old (inr (elsewhere, found)) found_old = separate.columns_apart k l i old found found_old
 
   pub separate-step : AreSeparate (after_step s j one t)
   separate-step = record {
-    octets = octets_stay c s.memory t separate.octets made;
-    inside = λ k i found.
-        let old = before_step k i found in
-        rw (old.2, length-put) (separate.inside k old.0 old.1);
-    own_apart = λ k l i other differ found found_other.
-        let old = before_step k i found in
-        let old_other = before_step l other found_other in
-        rw (old.2, old_other.2) (separate.own_apart k l old.0 old_other.0 differ old.1 old_other.1);
+    octets = octets_stay (grants one.world) c s.memory t separate.octets made;
+    inside = λ k i found. inside-step k i (put_or_old k i found);
+    own_apart = λ k l i other differ found found_other. own_apart-step k l i other differ (put_or_old k i found) (put_or_old l other found_other);
     columns_apart = λ k l i other found found_other.
-        let old = before_step k i found in
-        let old_other = before_step l other found_other in
-        rw (old.2, old_other.2) (separate.columns_apart k l old.0 old_other.0 old.1 old_other.1);
-    room = rw (length-put, asks_same s.instances j one put there world-put) separate.room;
+        let old = before_step l other found_other in
+        rw (old.2) (columns_apart-step k l i old.0 (put_or_old k i found) old.1);
+    room =
+        let asked = gains-put.asks_is in
+        let changed = asks_changed s.instances j one put there in
+        omega (arith, asked, changed, separate.room);
   }
 
   -- the step is one of an open run
   pub open-step : OpenStep (moment_of one s.memory) c s.memory t.event t.state t.memory
-  open-step = record {
-    running = running;
-    others = others-none s separate j one there;
-    step = rule_from_next c s.memory t made;
-    answered = unasked one.world s.memory (wants c) t made;
-  }
+  open-step =
+      let others : Others one.world s.memory s.memory = others-none s separate j one there in
+      record {
+        running = running;
+        others = others;
+        step = rule_from_next (grants one.world) c s.memory t made;
+        answered = answered-rightly one.world s.memory others.room (wants c) t made;
+      }
 
-  -- which is what others may do to another instance, where it is fine
+  -- areas in the memory that are apart from its own ones are kept by the step, where it is fine
+  pub kept-step : IsFine one.world t.event → (areas : List Area) → AllApart one.world.own areas → AllByRecursion (LiesWithin (length s.memory)) areas →
+      AllByRecursion (SameIn s.memory t.memory) areas
+  kept-step = outcome-kept one.world (grants one.world) s.memory (wants c) t (outcome (grants one.world) s.memory (wants c) t made)
+
+  -- which is what others may do to another instance
   pub others-step : IsFine one.world t.event → (k : ℕ) (i : Instance) → k ≢ j → slice_get s.instances k ≡ Some i → Others i.world s.memory t.memory
-  others-step fine k i differ found = record {
-    grown = 0;
-    length_is = omega (arith, length-put);
-    room = let asked = asks_within s.instances k i found in omega (arith, asked, separate.room, length-put);
-    octets = octets_stay c s.memory t separate.octets made;
-    mapped_kept = kept-apart one.world c s.memory t i.world.mapped made fine (separate.columns_apart j k one i there found);
-    own_kept = kept-apart one.world c s.memory t i.world.own made fine (separate.own_apart j k one i (λ e. differ (sym e)) there found);
-  }
+  others-step fine k i differ found =
+      let stays : slice_get (after_step s j one t).instances k ≡ Some i = slice_get-set_other s.instances j k put differ ∙ found in
+      record {
+        grown = pages_gained t.event;
+        length_is = length-put;
+        room = let asked = asks_within (after_step s j one t).instances k i stays in omega (arith, asked, separate-step.room);
+        octets = separate-step.octets;
+        mapped_kept = kept-step fine i.world.mapped (separate.columns_apart j k one i there found) (mapped_inside k i found);
+        own_kept = kept-step fine i.world.own (separate.own_apart j k one i (λ e. differ (sym e)) there found) (own_inside k i found);
+      }
 
 -- ---- every list of turns
 -- an open run with a step for each instruction that it ran leads an instance to what it is now
@@ -290,7 +266,7 @@ record Follows (s now : Shared) : Type 0 where
   separate : AreSeparate now
   many : length now.instances ≡ length s.instances
   reached : EachAfter (IsReached s now) s now
-  worlds : EachAfter (λ i later. later.world ≡ i.world) s now
+  worlds : EachAfter (λ i later. (later.world.mapped ≡ i.world.mapped) × (later.world.limit ≡ i.world.limit)) s now
   columns : EachInstance (λ i. AllByRecursion (SameIn s.memory now.memory) i.world.mapped) s
 
 found-in : {A : Type 0} (xs : List A) (k : ℕ) → k < length xs → (x : A) × (slice_get xs k ≡ Some x)
@@ -299,7 +275,7 @@ found-in (x ∷ xs) zero inside = (x, refl)
 found-in (x ∷ xs) (suc k) inside = found-in xs k (omega arith)
 
 follows-step : (s : Shared) → AreSafe s → (now : Shared) (j : ℕ) (one : Instance) (c : Config) (t : Next) → slice_get now.instances j ≡ Some one →
-    one.state ≡ Running c → next c now.memory ≡ Some t → Follows s now → Follows s (after_step now j one t)
+    one.state ≡ Running c → next (grants one.world) c now.memory ≡ Some t → Follows s now → Follows s (after_step now j one t)
 follows-step s safe now j one c t there running made follows =
     let new : Instance = moved one (world_after one.world now.memory t.event) t.state in
     let step : OpenStep (moment_of one now.memory) c now.memory t.event t.state t.memory = open-step now follows.separate j one c t there running made in
@@ -335,13 +311,16 @@ follows-step s safe now j one c t there running made follows =
           k later found_later i found;
       worlds = λ k i later found found_later.
           let before = before_step now follows.separate j one c t there running made k later found_later in
-          before.2 ∙ follows.worlds k i before.0 found before.1;
+          let same = follows.worlds k i before.0 found before.1 in
+          (before.2 ∙ same.0, before.3 ∙ same.1);
       columns = λ k i found.
           let inside : k < length now.instances = let before = slice_get_within s.instances k i found in omega (arith, follows.many) in
           let between = found-in now.instances k inside in
-          let same : between.0.world ≡ i.world = follows.worlds k i between.0 found between.1 in
+          let same : between.0.world.mapped ≡ i.world.mapped = (follows.worlds k i between.0 found between.1).0 in
           let kept : AllByRecursion (SameIn now.memory t.memory) between.0.world.mapped =
-          kept-apart one.world c now.memory t between.0.world.mapped made fine (follows.separate.columns_apart j k one between.0 there between.1) in
+          kept-step now follows.separate j one c t there running made fine between.0.world.mapped
+          (follows.separate.columns_apart j k one between.0 there between.1)
+          (all-front (LiesWithin (length now.memory)) between.0.world.mapped between.0.world.own (follows.separate.inside k between.0 between.1)) in
           all-then s.memory now.memory t.memory i.world.mapped (follows.columns k i found) (rw same at kept);
     }
 
@@ -356,7 +335,9 @@ follows-none s safe = record {
         omega arith,
         record { left = s.memory; run = begins (moment_of i s.memory); others = others-none s safe.separate k i found },
       );
-  worlds = λ k i later found found_later. ap (λ (x : Instance). x.world) (same_Some later i (sym found_later ∙ found));
+  worlds = λ k i later found found_later.
+      let is : later ≡ i = same_Some later i (sym found_later ∙ found) in
+      (ap (λ (x : Instance). x.world.mapped) is, ap (λ (x : Instance). x.world.limit) is);
   columns = λ k i found. all-same s.memory i.world.mapped;
 }
 
@@ -379,13 +360,13 @@ pub safe-turns : (s : Shared) (ts : List (ℕ × ℕ)) → AreSafe s → AreSafe
 safe-turns s ts safe = safe-after s (turns ts s) safe (follows-turns s safe ts)
 
 pub safe-step : (s : Shared) (j : ℕ) (one : Instance) (c : Config) (t : Next) → slice_get s.instances j ≡ Some one →
-    one.state ≡ Running c → next c s.memory ≡ Some t → AreSafe s → AreSafe (after_step s j one t)
+    one.state ≡ Running c → next (grants one.world) c s.memory ≡ Some t → AreSafe s → AreSafe (after_step s j one t)
 safe-step s j one c t there running made safe =
     safe-after s (after_step s j one t) safe (follows-step s safe s j one c t there running made (follows-none s safe))
 
 -- a step that an instance can make now is fine
 pub fine-now : (s : Shared) → AreSafe s → (k : ℕ) (i : Instance) (c : Config) (t : Next) → slice_get s.instances k ≡ Some i →
-    i.state ≡ Running c → next c s.memory ≡ Some t → IsFine i.world t.event
+    i.state ≡ Running c → next (grants i.world) c s.memory ≡ Some t → IsFine i.world t.event
 fine-now s safe k i c t found running made = safe.fine k i found 0 (moment_of i s.memory) c s.memory t.event t.state t.memory
     (begins (moment_of i s.memory)) (open-step s safe.separate k i c t found running made)
 
@@ -399,7 +380,8 @@ runs-turns s ts safe k i later found found_later =
       subst (λ (n : ℕ). LeadsTo n (moment_of i s.memory) (moment_of later (turns ts s).memory)) count led.2,
     )
 
-pub worlds-turns : (s : Shared) (ts : List (ℕ × ℕ)) → AreSafe s → EachAfter (λ i later. later.world ≡ i.world) s (turns ts s)
+pub worlds-turns : (s : Shared) (ts : List (ℕ × ℕ)) → AreSafe s →
+    EachAfter (λ i later. (later.world.mapped ≡ i.world.mapped) × (later.world.limit ≡ i.world.limit)) s (turns ts s)
 worlds-turns s ts safe k i later found found_later = (follows-turns s safe ts).worlds k i later found found_later
 
 pub columns-turns : (s : Shared) (ts : List (ℕ × ℕ)) → AreSafe s →
@@ -408,9 +390,9 @@ columns-turns s ts safe k i found = (follows-turns s safe ts).columns k i found
 
 -- an instance that behaves goes on to behave, whatever turns there are
 pub behaves-turns : (s : Shared) (ts : List (ℕ × ℕ)) → AreSafe s → (k : ℕ) (i later : Instance) → slice_get s.instances k ≡ Some i →
-    slice_get (turns ts s).instances k ≡ Some later → (most : ℕ) (P : Moment → Type 0) →
+    slice_get (turns ts s).instances k ≡ Some later → (most pages : ℕ) (P : Moment → Type 0) →
     ((b : Moment) (after : List ℕ) → Others b.world b.memory after → P b → P (record b { memory = after })) →
-    Behaves most P (moment_of i s.memory) → Behaves (most - (later.ran - i.ran)) P (moment_of later (turns ts s).memory)
-behaves-turns s ts safe k i later found found_later most P kept behaves =
-    behaves-after (later.ran - i.ran) most P kept (moment_of i s.memory) (moment_of later (turns ts s).memory)
+    Behaves most pages P (moment_of i s.memory) → Behaves (most - (later.ran - i.ran)) pages P (moment_of later (turns ts s).memory)
+behaves-turns s ts safe k i later found found_later most pages P kept behaves =
+    behaves-after (later.ran - i.ran) most pages P kept (moment_of i s.memory) (moment_of later (turns ts s).memory)
     (runs-turns s ts safe k i later found found_later).1 behaves

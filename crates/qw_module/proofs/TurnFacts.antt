@@ -5,7 +5,7 @@ use Rattle.std.proofs.lemmas.List.{set-set}
 use Rattle.std.proofs.lemmas.Option.{same_Some, none-some, slice_get_within}
 use Rattle.qw_module.specs.Execution.{Config, State, Running, Returned, Raised, Trapped}
 use Rattle.qw_module.specs.Step.{Next, next}
-use Rattle.qw_module.specs.Map.{world_after}
+use Rattle.qw_module.specs.Map.{grants, world_after}
 use Rattle.qw_module.specs.Turns.{Instance, Shared, moved, after_next, stepped_from, stepped, steps_of, with_instance, turn_at, turn, turns}
 
 -- ---- an element that was put
@@ -56,17 +56,17 @@ each-step P s j one t there new others k i found =
 -- P stays at each step that an instance makes which has not ended
 abbrev pub StaysAtSteps : (Shared → Type 0) → Type 0
 StaysAtSteps P = (s : Shared) (j : ℕ) (i : Instance) (c : Config) (t : Next) → slice_get s.instances j ≡ Some i → is_some i.end ≡ false →
-    i.state ≡ Running c → next c s.memory ≡ Some t → P s → P (after_step s j i t)
+    i.state ≡ Running c → next (grants i.world) c s.memory ≡ Some t → P s → P (after_step s j i t)
 
 module _ (P : Shared → Type 0) (kept : StaysAtSteps P) where
   after_next-keeps : (s : Shared) (j : ℕ) (i : Instance) (c : Config) (made : Option Next) → slice_get s.instances j ≡ Some i → is_some i.end ≡ false →
-      i.state ≡ Running c → next c s.memory ≡ made → P s → P (with_instance s j (after_next i s.memory made))
+      i.state ≡ Running c → next (grants i.world) c s.memory ≡ made → P s → P (with_instance s j (after_next i s.memory made))
   after_next-keeps s j i c None found unended running made h = subst P (sym (unchanged s j i found)) h
   after_next-keeps s j i c (Some t) found unended running made h = kept s j i c t found unended running made h
 
   stepped-keeps : (s : Shared) (j : ℕ) (i : Instance) (state : State) → slice_get s.instances j ≡ Some i → is_some i.end ≡ false →
       i.state ≡ state → P s → P (with_instance s j (stepped_from state i s.memory))
-  stepped-keeps s j i (Running c) found unended is h = after_next-keeps s j i c (next c s.memory) found unended is refl h
+  stepped-keeps s j i (Running c) found unended is h = after_next-keeps s j i c (next (grants i.world) c s.memory) found unended is refl h
   stepped-keeps s j i Returned found unended is h = subst P (sym (unchanged s j i found)) h
   stepped-keeps s j i (Raised code) found unended is h = subst P (sym (unchanged s j i found)) h
   stepped-keeps s j i Trapped found unended is h = subst P (sym (unchanged s j i found)) h

@@ -3,9 +3,9 @@ use Rattle.std.proofs.Common.{◌≡◌, ◌≢◌, ℕ, zero, suc, ◌+◌, ◌
 use Rattle.std.proofs.lemmas.Bool.{cases_Bool, leb-false, false≢true}
 use Rattle.std.proofs.lemmas.Option.{same_Some, slice_get_within}
 use Rattle.qw_module.specs.Execution.{Config, State, Running, Returned, Raised, Trapped}
-use Rattle.qw_module.specs.Memory.{AreOctets}
+use Rattle.qw_linear.specs.Memory.{AreOctets}
 use Rattle.qw_module.specs.Step.{Next, next}
-use Rattle.qw_module.specs.Map.{World, world_after}
+use Rattle.qw_module.specs.Map.{World, grants, world_after}
 use Rattle.qw_module.specs.Soundness.{IsTyped, IsTypedState}
 use Rattle.qw_module.specs.Turns.{Instance, Shared, end_of_refusal, end_of_raise, end_at, moved, after_next, stepped_from, stepped, steps_of, with_instance, turn_at, turn, turns, EachInstance, IsWhole}
 use Rattle.qw_module.proofs.Sound.{progress, preservation, octets_stay}
@@ -80,7 +80,7 @@ next-ran i m None = (omega arith, omega arith)
 next-ran i m (Some t) = (omega arith, omega arith)
 
 stepped-ran : (i : Instance) (m : List ℕ) (state : State) → (i.ran ≤ (stepped_from state i m).0.ran) × ((stepped_from state i m).0.ran ≤ i.ran + 1)
-stepped-ran i m (Running c) = next-ran i m (next c m)
+stepped-ran i m (Running c) = next-ran i m (next (grants i.world) c m)
 stepped-ran i m Returned = (omega arith, omega arith)
 stepped-ran i m (Raised code) = (omega arith, omega arith)
 stepped-ran i m Trapped = (omega arith, omega arith)
@@ -136,11 +136,11 @@ turns-whole s ts = turns-keep (EachInstance IsWhole)
 
 -- ---- an instance with a typed configuration goes on
 -- its step is one that is made
-stepped-typed : (i : Instance) (m : List ℕ) (c : Config) → i.state ≡ Running c → IsTyped c → (t : Next) × (next c m ≡ Some t)
+stepped-typed : (i : Instance) (m : List ℕ) (c : Config) → i.state ≡ Running c → IsTyped c → (t : Next) × (next (grants i.world) c m ≡ Some t)
     × (stepped i m ≡ (moved i (world_after i.world m t.event) t.state, t.memory))
-stepped-typed i m c is typed = made (next c m) refl (progress c m typed)
+stepped-typed i m c is typed = made (next (grants i.world) c m) refl (progress (grants i.world) c m typed)
   where
-    made : (found : Option Next) → next c m ≡ found → IsSome found → (t : Next) × (next c m ≡ Some t)
+    made : (found : Option Next) → next (grants i.world) c m ≡ found → IsSome found → (t : Next) × (next (grants i.world) c m ≡ Some t)
         × (stepped i m ≡ (moved i (world_after i.world m t.event) t.state, t.memory))
     made None there some = absurd (false≢true some)
     made (Some t) there some = (t, there, rw (is, there) refl)
@@ -157,7 +157,7 @@ steps_of-all (suc q) i m whole typed octets = ⊎_elim
     let after : Instance = moved i (world_after i.world m one.0.event) one.0.state in
     let rest : ((steps_of q after one.0.memory).0.ran ≡ i.ran + 1 + q) ⊎ IsSome (steps_of q after one.0.memory).0.end =
     steps_of-all q after one.0.memory (moved-whole i (world_after i.world m one.0.event) one.0.state runs.2)
-    (preservation runs.0 m one.0 here octets one.1) (octets_stay runs.0 m one.0 octets one.1) in
+    (preservation (grants i.world) runs.0 m one.0 here octets one.1) (octets_stay (grants i.world) runs.0 m one.0 octets one.1) in
     let same : i.ran + suc q ≡ i.ran + 1 + q = omega arith in
     rw (unended, one.2, same) rest)
     (cases_Bool (is_some i.end))
@@ -189,7 +189,7 @@ pub turns-typed : (s : Shared) (ts : List (ℕ × ℕ)) → AreOctets s.memory �
 turns-typed s ts octets typed = turns-keep (λ (now : Shared). AreOctets now.memory × EachInstance (λ i. IsTypedState i.state) now)
     (λ now j one c t there unended running made h.
     let here : IsTyped c = rw running at (h.1 j one there) in (
-      octets_stay c now.memory t h.0 made,
-      each-step (λ k i. IsTypedState i.state) now j one t there (preservation c now.memory t here h.0 made) (λ k i elsewhere found. h.1 k i found),
+      octets_stay (grants one.world) c now.memory t h.0 made,
+      each-step (λ k i. IsTypedState i.state) now j one t there (preservation (grants one.world) c now.memory t here h.0 made) (λ k i elsewhere found. h.1 k i found),
     ))
     ts s (octets, typed)

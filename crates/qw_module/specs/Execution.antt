@@ -1,5 +1,5 @@
 -- Execution as a relation, one rule an instruction (WebAssembly Core Specification 1.0, 4.4).
-use Rattle.std.specs.Prelude.{◌≡◌, ◌≢◌, ℕ, zero, suc, ◌+◌, ◌<◌, ◌≤◌, nat_le, if◌then◌else◌, Bool, List, [], ◌∷◌, ◌++◌, length, take, Option, Some, None, slice_get, slice_set}
+use Rattle.std.specs.Prelude.{◌≡◌, ◌≢◌, ℕ, zero, suc, ◌+◌, ◌-◌, ◌^◌, ◌<◌, ◌≤◌, nat_le, true, false, if◌then◌else◌, Bool, List, [], ◌∷◌, ◌++◌, length, take, Option, Some, None, slice_get, slice_set}
 use Rattle.qw_module.specs.declared.instruction.ValType.{ValType}
 use Rattle.qw_module.specs.declared.instruction.Op.TheVariants.{LocalGet, LocalSet, LocalTee}
 use Rattle.qw_module.specs.declared.instruction.Op.TheVariants as o
@@ -11,7 +11,7 @@ use Rattle.qw_module.specs.declared.instruction.Store.{Store}
 use Rattle.qw_module.specs.declared.instruction.MemArg.{MemArg}
 use Rattle.qw_module.specs.Syntax.{Code, done, op, block, loop, if_else, br, br_if}
 use Rattle.qw_module.specs.Numbers.{constant, binary, relation, load_width, loaded_value, store_width}
-use Rattle.qw_module.specs.Memory.{number_at, with_number}
+use Rattle.qw_linear.specs.Memory.{most_pages, number_at, with_number, grown_by, pages_of}
 
 -- What awaits the end of the sequence that runs (4.2.12, 4.2.13, "Evaluation Contexts", written
 -- from the innermost out). A label has the code that a branch to it goes on with, how many operands
@@ -37,8 +37,8 @@ pub data State : Type 0 where
   Raised : (code : ℕ) → State
   Trapped : State
 
--- What a step does outside the instance: a growth is granted or refused, and the imported function `raise` is called
--- (4.4.7, "Host Functions"). No instruction of today grows the memory or raises.
+-- What a step does outside the instance: an access, a growth, which is granted or refused, or a call of the imported
+-- function `raise` (4.4.7, "Host Functions").
 pub data Event : Type 0 where
   Silent : Event
   Loads : (address width : ℕ) → Event
@@ -46,6 +46,11 @@ pub data Event : Type 0 where
   Grows : (pages : ℕ) → (granted : Bool) → Event
   Raises : (code : ℕ) → Event
   Traps : Event
+
+-- how many pages a step adds to the memory
+abbrev pub pages_gained : Event → ℕ
+pages_gained (Grows pages true) = pages
+pages_gained _ = 0
 
 -- how many results a block's type has (2.3.2)
 abbrev pub arity_of : Option ValType → ℕ
@@ -87,6 +92,10 @@ enters c target arity inner below rest =
 abbrev pub effective : ℕ → MemArg → ℕ
 effective address arg = address + arg.offset
 
+-- what a growth that is refused gives: -1 (4.4.4, memory.grow)
+abbrev pub refusal : ℕ
+refusal = 2 ^ 32 - 1
+
 -- Step c m e s m': the configuration c over the memory m makes a step with the event e to s over m'.
 pub data Step : Config → List ℕ → Event → State → List ℕ → Type 0 where
   -- 4.4.3
@@ -120,6 +129,14 @@ pub data Step : Config → List ℕ → Event → State → List ℕ → Type 0 
   store_outside : (c : Config) (m : List ℕ) (s : Store) (arg : MemArg) (address v : ℕ) (operands : List ℕ) (rest : Code) →
       c.code ≡ op (o.Store s arg) rest → c.operands ≡ v ∷ address ∷ operands →
       length m < effective address arg + store_width s → Step c m Traps Trapped m
+  grow_granted : (c : Config) (m : List ℕ) (pages : ℕ) (operands : List ℕ) (rest : Code) → c.code ≡ op o.MemoryGrow rest →
+      c.operands ≡ pages ∷ operands → pages_of m + pages ≤ most_pages →
+      Step c m (Grows pages true) (goes_on c rest (pages_of m ∷ operands) c.locals) (grown_by pages m)
+  grow_refused : (c : Config) (m : List ℕ) (pages : ℕ) (operands : List ℕ) (rest : Code) → c.code ≡ op o.MemoryGrow rest →
+      c.operands ≡ pages ∷ operands → Step c m (Grows pages false) (goes_on c rest (refusal ∷ operands) c.locals) m
+  -- 4.4.7; the imported function `raise` takes a code and ends the instance
+  raise : (c : Config) (m : List ℕ) (index code : ℕ) (operands : List ℕ) (rest : Code) → c.code ≡ op (o.Call index) rest →
+      c.operands ≡ code ∷ operands → Step c m (Raises code) (Raised code) m
   -- 4.4.5; a branch to a loop begins the loop again
   enter_block : (c : Config) (m : List ℕ) (result : Option ValType) (inner rest : Code) → c.code ≡ block result inner rest →
       Step c m Silent (enters c rest (arity_of result) inner c.operands rest) m

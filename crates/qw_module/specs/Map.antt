@@ -1,16 +1,8 @@
 -- The memory as its users see it: areas, what an instance may touch of it, and what others may change.
 use Rattle.std.specs.Prelude.{◌≡◌, ℕ, ◌+◌, ◌-◌, ◌*◌, ◌<◌, ◌≤◌, nat_le, ◌&&◌, Bool, true, false, IsTrue, ◌⊎◌, List, [], ◌∷◌, ◌++◌, length, Option, Some, IsSome, slice_index}
 use Rattle.std.specs.List.{list_any, AllByRecursion}
-use Rattle.qw_module.specs.Memory.{AreOctets}
-use Rattle.qw_module.specs.Execution.{Event, Silent, Loads, Stores, Grows, Raises, Traps}
-
--- how many octets a page has, and how many pages a memory has at most (WebAssembly Core Specification 1.0, 4.2.8 and 3.2.4;
--- one page fewer than there, so that a memory's size is a number of 32 bits)
-abbrev pub page : ℕ
-page = 65536
-
-abbrev pub most_pages : ℕ
-most_pages = 65535
+use Rattle.qw_linear.specs.Memory.{page, most_pages, AreOctets}
+use Rattle.qw_module.specs.Execution.{State, Running, Returned, Raised, Trapped, Event, Silent, Loads, Stores, Grows, Raises, Traps}
 
 -- an area of the memory: its first place, and how many octets it has
 pub record Area : Type 0 where
@@ -47,8 +39,8 @@ pub record Others (w : World) (before after : List ℕ) : Type 0 where
   pub mapped_kept : AllByRecursion (SameIn before after) w.mapped
   pub own_kept : AllByRecursion (SameIn before after) w.own
 
--- What a step may do: load from the mapped columns and the own areas, store in the own areas, raise 1 or 2, and
--- 3 after a refused request. It never traps.
+-- What a step may do: load from the mapped columns and the own areas, store in the own areas, ask for pages, raise 1 or 2,
+-- and 3 after a refused request. It never traps.
 abbrev pub IsFine : World → Event → Type 0
 IsFine w Silent = Unit {0}
 IsFine w (Loads address width) = IsTrue (lies_in_one (w.mapped ++ w.own) address width)
@@ -57,10 +49,30 @@ IsFine w (Grows pages granted) = Unit {0}
 IsFine w (Raises code) = (code ≡ 1) ⊎ (code ≡ 2) ⊎ ((code ≡ 3) × IsSome w.refused)
 IsFine w Traps = ⊥
 
--- how memory answers a request: it grants exactly those that stay within the limit
+-- whether memory grants a request: exactly where it stays within the limit
+abbrev pub grants : World → ℕ → Bool
+grants w pages = nat_le (w.held + pages) w.limit
+
 abbrev pub IsAnswered : World → Event → Type 0
-IsAnswered w (Grows pages granted) = granted ≡ nat_le (w.held + pages) w.limit
+IsAnswered w (Grows pages granted) = granted ≡ grants w pages
 IsAnswered w _ = Unit {0}
+
+-- an instance that goes on has not ended
+abbrev pub GoesOn : State → Type 0
+GoesOn (Running c) = Unit {0}
+GoesOn Returned = ⊥
+GoesOn (Raised code) = ⊥
+GoesOn Trapped = ⊥
+
+-- A request asks for a page at least, and for no more than that with it so many are held; and the run goes on after it.
+abbrev pub AsksWithin : (most : ℕ) → World → Event → State → Type 0
+AsksWithin most w (Grows pages granted) state = (1 ≤ pages) × (w.held + pages ≤ most) × GoesOn state
+AsksWithin most w _ state = Unit {0}
+
+-- a step that leads to a state is fine, and a request stays within so many pages
+abbrev pub IsAllowed : (most : ℕ) → World → Event → State → Type 0
+IsAllowed most w (Grows pages granted) state = AsksWithin most w (Grows pages granted) state
+IsAllowed most w event state = IsFine w event
 
 -- what the instance has after a step from a memory: a granted growth's pages are its own, the memory's next ones
 abbrev pub world_after : World → List ℕ → Event → World

@@ -1,6 +1,6 @@
 -- The meaning of numeric instructions (WebAssembly Core Specification 1.0, 4.3). A value is its unsigned
 -- reading, a number below 2^32 or 2^64: which of the two, typing says.
-use Rattle.std.specs.Prelude.{ℕ, ◌+◌, ◌*◌, ◌%◌, ◌^◌, ◌==◌, nat_le, int_le, Bool, if◌then◌else◌}
+use Rattle.std.specs.Prelude.{ℕ, ◌+◌, ◌-◌, ◌*◌, ◌%◌, ◌^◌, ◌==◌, nat_le, nat_lt, int_le, int_lt, Bool, not, if◌then◌else◌}
 use Rattle.std.specs.Int.{w32, w64, cast_signed, cast_unsigned}
 use Rattle.qw_module.specs.declared.instruction.ValType.{ValType}
 use Rattle.qw_module.specs.declared.instruction.ValType.TheVariants as type
@@ -9,9 +9,9 @@ use Rattle.qw_module.specs.declared.instruction.Sign.TheVariants.{Signed, Unsign
 use Rattle.qw_module.specs.declared.instruction.Const.{Const}
 use Rattle.qw_module.specs.declared.instruction.Const.TheVariants as const
 use Rattle.qw_module.specs.declared.instruction.Binary.{Binary}
-use Rattle.qw_module.specs.declared.instruction.Binary.TheVariants.{I32Add, I32Mul, I64Add}
+use Rattle.qw_module.specs.declared.instruction.Binary.TheVariants.{I32Add, I32Sub, I32Mul, I64Add}
 use Rattle.qw_module.specs.declared.instruction.Relation.{Relation}
-use Rattle.qw_module.specs.declared.instruction.Relation.TheVariants.{I32Eq, I64Eq, I64Le}
+use Rattle.qw_module.specs.declared.instruction.Relation.TheVariants.{I32Eq, I32Gt, I64Eq, I64Ne, I64Lt, I64Gt, I64Le, I64Ge}
 use Rattle.qw_module.specs.declared.instruction.Load.{Load}
 use Rattle.qw_module.specs.declared.instruction.Load.TheVariants as load
 use Rattle.qw_module.specs.declared.instruction.Store.{Store}
@@ -31,14 +31,16 @@ abbrev pub type_of_constant : Const → ValType
 type_of_constant (const.I32 n) = type.I32
 type_of_constant (const.I64 n) = type.I64
 
--- sums and products are modulo the number of values (4.3.2, iadd and imul)
+-- sums, differences and products are modulo the number of values (4.3.2, iadd, isub and imul)
 abbrev pub binary : Binary → ℕ → ℕ → ℕ
 binary I32Add a b = (a + b) % 2 ^ 32
+binary I32Sub a b = (a + 2 ^ 32 - b) % 2 ^ 32
 binary I32Mul a b = (a * b) % 2 ^ 32
 binary I64Add a b = (a + b) % 2 ^ 64
 
 abbrev pub type_of_binary : Binary → ValType
 type_of_binary I32Add = type.I32
+type_of_binary I32Sub = type.I32
 type_of_binary I32Mul = type.I32
 type_of_binary I64Add = type.I64
 
@@ -46,20 +48,39 @@ type_of_binary I64Add = type.I64
 abbrev pub truth : Bool → ℕ
 truth b = if b then 1 else 0
 
--- a test of two values of 64 bits by their unsigned or their signed readings (4.3.2, ile_u and ile_s)
+-- tests of two values of 64 bits by their signed or their unsigned readings (4.3.2, ile_s, ile_u, ilt_s and ilt_u)
 abbrev pub at_most : Sign → ℕ → ℕ → Bool
 at_most Signed a b = int_le (cast_signed w64 a) (cast_signed w64 b)
 at_most Unsigned a b = nat_le a b
 
+abbrev pub is_less : Sign → ℕ → ℕ → Bool
+is_less Signed a b = int_lt (cast_signed w64 a) (cast_signed w64 b)
+is_less Unsigned a b = nat_lt a b
+
+-- the same of two values of 32 bits
+abbrev pub is_less_word : Sign → ℕ → ℕ → Bool
+is_less_word Signed a b = int_lt (cast_signed w32 a) (cast_signed w32 b)
+is_less_word Unsigned a b = nat_lt a b
+
 abbrev pub relation : Relation → ℕ → ℕ → ℕ
 relation I32Eq a b = truth (a == b)
+relation (I32Gt sign) a b = truth (is_less_word sign b a)
 relation I64Eq a b = truth (a == b)
+relation I64Ne a b = truth (not (a == b))
+relation (I64Lt sign) a b = truth (is_less sign a b)
+relation (I64Gt sign) a b = truth (is_less sign b a)
 relation (I64Le sign) a b = truth (at_most sign a b)
+relation (I64Ge sign) a b = truth (at_most sign b a)
 
 abbrev pub type_of_relation : Relation → ValType
 type_of_relation I32Eq = type.I32
+type_of_relation (I32Gt sign) = type.I32
 type_of_relation I64Eq = type.I64
+type_of_relation I64Ne = type.I64
+type_of_relation (I64Lt sign) = type.I64
+type_of_relation (I64Gt sign) = type.I64
 type_of_relation (I64Le sign) = type.I64
+type_of_relation (I64Ge sign) = type.I64
 
 -- four octets' number as a value of 64 bits (4.3.4, extend_u and extend_s)
 abbrev pub extended : Sign → ℕ → ℕ

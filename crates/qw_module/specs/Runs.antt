@@ -2,7 +2,7 @@
 use Rattle.std.specs.Prelude.{◌≡◌, ℕ, zero, suc, ◌<◌, ◌≤◌, ◌⊎◌, List, Option, Some, None}
 use Rattle.qw_module.specs.Execution.{Config, State, Running, Returned, Raised, Trapped, Event, Step}
 use Rattle.qw_module.specs.Step.{Next, next}
-use Rattle.qw_module.specs.Map.{World, Others, IsFine, IsAnswered, world_after}
+use Rattle.qw_module.specs.Map.{World, Others, IsFine, IsAllowed, AsksWithin, IsAnswered, grants, world_after}
 
 -- an instance between two steps: what it has, its state, and the memory
 pub record Moment : Type 0 where
@@ -35,19 +35,22 @@ IsOver (Raised code) = Unit {0}
 IsOver Trapped = Unit {0}
 
 -- The instance behaves from here on: in every open run, while it runs it can make a step, each step that it can make
--- is fine, and fewer than `most` instructions have run; where it has ended, at most so many have, and P holds.
-pub record Behaves (most : ℕ) (P : Moment → Type 0) (a : Moment) : Type 0 where
+-- is fine, each request stays within `pages` pages, and fewer than `most` instructions have run; where it has ended, at most
+-- so many have, and P holds.
+pub record Behaves (most pages : ℕ) (P : Moment → Type 0) (a : Moment) : Type 0 where
   pub goes_on : (k : ℕ) (b : Moment) (c : Config) (before : List ℕ) → OpenRun k a b → b.state ≡ Running c → Others b.world b.memory before →
       (event : Event) × (state : State) × (after : List ℕ) × OpenStep b c before event state after
   pub fine : (k : ℕ) (b : Moment) (c : Config) (before : List ℕ) (event : Event) (state : State) (after : List ℕ) →
       OpenRun k a b → OpenStep b c before event state after → IsFine b.world event
+  pub asks : (k : ℕ) (b : Moment) (c : Config) (before : List ℕ) (event : Event) (state : State) (after : List ℕ) →
+      OpenRun k a b → OpenStep b c before event state after → AsksWithin pages b.world event state
   pub bounded : (k : ℕ) (b : Moment) (c : Config) → OpenRun k a b → b.state ≡ Running c → k < most
   pub ends : (k : ℕ) (b : Moment) → OpenRun k a b → IsOver b.state → (k ≤ most) × P b
 
--- a step was made: it is fine, and Q holds of the moment after it
-abbrev pub OnStep : World → List ℕ → (Moment → Type 0) → Option Next → Type 0
-OnStep w before Q None = ⊥
-OnStep w before Q (Some t) = IsFine w t.event × Q (moment_after w before t.event t.state t.memory)
+-- a step was made: it is allowed, and Q holds of the moment after it
+abbrev pub OnStep : (pages : ℕ) → World → List ℕ → (Moment → Type 0) → Option Next → Type 0
+OnStep pages w before Q None = ⊥
+OnStep pages w before Q (Some t) = IsAllowed pages w t.event t.state × Q (moment_after w before t.event t.state t.memory)
 
 -- an instance runs, and P holds of its configuration
 abbrev pub OnRunning : State → (Config → Type 0) → Type 0
@@ -56,12 +59,14 @@ OnRunning Returned P = ⊥
 OnRunning (Raised code) P = ⊥
 OnRunning Trapped P = ⊥
 
--- Exactly n steps follow, each fine whatever others do before it, and then Q holds.
-abbrev pub Steps : (Moment → Type 0) → ℕ → Moment → Type 0
-Steps Q zero a = Q a
-Steps Q (suc n) a = OnRunning a.state (λ c. (before : List ℕ) → Others a.world a.memory before → OnStep a.world before (Steps Q n) (next c before))
+-- Exactly n steps follow, each allowed whatever others do before it, and then Q holds.
+abbrev pub Steps : (pages : ℕ) → (Moment → Type 0) → ℕ → Moment → Type 0
+Steps pages Q zero a = Q a
+Steps pages Q (suc n) a = OnRunning a.state (λ c. (before : List ℕ) → Others a.world a.memory before →
+    OnStep pages a.world before (Steps pages Q n) (next (grants a.world) c before))
 
--- At most n steps follow, each fine whatever others do before it, and then Q holds.
-abbrev pub Within : (Moment → Type 0) → ℕ → Moment → Type 0
-Within Q zero a = Q a
-Within Q (suc n) a = Q a ⊎ OnRunning a.state (λ c. (before : List ℕ) → Others a.world a.memory before → OnStep a.world before (Within Q n) (next c before))
+-- At most n steps follow, each allowed whatever others do before it, and then Q holds.
+abbrev pub Within : (pages : ℕ) → (Moment → Type 0) → ℕ → Moment → Type 0
+Within pages Q zero a = Q a
+Within pages Q (suc n) a = Q a ⊎ OnRunning a.state (λ c. (before : List ℕ) → Others a.world a.memory before →
+    OnStep pages a.world before (Within pages Q n) (next (grants a.world) c before))

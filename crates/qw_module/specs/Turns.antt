@@ -3,9 +3,9 @@
 use Rattle.std.specs.Prelude.{◌≡◌, ◌≢◌, ℕ, zero, suc, ◌+◌, ◌-◌, ◌*◌, ◌≤◌, ◌==◌, nat_le, ◌||◌, ◌⊎◌, if◌then◌else◌, List, [], ◌∷◌, ◌++◌, length, Option, Some, None, slice_get, slice_set, is_some}
 use Rattle.std.specs.List.{AllByRecursion}
 use Rattle.qw_module.specs.Execution.{Config, Event, State, Running, Returned, Raised, Trapped}
-use Rattle.qw_module.specs.Memory.{AreOctets}
 use Rattle.qw_module.specs.Step.{Next, next}
-use Rattle.qw_module.specs.Map.{Area, page, most_pages, World, Others, IsFine, world_after}
+use Rattle.qw_module.specs.Map.{Area, World, Others, IsFine, grants, world_after}
+use Rattle.qw_linear.specs.Memory.{page, most_pages, AreOctets}
 use Rattle.qw_module.specs.Runs.{Moment, OpenStep, OpenRun}
 
 -- How an instance ended: it returned, it raised an exception's code, a request for so many pages beside those held was past
@@ -65,7 +65,7 @@ after_next i m None = (i, m)
 after_next i m (Some t) = (moved i (world_after i.world m t.event) t.state, t.memory)
 
 abbrev pub stepped_from : State → Instance → List ℕ → Instance × List ℕ
-stepped_from (Running c) i m = after_next i m (next c m)
+stepped_from (Running c) i m = after_next i m (next (grants i.world) c m)
 stepped_from Returned i m = (i, m)
 stepped_from (Raised code) i m = (i, m)
 stepped_from Trapped i m = (i, m)

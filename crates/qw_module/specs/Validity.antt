@@ -1,12 +1,12 @@
 -- When a module is valid (WebAssembly Core Specification 1.0, 3.2 and 3.4).
 use Rattle.std.specs.Prelude.{◌≡◌, ◌≢◌, ℕ, ◌+◌, ◌<◌, ◌≤◌, Bool, true, false, ◌||◌, IsTrue, List, [], ◌∷◌, ◌++◌, length, map, codes, All, Contains, Option, Some, None, IfSome, IsSomeAnd, slice_get}
 use Rattle.std.specs.List.{filter_map, AllPairs}
-use Rattle.std.specs.Option.{option_to_list}
+use Rattle.std.specs.Option.{option_to_list, option_map_or}
 use Rattle.std.specs.String.{string_bytes}
 use Rattle.std.specs.Global.{Vec}
 use Rattle.qw_module.specs.declared.instruction.ValType.TheVariants.{I32}
 use Rattle.qw_module.specs.declared.instruction.Op.{Op}
-use Rattle.qw_module.specs.declared.instruction.Op.TheVariants.{Load, Store}
+use Rattle.qw_module.specs.declared.instruction.Op.TheVariants.{Load, Store, MemoryGrow}
 use Rattle.qw_module.specs.declared.instruction.Instr.{Instr}
 use Rattle.qw_module.specs.declared.module.FuncType.{FuncType}
 use Rattle.qw_module.specs.declared.module.Limits.{Limits}
@@ -21,7 +21,7 @@ use Rattle.qw_module.specs.declared.module.ExportKind.TheVariants as kind
 use Rattle.qw_module.specs.declared.module.Module.{Module}
 use Rattle.qw_module.specs.Numbers.{values_of, constant, type_of_constant}
 use Rattle.qw_module.specs.Syntax.{Code, done, op, block, loop, if_else, br, br_if, code_of, IsNumbered}
-use Rattle.qw_module.specs.Typing.{Typed}
+use Rattle.qw_module.specs.Typing.{Signature, Typed}
 
 -- the sequences of a body, and the code that it stands for
 abbrev pub items_of : List (Vec Instr) → List (List Instr)
@@ -78,10 +78,21 @@ IsExportedOf m (kind.Global index) = index < length m.globals.items
 abbrev pub IsExport : Module → Export → Type 0
 IsExport m export = IsExportedOf m export.kind
 
--- whether there is a load or a store in a sequence: these want a memory (3.3.4)
+-- the types of the imported functions
+abbrev pub signature_of : FuncType → Signature
+signature_of type = record { params = type.params.items; results = type.results.items }
+
+abbrev pub signature_in : Module → ℕ → Signature
+signature_in m index = option_map_or signature_of (slice_get m.types.items index) (record { params = []; results = [] })
+
+abbrev pub imported_signatures : Module → List Signature
+imported_signatures m = map (signature_in m) (imported_functions m)
+
+-- whether there is a load, a store or a growth in a sequence: these want a memory (3.3.4)
 abbrev pub is_access : Op → Bool
 is_access (Load load arg) = true
 is_access (Store store arg) = true
+is_access MemoryGrow = true
 is_access _ = false
 
 abbrev pub accesses_memory : Code → Bool
@@ -97,7 +108,8 @@ accesses_memory (br_if index rest) = accesses_memory rest
 -- operands to its results. Its locals begin with its parameters, and its outermost label takes its results (3.4.1).
 pub record IsTypedFunction (m : Module) (function : Function) (type : FuncType) : Type 0 where
   pub numbered : IsNumbered (sequences_of function.body)
-  pub typed : Typed (record { locals = type.params.items ++ function.locals.items; labels = type.results.items ∷ [] }) (code_of_body function.body) [] type.results.items
+  pub typed : Typed (record { functions = imported_signatures m; locals = type.params.items ++ function.locals.items; labels = type.results.items ∷ [] })
+      (code_of_body function.body) [] type.results.items
   pub memory : IsTrue (accesses_memory (code_of_body function.body)) → 1 ≤ length (memories_of m)
 
 abbrev pub IsValidFunction : Module → Function → Type 0
@@ -126,9 +138,10 @@ abbrev pub IsOneI32 : Module → ℕ → Type 0
 IsOneI32 m type = IsSomeAnd (slice_get m.types.items type) TakesOneI32
 
 -- The shape that is executed: the module imports the memory and the function `raise`, and exports its own function of this
--- number as `run`; both functions take one i32 and leave nothing.
+-- number as `run`; each of these functions takes one i32 and leaves nothing.
 pub record IsShaped (m : Module) (number : ℕ) : Type 0 where
   pub memory : (limits : Limits) × Contains m.imports.items (import.Memory limits)
-  pub raise : (type : ℕ) × Contains m.imports.items (import.Raise type) × IsOneI32 m type
+  pub raise : (type : ℕ) × Contains m.imports.items (import.Raise type)
+  pub raises : All (IsOneI32 m) (imported_functions m)
   pub run : IsSomeAnd (slice_get m.functions.items number) (λ (function : Function). IsOneI32 m function.type_index)
   pub exported : (export : Export) × Contains m.exports.items export × (string_bytes export.name ≡ codes "run") × (export.kind ≡ kind.Function (length (imported_functions m) + number))

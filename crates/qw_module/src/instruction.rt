@@ -26,6 +26,7 @@ pub enum Const {
 #[derive(Clone, Copy, Debug, PartialEq, Eq)]
 pub enum Binary {
     I32Add,
+    I32Sub,
     I32Mul,
     I64Add,
 }
@@ -34,8 +35,13 @@ pub enum Binary {
 #[derive(Clone, Copy, Debug, PartialEq, Eq)]
 pub enum Relation {
     I32Eq,
+    I32Gt(Sign),
     I64Eq,
+    I64Ne,
+    I64Lt(Sign),
+    I64Gt(Sign),
     I64Le(Sign),
+    I64Ge(Sign),
 }
 
 /// A load: the type of its result, and how many octets it reads as what (2.4.4).
@@ -72,6 +78,12 @@ pub enum Op {
     Relation(Relation),
     Load(Load, MemArg),
     Store(Store, MemArg),
+    /// A request for as many pages as its operand says; its result is the number of pages before, or 2^32 - 1 where it
+    /// is refused (2.4.4, `memory.grow`).
+    MemoryGrow,
+    /// A call of an imported function, by its index (2.4.5, `call`). The index counts the imported functions
+    /// first, so it is below their number.
+    Call(u32),
 }
 
 /// An instruction of a numbered body (2.4). A block, loop or if names its inner sequences by their

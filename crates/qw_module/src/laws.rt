@@ -1,35 +1,33 @@
 //! What holds of the definitions of execution, stated as contracts. No function here computes anything.
 
-ghost use Rattle.std.specs.Prelude.{◌≡◌, ℕ, ◌^◌, ◌<◌, List, Some, IsSome, length};
-ghost use Rattle.qw_module.specs.Execution.{Config, Event, State, Step};
-ghost use Rattle.qw_module.specs.Step.{Next, next};
-ghost use Rattle.qw_module.specs.Memory.{AreOctets};
+ghost use Rattle.std.specs.Prelude.{◌≡◌, ℕ, Bool, ◌+◌, ◌*◌, List, Some, IsSome, length};
+ghost use Rattle.qw_linear.specs.Memory.{page, AreOctets};
+ghost use Rattle.qw_module.specs.Execution.{Config, Event, State, Step, pages_gained};
+ghost use Rattle.qw_module.specs.Step.{Next, next, Agrees, AnswerAlike};
 ghost use Rattle.qw_module.specs.Soundness.{IsTyped, IsTypedState};
-ghost use Rattle.qw_module.specs.declared.module.Module.{Module};
-ghost use Rattle.qw_module.specs.Validity.{IsValid, IsShaped};
-ghost use Rattle.qw_module.specs.Instance.{begun};
 
 /// The rules of execution, one for each instruction, and the step that is computed say the same.
 pub fn step_is_computed()
-    ensures by_rule { (c : Config) (m : List ℕ) (e : Event) (s : State) (after : List ℕ) → Step c m e s after → next c m ≡ Some (record { event = e; state = s; memory = after }) }
-    ensures by_computing { (c : Config) (m : List ℕ) (n : Next) → next c m ≡ Some n → Step c m n.event n.state n.memory }
+    ensures by_rule { (grants : ℕ → Bool) (c : Config) (m : List ℕ) (e : Event) (s : State) (after : List ℕ) →
+        Step c m e s after → Agrees grants e → next grants c m ≡ Some (record { event = e; state = s; memory = after }) }
+    ensures by_computing { (grants : ℕ → Bool) (c : Config) (m : List ℕ) (n : Next) →
+        next grants c m ≡ Some n → Step c m n.event n.state n.memory }
 {}
 
-/// A configuration over a memory makes at most one step.
+/// A configuration over a memory makes at most one step, and at a growth at most one for each answer.
 pub fn step_is_deterministic()
-    ensures { (c : Config) (m : List ℕ) (e f : Event) (s t : State) (after other : List ℕ) → Step c m e s after → Step c m f t other → (e ≡ f) × (s ≡ t) × (after ≡ other) }
+    ensures { (c : Config) (m : List ℕ) (e f : Event) (s t : State) (after other : List ℕ) →
+        Step c m e s after → Step c m f t other → AnswerAlike e f → (e ≡ f) × (s ≡ t) × (after ≡ other) }
 {}
 
-/// Type soundness: a typed configuration makes a step, to a typed state.
+/// Type soundness: a typed configuration makes a step, to a typed state. Whatever the configuration, octets stay octets, and
+/// the memory is longer by the pages that were granted.
 pub fn typed_configurations_go_on()
-    ensures progress { (c : Config) (m : List ℕ) → IsTyped c → IsSome (next c m) }
-    ensures preservation { (c : Config) (m : List ℕ) (n : Next) → IsTyped c → AreOctets m → next c m ≡ Some n → IsTypedState n.state }
-    ensures memory { (c : Config) (m : List ℕ) (n : Next) → AreOctets m → next c m ≡ Some n → AreOctets n.memory }
-    ensures size { (c : Config) (m : List ℕ) (n : Next) → next c m ≡ Some n → length n.memory ≡ length m }
-{}
-
-/// The run of a valid module of the shape begins typed, whatever its argument.
-pub fn valid_modules_begin_typed()
-    ensures { (m : Module) (number argument : ℕ) → IsValid m → IsShaped m number → argument < 2 ^ 32 →
-        IsTypedState (begun m number argument) }
+    ensures progress { (grants : ℕ → Bool) (c : Config) (m : List ℕ) → IsTyped c → IsSome (next grants c m) }
+    ensures preservation { (grants : ℕ → Bool) (c : Config) (m : List ℕ) (n : Next) →
+        IsTyped c → AreOctets m → next grants c m ≡ Some n → IsTypedState n.state }
+    ensures memory { (grants : ℕ → Bool) (c : Config) (m : List ℕ) (n : Next) →
+        AreOctets m → next grants c m ≡ Some n → AreOctets n.memory }
+    ensures size { (grants : ℕ → Bool) (c : Config) (m : List ℕ) (n : Next) →
+        next grants c m ≡ Some n → length n.memory ≡ length m + pages_gained n.event * page }
 {}

@@ -3,10 +3,10 @@
 ghost use Rattle.std.specs.Prelude.{◌≡◌, ◌≢◌, ℕ, ◌+◌, ◌-◌, ◌<◌, ◌≤◌, ◌⊎◌, List, Some, None, IsSome, length, slice_get};
 ghost use Rattle.std.specs.List.{AllByRecursion};
 ghost use Rattle.qw_module.specs.Execution.{Config, Running};
-ghost use Rattle.qw_module.specs.Memory.{AreOctets};
+ghost use Rattle.qw_linear.specs.Memory.{AreOctets};
 ghost use Rattle.qw_module.specs.Step.{Next, next};
 ghost use Rattle.qw_module.specs.Soundness.{IsTypedState};
-ghost use Rattle.qw_module.specs.Map.{SameIn, IsFine};
+ghost use Rattle.qw_module.specs.Map.{SameIn, IsFine, grants};
 ghost use Rattle.qw_module.specs.Runs.{Moment, OpenRun, Behaves};
 ghost use Rattle.qw_module.specs.Turns.{Instance, Shared, Trap, steps_of, turn, turns, EachInstance, EachAfter, IsWhole, AreSafe, moment_of, LeadsTo};
 
@@ -64,17 +64,18 @@ pub fn turns_are_open_runs()
         (moment_of i s.memory) (moment_of later (turns ts s).memory)) s (turns ts s) }
     ensures onwards { (n k : ℕ) (a b c : Moment) →
         LeadsTo n a b → k ≢ 0 → OpenRun k b c → OpenRun (k + n) a c }
-    ensures behaves { (s : Shared) (ts : List (ℕ × ℕ)) (most : ℕ) → AreSafe s →
-        EachAfter (λ i later. Behaves most (λ b. Unit {0}) (moment_of i s.memory) →
-        Behaves (most - (later.ran - i.ran)) (λ b. Unit {0}) (moment_of later (turns ts s).memory))
+    ensures behaves { (s : Shared) (ts : List (ℕ × ℕ)) (most pages : ℕ) → AreSafe s →
+        EachAfter (λ i later. Behaves most pages (λ b. Unit {0}) (moment_of i s.memory) →
+        Behaves (most - (later.ran - i.ran)) pages (λ b. Unit {0}) (moment_of later (turns ts s).memory))
         s (turns ts s) }
 {}
 
 /// In the same setting, whatever turns came before, the next step of an instance is fine: it loads from the columns that it
-/// maps and its own areas, stores in its own areas, and does not trap. So no instance ends with a trap.
+/// maps and its own areas, stores in its own areas, raises 3 only after a refused request, and does not trap. So no instance
+/// ends with a trap.
 pub fn steps_in_turns_are_fine()
     ensures fine { (s : Shared) (ts : List (ℕ × ℕ)) (c : Config) (t : Next) → AreSafe s →
-        EachInstance (λ i. i.state ≡ Running c → next c (turns ts s).memory ≡ Some t →
+        EachInstance (λ i. i.state ≡ Running c → next (grants i.world) c (turns ts s).memory ≡ Some t →
         IsFine i.world t.event) (turns ts s) }
     ensures no_trap { (s : Shared) (ts : List (ℕ × ℕ)) → AreSafe s →
         EachInstance (λ i. i.end ≢ Some Trap) s → EachInstance (λ i. i.end ≢ Some Trap) (turns ts s) }

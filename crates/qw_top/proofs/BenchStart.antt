@@ -1,170 +1,206 @@
 -- How a bench begins.
-use Rattle.std.proofs.Common.{◌≡◌, ℕ, zero, suc, ◌+◌, ◌-◌, ◌*◌, ◌^◌, ◌<◌, ◌≤◌, nat_le, false, List, [], ◌∷◌, length, get_or, drop, Option, Some, None, slice_get, refl, sym, ap, ◌∙◌, subst, arith}
-use Rattle.std.specs.Prelude.{All, replicate}
+use Rattle.std.proofs.Common.{◌≡◌, ◌≢◌, ℕ, zero, suc, ◌+◌, ◌*◌, ◌<◌, ◌≤◌, nat_le, false, List, [], ◌∷◌, length, map, Option, Some, None, slice_get, refl, sym, ap, ◌∙◌, subst, arith}
 use Rattle.std.specs.List.{AllByRecursion}
-use Rattle.std.proofs.lemmas.List.{get_or-drop, get_or-replicate, length-replicate}
+use Rattle.std.specs.Option.{option_map}
+use Rattle.std.specs.Vec.{vec_capacity}
 use Rattle.std.proofs.lemmas.Bool.{lt-leb}
-use Rattle.std.proofs.lemmas.List.Elements.{All-cons, All-head, All-nil, All-replicate, All-tail}
-use Rattle.std.proofs.lemmas.Option.{none-some, same_Some}
+use Rattle.std.proofs.lemmas.List.{length-map}
+use Rattle.std.proofs.lemmas.List.Elements.{All-cons, All-nil}
+use Rattle.std.proofs.lemmas.Option.{none-some, same_Some, slice_get-map}
 use Rattle.qw_types.specs.declared.value.Val.{Val}
-use Rattle.qw_module.specs.declared.machine.Stepped.{Stepped}
-use Rattle.qw_module.specs.declared.machine.Stepped.TheVariants.{Ran}
-use Rattle.qw_module.specs.declared.machine.Stepped.TheVariants as came
-use Rattle.qw_module.specs.Memory.{AreOctets}
-use Rattle.qw_module.specs.Execution.{State, Running, Returned, Raised, Trapped}
-use Rattle.qw_module.specs.Map.{World, page}
+use Rattle.qw_linear.specs.Linear.{Octets}
+use Rattle.qw_linear.specs.Memory.{page}
+use Rattle.qw_module.specs.Syntax.{Code, done, op, block, loop, if_else, br, br_if, code_of}
+use Rattle.qw_module.specs.Execution.{State, Running, Returned, Raised, Trapped, label, settled}
+use Rattle.qw_module.specs.Map.{Area, World}
 use Rattle.qw_module.specs.Turns.{End, Instance, end_at}
-use Rattle.qw_module.specs.Instance.{GoesWith, IsAnswer, begun}
+use Rattle.qw_module.specs.Start.{begun, body_of}
+use Rattle.qw_machine.specs.declared.machine.Stepped.{Stepped}
+use Rattle.qw_machine.specs.declared.machine.Stepped.TheVariants.{Ran}
+use Rattle.qw_machine.specs.declared.machine.Stepped.TheVariants as came
+use Rattle.qw_machine.specs.Instance.{GoesWith, IsLast}
+use Rattle.qw_emit.specs.Columns.{Holds, HoldsColumn, column_pages, column_start}
+use Rattle.qw_emit.specs.Compiled.{IsCompiled, IsReady}
+use Rattle.qw_emit.specs.Layout.{column_areas, column_starts, first_world, used}
 use Rattle.qw_top.specs.declared.bench.Ended.{Ended}
 use Rattle.qw_top.specs.declared.bench.Ended.TheVariants as ended
+use Rattle.qw_top.specs.declared.bench.Grant.{Grant}
 use Rattle.qw_top.specs.declared.bench.Seat.{Seat}
 use Rattle.qw_top.specs.Bench.{IsStart, IsStarting, Task, starting}
-use Rattle.qw_top.specs.Compiled.{IsCompiled, IsReady}
-use Rattle.qw_top.specs.Columns.{Holds, SameOutside, columns_end, columns_start}
-use Rattle.qw_top.specs.FirstPage.{IsBlank, IsFirstMemory, SameBelow}
-use Rattle.qw_top.specs.Layout.{IsFresh, first_world}
+use Rattle.qw_top.specs.FirstPage.{IsFirstMemory}
 use Rattle.qw_top.specs.Loading.{AreLoaded, IsIntegerRow}
-use Rattle.qw_top.specs.Seats.{IsBench, IsEndOf, end_of, instance_of, state_in, task_of, world_of}
-use Rattle.qw_top.proofs.Serving.{column-kept, start-serving}
+use Rattle.qw_top.specs.Seats.{HasGrants, IsBench, IsEndOf, area_of, end_of, instance_of, state_in, task_of, world_of}
+use Rattle.qw_top.proofs.ColumnLemmas.{few_pages, within_pages}
+use Rattle.qw_top.proofs.Serving.{start-serving}
 
 -- ---- the memory
-after_drop : (before after : List ℕ) (n k : ℕ) → n ≤ k → drop n after ≡ drop n before → get_or after k 0 ≡ get_or before k 0
-after_drop before after n k low same =
-    let place : n + (k - n) ≡ k = omega arith in
-    subst (λ (i : ℕ). get_or after i 0 ≡ get_or before i 0) place
-    (sym (get_or-drop n after (k - n) 0) ∙ ap (λ (xs : List ℕ). get_or xs (k - n) 0) same ∙ get_or-drop n before (k - n) 0)
+-- each row has the columns below its width
+all_typed : (width : ℕ) (rows : List (List Val)) (columns : List ℕ) → AllByRecursion (IsIntegerRow width) rows →
+    AllByRecursion (λ column. column < width) columns → AllByRecursion (λ (row : List Val). AllByRecursion (λ column. column < length row) columns) rows
+all_typed width [] columns typed narrow = tt
+all_typed width (row ∷ rows) columns (one, typed) narrow =
+    (subst (λ (n : ℕ). AllByRecursion (λ column. column < n) columns) (sym one.0) narrow, all_typed width rows columns typed narrow)
 
-pub blank-page : (rows : List (List Val)) (n : ℕ) (before after : List ℕ) → n ≡ 2 * page → before ≡ replicate n 0 → AreLoaded rows →
-    SameOutside before after columns_start (columns_end rows) → IsBlank after page
-blank-page rows n before after many zeros loaded outside k below =
-    after_drop before after (columns_end rows) (page + k) (omega (arith, loaded.few)) outside.above
-    ∙ rw zeros (get_or-replicate n (page + k) 0 0 (omega arith))
+-- columns below the width end before the pages behind them, and none begins before the first of them
+starts-from : (rows : ℕ) (columns : List ℕ) → AllByRecursion (λ start. 64 ≤ start) (map (column_start rows) columns)
+starts-from rows [] = tt
+starts-from rows (column ∷ columns) = (omega arith, starts-from rows columns)
 
-pub first-memory : (rows : List (List Val)) (n count : ℕ) (before middle after : List ℕ) → n ≡ 2 * page → before ≡ replicate n 0 → count ≡ length rows → AreLoaded rows →
-    Holds middle rows → length middle ≡ length before → (AreOctets before → AreOctets middle) →
-    IsFresh after page columns_start count → SameBelow middle after page → length after ≡ length middle → (AreOctets middle → AreOctets after) →
-    IsFirstMemory rows after
-first-memory rows n count before middle after many zeros counted loaded holds long octets fresh below longer still =
-    let size : length after ≡ 2 * page = longer ∙ long ∙ ap length zeros ∙ length-replicate {A = ℕ} n 0 ∙ many in
-    record {
-      octets = still (octets (rw zeros (All-replicate (λ octet. octet < 256) n 0 (omega arith))));
-      size = size;
-      column = column-kept middle after columns_start 0 rows
-          (λ k within. below (columns_start + k) (omega (arith, loaded.few))) (omega (arith, loaded.few, size)) holds;
-      fresh = rw (← counted) fresh;
-    }
+starts-below : (width rows : ℕ) (columns : List ℕ) → AllByRecursion (λ column. column < width) columns →
+    AllByRecursion (λ start. start + 4 * rows ≤ column_pages width rows * page) (map (column_start rows) columns)
+starts-below width rows [] narrow = tt
+starts-below width rows (column ∷ columns) (one, narrow) = (within_pages width rows column one, starts-below width rows columns narrow)
+
+-- one of them at its place
+narrow-at : (width : ℕ) (columns : List ℕ) (k column : ℕ) → slice_get columns k ≡ Some column → AllByRecursion (λ column. column < width) columns → column < width
+narrow-at width [] k column found narrow = absurd (none-some column found)
+narrow-at width (c ∷ columns) zero column found narrow = let same : c ≡ column = same_Some c column found in omega (arith, narrow.0)
+narrow-at width (c ∷ columns) (suc k) column found narrow = narrow-at width columns k column found narrow.1
+
+columns-held : (width : ℕ) (rows : List (List Val)) (memory : List ℕ) (columns : List ℕ) → Holds width memory rows → AllByRecursion (λ column. column < width) columns →
+    (k start column : ℕ) → slice_get (map (column_start (length rows)) columns) k ≡ Some start → slice_get columns k ≡ Some column → HoldsColumn memory start column rows
+columns-held width rows memory columns holds narrow k start column starts_at there =
+    let start_is : column_start (length rows) column ≡ start = same_Some (column_start (length rows) column) start
+    (sym (slice_get-map (column_start (length rows)) columns k ∙ ap (option_map (column_start (length rows))) there) ∙ starts_at) in
+    let below : column < width = narrow-at width columns k column there narrow in
+    subst (λ (at : ℕ). HoldsColumn memory at column rows) start_is (holds.columns column (omega arith))
 
 -- ---- the instance
--- each row of a loaded table has its first column
-all_typed : (rows : List (List Val)) → All IsIntegerRow rows → AllByRecursion (λ (row : List Val). 0 < length row) rows
-all_typed [] h = tt
-all_typed (row ∷ rows) h = (some row (All-head IsIntegerRow row rows h), all_typed rows (All-tail IsIntegerRow row rows h))
-  where
-    some : (row : List Val) → IsIntegerRow row → 0 < length row
-    some [] h = absurd h
-    some (v ∷ []) h = omega arith
-    some (v ∷ w ∷ vs) h = absurd h
-
 -- an instance's end at its start is the one at its state
-end-first : (s : State) (o : Option Ended) (w : World) (most : ℕ) → 1 ≤ most → IsEndOf s o → end_of o ≡ end_at s w 0 most
-end-first (Running c) None w most some h = let below : nat_le most 0 ≡ false = lt-leb most 0 (omega arith) in rw below refl
-end-first (Running c) (Some ended.Done) w most some h = absurd h
-end-first (Running c) (Some (ended.Steps limit)) w most some h = absurd h
-end-first Returned None w most some h = absurd h
-end-first Returned (Some ended.Done) w most some h = refl
-end-first Returned (Some (ended.Steps limit)) w most some h = absurd h
-end-first (Raised code) o w most some h = absurd h
-end-first Trapped o w most some h = absurd h
+end-first : (seat : Seat) (s : State) (o : Option Ended) (w : World) (most : ℕ) → 1 ≤ most → seat.refused ≡ None → IsEndOf seat s o → end_of o ≡ end_at s w 0 most
+end-first seat (Running c) None w most some none h = let below : nat_le most 0 ≡ false = lt-leb most 0 (omega arith) in rw below refl
+end-first seat (Running c) (Some ended.Done) w most some none h = absurd h
+end-first seat (Running c) (Some (ended.Pages held asked limit)) w most some none h = absurd h
+end-first seat (Running c) (Some (ended.Steps limit)) w most some none h = absurd h
+end-first seat Returned None w most some none h = absurd h
+end-first seat Returned (Some ended.Done) w most some none h = refl
+end-first seat Returned (Some (ended.Pages held asked limit)) w most some none h = absurd h
+end-first seat Returned (Some (ended.Steps limit)) w most some none h = absurd h
+end-first seat (Raised code) None w most some none h = absurd h
+end-first seat (Raised code) (Some ended.Done) w most some none h = absurd h
+end-first seat (Raised code) (Some (ended.Pages held asked limit)) w most some none h = absurd (none-some asked (sym none ∙ h.1))
+end-first seat (Raised code) (Some (ended.Steps limit)) w most some none h = absurd h
+end-first seat Trapped o w most some none h = absurd h
 
--- the end that is set by what the last step came to
-pub end-ran : (last : Stepped) (o : Option Ended) (s : State) → IsAnswer last s → last ≡ Ran → o ≡ None → IsEndOf s o
-end-ran last o s answer is none = rw none (by_state s (rw is at answer))
-  where
-    by_state : (s : State) → IsAnswer Ran s → IsEndOf s None
-    by_state (Running c) h = tt
-    by_state Returned h = h
-    by_state (Raised code) h = h
-    by_state Trapped h = h
+-- a call begins as a run, or has returned where its body has no instructions
+abbrev IsBegun : State → Type 0
+IsBegun (Running c) = Unit {0}
+IsBegun Returned = Unit {0}
+IsBegun (Raised code) = ⊥
+IsBegun Trapped = ⊥
 
-pub end-returned : (last : Stepped) (o : Option Ended) (s : State) → IsAnswer last s → last ≡ came.Returned → o ≡ Some ended.Done → IsEndOf s o
-end-returned last o s answer is done = rw done (by_state s (rw is at answer))
-  where
-    by_state : (s : State) → IsAnswer came.Returned s → IsEndOf s (Some ended.Done)
-    by_state (Running c) h = h
-    by_state Returned h = tt
-    by_state (Raised code) h = h
-    by_state Trapped h = h
+begun-is : (globals locals : List ℕ) (code : Code) → IsBegun (settled globals (label done 0 [] done ∷ []) code [] locals)
+begun-is globals locals done = tt
+begun-is globals locals (op o rest) = tt
+begun-is globals locals (block result inner rest) = tt
+begun-is globals locals (loop result inner rest) = tt
+begun-is globals locals (if_else result inner other rest) = tt
+begun-is globals locals (br index rest) = tt
+begun-is globals locals (br_if index rest) = tt
 
--- instances of the same parts
-abbrev instance_from : State → World → (most ran : ℕ) → Option End → Instance
-instance_from s w most ran e = record { state = s; world = w; most_steps = most; ran = ran; end = e }
+last-returned : (last : Stepped) → IsLast last Returned → last ≡ came.Returned
+last-returned Ran h = absurd h
+last-returned (came.Grew at pages) h = absurd h
+last-returned (came.Refused pages) h = absurd h
+last-returned came.Returned h = refl
+last-returned (came.Raised code) h = absurd h
+last-returned came.Trapped h = absurd h
 
-made : (most : ℕ) (s t : State) (w v : World) (m n : ℕ) (e f : Option End) → s ≡ t → w ≡ v → m ≡ n → e ≡ f →
-    instance_from s w most m e ≡ instance_from t v most n f
-made most s t w v m n e f one two three four =
-    ap (λ (x : State). instance_from x w most m e) one
-    ∙ ap (λ (x : World). instance_from t x most m e) two
-    ∙ ap (λ (x : ℕ). instance_from t v most x e) three
-    ∙ ap (λ (x : Option End). instance_from t v most n x) four
+-- the end that is set by what is told of the state
+end-by_state : (seat : Seat) (last : Stepped) (s : State) → IsBegun s → IsLast last s →
+    (last ≡ came.Returned → IsEndOf seat s (Some ended.Done)) × (last ≢ came.Returned → IsEndOf seat s None)
+end-by_state seat last (Running c) begun told = (λ is. absurd (subst (λ (l : Stepped). IsLast l (Running c)) is told), λ not. tt)
+end-by_state seat last Returned begun told = (λ is. tt, λ not. absurd (not (last-returned last told)))
+end-by_state seat last (Raised code) begun told = absurd begun
+end-by_state seat last Trapped begun told = absurd begun
 
-module _ (rows : List (List Val)) (memory : List ℕ) (seat : Seat) (first : IsFirstMemory rows memory) (loaded : AreLoaded rows)
-    (compiled : IsCompiled seat.query seat.valid) (column : seat.query.column ≡ 0) (place : seat.descriptor ≡ page) (many : seat.rows ≡ length rows)
-    (steps : 1 ≤ seat.limits.steps) (pages : seat.limits.pages ≤ 65534) (one_page : seat.held ≡ 1) (none : seat.ran ≡ 0)
-    (begins : state_in seat ≡ begun seat.valid compiled.shaped.0 page) (end : IsEndOf (state_in seat) seat.ended) where
-  ready : IsReady seat.query rows columns_start page memory
+pub end-begun : (seat : Seat) (last : Stepped) (number d : ℕ) → state_in seat ≡ begun seat.valid number d → IsLast last (state_in seat) →
+    (last ≡ came.Returned → IsEndOf seat (state_in seat) (Some ended.Done)) × (last ≢ came.Returned → IsEndOf seat (state_in seat) None)
+end-begun seat last number d begins told = end-by_state seat last (state_in seat) (subst IsBegun (sym begins) (begun-is _ _ (code_of (body_of seat.valid number)))) told
+
+module _ (width : ℕ) (rows : List (List Val)) (memory : Octets) (seat : Seat) (first : IsFirstMemory seat.query width rows memory.octets)
+    (loaded : AreLoaded (record { width = width; rows = rows })) (compiled : IsCompiled seat.query seat.valid)
+    (narrow : AllByRecursion (λ column. column < width) (used seat.query)) (place : seat.descriptor ≡ column_pages width (length rows) * page)
+    (many : seat.rows ≡ length rows) (steps : 1 ≤ seat.limits.steps) (some_pages : 1 ≤ seat.limits.pages) (pages : seat.limits.pages ≤ 61628)
+    (nothing : seat.granted.items ≡ []) (one_page : seat.held ≡ 1) (unrefused : seat.refused ≡ None) (none : seat.ran ≡ 0)
+    (begins : state_in seat ≡ begun seat.valid compiled.shaped.0 seat.descriptor) (end : IsEndOf seat (state_in seat) seat.ended) where
+  abbrev starts : List ℕ
+  starts = column_starts seat.query (length rows)
+
+  few : column_pages width (length rows) ≤ 3907
+  few = few_pages width (length rows) loaded.few loaded.narrow
+
+  ready : IsReady seat.query rows starts (column_pages width (length rows) * page) memory.octets
   ready = record {
     octets = first.octets;
-    size = omega (arith, first.size);
+    whole = omega (arith, first.size);
+    size = omega (arith, first.size, few);
     few = loaded.few;
-    typed = rw column (all_typed rows loaded.typed);
-    column = rw column first.column;
-    from = omega arith;
-    below = omega (arith, loaded.few);
+    typed = all_typed width rows (used seat.query) loaded.typed narrow;
+    many = length-map (used seat.query) (column_start (length rows));
+    columns = columns-held width rows memory.octets (used seat.query) first.columns narrow;
+    from = starts-from (length rows) (used seat.query);
+    below = starts-below width (length rows) (used seat.query) narrow;
     inside = omega (arith, first.size);
     fresh = first.fresh;
   }
 
-  state : state_in seat ≡ begun seat.valid compiled.shaped.0 seat.descriptor
-  state = begins ∙ ap (begun seat.valid compiled.shaped.0) (sym place)
-
   same : instance_of seat ≡ starting compiled.shaped.0 (length rows) (task_of seat)
   same =
       let from : State = begun seat.valid compiled.shaped.0 seat.descriptor in
-      let world : World = first_world columns_start (length rows) seat.descriptor seat.limits.pages in
-      let first_end : end_of seat.ended ≡ end_at from world 0 seat.limits.steps =
-      end-first from seat.ended world seat.limits.steps steps (subst (λ (s : State). IsEndOf s seat.ended) state end) in
-      made seat.limits.steps (state_in seat) from (world_of seat) world seat.ran 0 (end_of seat.ended) (end_at from world 0 seat.limits.steps)
-      state (ap (λ (n : ℕ). record (first_world columns_start n seat.descriptor seat.limits.pages) { held = seat.held }) many
-      ∙ ap (λ (n : ℕ). record (first_world columns_start (length rows) seat.descriptor seat.limits.pages) { held = n }) one_page) none first_end
+      let world : World = first_world starts (length rows) seat.descriptor seat.limits.pages in
+      let first_page : Area = record { start = seat.descriptor; size = page } in
+      let world_is : world_of seat ≡ world =
+      ap (λ (n : ℕ). record { mapped = column_areas (column_starts seat.query n) n; own = first_page ∷ map area_of seat.granted.items; held = seat.held; limit = seat.limits.pages; refused = seat.refused }) many
+      ∙ ap (λ (granted : List Grant). record { mapped = column_areas starts (length rows); own = first_page ∷ map area_of granted; held = seat.held; limit = seat.limits.pages; refused = seat.refused }) nothing
+      ∙ ap (λ (n : ℕ). record world { held = n; refused = seat.refused }) one_page
+      ∙ ap (λ (o : Option ℕ). record world { refused = o }) unrefused in
+      let end_is : end_of seat.ended ≡ end_at from world 0 seat.limits.steps =
+      end-first seat from seat.ended world seat.limits.steps steps unrefused (subst (λ (s : State). IsEndOf seat s seat.ended) begins end) in
+      ap (λ (e : Option End). record { state = state_in seat; world = world_of seat; most_steps = seat.limits.steps; ran = seat.ran; end = e }) end_is
+      ∙ ap (λ (s : State). record { state = s; world = world_of seat; most_steps = seat.limits.steps; ran = seat.ran; end = end_at from world 0 seat.limits.steps }) begins
+      ∙ ap (λ (w : World). record { state = from; world = w; most_steps = seat.limits.steps; ran = seat.ran; end = end_at from world 0 seat.limits.steps }) world_is
+      ∙ ap (λ (n : ℕ). record { state = from; world = world; most_steps = seat.limits.steps; ran = n; end = end_at from world 0 seat.limits.steps }) none
 
-  starting_first : (k : ℕ) (t : Task) (i : Instance) → slice_get (task_of seat ∷ []) k ≡ Some t → slice_get (instance_of seat ∷ []) k ≡ Some i → IsStarting rows memory t i
-  starting_first zero t i task found = subst (λ (x : Task). IsStarting rows memory x i) (same_Some (task_of seat) t task)
-      (subst (IsStarting rows memory (task_of seat)) (same_Some (instance_of seat) i found) (record {
+  starting_first : (k : ℕ) (t : Task) (i : Instance) → slice_get (task_of seat ∷ []) k ≡ Some t → slice_get (instance_of seat ∷ []) k ≡ Some i → IsStarting rows memory.octets t i
+  starting_first zero t i task found = subst (λ (x : Task). IsStarting rows memory.octets x i) (same_Some (task_of seat) t task)
+      (subst (IsStarting rows memory.octets (task_of seat)) (same_Some (instance_of seat) i found) (record {
         compiled = compiled;
         number = compiled.shaped.0;
         shaped = compiled.shaped.1;
         ready = rw place ready;
+        may_hold = some_pages;
         may_run = steps;
         instance = same;
       }))
   starting_first (suc k) t i task found = absurd (none-some t task)
 
-  place_first : (k : ℕ) (t : Task) → slice_get (task_of seat ∷ []) k ≡ Some t → t.descriptor ≡ (k + 1) * page
-  place_first zero t task = subst (λ (x : Task). x.descriptor ≡ (0 + 1) * page) (same_Some (task_of seat) t task) place
+  narrow_first : (k : ℕ) (t : Task) → slice_get (task_of seat ∷ []) k ≡ Some t → AllByRecursion (λ column. column < width) (used t.statement)
+  narrow_first zero t task = subst (λ (x : Task). AllByRecursion (λ column. column < width) (used x.statement)) (same_Some (task_of seat) t task) narrow
+  narrow_first (suc k) t task = absurd (none-some t task)
+
+  place_first : (k : ℕ) (t : Task) → slice_get (task_of seat ∷ []) k ≡ Some t → t.descriptor ≡ (column_pages width (length rows) + k) * page
+  place_first zero t task = subst (λ (x : Task). x.descriptor ≡ (column_pages width (length rows) + 0) * page) (same_Some (task_of seat) t task) (omega (arith, place))
   place_first (suc k) t task = absurd (none-some t task)
 
-  pub start : IsStart rows (task_of seat ∷ []) (record { memory = memory; instances = instance_of seat ∷ [] })
+  pub start : IsStart width rows (task_of seat ∷ []) (record { memory = memory.octets; instances = instance_of seat ∷ [] })
   start = record {
     octets = first.octets;
     many = refl;
     starting = starting_first;
+    narrow = narrow_first;
     places = place_first;
-    room = omega (arith, first.size);
+    room = omega (arith, first.size, few, one_page, some_pages, pages);
   }
 
-  pub bench : GoesWith seat.valid seat.instance → IsBench (record { memory = memory; seats = seat ∷ [] })
-  bench fits = record {
-    table = rows;
-    serving = start-serving rows (task_of seat ∷ []) (record { memory = memory; instances = instance_of seat ∷ [] }) start;
-    fitting = All-cons (λ (s : Seat). GoesWith s.valid s.instance) seat [] fits (All-nil (λ (s : Seat). GoesWith s.valid s.instance));
-  }
+  pub bench : GoesWith seat.valid seat.instance → seat.limits.pages ≤ vec_capacity seat.granted →
+      memory.reserved ≡ column_pages width (length rows) + seat.limits.pages → IsBench (record { memory = memory; seats = seat ∷ [] })
+  bench fits room reserved =
+      let unasked : length seat.granted.items ≡ 0 = ap length nothing in
+      record {
+        table = rows;
+        serving = start-serving width rows (task_of seat ∷ []) (record { memory = memory.octets; instances = instance_of seat ∷ [] }) start;
+        fitting = All-cons (λ (s : Seat). GoesWith s.valid s.instance) seat [] fits (All-nil (λ (s : Seat). GoesWith s.valid s.instance));
+        grants = All-cons HasGrants seat [] (record { counted = omega (arith, unasked, one_page); held = omega (arith, one_page, some_pages); room = room }) (All-nil HasGrants);
+        room = omega (arith, first.size, reserved, one_page, some_pages);
+      }

@@ -1,59 +1,58 @@
 -- A turn of a bench is a turn of the state that it stands for.
-use Rattle.std.proofs.Common.{◌≡◌, ◌≢◌, ℕ, ◌+◌, ◌<◌, ◌≤◌, List, [], ◌∷◌, length, map, Option, Some, None, IsSome, is_some, slice_get, slice_set, get_or, refl, sym, ap, ◌∙◌, subst, arith}
-use Rattle.std.specs.Prelude.{All, ◌↔◌}
+use Rattle.std.proofs.Common.{◌≡◌, ℕ, ◌+◌, ◌-◌, ◌*◌, ◌<◌, ◌≤◌, List, [], ◌∷◌, length, map, Option, Some, None, IsSome, slice_get, slice_set, get_or, refl, sym, ap, ◌∙◌, subst, arith}
+use Rattle.std.specs.Prelude.{◌↔◌}
 use Rattle.std.specs.Option.{option_map}
 use Rattle.std.proofs.Math.Seq.{map-set_same}
 use Rattle.std.proofs.lemmas.List.{length-map, map-set}
 use Rattle.std.proofs.lemmas.List.Elements.{All-get_or, All-set}
 use Rattle.std.proofs.lemmas.Option.{get_or_from_slice_get, slice_get-get_or, slice_get-map, slice_get_within}
-use Rattle.qw_types.specs.declared.value.Val.{Val}
-use Rattle.qw_module.specs.Instance.{GoesWith}
-use Rattle.qw_module.specs.Turns.{End, Trap, Instance, Shared, IsWhole, steps_of, turn, turns, turn_at, with_instance}
+use Rattle.qw_machine.specs.Instance.{GoesWith}
+use Rattle.qw_linear.specs.Linear.{Octets}
+use Rattle.qw_linear.specs.Memory.{page}
+use Rattle.qw_module.specs.Turns.{Instance, IsWhole, may_ask, steps_of, turn, turn_at, with_instance}
+use Rattle.qw_top.proofs.Requests.{asks_changed, asks_within}
 use Rattle.qw_module.proofs.TurnFacts.{slice_get-set_same}
 use Rattle.qw_top.specs.declared.bench.Ended.{Ended}
 use Rattle.qw_top.specs.declared.bench.Ended.TheVariants as ended
 use Rattle.qw_top.specs.declared.bench.Seat.{Seat}
-use Rattle.qw_top.specs.Bench.{AreServing, IsAt, Task}
-use Rattle.qw_top.specs.Seats.{IsBench, NeverTraps, Standing, end_of, instance_of, shared_of, task_of, tasks_of}
+use Rattle.qw_top.specs.Bench.{AreServing}
+use Rattle.qw_top.specs.Seats.{HasGrants, IsBench, IsTold, Standing, end_of, instance_of, shared_of, task_of}
 use Rattle.qw_top.specs.Bench.{ran_in, end_in}
-use Rattle.qw_top.proofs.Serving.{served-at, turns-serving}
+use Rattle.qw_top.proofs.Serving.{serving-told, turns-serving}
 
 -- the seat of a number
-pub seat-found : (b : Standing) (memory : List ℕ) (seats : List Seat) (i : ℕ) (seat : Seat) → record { memory = memory; seats = seats } ≡ b →
+pub seat-found : (b : Standing) (memory : Octets) (seats : List Seat) (i : ℕ) (seat : Seat) → record { memory = memory; seats = seats } ≡ b →
     i < length (map instance_of b.seats) → seat ≡ get_or seats i seat → slice_get seats i ≡ Some seat
 seat-found b memory seats i seat view within is =
     let many : length (map instance_of b.seats) ≡ length seats = ap (λ (x : Standing). length (map instance_of x.seats)) (sym view) ∙ length-map seats instance_of in
     slice_get-get_or seats i seat (omega arith) ∙ ap Some (sym is)
 
-module _ (memory : List ℕ) (seats : List Seat) (i : ℕ) (seat : Seat) (found : slice_get seats i ≡ Some seat) where
+module _ (memory : Octets) (seats : List Seat) (i : ℕ) (seat : Seat) (found : slice_get seats i ≡ Some seat) where
   instance_there : slice_get (map instance_of seats) i ≡ Some (instance_of seat)
   instance_there = slice_get-map instance_of seats i ∙ ap (option_map instance_of) found
 
   task_there : slice_get (map task_of seats) i ≡ Some (task_of seat)
   task_there = slice_get-map task_of seats i ∙ ap (option_map task_of) found
 
-  b : Standing
-  b = record { memory = memory; seats = seats }
-
   turned_at : (quantum : ℕ) → turn (shared_of (record { memory = memory; seats = seats })) (i, quantum)
-      ≡ with_instance (shared_of (record { memory = memory; seats = seats })) i (steps_of quantum (instance_of seat) memory)
+      ≡ with_instance (shared_of (record { memory = memory; seats = seats })) i (steps_of quantum (instance_of seat) memory.octets)
   turned_at quantum = ap (turn_at (shared_of (record { memory = memory; seats = seats })) i quantum) instance_there
 
   -- the instance that was given a turn
   turned_there : (x : Instance) → slice_get (slice_set (map instance_of seats) i x) i ≡ Some x
   turned_there x = slice_get-set_same (map instance_of seats) i x (slice_get_within (map instance_of seats) i (instance_of seat) instance_there)
 
-  pub turned-shared : (quantum : ℕ) (new : Seat) (after : List ℕ) → (instance_of new, after) ≡ steps_of quantum (instance_of seat) memory →
+  pub turned-shared : (quantum : ℕ) (new : Seat) (after : Octets) → (instance_of new, after.octets) ≡ steps_of quantum (instance_of seat) memory.octets →
       shared_of (record { memory = after; seats = slice_set seats i new }) ≡ turn (shared_of (record { memory = memory; seats = seats })) (i, quantum)
   turned-shared quantum new after is =
-      ap (λ (instances : List Instance). record { memory = after; instances = instances }) (map-set instance_of seats i new)
+      ap (λ (instances : List Instance). record { memory = after.octets; instances = instances }) (map-set instance_of seats i new)
       ∙ ap (with_instance (shared_of (record { memory = memory; seats = seats })) i) is
       ∙ sym (turned_at quantum)
 
   pub turned-tasks : (new : Seat) → task_of new ≡ task_of seat → map task_of (slice_set seats i new) ≡ map task_of seats
   turned-tasks new same = map-set_same task_of seats i new seat (same ∙ ap task_of (sym (get_or_from_slice_get seats i seat seat found)))
 
-  pub turned-ran : (new : Seat) (after : List ℕ) (result : ℕ) → new.ran ≡ seat.ran + result →
+  pub turned-ran : (new : Seat) (after : Octets) (result : ℕ) → new.ran ≡ seat.ran + result →
       ran_in (shared_of (record { memory = after; seats = slice_set seats i new })) i ≡ ran_in (shared_of (record { memory = memory; seats = seats })) i + result
   turned-ran new after result count =
       let now : slice_get (map instance_of (slice_set seats i new)) i ≡ Some (instance_of new) =
@@ -72,24 +71,45 @@ module _ (memory : List ℕ) (seats : List Seat) (i : ℕ) (seat : Seat) (found 
         let at = All-get_or (λ (s : Seat). GoesWith s.valid s.instance) seats i seat (slice_get_within seats i seat found) kept.fitting in
         subst (λ (s : Seat). GoesWith s.valid s.instance) (get_or_from_slice_get seats i seat seat found) at
 
-    -- its instance serves its task after a turn, so it hasn't trapped
-    pub seat-untrapped : NeverTraps (instance_of seat) memory
-    seat-untrapped quantum trapped =
-        let s = shared_of (record { memory = memory; seats = seats }) in
-        let after = steps_of quantum (instance_of seat) memory in
-        let serving : AreServing kept.table (map task_of seats) (with_instance s i after) =
-        subst (AreServing kept.table (map task_of seats)) (turned_at quantum) (turns-serving kept.table (map task_of seats) s ((i, quantum) ∷ []) kept.serving) in
-        let serves = serving.serving i (task_of seat) after.0 task_there (turned_there after.0) in
-        subst (IsAt kept.table after.1 (task_of seat) serves.number after.0) trapped (served-at kept.table after.1 (task_of seat) after.0 serves)
+    pub seat-granted : HasGrants seat
+    seat-granted =
+        let at = All-get_or HasGrants seats i seat (slice_get_within seats i seat found) kept.grants in
+        subst HasGrants (get_or_from_slice_get seats i seat seat found) at
 
-    pub turned-bench : (quantum : ℕ) (new : Seat) (after : List ℕ) → (instance_of new, after) ≡ steps_of quantum (instance_of seat) memory →
-        task_of new ≡ task_of seat → GoesWith new.valid new.instance → IsBench (record { memory = after; seats = slice_set seats i new })
-    turned-bench quantum new after is same fits = record {
+    -- the memory has room for what its instance may still ask for
+    pub seat-room : length memory.octets + (seat.limits.pages - seat.held) * page ≤ memory.reserved * page
+    seat-room =
+        let asks : seat.limits.pages - seat.held ≤ may_ask (map instance_of seats) = asks_within (map instance_of seats) i (instance_of seat) instance_there in
+        omega (arith, kept.room, asks)
+
+    pub seat-told : IsTold (instance_of seat) memory.octets
+    seat-told = serving-told kept.table (map task_of seats) (shared_of (record { memory = memory; seats = seats })) kept.serving i (task_of seat) (instance_of seat)
+        task_there instance_there
+
+    -- what the seats may ask for after a turn of one
+    turned-room : (new : Seat) (after : Octets) → after.reserved ≡ memory.reserved →
+        length after.octets + (new.limits.pages - new.held) * page ≡ length memory.octets + (seat.limits.pages - seat.held) * page →
+        length after.octets + may_ask (map instance_of (slice_set seats i new)) * page ≤ after.reserved * page
+    turned-room new after reserved asks =
+        let changed : may_ask (slice_set (map instance_of seats) i (instance_of new)) + (seat.limits.pages - seat.held)
+        ≡ may_ask (map instance_of seats) + (new.limits.pages - new.held) =
+        asks_changed (map instance_of seats) i (instance_of seat) (instance_of new) instance_there in
+        let sum : may_ask (map instance_of (slice_set seats i new)) ≡ may_ask (slice_set (map instance_of seats) i (instance_of new)) =
+        ap may_ask (map-set instance_of seats i new) in
+        omega (arith, changed, sum, asks, reserved, kept.room)
+
+    pub turned-bench : (quantum : ℕ) (new : Seat) (after : Octets) → (instance_of new, after.octets) ≡ steps_of quantum (instance_of seat) memory.octets →
+        task_of new ≡ task_of seat → GoesWith new.valid new.instance → HasGrants new → after.reserved ≡ memory.reserved →
+        length after.octets + (new.limits.pages - new.held) * page ≡ length memory.octets + (seat.limits.pages - seat.held) * page →
+        IsBench (record { memory = after; seats = slice_set seats i new })
+    turned-bench quantum new after is same fits granted reserved asks = record {
       table = kept.table;
       serving = rw (turned-tasks new same)
           (subst (AreServing kept.table (map task_of seats)) (sym (turned-shared quantum new after is))
           (turns-serving kept.table (map task_of seats) (shared_of (record { memory = memory; seats = seats })) ((i, quantum) ∷ []) kept.serving));
       fitting = All-set (λ (s : Seat). GoesWith s.valid s.instance) seats i new fits kept.fitting;
+      grants = All-set HasGrants seats i new granted kept.grants;
+      room = turned-room new after reserved asks;
     }
 
   -- no instruction was run exactly where the instance had ended
@@ -100,4 +120,5 @@ module _ (memory : List ℕ) (seats : List Seat) (i : ℕ) (seat : Seat) (found 
       by_end : (o : Option Ended) → (IsSome o → result ≡ 0) → (o ≡ None → 1 ≤ result) → (result ≡ 0) ↔ IsSome (end_of o)
       by_end None over progress = (λ none. absurd (omega (arith, progress refl, none)), λ h. absurd (cc h))
       by_end (Some ended.Done) over progress = (λ none. refl, λ h. over refl)
+      by_end (Some (ended.Pages held asked limit)) over progress = (λ none. refl, λ h. over refl)
       by_end (Some (ended.Steps limit)) over progress = (λ none. refl, λ h. over refl)

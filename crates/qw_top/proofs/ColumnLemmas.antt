@@ -1,128 +1,163 @@
--- The octets of a column of INTEGERs.
-use Rattle.std.proofs.Common.{◌≡◌, ◌≤◌, ◌<◌, ◌+◌, ◌*◌, ◌∙◌, ℕ, ℤ, List, [], ◌∷◌, ◌++◌, Some, length, take, drop, get_or, zero, suc, refl, sym, ap, arith, w32, append_assoc, length-take, pos, to_z, of_z}
+-- The columns of a table of INTEGERs, one after another.
+use Rattle.std.proofs.Common.{refl, [], ◌∷◌, ◌≡◌, ◌≤◌, ◌<◌, ◌+◌, ◌*◌, ◌%◌, ◌^◌, ◌∙◌, ⊎_elim, inl, ℕ, ℤ, zero, suc, List, Some, length, mul-le-mul, mul-le-mul_right, ap, arith, w32}
 use Rattle.std.specs.Prelude.{All, FitsSigned}
-use Rattle.std.specs.Int.{cast_signed, cast_unsigned, from_le_bytes, to_le_bytes}
+use Rattle.std.specs.Int.{cast_signed, cast_unsigned}
 use Rattle.std.proofs.Math.Facts.{Fits-of_z}
-use Rattle.std.proofs.Math.Seq.{drop-append-add, take-append_seam}
-use Rattle.std.proofs.lemmas.Slice.{drop-put_mid, take-put_mid}
-use borrow.Rule.Slice.PartMut.{put_mid}
+use Rattle.std.proofs.lemmas.Bool.{cases_lt}
 use Rattle.std.proofs.lemmas.Int.{to_z-of_z}
-use Rattle.std.proofs.lemmas.List.{length-map, take-append-drop, take_more, take-take, drop-drop}
-use Rattle.std.proofs.lemmas.List.Elements.{All-cons, All-get_or, All-head, All-nil, All-tail}
-use Rattle.std.proofs.lemmas.Nat.{from_le_bytes-to_le_bytes_4}
+use Rattle.std.proofs.lemmas.List.Elements.{All-filter, All-nil}
+use Rattle.std.proofs.lemmas.List.Sums.{count_by-le-length, length-filter}
+use Rattle.std.proofs.lemmas.List.FromFn.{get_or-range_with_len, length-range_with_len}
+use Rattle.std.specs.List.{range_with_len}
+use Rattle.qw_types.specs.declared.schema.TheConstants.{MAX_COLUMNS, MAX_ROWS}
 use Rattle.qw_types.specs.declared.value.Val.{Val}
 use Rattle.qw_types.specs.declared.value.Val.TheVariants.{Num}
-use Rattle.qw_module.specs.Memory.{with_number}
-use Rattle.qw_module.proofs.MemoryFacts.{with_number-octets}
-use Rattle.qw_top.specs.Columns.{Holds, SameOutside, StandsAt, columns_end, columns_start, value_of}
-use Rattle.qw_top.specs.Loading.{AreLoaded, IsIntegerRow, integer_rows}
-use Rattle.qw_top.proofs.NumberLemmas.{fits}
+use Rattle.qw_linear.specs.Memory.{AreOctets, number_at, page, with_number}
+use Rattle.qw_linear.proofs.MemoryFacts.{number_at-apart, number_at-same, number_at-with_number}
+use Rattle.qw_emit.specs.Columns.{Holds, HoldsColumn, StandsAt, column_pages, column_start, integer_size, to_eight, value_of}
+use Rattle.qw_emit.specs.Layout.{is_used, used}
+use Rattle.qw_meaning.specs.Statement.{Statement}
+use Rattle.qw_top.specs.FirstPage.{SameBelow}
 
--- the four octets of a number
-abbrev pub integer_octets : ℤ → List ℕ
-integer_octets n = to_le_bytes w32 (cast_unsigned w32 n)
+-- ---- where the columns stand
 
--- those of several, one after another
-abbrev pub octets_of : List ℤ → List ℕ
-octets_of [] = []
-octets_of (n ∷ ns) = integer_octets n ++ octets_of ns
+-- a column ends before the next one
+pub before_next : (rows column later : ℕ) → column < later → column_start rows column + integer_size * rows ≤ column_start rows later
+before_next rows column later before =
+    let whole : suc column * to_eight (integer_size * rows) ≤ later * to_eight (integer_size * rows) = mul-le-mul_right (to_eight (integer_size * rows)) before in
+    omega arith
 
-pub octets_of-append : (ms ns : List ℤ) → octets_of (ms ++ ns) ≡ octets_of ms ++ octets_of ns
-octets_of-append [] ns = refl
-octets_of-append (m ∷ ms) ns = rw (octets_of-append ms ns) refl
+-- and each within the pages of all
+pub within_pages : (width rows column : ℕ) → column < width → column_start rows column + integer_size * rows ≤ column_pages width rows * page
+within_pages width rows column inside =
+    let end = before_next rows column width inside in
+    omega arith
 
--- the numbers of loaded rows fit
-pub all_fit : (ns : List ℤ) → All IsIntegerRow (integer_rows ns) → All (FitsSigned w32) ns
-all_fit [] h = All-nil (FitsSigned w32)
-all_fit (n ∷ ns) h =
-    All-cons (FitsSigned w32) n ns (fits n (All-head IsIntegerRow (Num n ∷ []) (integer_rows ns) h)) (all_fit ns (All-tail IsIntegerRow (Num n ∷ []) (integer_rows ns) h))
+-- the columns of the widest and longest table
+pub few_pages : (width rows : ℕ) → rows ≤ MAX_ROWS → width ≤ MAX_COLUMNS → column_pages width rows ≤ 3907
+few_pages width rows few narrow =
+    let size : to_eight (integer_size * rows) ≤ 4000000 = omega arith in
+    let most : width * to_eight (integer_size * rows) ≤ 64 * 4000000 = mul-le-mul narrow size in
+    omega arith
 
--- a number reads back from its octets
-read_back : (n : ℤ) → FitsSigned w32 n → cast_signed w32 (from_le_bytes w32 (integer_octets n)) ≡ n
-read_back n f =
-    let small = Fits-of_z f in
-    rw (from_le_bytes-to_le_bytes_4 (cast_unsigned w32 n) (omega (arith, small))) (to_z-of_z w32 n f)
+-- a statement uses columns that a table may have
+pub used-below : (statement : Statement) → All (λ column. column < MAX_COLUMNS) (used statement)
+unfolding used
+used-below statement =
+    All-filter (is_used statement) (λ column. column < MAX_COLUMNS) (range_with_len 0 MAX_COLUMNS)
+    (λ k d lt. rw (get_or-range_with_len 0 MAX_COLUMNS k d (omega (arith, length-range_with_len 0 MAX_COLUMNS))) (omega (arith, length-range_with_len 0 MAX_COLUMNS)))
 
--- each value stands at its place in the octets
-each_stands : (ns : List ℤ) (rest : List ℕ) (row : ℕ) (value : Val) → All (FitsSigned w32) ns → value_of (integer_rows ns) row 0 ≡ Some value
-    → StandsAt (octets_of ns ++ rest) (4 * row) value
-each_stands [] rest row value fit h = cc h
-each_stands (n ∷ ns) rest zero (Num m) fit h = read_back n (All-head (FitsSigned w32) n ns fit) ∙ cc h
-each_stands (n ∷ ns) rest (suc row) (Num m) fit h =
-    let e : 4 * suc row ≡ suc (suc (suc (suc (4 * row)))) = omega arith in
-    rw e (each_stands ns rest row (Num m) (All-tail (FitsSigned w32) n ns fit) h)
+pub few_used : (statement : Statement) → length (used statement) ≤ MAX_COLUMNS
+unfolding used
+few_used statement =
+    let columns = range_with_len 0 MAX_COLUMNS in
+    omega (arith, length-filter (is_used statement) columns, count_by-le-length (is_used statement) columns, length-range_with_len 0 MAX_COLUMNS)
 
--- what lies after the first 64 octets
-shifted : (memory front ys : List ℕ) (n : ℕ) → memory ≡ front ++ ys → length front ≡ columns_start → drop (columns_start + n) memory ≡ drop n ys
-shifted memory front ys n e l = rw (e, ← l) (drop-append-add front ys n)
+-- ---- the values of one column
 
--- the columns' octets after the first 64: the memory holds the rows
-pub holds : (memory old : List ℕ) (ns : List ℤ) → All (FitsSigned w32) ns → columns_start ≤ length old → columns_start + 4 * length ns ≤ length memory
-    → take (columns_start + 4 * length ns) memory ≡ take columns_start old ++ octets_of ns → Holds memory (integer_rows ns)
-holds memory old ns fit long room written = record { room = rw (length-map ns (λ (m : ℤ). Num m ∷ [])) room; each = each }
+-- a number that was stored is read back
+stands : (memory : List ℕ) (at : ℕ) (n : ℤ) → FitsSigned w32 n → at + 4 ≤ length memory → StandsAt (with_number memory at 4 (cast_unsigned w32 n)) at (Num n)
+stands memory at n fits room =
+    let small = Fits-of_z fits in
+    let whole : cast_unsigned w32 n % 2 ^ (8 * 4) ≡ cast_unsigned w32 n = omega (arith, small) in
+    ap (λ (m : ℕ). cast_signed w32 m) (number_at-with_number memory at 4 (cast_unsigned w32 n) room ∙ whole) ∙ to_z-of_z w32 n fits
+
+-- the first values of a column stand in order
+pub record HoldsFirst (memory : List ℕ) (address column : ℕ) (rows : List (List Val)) (count : ℕ) : Type 0 where
+  pub each : (row : ℕ) (value : Val) → row < count → value_of rows row column ≡ Some value → StandsAt memory (address + integer_size * row) value
+
+pub holds_none : (memory : List ℕ) (address column : ℕ) (rows : List (List Val)) → HoldsFirst memory address column rows 0
+holds_none memory address column rows = record { each = λ row value lt is. absurd (omega arith) }
+
+-- one more value
+pub holds_more : (memory : List ℕ) (address column : ℕ) (rows : List (List Val)) (count : ℕ) (n : ℤ) → FitsSigned w32 n → value_of rows count column ≡ Some (Num n)
+    → address + integer_size * count + 4 ≤ length memory → HoldsFirst memory address column rows count
+    → HoldsFirst (with_number memory (address + integer_size * count) 4 (cast_unsigned w32 n)) address column rows (count + 1)
+holds_more memory address column rows count n fits is room first = record { each = each }
   where
-    rest : List ℕ
-    rest = drop (columns_start + 4 * length ns) memory
+    after : List ℕ
+    after = with_number memory (address + integer_size * count) 4 (cast_unsigned w32 n)
 
-    whole : memory ≡ take columns_start old ++ (octets_of ns ++ rest)
-    whole = sym (take-append-drop (columns_start + 4 * length ns) memory) ∙ rw written (append_assoc (take columns_start old) (octets_of ns) rest)
+    earlier : (row : ℕ) (value : Val) → row < count → value_of rows row column ≡ Some value → StandsAt after (address + integer_size * row) value
+    earlier row (Num m) lt there =
+        ap (λ (k : ℕ). cast_signed w32 k) (number_at-apart memory (address + integer_size * count) 4 (cast_unsigned w32 n) (address + integer_size * row) 4 (inl (omega arith)))
+        ∙ first.each row (Num m) lt there
 
-    front : length (take columns_start old) ≡ columns_start
-    front = omega (arith, length-take columns_start old)
+    last : (row : ℕ) (value : Val) → row ≡ count → value_of rows row column ≡ Some value → StandsAt after (address + integer_size * row) value
+    last row (Num m) same there =
+        let number : n ≡ m = cc (is, same, there) in
+        rw same (stands memory (address + integer_size * count) n fits room ∙ number)
 
-    each : (row : ℕ) (value : Val) → value_of (integer_rows ns) row 0 ≡ Some value → StandsAt memory (columns_start + 4 * row) value
-    each row (Num m) h = rw (shifted memory (take columns_start old) (octets_of ns ++ rest) (4 * row) whole front) (each_stands ns rest row (Num m) fit h)
+    each : (row : ℕ) (value : Val) → row < count + 1 → value_of rows row column ≡ Some value → StandsAt after (address + integer_size * row) value
+    each row value lt there = ⊎_elim
+        (λ (before : row < count). earlier row value before there)
+        (λ (past : count ≤ row). last row value (omega arith) there)
+        (cases_lt row count)
 
--- and nothing else is changed
-pub outside : (memory old : List ℕ) (ns : List ℤ) → columns_start ≤ length old → take (columns_start + 4 * length ns) memory ≡ take columns_start old ++ octets_of ns
-    → drop (columns_start + 4 * length ns) memory ≡ drop (columns_start + 4 * length ns) old → SameOutside old memory columns_start (columns_end (integer_rows ns))
-outside memory old ns long written above = record { below = below; above = rw (length-map ns (λ (m : ℤ). Num m ∷ [])) above }
+-- a value stands in one of the rows
+in_rows : (rows : List (List Val)) (row column : ℕ) (value : Val) → value_of rows row column ≡ Some value → row < length rows
+in_rows [] row column value is = cc is
+in_rows (r ∷ rows) zero column value is = omega arith
+in_rows (r ∷ rows) (suc row) column value is = let before = in_rows rows row column value is in omega arith
+
+pub holds_all : (memory : List ℕ) (address column : ℕ) (rows : List (List Val)) → address + integer_size * length rows ≤ length memory
+    → HoldsFirst memory address column rows (length rows) → HoldsColumn memory address column rows
+holds_all memory address column rows room first =
+    record { room = room; each = λ row value is. first.each row value (in_rows rows row column value is) is }
+
+-- a memory of no octets has octets alone
+pub none_at_all : (memory : List ℕ) → length memory ≡ 0 → AreOctets memory
+none_at_all [] empty = All-nil (λ octet. octet < 256)
+none_at_all (x ∷ xs) empty = absurd (omega arith)
+
+-- ---- memories that are the same below an address
+
+-- a column that ends below it is still held
+pub column_kept : (before after : List ℕ) (limit address column : ℕ) (rows : List (List Val)) → SameBelow before after limit → length before ≤ length after
+    → address + integer_size * length rows ≤ limit → HoldsColumn before address column rows → HoldsColumn after address column rows
+column_kept before after limit address column rows same longer ends holds = record { room = omega (arith, holds.room); each = each }
   where
-    front : length (take columns_start old) ≡ columns_start
-    front = omega (arith, length-take columns_start old)
+    each : (row : ℕ) (value : Val) → value_of rows row column ≡ Some value → StandsAt after (address + integer_size * row) value
+    each row (Num m) is =
+        let inside = in_rows rows row column (Num m) is in
+        let moved : number_at after (address + integer_size * row) 4 ≡ number_at before (address + integer_size * row) 4 =
+        number_at-same after before (address + integer_size * row) 4 (λ k low high. same k (omega arith)) in
+        ap (λ (k : ℕ). cast_signed w32 k) moved ∙ holds.each row (Num m) is
 
-    kept : (xs ys : List ℕ) → length xs ≡ columns_start → take columns_start (xs ++ ys) ≡ xs
-    kept xs ys l = rw (← l) (take-append_seam xs ys)
+-- the first columns are held
+pub record HoldsColumns (memory : List ℕ) (rows : List (List Val)) (count : ℕ) : Type 0 where
+  pub each : (column : ℕ) → suc column ≤ count → HoldsColumn memory (column_start (length rows) column) column rows
 
-    below : take columns_start memory ≡ take columns_start old
-    below = sym (take-take columns_start (columns_start + 4 * length ns) memory (omega arith)) ∙ rw written (kept (take columns_start old) (octets_of ns) front)
+pub columns_none : (memory : List ℕ) (rows : List (List Val)) → HoldsColumns memory rows 0
+columns_none memory rows = record { each = λ column lt. absurd (omega arith) }
 
--- a stored number's octets are put in its place
-pub stored_is_put : (memory : List ℕ) (at number : ℕ) → at + 4 ≤ length memory → with_number memory at 4 number ≡ put_mid at 4 memory (to_le_bytes w32 number)
-stored_is_put memory at number inside =
-    with_number-octets memory at 4 number inside
-    ∙ ap (λ (rest : List ℕ). take at memory ++ (to_le_bytes w32 number ++ rest)) (sym (drop-drop 4 at memory))
-
--- one more value written
-pub written_more : (memory old ys : List ℕ) (ns : List ℤ) (row k : ℕ) → row < length ns → ys ≡ integer_octets (get_or ns row (pos 0)) → columns_start + 4 * row ≤ length memory
-    → take (columns_start + 4 * row) memory ≡ take columns_start old ++ octets_of (take row ns)
-    → take (columns_start + 4 * (row + 1)) (put_mid (columns_start + 4 * row) k memory ys) ≡ take columns_start old ++ octets_of (take (row + 1) ns)
-written_more memory old ys ns row k lt is room h =
-    let n = get_or ns row (pos 0) in
-    let added : octets_of (take (row + 1) ns) ≡ octets_of (take row ns) ++ integer_octets n =
-    rw (take_more ns row (pos 0) lt) (octets_of-append (take row ns) (n ∷ [])) in
-    rw is (
-    take-put_mid (columns_start + 4 * row) k memory (integer_octets n) (columns_start + 4 * (row + 1)) (omega arith) room
-    ∙ rw (h, added) (append_assoc (take columns_start old) (octets_of (take row ns)) (integer_octets n))
-    )
-
-pub above_more : (memory old ys : List ℕ) (row k : ℕ) (n : ℤ) → k ≡ 4 → ys ≡ integer_octets n → columns_start + 4 * row ≤ length memory
-    → drop (columns_start + 4 * row) memory ≡ drop (columns_start + 4 * row) old
-    → drop (columns_start + 4 * (row + 1)) (put_mid (columns_start + 4 * row) k memory ys) ≡ drop (columns_start + 4 * (row + 1)) old
-above_more memory old ys row k n four is room h =
-    rw is (drop-put_mid (columns_start + 4 * row) k memory (integer_octets n) (columns_start + 4 * (row + 1)) (omega arith) room (sym four) ∙ further)
+-- one more column, behind those
+pub columns_more : (before after : List ℕ) (rows : List (List Val)) (count : ℕ) → SameBelow before after (column_start (length rows) count)
+    → length after ≡ length before → HoldsColumns before rows count → HoldsColumn after (column_start (length rows) count) count rows
+    → HoldsColumns after rows (count + 1)
+columns_more before after rows count same long first last = record { each = each }
   where
-    next : columns_start + 4 * (row + 1) ≡ columns_start + 4 * row + 4
-    next = omega arith
+    at : (column : ℕ) → column ≡ count → HoldsColumn after (column_start (length rows) column) column rows
+    at column is = rw is last
 
-    further : drop (columns_start + 4 * (row + 1)) memory ≡ drop (columns_start + 4 * (row + 1)) old
-    further = rw next (sym (drop-drop 4 (columns_start + 4 * row) memory) ∙ ap (drop 4) h ∙ drop-drop 4 (columns_start + 4 * row) old)
+    each : (column : ℕ) → suc column ≤ count + 1 → HoldsColumn after (column_start (length rows) column) column rows
+    each column lt = ⊎_elim
+        (λ (earlier : column < count).
+        column_kept before after (column_start (length rows) count) (column_start (length rows) column) column rows same (omega arith)
+        (before_next (length rows) column count earlier) (first.each column earlier))
+        (λ (past : count ≤ column). at column (omega arith))
+        (cases_lt column count)
 
--- the octets that `to_le_bytes` gives, by way of the bits
-pub octets_same : (ns : List ℤ) (row : ℕ) → All (FitsSigned w32) ns → row < length ns
-    → integer_octets (to_z w32 (of_z w32 (get_or ns row (pos 0)))) ≡ integer_octets (get_or ns row (pos 0))
-octets_same ns row fit lt = ap integer_octets (to_z-of_z w32 (get_or ns row (pos 0)) (All-get_or (FitsSigned w32) ns row (pos 0) lt fit))
+-- a table is held also where memory has grown, or is written to behind its columns
+pub Holds-kept : (width : ℕ) (before after : List ℕ) (rows : List (List Val)) (limit : ℕ) → SameBelow before after limit → length before ≤ length after
+    → column_start (length rows) width ≤ limit → Holds width before rows → Holds width after rows
+Holds-kept width before after rows limit same longer ends holds = record {
+  columns = λ column lt.
+      let room = before_next (length rows) column width lt in
+      column_kept before after limit (column_start (length rows) column) column rows same longer (omega arith) (holds.columns column lt);
+}
 
--- how many numbers there are
-pub few_numbers : (ns : List ℤ) (rows : List (List Val)) → integer_rows ns ≡ rows → AreLoaded rows → length ns ≤ 2727
-few_numbers ns rows e h = rw length-map at (rw (← e) at h.few)
+-- a statement that tests and selects the first column uses no other
+pub used-first : (statement : Statement) → statement.columns ≡ 0 ∷ [] → statement.tested ≡ 0 → used statement ≡ 0 ∷ []
+unfolding used
+used-first statement columns tested = rw (columns, tested) refl

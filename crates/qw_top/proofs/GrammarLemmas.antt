@@ -1,25 +1,26 @@
--- What is read has the form, and what has the form is read.
-use Rattle.std.proofs.Common.{◌≡◌, ℕ, zero, suc, get_or, ◌<◌, ◌^◌, Bool, true, false, cond, ltb, ◌&&◌, not, List, [], ◌∷◌, ◌++◌, length, drop, Option, Some, None, refl, sym, ap, subst, ◌∙◌, arith, inl, inr}
-use Rattle.std.specs.Prelude.{◌⊎◌, ℤ, pos, Contains, codes}
+-- What is read of single tokens and of short forms fills their places, and what fills them is read.
+use Rattle.std.proofs.Common.{◌≡◌, ℕ, zero, suc, get_or, ◌<◌, ◌≤◌, ◌^◌, Bool, true, false, cond, ltb, ◌&&◌, not, List, [], ◌∷◌, ◌++◌, length, Option, Some, None, refl, sym, ap, subst, ◌∙◌, arith, inl, inr}
+use Rattle.std.specs.Prelude.{◌⊎◌, ℤ, pos, neg_ℤ, Contains, codes}
 use Rattle.std.specs.List.{AllZip, list_any, list_all}
 use Rattle.std.specs.Char.{is_ascii_digit}
 use Rattle.std.specs.Str.{bytes_eq}
 use Rattle.std.specs.Str.Parse.{digits_value}
 use Rattle.std.proofs.lemmas.Bool.{cases_Bool, and_parts, or_left, or_right, lt-ltb, ltb-true, not-true, false≢true}
-use Rattle.std.proofs.lemmas.List.{append-nil}
 use Rattle.std.proofs.lemmas.Map.Views.{Contains-from_any}
 use Rattle.std.proofs.lemmas.Slice.Eq.{bytes_eq-Decides}
+use Rattle.qw_meaning.specs.declared.query.Comparison.{Comparison}
+use Rattle.qw_meaning.specs.declared.query.Comparison.TheVariants.{Equal, NotEqual, Less, LessOrEqual, Greater, GreaterOrEqual}
 use Rattle.qw_top.specs.declared.token.Kind.{Kind}
 use Rattle.qw_top.specs.declared.token.Kind.TheVariants.{Word, DelimitedIdentifier, CharacterString, Number, Symbol}
 use Rattle.qw_top.specs.Token.{Lexeme}
-use Rattle.qw_top.specs.Grammar.{folded, reserved, IsReserved, Place, key_word, regular, symbol, unsigned, Fills, create_table, select_above}
-use Rattle.qw_top.specs.Reading.{◌>>=◌, is_word, is_reserved, key_word_at, symbol_at, regular_at, literal_of, literal_at, is_end, create_table_of, select_above_of}
+use Rattle.qw_top.specs.Grammar.{folded, reserved, IsReserved, Place, key_word, regular, symbol, unsigned, Fills, comparison_symbol, signed_literal, signed}
+use Rattle.qw_top.specs.Reading.{◌>>=◌, is_word, is_reserved, key_word_at, symbol_at, regular_at, literal_of, unsigned_at, negated, literal_at, comparison_of, comparison_at, is_end}
 
 pub bind_some : {A B : Type 0} (r : Option A) (f : A → Option B) (y : B) → (r >>= f) ≡ Some y → (x : A) × (r ≡ Some x) × (f x ≡ Some y)
 bind_some (Some x) f y e = (x, refl, e)
 bind_some None f y e = absurd cc
 
-guard_some : {A : Type 0} (b : Bool) (x y : A) → cond b (Some x) None ≡ Some y → (b ≡ true) × (x ≡ y)
+pub guard_some : {A : Type 0} (b : Bool) (x y : A) → cond b (Some x) None ≡ Some y → (b ≡ true) × (x ≡ y)
 guard_some true x y e = (refl, cc)
 guard_some false x y e = absurd cc
 
@@ -29,7 +30,7 @@ pub record TakesOne (P : Lexeme → Type 0) (ts rest : List Lexeme) : Type 0 whe
   pub parts : ts ≡ token ∷ rest
   pub fills : P token
 
-key_word_takes : (word : List ℕ) (ts rest : List Lexeme) → key_word_at word ts ≡ Some rest → TakesOne (Fills (key_word word)) ts rest
+pub key_word_takes : (word : List ℕ) (ts rest : List Lexeme) → key_word_at word ts ≡ Some rest → TakesOne (Fills (key_word word)) ts rest
 unfolding key_word_at
 key_word_takes word [] rest e = absurd cc
 key_word_takes word (t ∷ ts) rest e =
@@ -40,7 +41,7 @@ key_word_again : (word : List ℕ) (t : Lexeme) (rest : List Lexeme) → Fills (
 unfolding key_word_at
 key_word_again word t rest h = rw ((bytes_eq-Decides (folded t.octets) word).1 h) refl
 
-symbol_takes : (octets : List ℕ) (ts rest : List Lexeme) → symbol_at octets ts ≡ Some rest → TakesOne (Fills (symbol octets)) ts rest
+pub symbol_takes : (octets : List ℕ) (ts rest : List Lexeme) → symbol_at octets ts ≡ Some rest → TakesOne (Fills (symbol octets)) ts rest
 unfolding symbol_at
 symbol_takes octets [] rest e = absurd cc
 symbol_takes octets (t ∷ ts) rest e =
@@ -69,7 +70,7 @@ any_from_contains words name h = any_at words name h.0 h.1 h.2
 contains_from_any : (words : List (List ℕ)) (name : List ℕ) → list_any (bytes_eq name) words ≡ true → Contains words name
 contains_from_any words name h = Contains-from_any (λ x y. (bytes_eq-Decides x y).0) name words h
 
-regular_takes : (ts rest : List Lexeme) (name : List ℕ) → regular_at ts ≡ Some (name, rest) → TakesOne (Fills (regular name)) ts rest
+pub regular_takes : (ts rest : List Lexeme) (name : List ℕ) → regular_at ts ≡ Some (name, rest) → TakesOne (Fills (regular name)) ts rest
 unfolding regular_at
 regular_takes [] rest name e = absurd cc
 regular_takes (t ∷ ts) rest name e =
@@ -102,10 +103,10 @@ regular_again t rest name h = rw (h.0, h.1, not_reserved name h.2) refl
 abbrev pub IsLiteral : ℤ → ℕ → Type 0
 IsLiteral z n = (z ≡ pos n) × (n < 10 ^ 18)
 
-literal_takes : (ts rest : List Lexeme) (z : ℤ) → literal_at ts ≡ Some (z, rest) → (n : ℕ) × TakesOne (Fills (unsigned n)) ts rest × IsLiteral z n
-unfolding literal_at
-literal_takes [] rest z e = absurd cc
-literal_takes (t ∷ ts) rest z e =
+pub unsigned_takes : (ts rest : List Lexeme) (z : ℤ) → unsigned_at ts ≡ Some (z, rest) → (n : ℕ) × TakesOne (Fills (unsigned n)) ts rest × IsLiteral z n
+unfolding unsigned_at
+unsigned_takes [] rest z e = absurd cc
+unsigned_takes (t ∷ ts) rest z e =
     let octets = t.octets in
     let n = digits_value 10 octets in
     let a = bind_some (literal_of octets) (λ bound. Some (bound, ts)) (z, rest) e in
@@ -124,243 +125,213 @@ literal_takes (t ∷ ts) rest z e =
       (sym (g.1 ∙ number), ltb-true n (10 ^ 18) tests.1),
     )
 
-literal_again : (t : Lexeme) (rest : List Lexeme) (n : ℕ) → Fills (unsigned n) t → n < 10 ^ 18 → literal_at (t ∷ rest) ≡ Some (pos n, rest)
-unfolding literal_at
-literal_again t rest n h lt = rw (lt-ltb 0 (length t.octets) h.0, h.1, h.2, lt-ltb n (10 ^ 18) lt) refl
+unsigned_again : (t : Lexeme) (rest : List Lexeme) (n : ℕ) → Fills (unsigned n) t → n < 10 ^ 18 → unsigned_at (t ∷ rest) ≡ Some (pos n, rest)
+unfolding unsigned_at
+unsigned_again t rest n h lt = rw (lt-ltb 0 (length t.octets) h.0, h.1, h.2, lt-ltb n (10 ^ 18) lt) refl
 
--- the places of an end: a `;` or none
-abbrev pub IsEnd : List Place → Type 0
-IsEnd places = (places ≡ []) ⊎ (places ≡ symbol (codes ";") ∷ [])
+-- ---- one place
 
-end_takes : (ts : List Lexeme) → is_end ts ≡ true → (places : List Place) × IsEnd places × AllZip Fills places ts
-unfolding is_end
-end_takes [] e = ([], inl refl, tt)
-end_takes (t ∷ []) e = (symbol (codes ";") ∷ [], inr refl, ((bytes_eq-Decides t.octets (codes ";")).0 e, tt))
-end_takes (t ∷ u ∷ ts) e = absurd cc
-
-no_end : (ts : List Lexeme) → AllZip Fills [] ts → is_end ts ≡ true
-unfolding is_end
-no_end [] h = refl
-no_end (t ∷ ts) h = absurd h
-
-one_end : (ts : List Lexeme) → AllZip Fills (symbol (codes ";") ∷ []) ts → is_end ts ≡ true
-unfolding is_end
-one_end [] h = absurd h
-one_end (t ∷ []) h = (bytes_eq-Decides t.octets (codes ";")).1 h.0
-one_end (t ∷ u ∷ ts) h = absurd h.1
-
-end_again : (places : List Place) (ts : List Lexeme) → IsEnd places → AllZip Fills places ts → is_end ts ≡ true
-end_again places ts (inl e) h = no_end ts (subst (λ x. AllZip Fills x ts) e h)
-end_again places ts (inr e) h = one_end ts (subst (λ x. AllZip Fills x ts) e h)
-
--- ---- place by place
-
-first_place : (p : Place) (ps : List Place) (ts rest : List Lexeme) → TakesOne (Fills p) ts rest → AllZip Fills ps rest → AllZip Fills (p ∷ ps) ts
-first_place p ps ts rest one more = rw one.parts (one.fills, more)
-
-pub split_place : (p : Place) (ps : List Place) (ts : List Lexeme) → AllZip Fills (p ∷ ps) ts → (rest : List Lexeme) × TakesOne (Fills p) ts rest × AllZip Fills ps rest
-split_place p ps [] h = absurd h
-split_place p ps (t ∷ ts) h = (ts, record { token = t; parts = refl; fills = h.0 }, h.1)
-
-key_word_is : (word : List ℕ) (ts rest : List Lexeme) → TakesOne (Fills (key_word word)) ts rest → key_word_at word ts ≡ Some rest
+pub key_word_is : (word : List ℕ) (ts rest : List Lexeme) → TakesOne (Fills (key_word word)) ts rest → key_word_at word ts ≡ Some rest
 key_word_is word ts rest one = ap (key_word_at word) one.parts ∙ key_word_again word one.token rest one.fills
 
-symbol_is : (octets : List ℕ) (ts rest : List Lexeme) → TakesOne (Fills (symbol octets)) ts rest → symbol_at octets ts ≡ Some rest
+pub symbol_is : (octets : List ℕ) (ts rest : List Lexeme) → TakesOne (Fills (symbol octets)) ts rest → symbol_at octets ts ≡ Some rest
 symbol_is octets ts rest one = ap (symbol_at octets) one.parts ∙ symbol_again octets one.token rest one.fills
 
-regular_is : (name : List ℕ) (ts rest : List Lexeme) → TakesOne (Fills (regular name)) ts rest → regular_at ts ≡ Some (name, rest)
+pub regular_is : (name : List ℕ) (ts rest : List Lexeme) → TakesOne (Fills (regular name)) ts rest → regular_at ts ≡ Some (name, rest)
 regular_is name ts rest one = ap regular_at one.parts ∙ regular_again one.token rest name one.fills
 
-literal_is : (n : ℕ) (ts rest : List Lexeme) → n < 10 ^ 18 → TakesOne (Fills (unsigned n)) ts rest → literal_at ts ≡ Some (pos n, rest)
-literal_is n ts rest lt one = ap literal_at one.parts ∙ literal_again one.token rest n one.fills lt
+pub unsigned_is : (n : ℕ) (ts rest : List Lexeme) → n < 10 ^ 18 → TakesOne (Fills (unsigned n)) ts rest → unsigned_at ts ≡ Some (pos n, rest)
+unsigned_is n ts rest lt one = ap unsigned_at one.parts ∙ unsigned_again one.token rest n one.fills lt
 
--- ---- CREATE TABLE
+-- ---- a row of places
 
--- what is read behind each place, from the last on
-abbrev table_9 : List ℕ → List ℕ → List Lexeme → Option (List ℕ × List ℕ)
-table_9 table column i = cond (is_end i) (Some (table, column)) None
+-- the tokens begin with some that fill the places, and rest follows
+abbrev pub Fronts : List Place → List Lexeme → List Lexeme → Type 0
+Fronts [] ts rest = ts ≡ rest
+Fronts (p ∷ ps) ts rest = (after : List Lexeme) × TakesOne (Fills p) ts after × Fronts ps after rest
 
-abbrev table_8 : List ℕ → List ℕ → List Lexeme → Option (List ℕ × List ℕ)
-table_8 table column h = symbol_at (codes ")") h >>= table_9 table column
+pub fronts_append : (ps qs : List Place) (ts mid rest : List Lexeme) → Fronts ps ts mid → Fronts qs mid rest → Fronts (ps ++ qs) ts rest
+fronts_append [] qs ts mid rest h more = subst (λ x. Fronts qs x rest) (sym h) more
+fronts_append (p ∷ ps) qs ts mid rest h more = (h.0, h.1, fronts_append ps qs h.0 mid rest h.2 more)
 
-abbrev table_7 : List ℕ → List ℕ → List Lexeme → Option (List ℕ × List ℕ)
-table_7 table column g = key_word_at (codes "NULL") g >>= table_8 table column
+pub fronts_split : (ps qs : List Place) (ts rest : List Lexeme) → Fronts (ps ++ qs) ts rest → (mid : List Lexeme) × Fronts ps ts mid × Fronts qs mid rest
+fronts_split [] qs ts rest h = (ts, refl, h)
+fronts_split (p ∷ ps) qs ts rest h = let more = fronts_split ps qs h.0 rest h.2 in (more.0, (h.0, h.1, more.1), more.2)
 
-abbrev table_6 : List ℕ → List ℕ → List Lexeme → Option (List ℕ × List ℕ)
-table_6 table column f = key_word_at (codes "NOT") f >>= table_7 table column
+pub fronts_all : (ps : List Place) (ts : List Lexeme) → Fronts ps ts [] → AllZip Fills ps ts
+fronts_all [] ts h = subst (AllZip Fills []) (sym h) tt
+fronts_all (p ∷ ps) ts h = subst (AllZip Fills (p ∷ ps)) (sym h.1.parts) (h.1.fills, fronts_all ps h.0 h.2)
 
-abbrev table_5 : List ℕ → List ℕ × List Lexeme → Option (List ℕ × List ℕ)
-table_5 table column = key_word_at (codes "INTEGER") column.1 >>= table_6 table column.0
+pub all_fronts : (ps : List Place) (ts : List Lexeme) → AllZip Fills ps ts → Fronts ps ts []
+all_fronts [] [] h = refl
+all_fronts [] (t ∷ ts) h = absurd h
+all_fronts (p ∷ ps) [] h = absurd h
+all_fronts (p ∷ ps) (t ∷ ts) h = (ts, record { token = t; parts = refl; fills = h.0 }, all_fronts ps ts h.1)
 
-abbrev table_4 : List ℕ → List Lexeme → Option (List ℕ × List ℕ)
-table_4 table d = regular_at d >>= table_5 table
+pub takes_shorter : (P : Lexeme → Type 0) (ts rest : List Lexeme) → TakesOne P ts rest → length rest < length ts
+takes_shorter P ts rest one =
+    let e : length ts ≡ suc (length rest) = ap (λ (x : List Lexeme). length x) one.parts in
+    omega (arith, e)
 
-abbrev table_3 : List ℕ × List Lexeme → Option (List ℕ × List ℕ)
-table_3 table = symbol_at (codes "(") table.1 >>= table_4 table.0
+fronts_no_longer : (ps : List Place) (ts rest : List Lexeme) → Fronts ps ts rest → length rest ≤ length ts
+fronts_no_longer [] ts rest h = let e : length ts ≡ length rest = ap (λ (x : List Lexeme). length x) h in omega (arith, e)
+fronts_no_longer (p ∷ ps) ts rest h = omega (arith, takes_shorter (Fills p) ts h.0 h.1, fronts_no_longer ps h.0 rest h.2)
 
-abbrev table_2 : List Lexeme → Option (List ℕ × List ℕ)
-table_2 b = regular_at b >>= table_3
+pub fronts_shorter : (p : Place) (ps : List Place) (ts rest : List Lexeme) → Fronts (p ∷ ps) ts rest → length rest < length ts
+fronts_shorter p ps ts rest h = omega (arith, takes_shorter (Fills p) ts h.0 h.1, fronts_no_longer ps h.0 rest h.2)
 
-abbrev table_1 : List Lexeme → Option (List ℕ × List ℕ)
-table_1 a = key_word_at (codes "TABLE") a >>= table_2
+-- ---- what is no such symbol
 
--- a form with one of the two ends
-pub record FollowsOne (form : List Place) (ts : List Lexeme) : Type 0 where
-  pub places : List Place
-  pub end : IsEnd places
-  pub fills : AllZip Fills (form ++ places) ts
+pub cases_option : {A : Type 0} (o : Option A) → (o ≡ None) ⊎ ((x : A) × (o ≡ Some x))
+cases_option None = inl refl
+cases_option (Some x) = inr (x, refl)
 
-pub create_table_takes : (ts : List Lexeme) (names : List ℕ × List ℕ) → create_table_of ts ≡ Some names → FollowsOne (create_table names.0 names.1) ts
-unfolding create_table_of
-create_table_takes ts names e =
-    let a = bind_some (key_word_at (codes "CREATE") ts) table_1 names e in
-    let b = bind_some (key_word_at (codes "TABLE") a.0) table_2 names a.2 in
-    let c = bind_some (regular_at b.0) table_3 names b.2 in
-    let d = bind_some (symbol_at (codes "(") c.0.1) (table_4 c.0.0) names c.2 in
-    let f = bind_some (regular_at d.0) (table_5 c.0.0) names d.2 in
-    let g = bind_some (key_word_at (codes "INTEGER") f.0.1) (table_6 c.0.0 f.0.0) names f.2 in
-    let h = bind_some (key_word_at (codes "NOT") g.0) (table_7 c.0.0 f.0.0) names g.2 in
-    let i = bind_some (key_word_at (codes "NULL") h.0) (table_8 c.0.0 f.0.0) names h.2 in
-    let j = bind_some (symbol_at (codes ")") i.0) (table_9 c.0.0 f.0.0) names i.2 in
-    let k = guard_some (is_end j.0) (c.0.0, f.0.0) names j.2 in
-    let last = end_takes j.0 k.0 in
-    let form = create_table c.0.0 f.0.0 in
-    let all : AllZip Fills (form ++ last.0) ts =
-    first_place (key_word (codes "CREATE")) (drop 1 (form ++ last.0)) ts a.0 (key_word_takes (codes "CREATE") ts a.0 a.1)
-    (first_place (key_word (codes "TABLE")) (drop 2 (form ++ last.0)) a.0 b.0 (key_word_takes (codes "TABLE") a.0 b.0 b.1)
-    (first_place (regular c.0.0) (drop 3 (form ++ last.0)) b.0 c.0.1 (regular_takes b.0 c.0.1 c.0.0 c.1)
-    (first_place (symbol (codes "(")) (drop 4 (form ++ last.0)) c.0.1 d.0 (symbol_takes (codes "(") c.0.1 d.0 d.1)
-    (first_place (regular f.0.0) (drop 5 (form ++ last.0)) d.0 f.0.1 (regular_takes d.0 f.0.1 f.0.0 f.1)
-    (first_place (key_word (codes "INTEGER")) (drop 6 (form ++ last.0)) f.0.1 g.0 (key_word_takes (codes "INTEGER") f.0.1 g.0 g.1)
-    (first_place (key_word (codes "NOT")) (drop 7 (form ++ last.0)) g.0 h.0 (key_word_takes (codes "NOT") g.0 h.0 h.1)
-    (first_place (key_word (codes "NULL")) (drop 8 (form ++ last.0)) h.0 i.0 (key_word_takes (codes "NULL") h.0 i.0 i.1)
-    (first_place (symbol (codes ")")) last.0 i.0 j.0 (symbol_takes (codes ")") i.0 j.0 j.1) last.2))))))))
-    in
-    subst (λ (x : List ℕ × List ℕ). FollowsOne (create_table x.0 x.1) ts) k.1 (record { places = last.0; end = last.1; fills = all })
+pub none_not_some : {A : Type 0} (o : Option A) (x : A) → o ≡ None → o ≡ Some x → ⊥
+none_not_some o x none some = cc
 
-pub create_table_again : (ts : List Lexeme) (table column : List ℕ) → FollowsOne (create_table table column) ts → create_table_of ts ≡ Some (table, column)
-unfolding create_table_of
-create_table_again ts table column one =
-    let form = create_table table column ++ one.places in
-    let a = split_place (key_word (codes "CREATE")) (drop 1 form) ts one.fills in
-    let b = split_place (key_word (codes "TABLE")) (drop 2 form) a.0 a.2 in
-    let c = split_place (regular table) (drop 3 form) b.0 b.2 in
-    let d = split_place (symbol (codes "(")) (drop 4 form) c.0 c.2 in
-    let f = split_place (regular column) (drop 5 form) d.0 d.2 in
-    let g = split_place (key_word (codes "INTEGER")) (drop 6 form) f.0 f.2 in
-    let h = split_place (key_word (codes "NOT")) (drop 7 form) g.0 g.2 in
-    let i = split_place (key_word (codes "NULL")) (drop 8 form) h.0 h.2 in
-    let j = split_place (symbol (codes ")")) one.places i.0 i.2 in
-    rw (
-      key_word_is (codes "CREATE") ts a.0 a.1,
-      key_word_is (codes "TABLE") a.0 b.0 b.1,
-      regular_is table b.0 c.0 c.1,
-      symbol_is (codes "(") c.0 d.0 d.1,
-      regular_is column d.0 f.0 f.1,
-      key_word_is (codes "INTEGER") f.0 g.0 g.1,
-      key_word_is (codes "NOT") g.0 h.0 h.1,
-      key_word_is (codes "NULL") h.0 i.0 i.1,
-      symbol_is (codes ")") i.0 j.0 j.1,
-      end_again one.places j.0 one.end j.2,
-    ) refl
+not_symbol : (octets : List ℕ) (t : Lexeme) (rest : List Lexeme) → (t.octets ≡ octets → ⊥) → symbol_at octets (t ∷ rest) ≡ None
+unfolding symbol_at
+not_symbol octets t rest h =
+    elim (cases_Bool (bytes_eq t.octets octets)) [
+      | inl e ↦ absurd (h ((bytes_eq-Decides t.octets octets).0 e))
+      | inr e ↦ rw e refl
+    ]
 
--- ---- SELECT
+-- the first token is not the symbol where it fills a place that the symbol can't fill
+pub other_than : (octets : List ℕ) (P : Lexeme → Type 0) (ts rest : List Lexeme) → TakesOne P ts rest → ((t : Lexeme) → P t → t.octets ≡ octets → ⊥) → symbol_at octets ts ≡ None
+other_than octets P ts rest one h = ap (symbol_at octets) one.parts ∙ not_symbol octets one.token rest (h one.token one.fills)
 
-abbrev select_8 : List ℕ → List ℕ → List ℕ → ℤ × List Lexeme → Option (List ℕ × List ℕ × ℤ)
-select_8 column table tested bound = cond (bytes_eq tested column && is_end bound.1) (Some (column, table, bound.0)) None
+no_digit : (n : ℕ) (t : Lexeme) → Fills (unsigned n) t → t.octets ≡ codes "-" → ⊥
+no_digit n t fills e = false≢true (subst (λ x. list_all is_ascii_digit x ≡ true) e fills.1)
 
-abbrev select_7 : List ℕ → List ℕ → List ℕ → List Lexeme → Option (List ℕ × List ℕ × ℤ)
-select_7 column table tested g = literal_at g >>= select_8 column table tested
+-- ---- a literal with its sign
 
-abbrev select_6 : List ℕ → List ℕ → List ℕ × List Lexeme → Option (List ℕ × List ℕ × ℤ)
-select_6 column table tested = symbol_at (codes ">") tested.1 >>= select_7 column table tested.0
+negated_some : (o : Option (ℤ × List Lexeme)) (z : ℤ) (rest : List Lexeme) → negated o ≡ Some (z, rest) → (m : ℤ) × (o ≡ Some (m, rest)) × (z ≡ neg_ℤ m)
+negated_some None z rest e = absurd cc
+negated_some (Some read) z rest e =
+    let both : (neg_ℤ read.0, read.1) ≡ (z, rest) = cc in
+    let left : read.1 ≡ rest = ap (λ (x : ℤ × List Lexeme). x.1) both in
+    (read.0, ap (λ x. Some (read.0, x)) left, sym (ap (λ (x : ℤ × List Lexeme). x.0) both))
 
-abbrev select_5 : List ℕ → List ℕ → List Lexeme → Option (List ℕ × List ℕ × ℤ)
-select_5 column table e = regular_at e >>= select_6 column table
+-- the tokens begin with a literal that stands for z
+pub record BeginsLiteral (z : ℤ) (ts rest : List Lexeme) : Type 0 where
+  pub negative : Bool
+  pub magnitude : ℕ
+  pub fronts : Fronts (signed_literal negative magnitude) ts rest
+  pub is : z ≡ signed negative magnitude
+  pub fits : magnitude < 10 ^ 18
 
-abbrev select_4 : List ℕ → List ℕ × List Lexeme → Option (List ℕ × List ℕ × ℤ)
-select_4 column table = key_word_at (codes "WHERE") table.1 >>= select_5 column table.0
+pub literal_takes : (ts rest : List Lexeme) (z : ℤ) → literal_at ts ≡ Some (z, rest) → BeginsLiteral z ts rest
+unfolding literal_at
+literal_takes ts rest z e =
+    elim (cases_option (symbol_at (codes "-") ts)) [
+      | inl none ↦ (
+          let told : unsigned_at ts ≡ Some (z, rest) = rw none at e in
+          let u = unsigned_takes ts rest z told in
+          record { negative = false; magnitude = u.0; fronts = (rest, u.1, refl); is = u.2.0; fits = u.2.1 })
+      | inr some ↦ (
+          let told : negated (unsigned_at some.0) ≡ Some (z, rest) = rw some.1 at e in
+          let n = negated_some (unsigned_at some.0) z rest told in
+          let u = unsigned_takes some.0 rest n.0 n.1 in
+          record {
+            negative = true;
+            magnitude = u.0;
+            fronts = (some.0, symbol_takes (codes "-") ts some.0 some.1, (rest, u.1, refl));
+            is = n.2 ∙ ap neg_ℤ u.2.0;
+            fits = u.2.1;
+          })
+    ]
 
-abbrev select_3 : List ℕ → List Lexeme → Option (List ℕ × List ℕ × ℤ)
-select_3 column c = regular_at c >>= select_4 column
+pub literal_is : (negative : Bool) (n : ℕ) (ts rest : List Lexeme) → n < 10 ^ 18 → Fronts (signed_literal negative n) ts rest → literal_at ts ≡ Some (signed negative n, rest)
+unfolding literal_at
+literal_is true n ts rest lt h =
+    rw (symbol_is (codes "-") ts h.0 h.1, unsigned_is n h.0 h.2.0 lt h.2.1) (ap (λ x. Some (neg_ℤ (pos n), x)) h.2.2)
+literal_is false n ts rest lt h =
+    rw (other_than (codes "-") (Fills (unsigned n)) ts h.0 h.1 (no_digit n), unsigned_is n ts h.0 lt h.1) (ap (λ x. Some (pos n, x)) h.2)
 
-abbrev select_2 : List ℕ × List Lexeme → Option (List ℕ × List ℕ × ℤ)
-select_2 column = key_word_at (codes "FROM") column.1 >>= select_3 column.0
+-- ---- a comparison
 
-abbrev select_1 : List Lexeme → Option (List ℕ × List ℕ × ℤ)
-select_1 a = regular_at a >>= select_2
+choice_some : {A : Type 0} (b : Bool) (x y : A) (o : Option A) → cond b (Some x) o ≡ Some y → ((b ≡ true) × (x ≡ y)) ⊎ (o ≡ Some y)
+choice_some true x y o e = inl (refl, cc)
+choice_some false x y o e = inr e
 
--- the tokens have the form, with the literal that was read
-pub record FollowsSelect (parts : List ℕ × List ℕ × ℤ) (ts : List Lexeme) : Type 0 where
-  pub bound : ℕ
-  pub is_bound : IsLiteral parts.2 bound
-  pub follows : FollowsOne (select_above parts.0 parts.1 bound) ts
+-- it is the comparison of the symbol, or what else was found is
+symbol_or : (octets : List ℕ) (a c : Comparison) (o : Option Comparison) → cond (bytes_eq octets (comparison_symbol a)) (Some a) o ≡ Some c → (o ≡ Some c → octets ≡ comparison_symbol c) → octets ≡ comparison_symbol c
+symbol_or octets a c o e more =
+    elim (choice_some (bytes_eq octets (comparison_symbol a)) a c o e) [
+      | inl is ↦ (bytes_eq-Decides octets (comparison_symbol a)).0 is.0 ∙ ap comparison_symbol is.1
+      | inr other ↦ more other
+    ]
 
-pub select_above_takes : (ts : List Lexeme) (parts : List ℕ × List ℕ × ℤ) → select_above_of ts ≡ Some parts → FollowsSelect parts ts
-unfolding select_above_of
-select_above_takes ts parts e =
-    let a = bind_some (key_word_at (codes "SELECT") ts) select_1 parts e in
-    let b = bind_some (regular_at a.0) select_2 parts a.2 in
-    let c = bind_some (key_word_at (codes "FROM") b.0.1) (select_3 b.0.0) parts b.2 in
-    let d = bind_some (regular_at c.0) (select_4 b.0.0) parts c.2 in
-    let f = bind_some (key_word_at (codes "WHERE") d.0.1) (select_5 b.0.0 d.0.0) parts d.2 in
-    let g = bind_some (regular_at f.0) (select_6 b.0.0 d.0.0) parts f.2 in
-    let h = bind_some (symbol_at (codes ">") g.0.1) (select_7 b.0.0 d.0.0 g.0.0) parts g.2 in
-    let i = bind_some (literal_at h.0) (select_8 b.0.0 d.0.0 g.0.0) parts h.2 in
-    let k = guard_some (bytes_eq g.0.0 b.0.0 && is_end i.0.1) (b.0.0, d.0.0, i.0.0) parts i.2 in
-    let tests = and_parts (bytes_eq g.0.0 b.0.0) (is_end i.0.1) k.0 in
-    let same = (bytes_eq-Decides g.0.0 b.0.0).0 tests.0 in
-    let last = end_takes i.0.1 tests.1 in
-    let bound = literal_takes h.0 i.0.1 i.0.0 i.1 in
-    let form = select_above b.0.0 d.0.0 bound.0 in
-    let tested = regular_takes f.0 g.0.1 b.0.0 (g.1 ∙ ap (λ (x : List ℕ). Some (x, g.0.1)) same) in
-    let all : AllZip Fills (form ++ last.0) ts =
-    first_place (key_word (codes "SELECT")) (drop 1 (form ++ last.0)) ts a.0 (key_word_takes (codes "SELECT") ts a.0 a.1)
-    (first_place (regular b.0.0) (drop 2 (form ++ last.0)) a.0 b.0.1 (regular_takes a.0 b.0.1 b.0.0 b.1)
-    (first_place (key_word (codes "FROM")) (drop 3 (form ++ last.0)) b.0.1 c.0 (key_word_takes (codes "FROM") b.0.1 c.0 c.1)
-    (first_place (regular d.0.0) (drop 4 (form ++ last.0)) c.0 d.0.1 (regular_takes c.0 d.0.1 d.0.0 d.1)
-    (first_place (key_word (codes "WHERE")) (drop 5 (form ++ last.0)) d.0.1 f.0 (key_word_takes (codes "WHERE") d.0.1 f.0 f.1)
-    (first_place (regular b.0.0) (drop 6 (form ++ last.0)) f.0 g.0.1 tested
-    (first_place (symbol (codes ">")) (drop 7 (form ++ last.0)) g.0.1 h.0 (symbol_takes (codes ">") g.0.1 h.0 h.1)
-    (first_place (unsigned bound.0) last.0 h.0 i.0.1 bound.1 last.2)))))))
-    in
-    subst (λ (x : List ℕ × List ℕ × ℤ). FollowsSelect x ts) k.1
-    (record { bound = bound.0; is_bound = bound.2; follows = record { places = last.0; end = last.1; fills = all } })
+comparison_of_takes : (octets : List ℕ) (c : Comparison) → comparison_of octets ≡ Some c → octets ≡ comparison_symbol c
+comparison_of_takes octets c e =
+    symbol_or octets Equal c _ e (λ f.
+    symbol_or octets NotEqual c _ f (λ g.
+    symbol_or octets Less c _ g (λ h.
+    symbol_or octets LessOrEqual c _ h (λ i.
+    symbol_or octets Greater c _ i (λ j.
+    symbol_or octets GreaterOrEqual c None j (λ k. absurd cc))))))
 
-pub select_above_again : (ts : List Lexeme) (column table : List ℕ) (bound : ℕ) → bound < 10 ^ 18 → FollowsOne (select_above column table bound) ts → select_above_of ts ≡ Some (column, table, pos bound)
-unfolding select_above_of
-select_above_again ts column table bound lt one =
-    let form = select_above column table bound ++ one.places in
-    let a = split_place (key_word (codes "SELECT")) (drop 1 form) ts one.fills in
-    let b = split_place (regular column) (drop 2 form) a.0 a.2 in
-    let c = split_place (key_word (codes "FROM")) (drop 3 form) b.0 b.2 in
-    let d = split_place (regular table) (drop 4 form) c.0 c.2 in
-    let f = split_place (key_word (codes "WHERE")) (drop 5 form) d.0 d.2 in
-    let g = split_place (regular column) (drop 6 form) f.0 f.2 in
-    let h = split_place (symbol (codes ">")) (drop 7 form) g.0 g.2 in
-    let i = split_place (unsigned bound) one.places h.0 h.2 in
-    rw (
-      key_word_is (codes "SELECT") ts a.0 a.1,
-      regular_is column a.0 b.0 b.1,
-      key_word_is (codes "FROM") b.0 c.0 c.1,
-      regular_is table c.0 d.0 d.1,
-      key_word_is (codes "WHERE") d.0 f.0 f.1,
-      regular_is column f.0 g.0 g.1,
-      symbol_is (codes ">") g.0 h.0 h.1,
-      literal_is bound h.0 i.0 lt i.1,
-      (bytes_eq-Decides column column).1 refl,
-      end_again one.places i.0 one.end i.2,
-    ) refl
+comparison_of_symbol : (c : Comparison) → comparison_of (comparison_symbol c) ≡ Some c
+comparison_of_symbol Equal = refl
+comparison_of_symbol NotEqual = refl
+comparison_of_symbol Less = refl
+comparison_of_symbol LessOrEqual = refl
+comparison_of_symbol Greater = refl
+comparison_of_symbol GreaterOrEqual = refl
+
+pub comparison_takes : (ts rest : List Lexeme) (c : Comparison) → comparison_at ts ≡ Some (c, rest) → TakesOne (Fills (symbol (comparison_symbol c))) ts rest
+unfolding comparison_at
+comparison_takes [] rest c e = absurd cc
+comparison_takes (t ∷ ts) rest c e =
+    let a = bind_some (comparison_of t.octets) (λ found. Some (found, ts)) (c, rest) e in
+    let both : (a.0, ts) ≡ (c, rest) = (let got : Some (a.0, ts) ≡ Some (c, rest) = a.2 in cc) in
+    let is : a.0 ≡ c = ap (λ (x : Comparison × List Lexeme). x.0) both in
+    let left : ts ≡ rest = ap (λ (x : Comparison × List Lexeme). x.1) both in
+    record {
+      token = t;
+      parts = ap (λ (x : List Lexeme). t ∷ x) left;
+      fills = comparison_of_takes t.octets a.0 a.1 ∙ ap comparison_symbol is;
+    }
+
+comparison_again : (c : Comparison) (t : Lexeme) (rest : List Lexeme) → t.octets ≡ comparison_symbol c → comparison_at (t ∷ rest) ≡ Some (c, rest)
+unfolding comparison_at
+comparison_again c t rest h = rw (h, comparison_of_symbol c) refl
+
+pub comparison_is : (c : Comparison) (ts rest : List Lexeme) → TakesOne (Fills (symbol (comparison_symbol c))) ts rest → comparison_at ts ≡ Some (c, rest)
+comparison_is c ts rest one = ap comparison_at one.parts ∙ comparison_again c one.token rest one.fills
 
 -- ---- a statement of a form
 
+-- the tokens are of the form, and nothing follows but a `;`
+abbrev pub FollowsOne : List Place → List Lexeme → Type 0
+FollowsOne form ts = (last : List Lexeme) × Fronts form ts last × (is_end last ≡ true)
+
+end_takes : (ts : List Lexeme) → is_end ts ≡ true → (ts ≡ []) ⊎ TakesOne (Fills (symbol (codes ";"))) ts []
+unfolding is_end
+end_takes [] e = inl refl
+end_takes (t ∷ []) e = inr (record { token = t; parts = refl; fills = (bytes_eq-Decides t.octets (codes ";")).0 e })
+end_takes (t ∷ u ∷ ts) e = absurd cc
+
+no_end : is_end [] ≡ true
+unfolding is_end
+no_end = refl
+
+one_end : (t : Lexeme) → t.octets ≡ codes ";" → is_end (t ∷ []) ≡ true
+unfolding is_end
+one_end t h = (bytes_eq-Decides t.octets (codes ";")).1 h
+
 pub follows_one : (form : List Place) (ts : List Lexeme) → FollowsOne form ts → AllZip Fills form ts ⊎ AllZip Fills (form ++ symbol (codes ";") ∷ []) ts
 follows_one form ts one =
-    elim one.end [
-      | inl e ↦ inl (subst (λ x. AllZip Fills x ts) (append-nil form) (subst (λ x. AllZip Fills (form ++ x) ts) e one.fills))
-      | inr e ↦ inr (subst (λ x. AllZip Fills (form ++ x) ts) e one.fills)
+    elim (end_takes one.0 one.2) [
+      | inl e ↦ inl (fronts_all form ts (subst (Fronts form ts) e one.1))
+      | inr last ↦ inr (fronts_all (form ++ symbol (codes ";") ∷ []) ts (fronts_append form (symbol (codes ";") ∷ []) ts one.0 [] one.1 ([], last, refl)))
     ]
 
 pub one_follows : (form : List Place) (ts : List Lexeme) → AllZip Fills form ts ⊎ AllZip Fills (form ++ symbol (codes ";") ∷ []) ts → FollowsOne form ts
-one_follows form ts (inl h) = record { places = []; end = inl refl; fills = subst (λ x. AllZip Fills x ts) (sym (append-nil form)) h }
-one_follows form ts (inr h) = record { places = symbol (codes ";") ∷ []; end = inr refl; fills = h }
+one_follows form ts (inl h) = ([], all_fronts form ts h, no_end)
+one_follows form ts (inr h) =
+    let parts = fronts_split form (symbol (codes ";") ∷ []) ts [] (all_fronts (form ++ symbol (codes ";") ∷ []) ts h) in
+    let last = parts.2.1 in
+    let whole : parts.0 ≡ last.token ∷ [] = last.parts ∙ ap (λ (x : List Lexeme). last.token ∷ x) parts.2.2 in
+    (parts.0, parts.1, ap is_end whole ∙ one_end last.token last.fills)

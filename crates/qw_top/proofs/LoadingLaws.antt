@@ -1,11 +1,12 @@
 -- A file stands for one list of rows at most, or has one first fault at most.
-use Rattle.std.proofs.Common.{List, ℕ, ℤ, ◌≡◌, ◌<◌, ◌≤◌, ◌⊎◌, ◌+◌, ◌∙◌, ◌∷◌, ◌++◌, [], length, inl, inr, refl, sym, ap, arith, Option, Some, None}
+use Rattle.std.proofs.Common.{List, ℕ, zero, suc, ℤ, ◌≡◌, ◌<◌, ◌≤◌, ◌⊎◌, ◌+◌, ◌∙◌, ◌∷◌, ◌++◌, [], length, inl, inr, refl, sym, ap, arith, Option, Some, None}
 use Rattle.csv.specs.Machine.{Read, next_record}
 use Rattle.csv.specs.Reading.{AreRecords, Reached, default_config, strip_bom}
 use Rattle.csv.specs.declared.parser.State.{State}
 use Rattle.csv.specs.declared.parser.State.TheVariants.{StartRecord}
 use Rattle.qw_types.specs.declared.schema.Column.{Column}
 use Rattle.qw_types.specs.declared.schema.Table.{Table}
+use Rattle.qw_types.specs.declared.schema.TheConstants.{MAX_ROWS}
 use Rattle.qw_types.specs.declared.value.Ty.{Ty}
 use Rattle.qw_types.specs.declared.value.Ty.TheVariants.{Integer}
 use Rattle.qw_types.specs.declared.value.Val.{Val}
@@ -14,7 +15,6 @@ use Rattle.qw_top.specs.declared.loading.FieldFault.{FieldFault}
 use Rattle.qw_top.specs.declared.loading.FieldFault.TheVariants.{NotNumber, TooLarge}
 use Rattle.qw_top.specs.declared.loading.LoadFault.{LoadFault}
 use Rattle.qw_top.specs.declared.loading.LoadFault.TheVariants as fault
-use Rattle.qw_top.specs.declared.loading.TheConstants.{MAX_ROWS}
 use Rattle.qw_top.specs.Loading.{AreAllRecords, AreFirstRecords, AreRecordsOf, Follows, IsFieldFault, IsFieldOf, IsFirstFault, IsFirstFieldFault, IsHeader, IsRecordFault, IsRecordOf, Loads, ShowsNumber}
 use Rattle.qw_top.proofs.NumberLemmas.{shown_parts}
 
@@ -64,27 +64,29 @@ length_of (c ∷ cs) [] row h = absurd h
 length_of (c ∷ cs) (f ∷ fs) [] h = absurd h
 length_of (c ∷ cs) (f ∷ fs) (v ∷ vs) h = cc (length_of cs fs vs h.1)
 
-sound_fields : (columns : List Column) (fields : List (List ℕ)) (row : List Val) (why : FieldFault) → IsRecordOf columns fields row → IsFirstFieldFault columns fields why → ⊥
-sound_fields [] fields row why h k = k
-sound_fields (c ∷ cs) [] row why h k = k
-sound_fields (c ∷ cs) (f ∷ fs) [] why h k = h
-sound_fields (c ∷ cs) (f ∷ fs) (v ∷ vs) why h (inl k) = value_or_fault c.ty f v why h.0 k
-sound_fields (c ∷ cs) (f ∷ fs) (v ∷ vs) why h (inr k) = sound_fields cs fs vs why h.1 k.2
+sound_fields : (columns : List Column) (fields : List (List ℕ)) (row : List Val) (place : ℕ) (why : FieldFault) → IsRecordOf columns fields row
+    → IsFirstFieldFault columns fields place why → ⊥
+sound_fields [] fields row place why h k = k
+sound_fields (c ∷ cs) [] row place why h k = k
+sound_fields (c ∷ cs) (f ∷ fs) [] place why h k = h
+sound_fields (c ∷ cs) (f ∷ fs) (v ∷ vs) zero why h k = value_or_fault c.ty f v why h.0 k
+sound_fields (c ∷ cs) (f ∷ fs) (v ∷ vs) (suc place) why h k = sound_fields cs fs vs place why h.1 k.2
 
-same_first_fault : (columns : List Column) (fields : List (List ℕ)) (a b : FieldFault) → IsFirstFieldFault columns fields a → IsFirstFieldFault columns fields b → a ≡ b
-same_first_fault [] fields a b h k = absurd h
-same_first_fault (c ∷ cs) [] a b h k = absurd h
-same_first_fault (c ∷ cs) (f ∷ fs) a b (inl h) (inl k) = same_field_fault c.ty f a b h k
-same_first_fault (c ∷ cs) (f ∷ fs) a b (inl h) (inr k) = absurd (value_or_fault c.ty f k.0 a k.1 h)
-same_first_fault (c ∷ cs) (f ∷ fs) a b (inr h) (inl k) = absurd (value_or_fault c.ty f h.0 b h.1 k)
-same_first_fault (c ∷ cs) (f ∷ fs) a b (inr h) (inr k) = same_first_fault cs fs a b h.2 k.2
+same_first_fault : (columns : List Column) (fields : List (List ℕ)) (p q : ℕ) (a b : FieldFault) → IsFirstFieldFault columns fields p a
+    → IsFirstFieldFault columns fields q b → (p ≡ q) × (a ≡ b)
+same_first_fault [] fields p q a b h k = absurd h
+same_first_fault (c ∷ cs) [] p q a b h k = absurd h
+same_first_fault (c ∷ cs) (f ∷ fs) zero zero a b h k = (refl, same_field_fault c.ty f a b h k)
+same_first_fault (c ∷ cs) (f ∷ fs) zero (suc q) a b h k = absurd (value_or_fault c.ty f k.0 a k.1 h)
+same_first_fault (c ∷ cs) (f ∷ fs) (suc p) zero a b h k = absurd (value_or_fault c.ty f h.0 b h.1 k)
+same_first_fault (c ∷ cs) (f ∷ fs) (suc p) (suc q) a b h k = let (e, why) = same_first_fault cs fs p q a b h.2 k.2 in (ap suc e, why)
 
 -- so a record within the limit that stands for a row isn't at fault
 sound_record : (columns : List Column) (number : ℕ) (fields : List (List ℕ)) (row : List Val) (e : LoadFault) → number ≤ MAX_ROWS
     → IsRecordOf columns fields row → IsRecordFault columns number fields e → ⊥
 sound_record columns number fields row fault.BadHeader few h k = k
 sound_record columns number fields row (fault.FieldCount r) few h k = k.2 (length_of columns fields row h)
-sound_record columns number fields row (fault.Field r why) few h k = sound_fields columns fields row why h k.3
+sound_record columns number fields row (fault.Field r p why) few h k = sound_fields columns fields row p why h k.3
 sound_record columns number fields row fault.TooManyRows few h k = omega arith
 sound_record columns number fields row fault.NoMemory few h k = k
 
@@ -92,7 +94,7 @@ sound_record columns number fields row fault.NoMemory few h k = k
 fault_place : (columns : List Column) (number : ℕ) (fields : List (List ℕ)) (e : LoadFault) → IsRecordFault columns number fields e → number ≤ MAX_ROWS + 1
 fault_place columns number fields fault.BadHeader k = absurd k
 fault_place columns number fields (fault.FieldCount r) k = omega (arith, k.0)
-fault_place columns number fields (fault.Field r why) k = omega (arith, k.0)
+fault_place columns number fields (fault.Field r p why) k = omega (arith, k.0)
 fault_place columns number fields fault.TooManyRows k = omega arith
 fault_place columns number fields fault.NoMemory k = absurd k
 
@@ -104,13 +106,15 @@ same_record_fault columns number fields fault.NoMemory b h k = absurd h
 same_record_fault columns number fields a fault.BadHeader h k = absurd k
 same_record_fault columns number fields a fault.NoMemory h k = absurd k
 same_record_fault columns number fields (fault.FieldCount r) (fault.FieldCount q) h k = ap fault.FieldCount (h.1 ∙ sym k.1)
-same_record_fault columns number fields (fault.FieldCount r) (fault.Field q w) h k = absurd (h.2 k.2)
+same_record_fault columns number fields (fault.FieldCount r) (fault.Field q c w) h k = absurd (h.2 k.2)
 same_record_fault columns number fields (fault.FieldCount r) fault.TooManyRows h k = absurd (omega (arith, h.0))
-same_record_fault columns number fields (fault.Field r v) (fault.FieldCount q) h k = absurd (k.2 h.2)
-same_record_fault columns number fields (fault.Field r v) (fault.Field q w) h k = cc (h.1, k.1, same_first_fault columns fields v w h.3 k.3)
-same_record_fault columns number fields (fault.Field r v) fault.TooManyRows h k = absurd (omega (arith, h.0))
+same_record_fault columns number fields (fault.Field r p v) (fault.FieldCount q) h k = absurd (k.2 h.2)
+same_record_fault columns number fields (fault.Field r p v) (fault.Field q c w) h k =
+    let (place, why) = same_first_fault columns fields p c v w h.3 k.3 in
+    cc (h.1, k.1, place, why)
+same_record_fault columns number fields (fault.Field r p v) fault.TooManyRows h k = absurd (omega (arith, h.0))
 same_record_fault columns number fields fault.TooManyRows (fault.FieldCount q) h k = absurd (omega (arith, k.0))
-same_record_fault columns number fields fault.TooManyRows (fault.Field q w) h k = absurd (omega (arith, k.0))
+same_record_fault columns number fields fault.TooManyRows (fault.Field q c w) h k = absurd (omega (arith, k.0))
 same_record_fault columns number fields fault.TooManyRows fault.TooManyRows h k = refl
 
 -- one read from one place
@@ -195,7 +199,7 @@ FailsLater table bytes e = (rows : List (List Val)) × (next : List (List ℕ)) 
 fault_cases : (table : Table) (bytes : List ℕ) (e : LoadFault) → IsFirstFault table bytes e → ((e ≡ fault.BadHeader) × LacksHeader table bytes) ⊎ FailsLater table bytes e
 fault_cases table bytes fault.BadHeader h = inl (refl, h)
 fault_cases table bytes (fault.FieldCount r) h = inr h
-fault_cases table bytes (fault.Field r why) h = inr h
+fault_cases table bytes (fault.Field r p why) h = inr h
 fault_cases table bytes fault.TooManyRows h = inr h
 fault_cases table bytes fault.NoMemory h = inr h
 

@@ -1,65 +1,102 @@
--- A record of a table of one column.
-use Rattle.std.proofs.Common.{List, ℕ, ℤ, ◌≡◌, ◌≢◌, ◌∷◌, [], Bool, Some, None, inl, length, get_or, map, refl, ap, arith}
-use Rattle.std.specs.Prelude.{IsTrue, ◌↔◌}
+-- A record, field by field.
+use Rattle.std.proofs.Common.{Bor, IsSome, Option, option_map, List, ℕ, ℤ, ◌≡◌, ◌<◌, ◌+◌, ◌∷◌, ◌++◌, [], Some, None, zero, suc, length, get_or, take, map, refl, ap, sym, ◌∙◌, arith, add-one}
+use Rattle.std.specs.Prelude.{All}
 use Rattle.std.specs.Char.{to_ascii_lowercase}
+use Rattle.std.proofs.lemmas.List.{length-map, map-append}
+use Rattle.std.proofs.lemmas.List.Elements.{All-cons, All-nil}
+use Rattle.csv.proofs.RecordFacts.{field-get, field-there}
 use Rattle.csv.specs.Records.{field_at}
+use Rattle.qw_types.specs.Value.{IsOfType}
 use Rattle.qw_types.specs.declared.schema.Column.{Column}
 use Rattle.qw_types.specs.declared.value.Ty.TheVariants.{Integer}
+use Rattle.qw_types.specs.declared.value.Val.{Val}
 use Rattle.qw_types.specs.declared.value.Val.TheVariants.{Num}
 use Rattle.qw_top.specs.declared.loading.FieldFault.{FieldFault}
-use Rattle.qw_top.specs.Loading.{IsFieldFault, IsFieldOf, IsFirstFieldFault, IsHeader, IsOneInteger, IsRecordOf}
+use Rattle.qw_top.specs.Loading.{AreIntegers, IsFieldFault, IsFieldOf, IsFirstFieldFault, IsHeader, IsRecordOf}
 
--- one field, by the length and the first field
-one_field : (fields : List (List ℕ)) (field : List ℕ) → Some field ≡ field_at fields 0 → length fields ≡ 1 → fields ≡ field ∷ []
-unfolding field_at
-one_field [] field h e = cc
-one_field (f ∷ []) field h e = cc h
-one_field (f ∷ g ∷ fields) field h e = absurd (omega arith)
+-- ---- the header
 
-no_field : (fields : List (List ℕ)) → None ≡ field_at fields 0 → fields ≡ []
-unfolding field_at
-no_field [] h = refl
-no_field (f ∷ fields) h = cc h
+-- a header has as many names as there are columns
+pub header_count : (columns : List Column) (fields : List (List ℕ)) → IsHeader columns fields → length fields ≡ length columns
+header_count columns fields h =
+    sym (length-map fields (λ field. map to_ascii_lowercase field)) ∙ ap length h ∙ length-map columns (λ (c : Column). map to_ascii_lowercase c.name)
 
--- a name tells whether its record is the header
-pub header_one : (columns : List Column) (column : Column) (fields : List (List ℕ)) (name : List ℕ) (same : Bool) → IsOneInteger columns
-    → column ≡ get_or columns 0 column → Some name ≡ field_at fields 0 → length fields ≡ 1
-    → (IsTrue same ↔ (map to_ascii_lowercase name ≡ map to_ascii_lowercase column.name))
-    → (IsTrue same ↔ IsHeader columns fields)
-header_one [] column fields name same one c f l h = absurd one
-header_one (d ∷ e ∷ columns) column fields name same one c f l h = absurd one
-header_one (d ∷ []) column fields name same one c f l h =
-    let e = one_field fields name f l in
-    rw e ((λ yes. ap (λ x. x ∷ []) (rw c at (h.0 yes))), (λ eq. h.1 (rw c (head eq))))
+-- one more name
+name_more : (columns : List Column) (fields : List (List ℕ)) (n : ℕ) (column : Column) → n < length columns → length fields ≡ length columns
+    → map to_ascii_lowercase (get_or fields n []) ≡ map to_ascii_lowercase (get_or columns n column).name
+    → IsHeader (take n columns) (take n fields) → IsHeader (take (suc n) columns) (take (suc n) fields)
+name_more [] fields n column lt same name h = absurd (omega arith)
+name_more (c ∷ columns) [] n column lt same name h = absurd (omega arith)
+name_more (c ∷ columns) (f ∷ fields) zero column lt same name h = ap (λ x. x ∷ []) name
+name_more (c ∷ columns) (f ∷ fields) (suc n) column lt same name h = both (name_more columns fields n column (omega arith) (omega arith) name (cc h))
   where
-    head : {a b : List ℕ} → a ∷ [] ≡ b ∷ [] → a ≡ b
-    head p = cc p
+    both : IsHeader (take (suc n) columns) (take (suc n) fields) → IsHeader (c ∷ take (suc n) columns) (f ∷ take (suc n) fields)
+    both more = cc (h, more)
 
--- a record of no field is no header
-pub header_none : (columns : List Column) (fields : List (List ℕ)) → IsOneInteger columns → None ≡ field_at fields 0 → IsHeader columns fields → ⊥
-header_none [] fields one f h = one
-header_none (d ∷ e ∷ columns) fields one f h = one
-header_none (d ∷ []) fields one f h = let g = rw (no_field fields f) at h in cc g
+pub header_more : (columns : List Column) (fields : List (List ℕ)) (n : ℕ) (column : Column) → n < length columns → length fields ≡ length columns
+    → map to_ascii_lowercase (get_or fields n []) ≡ map to_ascii_lowercase (get_or columns n column).name
+    → IsHeader (take n columns) (take n fields) → IsHeader (take (n + 1) columns) (take (n + 1) fields)
+header_more columns fields n column lt same name h = rw add-one (name_more columns fields n column lt same name h)
 
--- a field that stands for a number makes its record stand for the number's row
-pub stands : (columns : List Column) (fields : List (List ℕ)) (field : List ℕ) (n : ℤ) → IsOneInteger columns → Some field ≡ field_at fields 0 → length fields ≡ 1
-    → IsFieldOf Integer field (Num n) → IsRecordOf columns fields (Num n ∷ [])
-stands [] fields field n one f l h = absurd one
-stands (d ∷ e ∷ columns) fields field n one f l h = absurd one
-stands (d ∷ []) fields field n one f l h = rw (one_field fields field f l, one.0) (h, tt)
+-- each name of a header is its column's
+pub header_name : (columns : List Column) (fields : List (List ℕ)) (n : ℕ) (column : Column) → n < length columns → IsHeader columns fields
+    → map to_ascii_lowercase (get_or fields n []) ≡ map to_ascii_lowercase (get_or columns n column).name
+header_name [] fields n column lt h = absurd (omega arith)
+header_name (c ∷ columns) [] n column lt h = cc h
+header_name (c ∷ columns) (f ∷ fields) zero column lt h = cc h
+header_name (c ∷ columns) (f ∷ fields) (suc n) column lt h = header_name columns fields n column (omega arith) (cc h)
 
--- the fault of the one field is the record's first
-pub fails : (columns : List Column) (fields : List (List ℕ)) (field : List ℕ) (why : FieldFault) → IsOneInteger columns → Some field ≡ field_at fields 0 → length fields ≡ 1
-    → IsFieldFault Integer field why → (length fields ≡ length columns) × IsFirstFieldFault columns fields why
-fails [] fields field why one f l h = absurd one
-fails (d ∷ e ∷ columns) fields field why one f l h = absurd one
-fails (d ∷ []) fields field why one f l h = (l, rw (one_field fields field f l, one.0) (inl h))
+-- ---- a data record
 
--- another number of fields than one is another than the columns'
-pub count_differs : (columns : List Column) (fields : List (List ℕ)) → IsOneInteger columns → length fields ≢ 1 → length fields ≢ length columns
-count_differs [] fields one n e = one
-count_differs (d ∷ []) fields one n e = n e
-count_differs (d ∷ e ∷ columns) fields one n f = one
+-- there is a field at each place
+pub some_field : (fields : List (List ℕ)) (n : ℕ) (read : Option (Bor (List ℕ))) → n < length fields
+    → option_map (λ (field : Bor (List ℕ)). field.now) read ≡ field_at fields n → IsSome read
+some_field fields n (Some field) lt h = refl
+some_field fields n None lt h = absurd (field-there fields n lt (sym h))
 
-pub none_differs : (columns : List Column) (fields : List (List ℕ)) → IsOneInteger columns → None ≡ field_at fields 0 → length fields ≢ length columns
-none_differs columns fields one f = rw (no_field fields f) (count_differs columns [] one (λ e. cc e))
+pub field_read : (fields : List (List ℕ)) (n : ℕ) (read : Option (Bor (List ℕ))) (field : Bor (List ℕ)) → read ≡ Some field
+    → option_map (λ (field : Bor (List ℕ)). field.now) read ≡ field_at fields n → field.now ≡ get_or fields n []
+field_read fields n read field is h = sym (field-get fields n field.now (sym (rw is at h)))
+
+-- one more field that stands for a number
+pub stands_more : (columns : List Column) (fields : List (List ℕ)) (values : List Val) (n : ℕ) (number : ℤ) → AreIntegers columns → n < length columns
+    → length fields ≡ length columns → IsFieldOf Integer (get_or fields n []) (Num number) → IsRecordOf (take n columns) (take n fields) values
+    → IsRecordOf (take (suc n) columns) (take (suc n) fields) (values ++ Num number ∷ [])
+stands_more [] fields values n number are lt same h r = absurd (omega arith)
+stands_more (c ∷ columns) [] values n number are lt same h r = absurd (omega arith)
+stands_more (c ∷ columns) (f ∷ fields) [] zero number are lt same h r = rw are.0.0 (h, tt)
+stands_more (c ∷ columns) (f ∷ fields) (v ∷ values) zero number are lt same h r = absurd r
+stands_more (c ∷ columns) (f ∷ fields) [] (suc n) number are lt same h r = absurd r
+stands_more (c ∷ columns) (f ∷ fields) (v ∷ values) (suc n) number are lt same h r =
+    (r.0, stands_more columns fields values n number are.1 (omega arith) (omega arith) h r.1)
+
+pub stands_push : (columns : List Column) (fields : List (List ℕ)) (numbers : List ℤ) (n : ℕ) (number : ℤ) → AreIntegers columns → n < length columns
+    → length fields ≡ length columns → IsFieldOf Integer (get_or fields n []) (Num number) → IsRecordOf (take n columns) (take n fields) (map Num numbers)
+    → IsRecordOf (take (n + 1) columns) (take (n + 1) fields) (map Num (numbers ++ number ∷ []))
+stands_push columns fields numbers n number are lt same h r =
+    rw (add-one, map-append Num numbers (number ∷ [])) (stands_more columns fields (map Num numbers) n number are lt same h r)
+
+-- the first fault is that of the field after some that stand for values
+pub fails_first : (columns : List Column) (fields : List (List ℕ)) (values : List Val) (n : ℕ) (why : FieldFault) → AreIntegers columns → n < length columns
+    → length fields ≡ length columns → IsFieldFault Integer (get_or fields n []) why → IsRecordOf (take n columns) (take n fields) values
+    → IsFirstFieldFault columns fields n why
+fails_first [] fields values n why are lt same h r = absurd (omega arith)
+fails_first (c ∷ columns) [] values n why are lt same h r = absurd (omega arith)
+fails_first (c ∷ columns) (f ∷ fields) values zero why are lt same h r = rw are.0.0 h
+fails_first (c ∷ columns) (f ∷ fields) [] (suc n) why are lt same h r = absurd r
+fails_first (c ∷ columns) (f ∷ fields) (v ∷ values) (suc n) why are lt same h r =
+    (v, r.0, fails_first columns fields values n why are.1 (omega arith) (omega arith) h r.1)
+
+-- the numbers of a record are INTEGERs
+pub record_typed : (columns : List Column) (fields : List (List ℕ)) (numbers : List ℤ) → AreIntegers columns → IsRecordOf columns fields (map Num numbers)
+    → All (λ n. IsOfType Integer (Num n)) numbers
+record_typed columns fields [] are h = All-nil (λ n. IsOfType Integer (Num n))
+record_typed [] fields (n ∷ numbers) are h = absurd (none fields h)
+  where
+    none : (fields : List (List ℕ)) → IsRecordOf [] fields (map Num (n ∷ numbers)) → ⊥
+    none [] h = h
+    none (f ∷ fields) h = h
+record_typed (c ∷ columns) [] (n ∷ numbers) are h = absurd h
+record_typed (c ∷ columns) (f ∷ fields) (n ∷ numbers) are h =
+    let one = rw are.0.0 at h.0 in
+    All-cons (λ n. IsOfType Integer (Num n)) n numbers one.1 (record_typed columns fields numbers are.1 h.1)

@@ -1,21 +1,20 @@
 -- Rounds of turns.
-use Rattle.std.proofs.Common.{◌≡◌, ◌≢◌, ℕ, zero, suc, ◌+◌, ◌-◌, ◌<◌, ◌≤◌, Bool, true, false, ◌||◌, not, ◌⊎◌, inl, inr, ⊎_elim, List, [], ◌∷◌, ◌++◌, length, map, Option, Some, None, IsSome, is_some, slice_get, slice_set, refl, sym, ap, ◌∙◌, subst, arith, add-one, append_assoc}
+use Rattle.std.proofs.Common.{◌≡◌, ◌≢◌, ℕ, zero, suc, ◌+◌, ◌-◌, ◌<◌, ◌≤◌, Bool, true, false, not, ⊎_elim, List, [], ◌∷◌, ◌++◌, length, map, Option, Some, IsSome, is_some, slice_get, slice_set, refl, sym, ap, ◌∙◌, subst, arith, add-one, append_assoc}
 use Rattle.std.specs.Prelude.{if◌then◌else◌}
 use Rattle.std.specs.List.{list_any}
-use Rattle.std.specs.Option.{option_and_then, option_map, option_map_or}
+use Rattle.std.specs.Option.{option_and_then}
 use Rattle.std.proofs.lemmas.Bool.{cases_Bool, false≢true}
 use Rattle.std.proofs.Math.Nat.{eq-or-lt_of_le}
 use Rattle.std.proofs.lemmas.List.{append-nil, length-map, map-append}
-use Rattle.std.proofs.lemmas.Option.{none-some, same_Some, slice_get-map, slice_get_within}
-use Rattle.qw_types.specs.declared.value.Val.{Val}
+use Rattle.std.proofs.lemmas.Option.{none-some, same_Some, slice_get_within}
 use Rattle.qw_module.specs.Turns.{End, Instance, Shared, EachInstance, IsWhole, steps_of, turn, turns, with_instance}
 use Rattle.qw_module.proofs.TurnFacts.{slice_get-set_same}
 use Rattle.qw_module.proofs.TurnSteps.{limits-turns, turn-others, turns-many, turns-whole, unended-runs}
 use Rattle.qw_top.specs.declared.bench.Ended.{Ended}
-use Rattle.qw_top.specs.declared.bench.Ended.TheVariants as ended
 use Rattle.qw_top.specs.declared.bench.Seat.{Seat}
 use Rattle.qw_top.specs.Bench.{AreRounds, AreServing, Task, end_in, ran_in, round, steps_left, unended_below}
 use Rattle.qw_top.specs.Bench as rounds
+use Rattle.qw_top.proofs.SeatSteps.{is_some-end_of}
 use Rattle.qw_top.proofs.Serving.{each-whole, there}
 use Rattle.qw_top.specs.Seats.{IsBench, Standing, end_of, instance_of, shared_of, tasks_of}
 
@@ -98,11 +97,6 @@ next-below b kept quantum k now i so_far found unended =
     let whole = whole-now b kept (round_below quantum (shared_of b) k) now so_far.state k i found in
     let none : is_some i.end ≡ false = rw found at unended in
     (unended-runs i whole none i.state refl).2
-
-is_some-end_of : (o : Option Ended) → is_some (end_of o) ≡ is_some o
-is_some-end_of None = refl
-is_some-end_of (Some ended.Done) = refl
-is_some-end_of (Some (ended.Steps limit)) = refl
 
 -- the test that an instance hasn't ended
 end-test : (s : Shared) (k : ℕ) (o : Option Ended) (test : Bool) → end_of o ≡ end_in s k → is_some o ≡ test → is_some (end_in s k) ≡ test

@@ -1,17 +1,29 @@
 -- Following the chain of result rows.
-use Rattle.std.proofs.Common.{◌≡◌, ℕ, ℤ, suc, ◌+◌, ◌-◌, ◌<◌, ◌≤◌, ◌^◌, Bool, true, false, IsTrue, ◌&&◌, List, [], ◌∷◌, ◌++◌, length, Option, Some, None, IsSome, refl, sym, ◌∙◌, subst, ⊎_elim, arith, w64, append_assoc}
-use Rattle.std.specs.Int.{cast_signed}
+use Rattle.std.proofs.Common.{◌≡◌, ℕ, suc, ◌+◌, ◌-◌, ◌*◌, ◌<◌, ◌≤◌, Bool, true, false, IsTrue, ◌&&◌, List, [], ◌∷◌, ◌++◌, length, drop, get_or, Option, Some, None, IsSome, refl, sym, ap, ◌∙◌, subst, ⊎_elim, arith, append_assoc, drop-cons}
 use Rattle.std.specs.List.{AllByRecursion}
 use Rattle.std.specs.Prelude.{nat_le, ◌==◌, if◌then◌else◌}
-use Rattle.std.proofs.lemmas.Bool.{cases_Bool, leb-true, false≢true}
-use Rattle.std.proofs.lemmas.List.{append-nil}
+use Rattle.std.proofs.lemmas.Bool.{cases_Bool, leb-true, le-leb, false≢true}
+use Rattle.std.proofs.lemmas.List.{append-nil, drop_all}
 use Rattle.std.proofs.lemmas.Option.{same_Some, none-some}
+use Rattle.qw_types.specs.declared.value.Ty.{Ty}
 use Rattle.qw_types.specs.declared.value.Val.{Val}
-use Rattle.qw_types.specs.declared.value.Val.TheVariants.{Num}
 use Rattle.qw_module.specs.Map.{Area, lies_in, lies_in_one}
-use Rattle.qw_module.specs.Memory.{number_at}
+use Rattle.qw_linear.specs.Memory.{loaded, number_at}
 use Rattle.qw_module.specs.Turns.{LiesWithin}
-use Rattle.qw_top.specs.Layout.{is_integer, row_at, row_before, rows_at, rows_from}
+use Rattle.qw_emit.specs.Layout.{before, cell_at, cells_at, row_at, row_size, rows_at, rows_from}
+
+-- a value and others that are both there
+record AreParts {T : Type 0} (first : Option T) (rest : Option (List T)) (all : List T) : Type 0 where
+  one : T
+  others : List T
+  first_is : first ≡ Some one
+  rest_is : rest ≡ Some others
+  all_is : all ≡ one ∷ others
+
+parts_of : {T : Type 0} (first : Option T) (rest : Option (List T)) (all : List T) → before first rest ≡ Some all → AreParts first rest all
+parts_of None rest all h = absurd (none-some all h)
+parts_of (Some x) None all h = absurd (none-some all h)
+parts_of (Some x) (Some xs) all h = record { one = x; others = xs; first_is = refl; rest_is = refl; all_is = cc }
 
 -- what lies in one of the areas lies in the memory that they lie in
 pub lies-within : (own : List Area) (octets at width : ℕ) → AllByRecursion (LiesWithin octets) own → IsTrue (lies_in_one own at width) → at + width ≤ octets
@@ -25,88 +37,126 @@ lies-within (area ∷ own) octets at width (here, rest) lies = ⊎_elim
     second true b h = h
     second false b h = absurd (false≢true h)
 
--- a row that is there has its value, and lies in an own area
-pub record IsRow (own : List Area) (memory : List ℕ) (at : ℕ) (row : List Val) : Type 0 where
-  pub lies : IsTrue (lies_in_one own at 24)
-  pub value : row ≡ Num (cast_signed w64 (number_at memory (at + 8) 8)) ∷ []
+-- ---- the cells of a row
+-- after k cells: those that are read, and those that are left
+pub record AreCells (memory : List ℕ) (types : List Ty) (cells k : ℕ) (values : List Val) : Type 0 where
+  pub rest : List Val
+  pub left : cells_at memory (cells + 16 * k) (drop k types) ≡ Some rest
+  pub all : cells_at memory cells types ≡ Some (values ++ rest)
 
-pub row-there : (own : List Area) (memory : List ℕ) (at : ℕ) (row : List Val) → row_at own memory at ≡ Some row → IsRow own memory at row
-row-there own memory at row there = by_tests (lies_in_one own at 24) ((number_at memory (at + 16) 1 == 0) && is_integer value) refl there
+pub cells-none : (memory : List ℕ) (types : List Ty) (cells : ℕ) → IsSome (cells_at memory cells types) → AreCells memory types cells 0 []
+cells-none memory types cells there = begin (cells_at memory cells types) refl there
   where
-    value : ℤ
-    value = cast_signed w64 (number_at memory (at + 8) 8)
+    begin : (o : Option (List Val)) → cells_at memory cells types ≡ o → IsSome o → AreCells memory types cells 0 []
+    begin None is h = absurd (false≢true h)
+    begin (Some values) is h = let first : cells + 16 * 0 ≡ cells = omega arith in record { rest = values; left = rw first is; all = is }
 
-    by_tests : (lies fits : Bool) → lies_in_one own at 24 ≡ lies → (if lies && fits then Some (Num value ∷ []) else None) ≡ Some row → IsRow own memory at row
-    by_tests false fits is h = absurd (none-some row h)
-    by_tests true false is h = absurd (none-some row h)
-    by_tests true true is h = record { lies = is; value = sym (same_Some (Num value ∷ []) row h) }
+-- the next cell, and those after it
+next-cell : (memory : List ℕ) (types : List Ty) (cells k : ℕ) (values : List Val) (d : Ty) → k < length types → (read : AreCells memory types cells k values) →
+    AreParts (cell_at memory (cells + 16 * k) (get_or types k d)) (cells_at memory (cells + 16 * (k + 1)) (drop (k + 1) types)) read.rest
+next-cell memory types cells k values d within read =
+    let place : cells + 16 * k + 16 ≡ cells + 16 * (k + 1) = omega arith in
+    let next : suc k ≡ k + 1 = omega arith in
+    let cut : drop k types ≡ get_or types k d ∷ drop (k + 1) types = rw next at (drop-cons types k d within) in
+    let all : before (cell_at memory (cells + 16 * k) (get_or types k d)) (cells_at memory (cells + 16 * k + 16) (drop (k + 1) types)) ≡ Some read.rest =
+    subst (λ (tys : List Ty). cells_at memory (cells + 16 * k) tys ≡ Some read.rest) cut read.left in
+    parts_of (cell_at memory (cells + 16 * k) (get_or types k d)) (cells_at memory (cells + 16 * (k + 1)) (drop (k + 1) types)) read.rest
+    (subst (λ (at : ℕ). before (cell_at memory (cells + 16 * k) (get_or types k d)) (cells_at memory at (drop (k + 1) types)) ≡ Some read.rest) place all)
 
--- the first of several chained rows, and the rows that its link leads to
-pub record AreSplit (own : List Area) (memory : List ℕ) (count at : ℕ) (rows : List (List Val)) : Type 0 where
-  pub first : List Val
-  pub rest : List (List Val)
-  pub row : row_at own memory at ≡ Some first
-  pub others : rows_from own memory count (number_at memory at 4) ≡ Some rest
-  pub are : rows ≡ first ∷ rest
+pub cell-there : (memory : List ℕ) (types : List Ty) (cells k : ℕ) (values : List Val) (d : Ty) → k < length types → AreCells memory types cells k values →
+    IsSome (cell_at memory (cells + 16 * k) (get_or types k d))
+cell-there memory types cells k values d within read = rw (next-cell memory types cells k values d within read).first_is refl
 
-pub rows-split : (own : List Area) (memory : List ℕ) (count at : ℕ) (rows : List (List Val)) → rows_from own memory (suc count) at ≡ Some rows →
-    AreSplit own memory count at rows
-rows-split own memory count at rows there = split (row_at own memory at) (rows_from own memory count (number_at memory at 4)) refl refl there
-  where
-    split : (one : Option (List Val)) (others : Option (List (List Val))) → row_at own memory at ≡ one →
-        rows_from own memory count (number_at memory at 4) ≡ others → row_before one others ≡ Some rows → AreSplit own memory count at rows
-    split None others first rest h = absurd (none-some rows h)
-    split (Some row) None first rest h = absurd (none-some rows h)
-    split (Some row) (Some more) first rest h = record { first = row; rest = more; row = first; others = rest; are = sym (same_Some _ _ h) }
+pub cells-more : (memory : List ℕ) (types : List Ty) (cells k : ℕ) (values : List Val) (value : Val) (d : Ty) → k < length types →
+    cell_at memory (cells + 16 * k) (get_or types k d) ≡ Some value → AreCells memory types cells k values → AreCells memory types cells (k + 1) (values ++ value ∷ [])
+cells-more memory types cells k values value d within is read =
+    let next = next-cell memory types cells k values d within read in
+    let same : next.one ≡ value = same_Some next.one value (sym next.first_is ∙ is) in
+    let rest : read.rest ≡ value ∷ next.others = next.all_is ∙ ap (λ (v : Val). v ∷ next.others) same in
+    record {
+      rest = next.others;
+      left = next.rest_is;
+      all = read.all ∙ ap (λ (vs : List Val). Some (values ++ vs)) rest ∙ ap Some (sym (append_assoc values (value ∷ []) next.others));
+    }
+
+pub cells-all : (memory : List ℕ) (types : List Ty) (cells k : ℕ) (values : List Val) → k ≡ length types → AreCells memory types cells k values →
+    cells_at memory cells types ≡ Some values
+cells-all memory types cells k values all read =
+    let none : drop k types ≡ [] = drop_all k types (omega (arith, all)) in
+    let empty : read.rest ≡ [] = sym (same_Some [] read.rest (subst (λ (tys : List Ty). cells_at memory (cells + 16 * k) tys ≡ Some read.rest) none read.left)) in
+    read.all ∙ ap (λ (vs : List Val). Some (values ++ vs)) empty ∙ ap Some (append-nil values)
+
+-- what is loaded inside the memory
+pub loaded-inside : (memory : List ℕ) (at width : ℕ) → at + width ≤ length memory → loaded memory at width ≡ Some (number_at memory at width)
+loaded-inside memory at width inside = rw (le-leb (at + width) (length memory) inside) refl
+
+-- ---- rows
+-- a row that is there lies in an own area, and has its cells
+pub record IsRow (types : List Ty) (own : List Area) (memory : List ℕ) (at : ℕ) (row : List Val) : Type 0 where
+  pub lies : IsTrue (lies_in_one own at (row_size (length types)))
+  pub cells : cells_at memory (at + 8) types ≡ Some row
+
+pub row-there : (types : List Ty) (own : List Area) (memory : List ℕ) (at : ℕ) (row : List Val) → row_at types own memory at ≡ Some row → IsRow types own memory at row
+row-there types own memory at row there = ⊎_elim
+    (λ lies. record { lies = lies; cells = rw lies at there })
+    (λ lies_not. absurd (none-some row (rw lies_not at there)))
+    (cases_Bool (lies_in_one own at (row_size (length types))))
 
 -- after k of `count` rows: those that are read, and those that are left at an address
-pub record IsRead (own : List Area) (memory : List ℕ) (count first k at : ℕ) (rows : List (List Val)) : Type 0 where
+pub record IsRead (types : List Ty) (own : List Area) (memory : List ℕ) (count first k at : ℕ) (rows : List (List Val)) : Type 0 where
   pub rest : List (List Val)
-  pub left : rows_from own memory (count - k) at ≡ Some rest
-  pub all : rows_from own memory count first ≡ Some (rows ++ rest)
-  pub small : at < 2 ^ 32
+  pub left : rows_from types own memory (count - k) at ≡ Some rest
+  pub all : rows_from types own memory count first ≡ Some (rows ++ rest)
 
-pub read-none : (own : List Area) (memory : List ℕ) (count first : ℕ) → IsSome (rows_from own memory count first) → first < 2 ^ 32 →
-    IsRead own memory count first 0 first []
-read-none own memory count first there small = begin (rows_from own memory count first) refl there
+pub read-none : (types : List Ty) (own : List Area) (memory : List ℕ) (count first : ℕ) → IsSome (rows_from types own memory count first) →
+    IsRead types own memory count first 0 first []
+read-none types own memory count first there = begin (rows_from types own memory count first) refl there
   where
-    begin : (o : Option (List (List Val))) → rows_from own memory count first ≡ o → IsSome o → IsRead own memory count first 0 first []
+    begin : (o : Option (List (List Val))) → rows_from types own memory count first ≡ o → IsSome o → IsRead types own memory count first 0 first []
     begin None is h = absurd (false≢true h)
-    begin (Some rows) is h = let whole : count - 0 ≡ count = omega arith in record { rest = rows; left = rw whole is; all = is; small = small }
+    begin (Some rows) is h = let whole : count - 0 ≡ count = omega arith in record { rest = rows; left = rw whole is; all = is }
 
--- the next row
-pub next-split : (own : List Area) (memory : List ℕ) (count first k at : ℕ) (rows : List (List Val)) → k < count → (read : IsRead own memory count first k at rows) →
-    AreSplit own memory (count - (k + 1)) at read.rest
-next-split own memory count first k at rows within read =
+-- the next row, and the rows that its link leads to
+next-row : (types : List Ty) (own : List Area) (memory : List ℕ) (count first k at : ℕ) (rows : List (List Val)) → k < count →
+    (read : IsRead types own memory count first k at rows) →
+    AreParts (row_at types own memory at) (rows_from types own memory (count - (k + 1)) (number_at memory at 4)) read.rest
+next-row types own memory count first k at rows within read =
     let one : count - k ≡ suc (count - (k + 1)) = omega arith in
-    rows-split own memory (count - (k + 1)) at read.rest (subst (λ (n : ℕ). rows_from own memory n at ≡ Some read.rest) one read.left)
+    parts_of (row_at types own memory at) (rows_from types own memory (count - (k + 1)) (number_at memory at 4)) read.rest
+    (subst (λ (n : ℕ). rows_from types own memory n at ≡ Some read.rest) one read.left)
 
-pub next-inside : (own : List Area) (memory : List ℕ) (count first k at : ℕ) (rows : List (List Val)) → AllByRecursion (LiesWithin (length memory)) own → k < count →
-    IsRead own memory count first k at rows → at + 24 ≤ length memory
-next-inside own memory count first k at rows inside within read =
-    let split = next-split own memory count first k at rows within read in
-    lies-within own (length memory) at 24 inside (row-there own memory at split.first split.row).lies
+pub next-inside : (types : List Ty) (own : List Area) (memory : List ℕ) (count first k at : ℕ) (rows : List (List Val)) →
+    AllByRecursion (LiesWithin (length memory)) own → k < count → IsRead types own memory count first k at rows → at + row_size (length types) ≤ length memory
+next-inside types own memory count first k at rows inside within read =
+    let next = next-row types own memory count first k at rows within read in
+    lies-within own (length memory) at (row_size (length types)) inside (row-there types own memory at next.one next.first_is).lies
 
-pub read-more : (own : List Area) (memory : List ℕ) (count first k at next : ℕ) (rows : List (List Val)) (row : List Val) → k < count →
-    row ≡ Num (cast_signed w64 (number_at memory (at + 8) 8)) ∷ [] → next ≡ number_at memory at 4 → next < 2 ^ 32 →
-    IsRead own memory count first k at rows → IsRead own memory count first (k + 1) next (rows ++ row ∷ [])
-read-more own memory count first k at next rows row within is link small read =
-    let split = next-split own memory count first k at rows within read in
-    let same : split.first ≡ row = (row-there own memory at split.first split.row).value ∙ sym is in
+pub next-there : (types : List Ty) (own : List Area) (memory : List ℕ) (count first k at : ℕ) (rows : List (List Val)) → k < count →
+    IsRead types own memory count first k at rows → IsSome (cells_at memory (at + 8) types)
+next-there types own memory count first k at rows within read =
+    let next = next-row types own memory count first k at rows within read in
+    rw (row-there types own memory at next.one next.first_is).cells refl
+
+pub read-more : (types : List Ty) (own : List Area) (memory : List ℕ) (count first k at next : ℕ) (rows : List (List Val)) (row : List Val) → k < count →
+    cells_at memory (at + 8) types ≡ Some row → next ≡ number_at memory at 4 →
+    IsRead types own memory count first k at rows → IsRead types own memory count first (k + 1) next (rows ++ row ∷ [])
+read-more types own memory count first k at next rows row within is link read =
+    let parts = next-row types own memory count first k at rows within read in
+    let same : parts.one ≡ row = same_Some parts.one row (sym (row-there types own memory at parts.one parts.first_is).cells ∙ is) in
+    let rest : read.rest ≡ row ∷ parts.others = parts.all_is ∙ ap (λ (r : List Val). r ∷ parts.others) same in
     record {
-      rest = split.rest;
-      left = rw link split.others;
-      all = rw (append_assoc, ← same) (rw split.are at read.all);
-      small = small;
+      rest = parts.others;
+      left = rw link parts.rest_is;
+      all = read.all ∙ ap (λ (rs : List (List Val)). Some (rows ++ rs)) rest ∙ ap Some (sym (append_assoc rows (row ∷ []) parts.others));
     }
 
 -- all rows are read
-pub read-all : (own : List Area) (memory : List ℕ) (count first k at : ℕ) (rows : List (List Val)) → count ≤ k → IsRead own memory count first k at rows →
-    rows_from own memory count first ≡ Some rows
-read-all own memory count first k at rows over read =
+pub read-all : (types : List Ty) (own : List Area) (memory : List ℕ) (count first k at : ℕ) (rows : List (List Val)) → count ≤ k →
+    IsRead types own memory count first k at rows → rows_from types own memory count first ≡ Some rows
+read-all types own memory count first k at rows over read =
     let none : count - k ≡ 0 = omega arith in
-    let empty : read.rest ≡ [] = last-link at read.rest (subst (λ (n : ℕ). rows_from own memory n at ≡ Some read.rest) none read.left) in
-    rw (empty, append-nil) at read.all
+    let empty : read.rest ≡ [] = last-link at read.rest (subst (λ (n : ℕ). rows_from types own memory n at ≡ Some read.rest) none read.left) in
+    read.all ∙ ap (λ (rs : List (List Val)). Some (rows ++ rs)) empty ∙ ap Some (append-nil rows)
   where
     last-link : (at : ℕ) (rest : List (List Val)) → (if at == 0 then Some [] else None) ≡ Some rest → rest ≡ []
     last-link at rest h = ⊎_elim
@@ -115,8 +165,9 @@ read-all own memory count first k at rows over read =
         (cases_Bool (at == 0))
 
 -- the head of a descriptor with result rows
-pub head-inside : (own : List Area) (memory : List ℕ) (descriptor : ℕ) → IsSome (rows_at own memory descriptor) → IsTrue (lies_in_one own descriptor 24)
-head-inside own memory descriptor there = ⊎_elim
+pub head-inside : (types : List Ty) (own : List Area) (memory : List ℕ) (descriptor : ℕ) → IsSome (rows_at types own memory descriptor) →
+    IsTrue (lies_in_one own descriptor 24)
+head-inside types own memory descriptor there = ⊎_elim
     (λ inside. inside)
     (λ outside. absurd (false≢true (rw outside at there)))
     (cases_Bool (lies_in_one own descriptor 24))

@@ -1,36 +1,46 @@
--- How the stages of a run compose, and that told files settle one end.
-use Rattle.std.proofs.Common.{◌≡◌, ◌⊎◌, ℕ, zero, suc, Bool, ◌<◌, ◌≤◌, List, [], ◌∷◌, Option, Some, None, inl, inr, refl, sym, subst, length, ap, ◌∙◌, arith}
-use Rattle.std.specs.Prelude.{IsSome, IsSomeAnd, slice_get}
+-- How the reading of the files goes on from stage to stage, and that told files settle one end.
+use Rattle.std.proofs.Common.{◌≡◌, ◌⊎◌, ℕ, zero, suc, Bool, ◌<◌, ◌≤◌, List, [], ◌∷◌, Option, Some, None, inl, inr, refl, sym, subst, length, ap, ◌∙◌, arith, map}
+use Rattle.std.specs.Prelude.{IsSomeAnd, slice_get, true, false, ◌==◌, ◌||◌, if◌then◌else◌, filter}
 use Rattle.std.specs.Str.{bytes_eq}
-use Rattle.std.specs.List.{position_or_len}
+use Rattle.std.specs.List.{AllByRecursion, list_any, position_or_len, range_with_len}
+use Rattle.std.proofs.lemmas.Bool.{eqb-true}
 use Rattle.std.proofs.lemmas.List.Folds.{find_at}
 use Rattle.std.proofs.lemmas.List.Quantifiers.{position-Some}
-use Rattle.std.proofs.lemmas.Option.{slice_get-get_or}
 use Rattle.qw_types.specs.declared.schema.Column.{Column}
+use Rattle.qw_types.specs.declared.schema.TheConstants.{MAX_COLUMNS}
 use Rattle.qw_types.specs.declared.schema.Table.{Table}
 use Rattle.qw_types.specs.declared.value.Val.{Val}
+use Rattle.qw_meaning.specs.Statement.{Statement}
+use Rattle.qw_emit.specs.Layout.{is_used, used}
 use Rattle.qw_top.specs.declared.files.TheConstants.{MAX_TABLE_FILE, MAX_TEXT_FILE}
-use Rattle.qw_top.specs.declared.meaning.Query.{Query}
 use Rattle.qw_top.specs.declared.status.Status.{Status}
-use Rattle.qw_top.specs.declared.status.Status.TheVariants.{Done, WordsRefused, SchemaRefused, TableFileRefused, QueriesRefused}
+use Rattle.qw_top.specs.declared.status.Status.TheVariants.{Done, PageLimitMet, WordsRefused, SchemaRefused, TableFileRefused, QueriesRefused, ReadFailed, WriteFailed, NoMemory as NoMemoryLeft}
+use Rattle.qw_top.specs.declared.stop.Refusal.{Refusal}
+use Rattle.qw_top.specs.declared.stop.Refusal.TheVariants.{TableFile, Queries}
+use Rattle.qw_top.specs.declared.stop.Stop.{Stop}
+use Rattle.qw_top.specs.declared.stop.Stop.TheVariants.{Refused, Unread, NoMemory}
 use Rattle.qw_top.specs.FileNames.{table_file_of}
 use Rattle.qw_top.specs.Parse.{ReadsQuery, ReadsSchema, integer_column, place_of, table_of}
-use Rattle.qw_top.specs.Loading.{Loads}
-use Rattle.qw_top.specs.Top.{AreNames, Explains, Files, FilesExplain, HasQuery, HasRows, IsFile, IsNoQuery, IsNoSchema, IsNoTable, IsOneTable, IsSettled, IsTooLong, Names, QueryIs, SchemaIs, StopsAs, StopsReading, TableIs, selected}
+use Rattle.qw_top.specs.Loading.{AreIntegers, Contents, Loads}
+use Rattle.qw_top.specs.Stages.{FilesStop, StopsAs}
+use Rattle.qw_top.specs.Stop.{refusal_status}
+use Rattle.qw_top.specs.Top.{AreColumnsOf, AreNames, Explains, Files, FilesExplain, HasQuery, HasRows, IsFault, IsFile, IsFileOf, IsNoQuery, IsNoSchema, IsNoTable, IsOneTable, IsSettled, IsTooLong, Names, QueryIs, SchemaIs, TableIs}
 use Rattle.qw_top.proofs.LoadingLaws.{same_loads, loads_or_fails}
 use Rattle.qw_top.proofs.ReadLemmas.{ReadsQuery-unique, ReadsSchema-unique}
 
--- a fault, or the stage's own refusal, is an end that the reading can come to
-pub StopsAs-reading : (refusal status : Status) (reason : Type 0) → StopsReading refusal → StopsAs refusal reason status → StopsReading status
-StopsAs-reading refusal status reason may (inl (is, _)) = subst StopsReading (sym is) may
-StopsAs-reading refusal status reason may (inr (inl is)) = subst StopsReading (sym is) tt
-StopsAs-reading refusal status reason may (inr (inr is)) = subst StopsReading (sym is) tt
+-- a stage that stopped for a reason of its own, or at a file that a run may read, is explained
+pub StopsAs-explained : (files : Files) (names : Names) (refusal : Refusal) (reason : Type 0) (name : List ℕ) (stop : Stop) → (reason → FilesExplain files names (refusal_status refusal)) → IsFileOf files names name → StopsAs refusal reason name stop → FilesStop files names stop
+StopsAs-explained files names refusal reason name (Refused other) why named (is, holds) = subst (λ (r : Refusal). FilesExplain files names (refusal_status r)) (sym is) (why holds)
+StopsAs-explained files names refusal reason name (Unread file) why named is = subst (λ (octets : List ℕ). IsFileOf files names octets) (sym is) named
+StopsAs-explained files names refusal reason name NoMemory why named stops = tt
 
--- where a stage's own refusal is explained, each end of the stage is
-pub StopsAs-explained : (files : Files) (names : Names) (refusal status : Status) (reason : Type 0) → (reason → FilesExplain files names refusal) → StopsAs refusal reason status → FilesExplain files names status
-StopsAs-explained files names refusal status reason why (inl (is, holds)) = subst (FilesExplain files names) (sym is) (why holds)
-StopsAs-explained files names refusal status reason why (inr (inl is)) = subst (FilesExplain files names) (sym is) tt
-StopsAs-explained files names refusal status reason why (inr (inr is)) = subst (FilesExplain files names) (sym is) tt
+integers_of : (names : List (List ℕ)) → AreIntegers (map integer_column names)
+integers_of [] = tt
+integers_of (name ∷ names) = ((refl, refl), integers_of names)
+
+-- a schema that was read has one table, of INTEGER columns
+pub ReadsSchema-one : (text : List ℕ) (schema : List Table) → ReadsSchema text schema → IsOneTable schema
+ReadsSchema-one text schema reads = rw reads.declares (integers_of reads.columns)
 
 -- the one table of a schema
 pub only_table : (schema : List Table) → IsOneTable schema → (table : Table) × (schema ≡ table ∷ [])
@@ -38,46 +48,51 @@ only_table [] one = absurd one
 only_table (table ∷ []) one = (table, refl)
 only_table (table ∷ next ∷ tables) one = absurd one
 
--- each end of the table's stage is explained, after a schema that was accepted
-pub table_explained : (files now : Files) (names : Names) (schema : List Table) (status : Status) → now ≡ files → SchemaIs files names.schema schema → IsOneTable schema → ((table : Table) → schema ≡ table ∷ [] → StopsAs TableFileRefused (IsNoTable now names.folder table) status) → FilesExplain files names status
-table_explained files now names schema status same declared one stops =
+-- where the table's stage stopped, after a schema that was accepted
+pub table_stops : (files now : Files) (names : Names) (schema : List Table) (stop : Stop) → now ≡ files → SchemaIs files names.schema schema → IsOneTable schema → ((table : Table) → schema ≡ table ∷ [] → StopsAs TableFile (IsNoTable now names.folder table) (table_file_of names.folder table.name) stop) → FilesStop files names stop
+table_stops files now names schema stop same declared one stops =
     let t = only_table schema one in
-    StopsAs-explained files names TableFileRefused status (IsNoTable now names.folder t.0)
-    (λ none. (t.0, subst (λ (s : List Table). SchemaIs files names.schema s) t.1 declared, subst (λ (f : Files). IsNoTable f names.folder t.0) same none))
+    let is : SchemaIs files names.schema (t.0 ∷ []) = subst (λ (s : List Table). SchemaIs files names.schema s) t.1 declared in
+    StopsAs-explained files names TableFile (IsNoTable now names.folder t.0) (table_file_of names.folder t.0.name) stop
+    (λ none. (t.0, is, subst (λ (f : Files). IsNoTable f names.folder t.0) same none))
+    (inr (inl (t.0, is, refl)))
     (stops t.0 t.1)
 
-pub table_stops : (now : Files) (names : Names) (schema : List Table) (status : Status) → IsOneTable schema → ((table : Table) → schema ≡ table ∷ [] → StopsAs TableFileRefused (IsNoTable now names.folder table) status) → StopsReading status
-table_stops now names schema status one stops =
-    let t = only_table schema one in
-    StopsAs-reading TableFileRefused status (IsNoTable now names.folder t.0) tt (stops t.0 t.1)
-
 -- what was accepted before the queries file
-pub rows_accepted : (files now : Files) (names : Names) (schema : List Table) (rows : List (List Val)) → now ≡ files → SchemaIs files names.schema schema → IsOneTable schema → ((table : Table) → schema ≡ table ∷ [] → TableIs now names.folder table rows) → (table : Table) × (schema ≡ table ∷ []) × HasRows files names table rows
-rows_accepted files now names schema rows same declared one loaded =
+pub rows_accepted : (files now : Files) (names : Names) (schema : List Table) (contents : Contents) → now ≡ files → SchemaIs files names.schema schema → IsOneTable schema →
+    ((table : Table) → schema ≡ table ∷ [] → TableIs now names.folder table contents.rows) → ((table : Table) → schema ≡ table ∷ [] → contents.width ≡ length table.columns) →
+    (table : Table) × (schema ≡ table ∷ []) × (contents.width ≡ length table.columns) × HasRows files names table contents.rows
+rows_accepted files now names schema contents same declared one loaded wide =
     let t = only_table schema one in (
       t.0,
       t.1,
+      wide t.0 t.1,
       record {
         declared = subst (λ (s : List Table). SchemaIs files names.schema s) t.1 declared;
-        loaded = subst (λ (f : Files). TableIs f names.folder t.0 rows) same (loaded t.0 t.1);
+        loaded = subst (λ (f : Files). TableIs f names.folder t.0 contents.rows) same (loaded t.0 t.1);
       },
     )
 
--- each end of the queries' stage is explained, after a table that was accepted
-pub queries_explained : (files now : Files) (names : Names) (schema : List Table) (rows : List (List Val)) (status : Status) → now ≡ files → ((table : Table) × (schema ≡ table ∷ []) × HasRows files names table rows) → StopsAs QueriesRefused (IsNoQuery now names.queries schema) status → FilesExplain files names status
-queries_explained files now names schema rows status same (table, is, held) stops =
-    StopsAs-explained files names QueriesRefused status (IsNoQuery now names.queries schema)
-    (λ none. (table, rows, held, subst (λ (s : List Table). IsNoQuery files names.queries s) is (subst (λ (f : Files). IsNoQuery f names.queries schema) same none)))
+-- where the queries' stage stopped, after a table that was accepted
+pub queries_stop : (files now : Files) (names : Names) (schema : List Table) (contents : Contents) (stop : Stop) → now ≡ files →
+    ((table : Table) × (schema ≡ table ∷ []) × (contents.width ≡ length table.columns) × HasRows files names table contents.rows) → StopsAs Queries (IsNoQuery now names.queries schema) names.queries stop → FilesStop files names stop
+queries_stop files now names schema contents stop same (table, is, wide, held) stops =
+    StopsAs-explained files names Queries (IsNoQuery now names.queries schema) names.queries stop
+    (λ none. (table, contents.rows, held, subst (λ (s : List Table). IsNoQuery files names.queries s) is (subst (λ (f : Files). IsNoQuery f names.queries schema) same none)))
+    (inr (inr refl))
     stops
 
 -- all was accepted
-pub all_accepted : (files now : Files) (names : Names) (schema : List Table) (rows : List (List Val)) (query : Query) → now ≡ files → ((table : Table) × (schema ≡ table ∷ []) × HasRows files names table rows) → QueryIs now names.queries schema query → (table : Table) × (schema ≡ table ∷ []) × HasQuery files names table rows query
-all_accepted files now names schema rows query same (table, is, held) asked = (
+pub all_accepted : (files now : Files) (names : Names) (schema : List Table) (contents : Contents) (statement : Statement) → now ≡ files →
+    ((table : Table) × (schema ≡ table ∷ []) × (contents.width ≡ length table.columns) × HasRows files names table contents.rows) → QueryIs now names.queries schema statement →
+    (table : Table) × (schema ≡ table ∷ []) × (contents.width ≡ length table.columns) × HasQuery files names table contents.rows statement
+all_accepted files now names schema contents statement same (table, is, wide, held) asked = (
   table,
   is,
+  wide,
   record {
     before = held;
-    asked = subst (λ (s : List Table). QueryIs files names.queries s query) is (subst (λ (f : Files). QueryIs f names.queries schema query) same asked);
+    asked = subst (λ (s : List Table). QueryIs files names.queries s statement) is (subst (λ (f : Files). QueryIs f names.queries schema statement) same asked);
   },
 )
 
@@ -85,20 +100,71 @@ only_element : {A : Type 0} (x y : A) (k : ℕ) → slice_get (x ∷ []) k ≡ S
 only_element x y zero h = cc
 only_element x y (suc k) h = cc
 
-selects_of : (table found : Table) (name column : List ℕ) (query : Query) → table_of (table ∷ []) name ≡ Some found → place_of found.columns column ≡ Some query.column → IsSome (selected (table ∷ []) query)
-selects_of table found name column query finds places =
-    let is_named : Table → Bool = λ t. bytes_eq name t.name in
-    let same = only_element table found (position_or_len is_named (table ∷ [])) (sym (find_at is_named (table ∷ [])) ∙ finds) in
-    let here = subst (λ (t : Table). place_of t.columns column ≡ Some query.column) same places in
+-- a place that was found is one of the columns
+place_within : (columns : List Column) (name : List ℕ) (place : ℕ) → place_of columns name ≡ Some place → place < length columns
+place_within columns name place is =
     let other : Column = integer_column [] in
-    let within = position-Some (λ (c : Column). bytes_eq column c.name) table.columns query.column other here in
-    rw (slice_get-get_or table.columns query.column other within.0) refl
+    (position-Some (λ (c : Column). bytes_eq name c.name) columns place other is).0
 
--- a query that was read over one table selects one of its columns
-pub ReadsQuery-selects : (schema : List Table) (table : Table) (text : List ℕ) (query : Query) → schema ≡ table ∷ [] → ReadsQuery schema text query → IsSome (selected schema query)
-ReadsQuery-selects schema table text query is reads =
-    let r = subst (λ (s : List Table). ReadsQuery s text query) is reads in
-    rw is (selects_of table r.table r.table_name r.column_name query r.table_is r.column_is)
+places_within : (columns : List Column) (names : List (List ℕ)) (places : List ℕ) → map (place_of columns) names ≡ map Some places → AllByRecursion (λ place. place < length columns) places
+places_within columns names [] is = tt
+places_within columns [] (place ∷ places) is = cc
+places_within columns (name ∷ names) (place ∷ places) is =
+    let first : place_of columns name ≡ Some place = cc in
+    let rest : map (place_of columns) names ≡ map Some places = cc in
+    (place_within columns name place first, places_within columns names places rest)
+
+columns_of : (table found : Table) (name tested : List ℕ) (names : List (List ℕ)) (statement : Statement) → table_of (table ∷ []) name ≡ Some found →
+    map (place_of found.columns) names ≡ map Some statement.columns → place_of found.columns tested ≡ Some statement.tested → AreColumnsOf table statement
+columns_of table found name tested names statement finds columns tests =
+    let is_named : Table → Bool = λ t. bytes_eq name t.name in
+    let same = only_element table found (position_or_len is_named (table ∷ [])) (sym (find_at is_named (table ∷ [])) ∙ finds) in (
+      place_within table.columns tested statement.tested (subst (λ (t : Table). place_of t.columns tested ≡ Some statement.tested) same tests),
+      places_within table.columns names statement.columns (subst (λ (t : Table). map (place_of t.columns) names ≡ map Some statement.columns) same columns),
+    )
+
+-- a statement that was read over one table has columns of it
+pub ReadsQuery-columns : (table : Table) (text : List ℕ) (statement : Statement) → ReadsQuery (table ∷ []) text statement → AreColumnsOf table statement
+ReadsQuery-columns table text statement reads =
+    columns_of table reads.means.table reads.selection.source.table reads.selection.source.tested reads.selection.columns statement reads.means.table_is reads.means.columns_are reads.means.tested_is
+
+-- ---- the columns that a statement uses
+
+either_true : (a b : Bool) → (a || b) ≡ true → (a ≡ true) ⊎ (b ≡ true)
+either_true true b is = inl refl
+either_true false b is = inr is
+
+selected_within : (columns : List ℕ) (width column : ℕ) → AllByRecursion (λ place. place < width) columns → list_any (λ place. place == column) columns ≡ true → column < width
+selected_within [] width column within is = cc
+selected_within (place ∷ columns) width column within is =
+    elim (either_true (place == column) (list_any (λ place. place == column) columns) is) [
+      | inl same ↦ subst (λ n. n < width) (eqb-true place column same) within.0
+      | inr rest ↦ selected_within columns width column within.1 rest
+    ]
+
+used_below : (statement : Statement) (width column : ℕ) → statement.tested < width → AllByRecursion (λ place. place < width) statement.columns → is_used statement column ≡ true → column < width
+used_below statement width column tested within is =
+    elim (either_true (column == statement.tested) (list_any (λ place. place == column) statement.columns) is) [
+      | inl same ↦ subst (λ n. n < width) (sym (eqb-true column statement.tested same)) tested
+      | inr selected ↦ selected_within statement.columns width column within selected
+    ]
+
+kept_within : (kept : Bool) (width column : ℕ) (columns : List ℕ) → (kept ≡ true → column < width) → AllByRecursion (λ place. place < width) columns → AllByRecursion (λ place. place < width) (if kept then column ∷ columns else columns)
+kept_within true width column columns below within = (below refl, within)
+kept_within false width column columns below within = within
+
+filtered_within : (statement : Statement) (width : ℕ) (places : List ℕ) → statement.tested < width → AllByRecursion (λ place. place < width) statement.columns → AllByRecursion (λ place. place < width) (filter (is_used statement) places)
+filtered_within statement width [] tested within = tt
+filtered_within statement width (place ∷ places) tested within =
+    kept_within (is_used statement place) width place (filter (is_used statement) places) (used_below statement width place tested within) (filtered_within statement width places tested within)
+
+-- a statement over the columns of a table uses columns of it
+pub used_within : (table : Table) (statement : Statement) (width : ℕ) → width ≡ length table.columns → AreColumnsOf table statement → AllByRecursion (λ column. column < width) (used statement)
+unfolding used
+used_within table statement width is (tested, within) =
+    rw is (filtered_within statement (length table.columns) (range_with_len 0 MAX_COLUMNS) tested within)
+
+-- ---- told files
 
 -- the octets of a file are told once
 same_octets : (o : Option (List ℕ)) (a b : List ℕ) → IsSomeAnd o (λ file. file ≡ a) → IsSomeAnd o (λ file. file ≡ b) → a ≡ b
@@ -139,17 +205,17 @@ TableIs-refused told folder table rows h (inr (bytes, fault, file, fails)) =
     let e = IsFile-unique told (table_file_of folder table.name) MAX_TABLE_FILE h.bytes bytes h.file file in
     loads_or_fails table bytes rows fault (subst (λ (t : List ℕ). Loads table t rows) e h.loads) fails
 
--- a queries file is one query at most, and is refused only where it is none
-pub QueryIs-unique : (told : List ℕ → Option (List ℕ)) (name : List ℕ) (schema : List Table) (a b : Query) → QueryIs (Some told) name schema a → QueryIs (Some told) name schema b → a ≡ b
+-- a queries file is one statement at most, and is refused only where it is none
+pub QueryIs-unique : (told : List ℕ → Option (List ℕ)) (name : List ℕ) (schema : List Table) (a b : Statement) → QueryIs (Some told) name schema a → QueryIs (Some told) name schema b → a ≡ b
 QueryIs-unique told name schema a b h k =
     let e = IsFile-unique told name MAX_TEXT_FILE h.text k.text h.file k.file in
     ReadsQuery-unique schema k.text a b (subst (λ (t : List ℕ). ReadsQuery schema t a) e h.reads) k.reads
 
-pub QueryIs-refused : (told : List ℕ → Option (List ℕ)) (name : List ℕ) (schema : List Table) (query : Query) → QueryIs (Some told) name schema query → IsNoQuery (Some told) name schema → ⊥
-QueryIs-refused told name schema query h (inl long) = IsFile-short told name MAX_TEXT_FILE h.text h.file long
-QueryIs-refused told name schema query h (inr (text, file, none)) =
+pub QueryIs-refused : (told : List ℕ → Option (List ℕ)) (name : List ℕ) (schema : List Table) (statement : Statement) → QueryIs (Some told) name schema statement → IsNoQuery (Some told) name schema → ⊥
+QueryIs-refused told name schema statement h (inl long) = IsFile-short told name MAX_TEXT_FILE h.text h.file long
+QueryIs-refused told name schema statement h (inr (text, file, none)) =
     let e = IsFile-unique told name MAX_TEXT_FILE h.text text h.file file in
-    none query (subst (λ (t : List ℕ). ReadsQuery schema t query) e h.reads)
+    none statement (subst (λ (t : List ℕ). ReadsQuery schema t statement) e h.reads)
 
 -- schema files that declare one table each declare the same one
 pub one_declared : (told : List ℕ → Option (List ℕ)) (name : List ℕ) (a b : Table) → SchemaIs (Some told) name (a ∷ []) → SchemaIs (Some told) name (b ∷ []) → a ≡ b
@@ -160,55 +226,55 @@ rows_refused told names table other rows h k none =
     let e = one_declared told names.schema table other h.declared k in
     TableIs-refused told names.folder other rows (subst (λ (t : Table). TableIs (Some told) names.folder t rows) e h.loaded) none
 
-query_refused : (told : List ℕ → Option (List ℕ)) (names : Names) (table other : Table) (rows : List (List Val)) (query : Query) → HasQuery (Some told) names table rows query → SchemaIs (Some told) names.schema (other ∷ []) → IsNoQuery (Some told) names.queries (other ∷ []) → ⊥
-query_refused told names table other rows query h k none =
+query_refused : (told : List ℕ → Option (List ℕ)) (names : Names) (table other : Table) (rows : List (List Val)) (statement : Statement) → HasQuery (Some told) names table rows statement → SchemaIs (Some told) names.schema (other ∷ []) → IsNoQuery (Some told) names.queries (other ∷ []) → ⊥
+query_refused told names table other rows statement h k none =
     let e = one_declared told names.schema table other h.before.declared k in
-    QueryIs-refused told names.queries (other ∷ []) query (subst (λ (t : Table). QueryIs (Some told) names.queries (t ∷ []) query) e h.asked) none
+    QueryIs-refused told names.queries (other ∷ []) statement (subst (λ (t : Table). QueryIs (Some told) names.queries (t ∷ []) statement) e h.asked) none
 
--- told files hold one table, one list of rows and one query at most
-pub HasQuery-unique : (told : List ℕ → Option (List ℕ)) (names : Names) (table other_table : Table) (rows other_rows : List (List Val)) (query other_query : Query) → HasQuery (Some told) names table rows query → HasQuery (Some told) names other_table other_rows other_query → (table ≡ other_table) × (rows ≡ other_rows) × (query ≡ other_query)
-HasQuery-unique told names table other_table rows other_rows query other_query h k =
+-- told files hold one table, one list of rows and one statement at most
+pub HasQuery-unique : (told : List ℕ → Option (List ℕ)) (names : Names) (table other_table : Table) (rows other_rows : List (List Val)) (statement other_statement : Statement) → HasQuery (Some told) names table rows statement → HasQuery (Some told) names other_table other_rows other_statement → (table ≡ other_table) × (rows ≡ other_rows) × (statement ≡ other_statement)
+HasQuery-unique told names table other_table rows other_rows statement other_statement h k =
     let e = one_declared told names.schema table other_table h.before.declared k.before.declared in (
       e,
       TableIs-unique told names.folder other_table rows other_rows (subst (λ (t : Table). TableIs (Some told) names.folder t rows) e h.before.loaded) k.before.loaded,
-      QueryIs-unique told names.queries (other_table ∷ []) query other_query (subst (λ (t : Table). QueryIs (Some told) names.queries (t ∷ []) query) e h.asked) k.asked,
+      QueryIs-unique told names.queries (other_table ∷ []) statement other_statement (subst (λ (t : Table). QueryIs (Some told) names.queries (t ∷ []) statement) e h.asked) k.asked,
     )
 
-from_done : (told : List ℕ → Option (List ℕ)) (names : Names) (table : Table) (rows : List (List Val)) (query : Query) (other : Status) → HasQuery (Some told) names table rows query → FilesExplain (Some told) names other → IsSettled other → Done ≡ other
-from_done told names table rows query Done h k s = refl
-from_done told names table rows query WordsRefused h k s = absurd k
-from_done told names table rows query SchemaRefused h k s = absurd (SchemaIs-refused told names.schema (table ∷ []) h.before.declared k)
-from_done told names table rows query TableFileRefused h k s = absurd (rows_refused told names table k.0 rows h.before k.1 k.2)
-from_done told names table rows query QueriesRefused h k s = absurd (query_refused told names table k.0 rows query h k.2.declared k.3)
-from_done told names table rows query _ h k s = absurd s
-
-from_schema : (told : List ℕ → Option (List ℕ)) (names : Names) (other : Status) → IsNoSchema (Some told) names.schema → FilesExplain (Some told) names other → IsSettled other → SchemaRefused ≡ other
+from_schema : (told : List ℕ → Option (List ℕ)) (names : Names) (other : Status) → IsNoSchema (Some told) names.schema → FilesExplain (Some told) names other → (IsFault other → ⊥) → SchemaRefused ≡ other
 from_schema told names Done h k s = absurd (SchemaIs-refused told names.schema (k.0 ∷ []) k.3.before.declared h)
+from_schema told names PageLimitMet h k s = absurd (SchemaIs-refused told names.schema (k.0 ∷ []) k.3.before.declared h)
 from_schema told names WordsRefused h k s = absurd k
 from_schema told names SchemaRefused h k s = refl
 from_schema told names TableFileRefused h k s = absurd (SchemaIs-refused told names.schema (k.0 ∷ []) k.1 h)
 from_schema told names QueriesRefused h k s = absurd (SchemaIs-refused told names.schema (k.0 ∷ []) k.2.declared h)
-from_schema told names _ h k s = absurd s
+from_schema told names ReadFailed h k s = absurd (s tt)
+from_schema told names WriteFailed h k s = absurd (s tt)
+from_schema told names NoMemoryLeft h k s = absurd (s tt)
 
-from_table : (told : List ℕ → Option (List ℕ)) (names : Names) (table : Table) (other : Status) → SchemaIs (Some told) names.schema (table ∷ []) → IsNoTable (Some told) names.folder table → FilesExplain (Some told) names other → IsSettled other → TableFileRefused ≡ other
+from_table : (told : List ℕ → Option (List ℕ)) (names : Names) (table : Table) (other : Status) → SchemaIs (Some told) names.schema (table ∷ []) → IsNoTable (Some told) names.folder table → FilesExplain (Some told) names other → (IsFault other → ⊥) → TableFileRefused ≡ other
 from_table told names table Done h none k s = absurd (rows_refused told names k.0 table k.1 k.3.before h none)
+from_table told names table PageLimitMet h none k s = absurd (rows_refused told names k.0 table k.1 k.3.before h none)
 from_table told names table WordsRefused h none k s = absurd k
 from_table told names table SchemaRefused h none k s = absurd (SchemaIs-refused told names.schema (table ∷ []) h k)
 from_table told names table TableFileRefused h none k s = refl
 from_table told names table QueriesRefused h none k s = absurd (rows_refused told names k.0 table k.1 k.2 h none)
-from_table told names table _ h none k s = absurd s
+from_table told names table ReadFailed h none k s = absurd (s tt)
+from_table told names table WriteFailed h none k s = absurd (s tt)
+from_table told names table NoMemoryLeft h none k s = absurd (s tt)
 
-from_queries : (told : List ℕ → Option (List ℕ)) (names : Names) (table : Table) (rows : List (List Val)) (other : Status) → HasRows (Some told) names table rows → IsNoQuery (Some told) names.queries (table ∷ []) → FilesExplain (Some told) names other → IsSettled other → QueriesRefused ≡ other
+from_queries : (told : List ℕ → Option (List ℕ)) (names : Names) (table : Table) (rows : List (List Val)) (other : Status) → HasRows (Some told) names table rows → IsNoQuery (Some told) names.queries (table ∷ []) → FilesExplain (Some told) names other → (IsFault other → ⊥) → QueriesRefused ≡ other
 from_queries told names table rows Done h none k s = absurd (query_refused told names k.0 table k.1 k.2 k.3 h.declared none)
+from_queries told names table rows PageLimitMet h none k s = absurd (query_refused told names k.0 table k.1 k.2 k.3 h.declared none)
 from_queries told names table rows WordsRefused h none k s = absurd k
 from_queries told names table rows SchemaRefused h none k s = absurd (SchemaIs-refused told names.schema (table ∷ []) h.declared k)
 from_queries told names table rows TableFileRefused h none k s = absurd (rows_refused told names table k.0 rows h k.1 k.2)
 from_queries told names table rows QueriesRefused h none k s = refl
-from_queries told names table rows _ h none k s = absurd s
+from_queries told names table rows ReadFailed h none k s = absurd (s tt)
+from_queries told names table rows WriteFailed h none k s = absurd (s tt)
+from_queries told names table rows NoMemoryLeft h none k s = absurd (s tt)
 
 -- told files settle one end at most
-pub FilesExplain-unique : (told : List ℕ → Option (List ℕ)) (names : Names) (status other : Status) → FilesExplain (Some told) names status → FilesExplain (Some told) names other → IsSettled status → IsSettled other → status ≡ other
-FilesExplain-unique told names Done other h k s t = from_done told names h.0 h.1 h.2 other h.3 k t
+pub FilesExplain-unique : (told : List ℕ → Option (List ℕ)) (names : Names) (status other : Status) → FilesExplain (Some told) names status → FilesExplain (Some told) names other → IsSettled status → (IsFault other → ⊥) → status ≡ other
 FilesExplain-unique told names WordsRefused other h k s t = absurd h
 FilesExplain-unique told names SchemaRefused other h k s t = from_schema told names other h k t
 FilesExplain-unique told names TableFileRefused other h k s t = from_table told names h.0 other h.1 h.2 k t
@@ -239,7 +305,7 @@ words_or_files files words WordsRefused h = inl (refl, h)
 words_or_files files words _ h = inr h
 
 -- words and told files settle one end at most
-pub Explains-unique : (told : List ℕ → Option (List ℕ)) (words : List (List ℕ)) (status other : Status) → Explains (Some told) words status → Explains (Some told) words other → IsSettled status → IsSettled other → status ≡ other
+pub Explains-unique : (told : List ℕ → Option (List ℕ)) (words : List (List ℕ)) (status other : Status) → Explains (Some told) words status → Explains (Some told) words other → IsSettled status → (IsFault other → ⊥) → status ≡ other
 Explains-unique told words status other h k s t =
     elim (words_or_files (Some told) words status h) [
       | inl (is, none) ↦ elim (words_or_files (Some told) words other k) [

@@ -1,30 +1,31 @@
 -- Instances of compiled statements that share one memory: how they begin, and what holds of them whatever turns they are
 -- given.
-use Rattle.std.specs.Prelude.{◌≡◌, ℕ, zero, suc, ◌+◌, ◌-◌, ◌*◌, ◌<◌, ◌≤◌, if◌then◌else◌, List, [], ◌∷◌, ◌++◌, length, map, Option, Some, None, is_some, slice_get}
+use Rattle.std.specs.Prelude.{◌≡◌, ℕ, zero, suc, ◌+◌, ◌-◌, ◌*◌, ◌<◌, ◌≤◌, if◌then◌else◌, List, [], ◌∷◌, ◌++◌, length, map, Contains, Option, Some, None, is_some, slice_get}
+use Rattle.std.specs.List.{AllByRecursion}
 use Rattle.std.specs.Option.{option_and_then, option_map_or}
 use Rattle.qw_types.specs.declared.value.Val.{Val}
+use Rattle.qw_linear.specs.Memory.{page, most_pages, AreOctets}
 use Rattle.qw_module.specs.declared.module.Module.{Module}
-use Rattle.qw_module.specs.Memory.{AreOctets}
-use Rattle.qw_module.specs.Map.{page, most_pages}
+use Rattle.qw_module.specs.Map.{Area}
 use Rattle.qw_module.specs.Runs.{Behaves}
-use Rattle.qw_module.specs.Turns.{Done, Steps, End, Instance, Shared, end_at, turns, may_ask, IsWhole, AreSafe, moment_of}
+use Rattle.qw_module.specs.Turns.{Done, Pages, Steps, End, Instance, Shared, end_at, turns, may_ask, IsWhole, AreSafe, moment_of}
 use Rattle.qw_module.specs.Validity.{IsShaped}
-use Rattle.qw_module.specs.Instance.{begun}
-use Rattle.qw_top.specs.declared.meaning.Query.{Query}
-use Rattle.qw_top.specs.Meaning.{Rows, outcome}
-use Rattle.qw_top.specs.Columns.{HoldsColumn, columns_start}
-use Rattle.qw_top.specs.Layout.{first_world, rows_at}
-use Rattle.qw_top.specs.Compiled.{IsReady, Answers, bound, IsCompiled}
+use Rattle.qw_module.specs.Start.{begun}
+use Rattle.qw_meaning.specs.Statement.{Statement}
+use Rattle.qw_meaning.specs.Meaning.{Rows, outcome}
+use Rattle.qw_emit.specs.Columns.{HoldsColumn, column_start, column_pages}
+use Rattle.qw_emit.specs.Layout.{used, column_starts, column_areas, cell_types, first_world, rows_at}
+use Rattle.qw_emit.specs.Compiled.{IsReady, Answers, bound, page_bound, IsCompiled}
 
 -- a statement and the module that it was compiled to
 pub record CompiledQuery : Type 0 where
-  pub query : Query
+  pub statement : Statement
   pub program : Module
 
 -- What an instance is to do: the statement and its module, the address of its descriptor, which begins its first page,
 -- and how many pages it may hold and how many instructions it may run.
 pub record Task : Type 0 where
-  pub query : Query
+  pub statement : Statement
   pub program : Module
   pub descriptor : ℕ
   pub pages : ℕ
@@ -34,15 +35,16 @@ pub record Task : Type 0 where
 abbrev pub starting : (number rows : ℕ) → Task → Instance
 starting number rows t =
     let state = begun t.program number t.descriptor in
-    let world = first_world columns_start rows t.descriptor t.pages in
+    let world = first_world (column_starts t.statement rows) rows t.descriptor t.pages in
     record { state = state; world = world; most_steps = t.steps; ran = 0; end = end_at state world 0 t.steps }
 
 -- an instance is about to begin its task, and the memory is ready for that
 pub record IsStarting (rows : List (List Val)) (memory : List ℕ) (t : Task) (i : Instance) : Type 0 where
-  pub compiled : IsCompiled t.query t.program
+  pub compiled : IsCompiled t.statement t.program
   pub number : ℕ
   pub shaped : IsShaped t.program number
-  pub ready : IsReady t.query rows columns_start t.descriptor memory
+  pub ready : IsReady t.statement rows (column_starts t.statement (length rows)) t.descriptor memory
+  pub may_hold : 1 ≤ t.pages
   pub may_run : 1 ≤ t.steps
   pub instance : i ≡ starting number (length rows) t
 
@@ -50,26 +52,31 @@ pub record IsStarting (rows : List (List Val)) (memory : List ℕ) (t : Task) (i
 abbrev pub EachTask : (Task → Instance → Type 0) → List Task → Shared → Type 0
 EachTask R tasks s = (k : ℕ) (t : Task) (i : Instance) → slice_get tasks k ≡ Some t → slice_get s.instances k ≡ Some i → R t i
 
--- The start: the columns take the first page, the first pages of the instances follow in order, and there is room for
--- all pages that they may hold.
-pub record IsStart (rows : List (List Val)) (tasks : List Task) (s : Shared) : Type 0 where
+-- The start over a table of so many columns: the columns take the first pages, and the statements use no others; the first
+-- pages of the instances follow in order, and there is room for all pages that they may hold.
+pub record IsStart (width : ℕ) (rows : List (List Val)) (tasks : List Task) (s : Shared) : Type 0 where
   pub octets : AreOctets s.memory
   pub many : length s.instances ≡ length tasks
   pub starting : EachTask (IsStarting rows s.memory) tasks s
-  pub places : (k : ℕ) (t : Task) → slice_get tasks k ≡ Some t → t.descriptor ≡ (k + 1) * page
+  pub narrow : (k : ℕ) (t : Task) → slice_get tasks k ≡ Some t → AllByRecursion (λ column. column < width) (used t.statement)
+  pub places : (k : ℕ) (t : Task) → slice_get tasks k ≡ Some t → t.descriptor ≡ (column_pages width (length rows) + k) * page
   pub room : length s.memory + may_ask s.instances * page ≤ most_pages * page
 
--- An instance serves its task: the column holds the table, the instance has its first page, and it behaves from where it
--- is on.
+-- An instance serves its task: the columns that it uses hold the table, the instance has its first page and what it was
+-- granted, and it behaves from where it is on.
 pub record Serves (rows : List (List Val)) (memory : List ℕ) (t : Task) (i : Instance) : Type 0 where
-  pub column : HoldsColumn memory columns_start t.query.column rows
-  pub world : i.world ≡ first_world columns_start (length rows) t.descriptor t.pages
+  pub columns : (column : ℕ) → Contains (used t.statement) column → HoldsColumn memory (column_start (length rows) column) column rows
+  pub mapped : i.world.mapped ≡ column_areas (column_starts t.statement (length rows)) (length rows)
+  pub first_page : (granted : List Area) × (i.world.own ≡ record { start = t.descriptor; size = page } ∷ granted)
+  pub may_hold : i.world.limit ≡ t.pages
+  pub holds : i.world.held ≤ t.pages
   pub may_run : i.most_steps ≡ t.steps
   pub whole : IsWhole i
   pub number : ℕ
   pub shaped : IsShaped t.program number
-  pub within : i.ran ≤ bound t.query rows t.program number
-  pub behaves : Behaves (bound t.query rows t.program number - i.ran) (λ b. Answers t.query rows t.descriptor b b.state) (moment_of i memory)
+  pub within : i.ran ≤ bound t.statement rows t.program number
+  pub behaves : Behaves (bound t.statement rows t.program number - i.ran) (page_bound t.statement rows)
+      (λ b. Answers t.statement rows t.descriptor b b.state) (moment_of i memory)
 
 -- the instances lie apart and do only what they may, and each serves its task
 pub record AreServing (rows : List (List Val)) (tasks : List Task) (s : Shared) : Type 0 where
@@ -77,15 +84,19 @@ pub record AreServing (rows : List (List Val)) (tasks : List Task) (s : Shared) 
   pub many : length s.instances ≡ length tasks
   pub serving : EachTask (Serves rows s.memory) tasks s
 
--- An instance at its end, or before it: it has not run as many instructions as the bound says; or it is done, and the
--- result rows are those of the statement's outcome; or it was stopped at a limit that is below the bound.
+-- An instance at its end, or before it: it has not run as many instructions as the bound says; or it is done, no request was
+-- refused, and the result rows are those of the statement's outcome; or a request was past its limit of pages, which is then
+-- below the page bound; or it was stopped at a limit of instructions that is below the bound.
 abbrev pub IsAt : (rows : List (List Val)) (memory : List ℕ) → Task → (number : ℕ) → Instance → Option End → Type 0
-IsAt rows memory t number i None = i.ran < bound t.query rows t.program number
+IsAt rows memory t number i None = i.ran < bound t.statement rows t.program number
 IsAt rows memory t number i (Some Done) =
-    (i.ran ≤ bound t.query rows t.program number)
-    × ((bag : List (List Val)) × (outcome t.query rows ≡ Rows bag) × (rows_at i.world.own memory t.descriptor ≡ Some bag))
+    (i.ran ≤ bound t.statement rows t.program number) × (i.world.refused ≡ None)
+    × ((bag : List (List Val)) × (outcome t.statement rows ≡ Rows bag) × (rows_at (cell_types t.statement) i.world.own memory t.descriptor ≡ Some bag))
+IsAt rows memory t number i (Some (Pages held asked limit)) =
+    (i.ran ≤ bound t.statement rows t.program number) × (held ≡ i.world.held) × (limit ≡ t.pages)
+    × (limit < held + asked) × (held + asked ≤ page_bound t.statement rows)
 IsAt rows memory t number i (Some (Steps limit)) =
-    (i.ran ≡ limit) × (limit ≡ t.steps) × (limit < bound t.query rows t.program number)
+    (i.ran ≡ limit) × (limit ≡ t.steps) × (limit < bound t.statement rows t.program number)
 IsAt rows memory t number i _ = ⊥
 
 -- how the instance of a number ended, if it has, and how many instructions it has run

@@ -5,6 +5,8 @@ use Rattle.qw_io.specs.declared.fault.IoFault.{IoFault}
 use Rattle.qw_io.specs.declared.fault.IoFault.TheVariants.{Failed, NoMemory}
 use Rattle.qw_top.specs.declared.files.ReadFault.{ReadFault}
 use Rattle.qw_top.specs.declared.files.ReadFault.TheVariants.{TooLong, Failed as ReadFailed, NoMemory as NoMemoryToRead}
+use Rattle.qw_top.specs.declared.status.Status.{Status}
+use Rattle.qw_top.specs.declared.status.Status.TheVariants.{WriteFailed, NoMemory as NoMemoryLeft}
 
 -- a read that failed is counted, and no other answer is
 abbrev pub CountsRead : {T : Type 0} → Result T ReadFault → ℕ → ℕ → Type 0
@@ -23,3 +25,8 @@ CountsWrite (Err NoMemory) before after = after ≡ before
 abbrev pub read_fault_of : IoFault → ReadFault
 read_fault_of Failed = ReadFailed
 read_fault_of NoMemory = NoMemoryToRead
+
+-- a fault of a sink as the end of a run
+abbrev pub write_fault_of : IoFault → Status
+write_fault_of Failed = WriteFailed
+write_fault_of NoMemory = NoMemoryLeft

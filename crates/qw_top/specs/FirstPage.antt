@@ -1,10 +1,10 @@
 -- The first page of an instance, and the memory that it begins in.
-use Rattle.std.specs.Prelude.{◌≡◌, ℕ, ◌+◌, ◌*◌, ◌<◌, List, length, slice_index}
+use Rattle.std.specs.Prelude.{◌≡◌, ℕ, ◌+◌, ◌*◌, ◌<◌, List, length, map, slice_index}
 use Rattle.qw_types.specs.declared.value.Val.{Val}
-use Rattle.qw_module.specs.Map.{page}
-use Rattle.qw_module.specs.Memory.{AreOctets}
-use Rattle.qw_top.specs.Columns.{HoldsColumn, columns_start}
-use Rattle.qw_top.specs.Layout.{IsFresh}
+use Rattle.qw_linear.specs.Memory.{page, AreOctets}
+use Rattle.qw_meaning.specs.Statement.{Statement}
+use Rattle.qw_emit.specs.Columns.{Holds, column_pages, column_start}
+use Rattle.qw_emit.specs.Layout.{IsFresh, used}
 
 -- the page at an address is zeros
 abbrev pub IsBlank : List ℕ → ℕ → Type 0
@@ -14,9 +14,14 @@ IsBlank memory address = (k : ℕ) → k < page → slice_index memory (address 
 abbrev pub SameBelow : List ℕ → List ℕ → ℕ → Type 0
 SameBelow before after address = (k : ℕ) → k < address → slice_index after k ≡ slice_index before k
 
--- the memory of a table and one instance before its first step: a page with the column, and the instance's first page
-pub record IsFirstMemory (rows : List (List Val)) (memory : List ℕ) : Type 0 where
+-- where the columns that a statement uses stand, in a table of so many rows
+abbrev pub used_starts : Statement → (rows : ℕ) → List ℕ
+used_starts statement rows = map (column_start rows) (used statement)
+
+-- the memory of a table and one instance before its first step: the pages of the columns, and the instance's first page, which
+-- tells of the columns that its statement uses
+pub record IsFirstMemory (statement : Statement) (width : ℕ) (rows : List (List Val)) (memory : List ℕ) : Type 0 where
   pub octets : AreOctets memory
-  pub size : length memory ≡ 2 * page
-  pub column : HoldsColumn memory columns_start 0 rows
-  pub fresh : IsFresh memory page columns_start (length rows)
+  pub size : length memory ≡ (column_pages width (length rows) + 1) * page
+  pub columns : Holds width memory rows
+  pub fresh : IsFresh memory (column_pages width (length rows) * page) (used_starts statement (length rows)) (length rows)

@@ -1,7 +1,8 @@
 -- What a table file stands for: records of comma-separated values, the first of which names the columns.
-use Rattle.std.specs.Prelude.{◌≡◌, ◌≢◌, ◌⊎◌, ◌≤◌, ◌<◌, ◌+◌, ◌-◌, ◌*◌, ◌^◌, ℕ, ℤ, pos, neg_ℤ, List, [], ◌∷◌, ◌++◌, length, map, true, Some, All}
+use Rattle.std.specs.Prelude.{◌≡◌, ◌≢◌, ◌⊎◌, ◌≤◌, ◌<◌, ◌+◌, ◌-◌, ◌*◌, ◌^◌, ℕ, zero, suc, ℤ, pos, neg_ℤ, List, [], ◌∷◌, ◌++◌, length, map, take, drop, true, Some, All}
 use Rattle.std.specs.Borrow.{Bor}
 use Rattle.std.specs.Char.{IsAsciiDigit, to_ascii_lowercase}
+use Rattle.std.specs.List.{AllByRecursion}
 use Rattle.csv.specs.Reading.{AreRecords, Reached, Ready, default_config, source_of, strip_bom}
 use Rattle.csv.specs.declared.parser.State.{State}
 use Rattle.csv.specs.declared.parser.State.TheVariants.{StartRecord}
@@ -10,6 +11,7 @@ use Rattle.csv.specs.declared.reader.Trim.TheVariants as trim
 use Rattle.qw_types.specs.Value.{IsOfType}
 use Rattle.qw_types.specs.declared.schema.Column.{Column}
 use Rattle.qw_types.specs.declared.schema.Table.{Table}
+use Rattle.qw_types.specs.declared.schema.TheConstants.{MAX_COLUMNS, MAX_ROWS}
 use Rattle.qw_types.specs.declared.value.Ty.{Ty}
 use Rattle.qw_types.specs.declared.value.Ty.TheVariants.{Integer}
 use Rattle.qw_types.specs.declared.value.Val.{Val}
@@ -18,7 +20,6 @@ use Rattle.qw_top.specs.declared.loading.FieldFault.{FieldFault}
 use Rattle.qw_top.specs.declared.loading.FieldFault.TheVariants.{NotNumber, TooLarge}
 use Rattle.qw_top.specs.declared.loading.LoadFault.{LoadFault}
 use Rattle.qw_top.specs.declared.loading.LoadFault.TheVariants as fault
-use Rattle.qw_top.specs.declared.loading.TheConstants.{MAX_ROWS}
 
 -- the number that decimal digits show
 abbrev pub number_of : List ℕ → ℕ
@@ -95,17 +96,19 @@ pub record Follows (table : Table) (bytes : List ℕ) (rows : List (List Val)) (
   pub named : IsHeader table.columns header
   pub each : AreRecordsOf table.columns records rows
 
--- the first field that is at fault, those before it standing for values
-abbrev pub IsFirstFieldFault : List Column → List (List ℕ) → FieldFault → Type 0
-IsFirstFieldFault (column ∷ columns) (field ∷ fields) why = IsFieldFault column.ty field why
-    ⊎ ((value : Val) × IsFieldOf column.ty field value × IsFirstFieldFault columns fields why)
-IsFirstFieldFault _ _ why = ⊥
+-- the first field that is at fault, by its column's place counted from 0: those before it stand for values
+abbrev pub IsFirstFieldFault : List Column → List (List ℕ) → ℕ → FieldFault → Type 0
+IsFirstFieldFault (column ∷ columns) (field ∷ fields) zero why = IsFieldFault column.ty field why
+IsFirstFieldFault (column ∷ columns) (field ∷ fields) (suc place) why =
+    (value : Val) × IsFieldOf column.ty field value × IsFirstFieldFault columns fields place why
+IsFirstFieldFault _ _ place why = ⊥
 
 -- what is wrong with the data record of this number, counted from 1
 abbrev pub IsRecordFault : List Column → ℕ → List (List ℕ) → LoadFault → Type 0
 IsRecordFault columns number fields fault.TooManyRows = number ≡ MAX_ROWS + 1
 IsRecordFault columns number fields (fault.FieldCount row) = (number ≤ MAX_ROWS) × (row ≡ number) × (length fields ≢ length columns)
-IsRecordFault columns number fields (fault.Field row why) = (number ≤ MAX_ROWS) × (row ≡ number) × (length fields ≡ length columns) × IsFirstFieldFault columns fields why
+IsRecordFault columns number fields (fault.Field row place why) =
+    (number ≤ MAX_ROWS) × (row ≡ number) × (length fields ≡ length columns) × IsFirstFieldFault columns fields place why
 IsRecordFault columns number fields fault.BadHeader = ⊥
 IsRecordFault columns number fields fault.NoMemory = ⊥
 
@@ -116,26 +119,38 @@ IsFirstFault table bytes fault.BadHeader = AreAllRecords bytes []
 IsFirstFault table bytes why = (rows : List (List Val)) × (next : List (List ℕ))
     × Follows table bytes rows next × IsRecordFault table.columns (length rows + 1) next why
 
--- the columns of a table that has one, an INTEGER that can't be null
-abbrev pub IsOneInteger : List Column → Type 0
-IsOneInteger [] = ⊥
-IsOneInteger (column ∷ []) = (column.ty ≡ Integer) × (column.not_null ≡ true)
-IsOneInteger (column ∷ next ∷ columns) = ⊥
+-- each column is an INTEGER that can't be null
+abbrev pub AreIntegers : List Column → Type 0
+AreIntegers columns = AllByRecursion (λ (column : Column). (column.ty ≡ Integer) × (column.not_null ≡ true)) columns
 
--- a row of one INTEGER
-abbrev pub IsIntegerRow : List Val → Type 0
-IsIntegerRow [] = ⊥
-IsIntegerRow (value ∷ []) = IsOfType Integer value
-IsIntegerRow (value ∷ next ∷ values) = ⊥
+-- what a loaded table holds: how many columns it has, and its rows
+pub record Contents : Type 0 where
+  pub width : ℕ
+  pub rows : List (List Val)
 
--- the rows of a loaded table
-pub record AreLoaded (rows : List (List Val)) : Type 0 where
-  pub few : length rows ≤ MAX_ROWS
-  pub typed : All IsIntegerRow rows
+-- a row of so many INTEGERs
+abbrev pub IsIntegerRow : ℕ → List Val → Type 0
+IsIntegerRow width row = (length row ≡ width) × AllByRecursion (IsOfType Integer) row
 
--- the rows of these numbers, one each
-abbrev pub integer_rows : List ℤ → List (List Val)
-integer_rows numbers = map (λ n. Num n ∷ []) numbers
+-- the limits of a loaded table, whose rows have a value for each column
+pub record AreLoaded (contents : Contents) : Type 0 where
+  pub some : 1 ≤ contents.width
+  pub narrow : contents.width ≤ MAX_COLUMNS
+  pub few : length contents.rows ≤ MAX_ROWS
+  pub typed : AllByRecursion (IsIntegerRow contents.width) contents.rows
+
+-- so many rows, of so many numbers each, that stand one after another
+unfoldable pub rows_of : (count width : ℕ) → List ℤ → List (List Val)
+rows_of zero width numbers = []
+rows_of (suc count) width numbers = map Num (take width numbers) ∷ rows_of count width (drop width numbers)
+
+-- numbers that stand for so many rows of so many columns
+pub record AreKept (count width : ℕ) (numbers : List ℤ) : Type 0 where
+  pub some : 1 ≤ width
+  pub narrow : width ≤ MAX_COLUMNS
+  pub few : count ≤ MAX_ROWS
+  pub full : length numbers ≡ count * width
+  pub typed : All (λ n. IsOfType Integer (Num n)) numbers
 
 -- a reader that has given these records of a text, and goes on after them
 pub record HasRead (reader : Reader (Bor (List ℕ))) (text : List ℕ) (records : List (List (List ℕ))) : Type 0 where

@@ -1,16 +1,18 @@
 -- Reading a form from left to right.
-use Rattle.std.specs.Prelude.{ℕ, ◌^◌, nat_lt, Bool, true, false, ◌&&◌, not, List, [], ◌∷◌, length, ℤ, pos, codes, Option, Some, None, if◌then◌else◌}
+use Rattle.std.specs.Prelude.{ℕ, zero, suc, ◌^◌, nat_lt, Bool, true, false, ◌&&◌, not, List, [], ◌∷◌, ◌++◌, length, ℤ, pos, neg_ℤ, codes, Option, Some, None, if◌then◌else◌}
 use Rattle.std.specs.List.{list_any, list_all}
 use Rattle.std.specs.Char.{is_ascii_digit}
+use Rattle.std.specs.Option.{option_map_or}
 use Rattle.std.specs.Str.{bytes_eq}
 use Rattle.std.specs.Str.Parse.{digits_value}
 use Rattle.qw_top.specs.declared.token.Kind.{Kind}
 use Rattle.qw_top.specs.declared.token.Kind.TheVariants.{Word}
 use Rattle.qw_top.specs.Token.{Lexeme}
-use Rattle.qw_top.specs.Grammar.{folded, reserved}
-use Rattle.qw_types.specs.declared.schema.Table.{Table}
-use Rattle.qw_top.specs.declared.meaning.Query.{Query}
-use Rattle.qw_top.specs.Parse.{table_of, place_of}
+use Rattle.qw_top.specs.Grammar.{folded, reserved, Source, Selection}
+use Rattle.qw_top.specs.declared.parse.form.Item.{Item}
+use Rattle.qw_top.specs.declared.parse.form.Item.TheVariants.{ColumnDefinition, ColumnReference}
+use Rattle.qw_meaning.specs.declared.query.Comparison.{Comparison}
+use Rattle.qw_meaning.specs.declared.query.Comparison.TheVariants.{Equal, NotEqual, Less, LessOrEqual, Greater, GreaterOrEqual}
 
 -- the next step, where there is a value
 infixl 10 ◌>>=◌
@@ -49,12 +51,39 @@ literal_of octets =
     then Some (pos (digits_value 10 octets))
     else None
 
--- a literal, and the tokens behind it
+-- a literal with no sign, and the tokens behind it
+unfoldable pub unsigned_at : List Lexeme → Option (ℤ × List Lexeme)
+unsigned_at [] = None
+unsigned_at (t ∷ ts) = do
+  magnitude ← literal_of t.octets
+  Some (magnitude, ts)
+
+-- its negative
+abbrev pub negated : Option (ℤ × List Lexeme) → Option (ℤ × List Lexeme)
+negated None = None
+negated (Some read) = Some (neg_ℤ read.0, read.1)
+
+-- a literal, behind a `-` or not, and the tokens behind it
 unfoldable pub literal_at : List Lexeme → Option (ℤ × List Lexeme)
-literal_at [] = None
-literal_at (t ∷ ts) = do
-  bound ← literal_of t.octets
-  Some (bound, ts)
+literal_at ts = option_map_or (λ after. negated (unsigned_at after)) (symbol_at (codes "-") ts) (unsigned_at ts)
+
+-- the comparison of the symbol
+abbrev pub comparison_of : List ℕ → Option Comparison
+comparison_of octets =
+    if bytes_eq octets (codes "=") then Some Equal
+    else (if bytes_eq octets (codes "<>") then Some NotEqual
+    else (if bytes_eq octets (codes "<") then Some Less
+    else (if bytes_eq octets (codes "<=") then Some LessOrEqual
+    else (if bytes_eq octets (codes ">") then Some Greater
+    else (if bytes_eq octets (codes ">=") then Some GreaterOrEqual
+    else None)))))
+
+-- a comparison, and the tokens behind it
+unfoldable pub comparison_at : List Lexeme → Option (Comparison × List Lexeme)
+comparison_at [] = None
+comparison_at (t ∷ ts) = do
+  comparison ← comparison_of t.octets
+  Some (comparison, ts)
 
 -- whether nothing is left but a `;`
 unfoldable pub is_end : List Lexeme → Bool
@@ -62,37 +91,93 @@ is_end [] = true
 is_end (t ∷ []) = bytes_eq t.octets (codes ";")
 is_end (t ∷ u ∷ ts) = false
 
--- the names of the table and of the column
-unfoldable pub create_table_of : List Lexeme → Option (List ℕ × List ℕ)
-create_table_of ts = do
+-- ---- lists
+
+-- the name in a column definition, and the tokens behind that
+unfoldable pub column_definition_at : List Lexeme → Option (List ℕ × List Lexeme)
+column_definition_at ts = do
+  name ← regular_at ts
+  a ← key_word_at (codes "INTEGER") name.1
+  b ← key_word_at (codes "NOT") a
+  c ← key_word_at (codes "NULL") b
+  Some (name.0, c)
+
+-- the name in an item of a list, and the tokens behind the item
+abbrev pub item_at : Item → List Lexeme → Option (List ℕ × List Lexeme)
+item_at ColumnDefinition ts = column_definition_at ts
+item_at ColumnReference ts = regular_at ts
+
+-- the names that are read, behind others
+abbrev pub behind : List (List ℕ) → Option (List (List ℕ) × List Lexeme) → Option (List (List ℕ) × List Lexeme)
+behind front None = None
+behind front (Some read) = Some (front ++ read.0, read.1)
+
+-- the names in the items that stand behind a comma each, and the tokens behind those; only for fewer than `most` of them
+unfoldable pub further_within : ℕ → Item → List Lexeme → Option (List (List ℕ) × List Lexeme)
+further_within zero item ts = None
+further_within (suc most) item ts =
+    option_map_or
+    (λ after. item_at item after >>= (λ first. behind (first.0 ∷ []) (further_within most item first.1)))
+    (symbol_at (codes ",") ts)
+    (Some ([], ts))
+
+-- the same for any number: there are fewer items than tokens
+abbrev pub further : Item → List Lexeme → Option (List (List ℕ) × List Lexeme)
+further item ts = further_within (suc (length ts)) item ts
+
+-- the names in the items, with a comma between each two, and the tokens behind the list
+unfoldable pub list_at : Item → List Lexeme → Option (List (List ℕ) × List Lexeme)
+list_at item ts = do
+  first ← item_at item ts
+  behind (first.0 ∷ []) (further item first.1)
+
+-- whether no name comes twice
+abbrev pub are_distinct : List (List ℕ) → Bool
+are_distinct [] = true
+are_distinct (name ∷ names) = not (list_any (bytes_eq name) names) && are_distinct names
+
+-- ---- the texts
+
+-- the name in CREATE TABLE table (, and the tokens behind that
+unfoldable pub table_at : List Lexeme → Option (List ℕ × List Lexeme)
+table_at ts = do
   a ← key_word_at (codes "CREATE") ts
   b ← key_word_at (codes "TABLE") a
   table ← regular_at b
-  d ← symbol_at (codes "(") table.1
-  column ← regular_at d
-  f ← key_word_at (codes "INTEGER") column.1
-  g ← key_word_at (codes "NOT") f
-  h ← key_word_at (codes "NULL") g
-  i ← symbol_at (codes ")") h
-  if is_end i then Some (table.0, column.0) else None
+  c ← symbol_at (codes "(") table.1
+  Some (table.0, c)
 
--- the names of the column and of the table, and the literal
-unfoldable pub select_above_of : List Lexeme → Option (List ℕ × List ℕ × ℤ)
-select_above_of ts = do
+-- whether nothing is left but a `)` and an end
+unfoldable pub is_closed : List Lexeme → Bool
+is_closed ts = option_map_or is_end (symbol_at (codes ")") ts) false
+
+-- the names of the table and of the columns
+unfoldable pub create_table_of : List Lexeme → Option (List ℕ × List (List ℕ))
+create_table_of ts = do
+  table ← table_at ts
+  columns ← list_at ColumnDefinition table.1
+  if is_closed columns.1 then Some (table.0, columns.0) else None
+
+-- what stands behind the select list, to the end
+unfoldable pub source_of : List Lexeme → Option Source
+source_of ts = do
+  a ← key_word_at (codes "FROM") ts
+  table ← regular_at a
+  b ← key_word_at (codes "WHERE") table.1
+  tested ← regular_at b
+  comparison ← comparison_at tested.1
+  literal ← literal_at comparison.1
+  if is_end literal.1 then Some (record {
+    table = table.0;
+    tested = tested.0;
+    comparison = comparison.0;
+    literal = literal.0;
+  }) else None
+
+-- what the query names
+unfoldable pub selection_of : List Lexeme → Option Selection
+selection_of ts = do
   a ← key_word_at (codes "SELECT") ts
-  column ← regular_at a
-  c ← key_word_at (codes "FROM") column.1
-  table ← regular_at c
-  e ← key_word_at (codes "WHERE") table.1
-  tested ← regular_at e
-  g ← symbol_at (codes ">") tested.1
-  bound ← literal_at g
-  if bytes_eq tested.0 column.0 && is_end bound.1 then Some (column.0, table.0, bound.0) else None
-
--- the query over the schema's tables
-unfoldable pub query_in : List Table → List Lexeme → Option Query
-query_in schema ts = do
-  parts ← select_above_of ts
-  table ← table_of schema parts.1
-  column ← place_of table.columns parts.0
-  Some (record { column = column; literal = parts.2 })
+  columns ← list_at ColumnReference a
+  source ← source_of columns.1
+  Some (record { columns = columns.0; source = source })

@@ -27,6 +27,11 @@ text_of_rows header rows = line_of (map (λ (h : Head). h.name) header) ++ flat_
 abbrev pub report_of_rows : ℕ → List Head → List (List Val) → List ℕ
 report_of_rows number header rows = codes "QUERY " ++ decimal number ++ codes " ROWS " ++ decimal (length rows) ++ codes "\n" ++ text_of_rows header rows
 
+-- what the report says of the query of a number whose request for pages beside those held was past its limit
+abbrev pub report_of_pages : (number held asked limit : ℕ) → List ℕ
+report_of_pages number held asked limit =
+    codes "QUERY " ++ decimal number ++ codes " PAGES " ++ decimal held ++ codes " " ++ decimal asked ++ codes " " ++ decimal limit ++ codes "\n"
+
 -- the header's columns are all whole numbers, and each row has a value for each
 pub record AreRowsOf (header : List Head) (rows : List (List Val)) : Type 0 where
   pub kinds : All (λ (h : Head). h.kind ≡ Number 0) header

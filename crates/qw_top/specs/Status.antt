@@ -1,7 +1,7 @@
 -- The number that the program ends with.
 use Rattle.std.specs.Prelude.{ℕ}
 use Rattle.qw_top.specs.declared.status.Status.{Status}
-use Rattle.qw_top.specs.declared.status.Status.TheVariants.{Done, WordsRefused, SchemaRefused, TableFileRefused, QueriesRefused, ReadFailed, WriteFailed, NoMemory}
+use Rattle.qw_top.specs.declared.status.Status.TheVariants.{Done, WordsRefused, SchemaRefused, TableFileRefused, QueriesRefused, ReadFailed, WriteFailed, PageLimitMet, NoMemory}
 
 -- the number of a status
 abbrev pub code_of : Status → ℕ
@@ -12,4 +12,5 @@ code_of TableFileRefused = 4
 code_of QueriesRefused = 5
 code_of ReadFailed = 6
 code_of WriteFailed = 7
+code_of PageLimitMet = 8
 code_of NoMemory = 9

@@ -1,6 +1,7 @@
 -- What the files of a run hold, and which ends of a run the words and the files explain.
-use Rattle.std.specs.Prelude.{◌≡◌, ◌⊎◌, ℕ, ◌<◌, ◌≤◌, List, [], ◌∷◌, Option, None, Result, Err, length, slice_get}
-use Rattle.qw_io.specs.Faults.{IsCounted}
+use Rattle.std.specs.List.{AllByRecursion, filter_map}
+use Rattle.std.specs.Option.{option_map}
+use Rattle.std.specs.Prelude.{◌≡◌, ◌⊎◌, ℕ, ◌<◌, ◌≤◌, List, [], ◌∷◌, Option, length, slice_get}
 use Rattle.qw_io.specs.Files.{OfFile}
 use Rattle.qw_types.specs.declared.schema.Column.{Column}
 use Rattle.qw_types.specs.declared.schema.Table.{Table}
@@ -9,15 +10,17 @@ use Rattle.qw_types.specs.declared.value.Ty.TheVariants.{Integer}
 use Rattle.qw_types.specs.declared.value.Val.{Val}
 use Rattle.qw_top.specs.declared.files.TheConstants.{MAX_TABLE_FILE, MAX_TEXT_FILE}
 use Rattle.qw_top.specs.declared.loading.LoadFault.{LoadFault}
-use Rattle.qw_top.specs.declared.meaning.Query.{Query}
+use Rattle.qw_meaning.specs.Statement.{Statement}
 use Rattle.qw_top.specs.declared.sink.Head.{Head}
 use Rattle.qw_top.specs.declared.sink.Kind.{Kind}
 use Rattle.qw_top.specs.declared.sink.Kind.TheVariants.{Number}
 use Rattle.qw_top.specs.declared.status.Status.{Status}
-use Rattle.qw_top.specs.declared.status.Status.TheVariants.{Done, WordsRefused, SchemaRefused, TableFileRefused, QueriesRefused, ReadFailed, WriteFailed, NoMemory}
+use Rattle.qw_top.specs.declared.status.Status.TheVariants.{Done, WordsRefused, SchemaRefused, TableFileRefused, QueriesRefused, ReadFailed, WriteFailed, PageLimitMet, NoMemory}
 use Rattle.qw_top.specs.declared.words.RunWords.{RunWords}
 use Rattle.qw_top.specs.FileNames.{table_file_of}
-use Rattle.qw_top.specs.Loading.{IsFirstFault, IsOneInteger, Loads}
+use Rattle.qw_emit.specs.Compiled.{page_bound}
+use Rattle.qw_top.specs.Loading.{IsFirstFault, AreIntegers, Loads}
+use Rattle.qw_top.specs.declared.bench.TheConstants.{DEFAULT_LIMITS}
 use Rattle.qw_top.specs.Parse.{ReadsQuery, ReadsSchema}
 use Rattle.qw_top.specs.Words.{IsRun}
 
@@ -62,14 +65,14 @@ IsNoTable files folder table = IsTooLong files (table_file_of folder table.name)
     ⊎ ((bytes : List ℕ) × (fault : LoadFault) × IsFile files (table_file_of folder table.name) MAX_TABLE_FILE bytes × IsFirstFault table bytes fault)
 
 -- the queries file of this name is this query over the schema
-pub record QueryIs (files : Files) (name : List ℕ) (schema : List Table) (query : Query) : Type 0 where
+pub record QueryIs (files : Files) (name : List ℕ) (schema : List Table) (statement : Statement) : Type 0 where
   pub text : List ℕ
   pub file : IsFile files name MAX_TEXT_FILE text
-  pub reads : ReadsQuery schema text query
+  pub reads : ReadsQuery schema text statement
 
 -- a text that is no query over the schema
 abbrev pub AsksNothing : List Table → List ℕ → Type 0
-AsksNothing schema text = (query : Query) → ReadsQuery schema text query → ⊥
+AsksNothing schema text = (statement : Statement) → ReadsQuery schema text statement → ⊥
 
 -- the queries file of this name is refused: it is too long, or its text is no query over the schema
 abbrev pub IsNoQuery : Files → List ℕ → List Table → Type 0
@@ -96,18 +99,30 @@ pub record HasRows (files : Files) (names : Names) (table : Table) (rows : List 
   pub loaded : TableIs files names.folder table rows
 
 -- and the queries file is this query over that table
-pub record HasQuery (files : Files) (names : Names) (table : Table) (rows : List (List Val)) (query : Query) : Type 0 where
+pub record HasQuery (files : Files) (names : Names) (table : Table) (rows : List (List Val)) (statement : Statement) : Type 0 where
   pub before : HasRows files names table rows
-  pub asked : QueryIs files names.queries (table ∷ []) query
+  pub asked : QueryIs files names.queries (table ∷ []) statement
+
+-- the name of a file that a run may read
+abbrev pub IsFileOf : Files → Names → List ℕ → Type 0
+IsFileOf files names name = (name ≡ names.schema)
+    ⊎ ((table : Table) × SchemaIs files names.schema (table ∷ []) × (name ≡ table_file_of names.folder table.name))
+    ⊎ (name ≡ names.queries)
+
+-- the same of the words that give the names
+abbrev pub IsNamed : Files → (words : List (List ℕ)) → List ℕ → Type 0
+IsNamed files words name = (names : Names) × AreNames words names × IsFileOf files names name
 
 -- The files of these names explain how a run ended, once its words were read. A file is refused only where
 -- all files before it were accepted.
 abbrev pub FilesExplain : Files → Names → Status → Type 0
-FilesExplain files names Done = (table : Table) × (rows : List (List Val)) × (query : Query) × HasQuery files names table rows query
+FilesExplain files names Done = (table : Table) × (rows : List (List Val)) × (statement : Statement) × HasQuery files names table rows statement
 FilesExplain files names WordsRefused = ⊥
 FilesExplain files names SchemaRefused = IsNoSchema files names.schema
 FilesExplain files names TableFileRefused = (table : Table) × SchemaIs files names.schema (table ∷ []) × IsNoTable files names.folder table
 FilesExplain files names QueriesRefused = (table : Table) × (rows : List (List Val)) × HasRows files names table rows × IsNoQuery files names.queries (table ∷ [])
+FilesExplain files names PageLimitMet = (table : Table) × (rows : List (List Val)) × (statement : Statement)
+    × HasQuery files names table rows statement × (DEFAULT_LIMITS.pages < page_bound statement rows)
 FilesExplain files names ReadFailed = Unit {0}
 FilesExplain files names WriteFailed = Unit {0}
 FilesExplain files names NoMemory = Unit {0}
@@ -118,9 +133,10 @@ abbrev pub Explains : Files → List (List ℕ) → Status → Type 0
 Explains files words WordsRefused = (names : Names) → AreNames words names → ⊥
 Explains files words status = (names : Names) × AreNames words names × FilesExplain files names status
 
--- an end that the words and the files settle, and no fault on the way
+-- a refusal, which the words and the files settle
 abbrev pub IsSettled : Status → Type 0
-IsSettled Done = Unit {0}
+IsSettled Done = ⊥
+IsSettled PageLimitMet = ⊥
 IsSettled WordsRefused = Unit {0}
 IsSettled SchemaRefused = Unit {0}
 IsSettled TableFileRefused = Unit {0}
@@ -136,53 +152,25 @@ IsFault WriteFailed = Unit {0}
 IsFault NoMemory = Unit {0}
 IsFault _ = ⊥
 
--- an end that the reading of the files can come to
-abbrev pub StopsReading : Status → Type 0
-StopsReading Done = ⊥
-StopsReading WordsRefused = ⊥
-StopsReading SchemaRefused = Unit {0}
-StopsReading TableFileRefused = Unit {0}
-StopsReading QueriesRefused = Unit {0}
-StopsReading ReadFailed = Unit {0}
-StopsReading WriteFailed = ⊥
-StopsReading NoMemory = Unit {0}
-
--- the column that a query over a schema of one table selects
-abbrev pub selected : List Table → Query → Option Column
-selected [] query = None
-selected (table ∷ []) query = slice_get table.columns query.column
-selected (table ∷ next ∷ tables) query = None
-
 -- how the values of a type are printed: an INTEGER with no digits behind a point
 abbrev pub kind_of : Ty → Kind
 kind_of Integer = Number 0
 
--- the header of the rows that hold this column alone
-abbrev pub header_of : Column → List Head
-header_of column = record { name = column.name; kind = kind_of column.ty } ∷ []
+-- what the header says of a column
+abbrev pub head_of : Column → Head
+head_of column = record { name = column.name; kind = kind_of column.ty }
 
--- a schema of one table that has one INTEGER column
+-- the header of the rows that a statement gives: its columns, in its order
+abbrev pub header_of : Table → Statement → List Head
+header_of table statement = filter_map (λ column. option_map head_of (slice_get table.columns column)) statement.columns
+
+-- a statement's columns are columns of the table
+abbrev pub AreColumnsOf : Table → Statement → Type 0
+AreColumnsOf table statement = (statement.tested < length table.columns)
+    × AllByRecursion (λ column. column < length table.columns) statement.columns
+
+-- a schema of one table that has INTEGER columns
 abbrev pub IsOneTable : List Table → Type 0
 IsOneTable [] = ⊥
-IsOneTable (table ∷ []) = IsOneInteger table.columns
+IsOneTable (table ∷ []) = AreIntegers table.columns
 IsOneTable (table ∷ next ∷ tables) = ⊥
-
--- a stage stopped: with its own refusal, for this reason, or with a fault
-abbrev pub StopsAs : Status → Type 0 → Status → Type 0
-StopsAs refusal reason status = ((status ≡ refusal) × reason) ⊎ (status ≡ ReadFailed) ⊎ (status ≡ NoMemory)
-
--- a read that failed is counted, and no other answer is
-abbrev pub CountsStop : {T : Type 0} → Result T Status → ℕ → ℕ → Type 0
-CountsStop (Err ReadFailed) before after = IsCounted before after
-CountsStop _ before after = after ≡ before
-
--- an end that the writing of a report can come to
-abbrev pub StopsWriting : Status → Type 0
-StopsWriting WriteFailed = Unit {0}
-StopsWriting NoMemory = Unit {0}
-StopsWriting _ = ⊥
-
--- a write that failed is counted, and no other answer is
-abbrev pub CountsWritten : {T : Type 0} → Result T Status → ℕ → ℕ → Type 0
-CountsWritten (Err WriteFailed) before after = IsCounted before after
-CountsWritten _ before after = after ≡ before

@@ -1,18 +1,19 @@
 //! Instances of compiled statements that share one linear memory, and the turns that they are given.
 
-ghost use Rattle.std.specs.Prelude.{◌≡◌, ◌≢◌, List, not, is_some, ◌↔◌, ◌+◌, ◌-◌, ◌<◌, ◌≤◌, ℕ, [], ◌∷◌, None, length, IfOk, IfSome, IsSome, slice_get};
+ghost use Rattle.std.specs.Prelude.{◌≡◌, ◌≢◌, List, not, is_some, ◌↔◌, ◌+◌, ◌-◌, ◌*◌, ◌<◌, ◌≤◌, ◌^◌, ℕ, [], ◌∷◌, ◌++◌, None, length, IfOk, IfSome, IsSome, slice_get};
 ghost use Rattle.std.specs.List.{list_any};
-ghost use Rattle.qw_module.specs.Instance.{GoesWith, begun, state_of};
-ghost use Rattle.qw_module.specs.Validity.{IsShaped};
-ghost use Rattle.qw_top.specs.FirstPage.{IsFirstMemory};
+ghost use Rattle.std.specs.Vec.{vec_capacity};
+ghost use Rattle.qw_linear.specs.Memory.{page};
 
-use crate::columns::place;
-use crate::first_page::begin_page;
+mod start;
+
+use crate::bench::start::{first_instance, first_memory};
+use crate::columns::{MAX_COLUMN_PAGES, pages_needed};
 use crate::loading::Loaded;
-use crate::meaning::Query;
-use qw_module::linear::{Linear, MAX_PAGES};
-use qw_module::machine::{Instance, InstanceFault, Stepped};
-use qw_module::valid::ValidModule;
+use qw_linear::linear::{Linear, MAX_PAGES, PAGE};
+use qw_machine::machine::{Instance, Stepped};
+use qw_machine::valid::ValidModule;
+use qw_meaning::query::Query;
 use qw_types::NoMemory;
 use std::alloc::Global;
 use std::marker::Model;
@@ -32,17 +33,16 @@ pub const DEFAULT_LIMITS: Limits = Limits {
     steps: 999_999_999_999_999_999,
 };
 
-/// The most pages that an instance may hold: all but that of the columns.
-pub const MAX_INSTANCE_PAGES: u32 = MAX_PAGES - 1;
-
-/// The address of the first page of the instance, behind that of the columns.
-const FIRST_PAGE: u32 = 65_536;
+/// The most pages that an instance may hold: all that the columns leave.
+pub const MAX_INSTANCE_PAGES: u32 = MAX_PAGES - MAX_COLUMN_PAGES;
 
 /// How an instance ended.
 #[derive(Clone, Copy, Debug, PartialEq, Eq)]
 pub enum Ended {
     /// Its `run` returned.
     Done,
+    /// With so many pages held, it asked for so many more than its limit of pages lets it.
+    Pages { held: u32, asked: u32, limit: u32 },
     /// It ran as many instructions as its limit says.
     Steps { limit: u64 },
 }
@@ -59,22 +59,29 @@ impl Model for Job {
 
     ghost Value = { CompiledQuery };
 
-    ghost use Rattle.qw_top.specs.Compiled.{IsCompiled};
+    ghost use Rattle.qw_emit.specs.Compiled.{IsCompiled};
 
-    ghost view = { λ job. record { query = job.query; program = job.valid } };
+    ghost view = { λ job. record { statement = job.query; program = job.valid } };
 
     ghost invariant = { λ job. IsCompiled job.query job.valid };
 }
 
 impl Job {
-    ghost use Rattle.qw_top.specs.Compiled.{IsCompiled};
+    ghost use Rattle.qw_emit.specs.Compiled.{IsCompiled};
 
     pub fn new(query: Query, valid: ValidModule) -> Self
         requires { IsCompiled query valid }
-        ensures { result ≡ record { query = query; program = valid } }
+        ensures { result ≡ record { statement = query; program = valid } }
     {
         Job { query, valid }
     }
+}
+
+/// Pages that an instance was granted: the number of the first one in the memory, and how many they are.
+#[derive(Clone, Copy, Debug, PartialEq, Eq)]
+struct Grant {
+    at: u32,
+    pages: u32,
 }
 
 /// An instance, with what it may use and how far it has come.
@@ -83,13 +90,17 @@ struct Seat {
     query: Query,
     valid: ValidModule,
     instance: Instance,
-    /// How many rows the column has that it reads.
+    /// How many rows the columns have that it reads.
     rows: usize,
     /// The address of its descriptor, where its first page begins.
     descriptor: u64,
     limits: Limits,
+    /// What it was granted, in order. There is room for all that it may still be granted.
+    granted: Vec<Grant>,
     /// How many pages it holds.
     held: u32,
+    /// How many pages its last request was for that was refused.
+    refused: Option<u32>,
     /// How many instructions it has run.
     ran: u64,
     ended: Option<Ended>,
@@ -97,17 +108,23 @@ struct Seat {
 
 impl Seat {
     ghost use Rattle.qw_module.specs.Turns.{IsWhole, steps_of};
-    ghost use Rattle.qw_module.specs.Instance.{GoesWith};
-    ghost use Rattle.qw_top.specs.Seats.{IsEndOf, NeverTraps, StaysSeated, counting, instance_of, state_in, task_of};
+    ghost use Rattle.qw_machine.specs.Instance.{GoesWith};
+    ghost use Rattle.qw_top.specs.Seats.{HasGrants, IsEndOf, IsTold, StaysSeated, counting, instance_of, state_in, task_of};
 
     /// Runs the instance until it ends or has run `quantum` instructions. Answers how many it ran.
     fn turn(&mut self, memory: &mut Linear, quantum: u64) -> u64
         requires goes_with { GoesWith self.old.valid self.old.instance }
         requires whole { IsWhole (instance_of self.old) }
-        requires no_trap { NeverTraps (instance_of self.old) memory.old }
-        ensures turned { (instance_of self.new, memory.new) ≡ steps_of quantum (instance_of self.old) memory.old }
+        requires told { IsTold (instance_of self.old) memory.old.octets }
+        requires grants { HasGrants self.old }
+        requires room { length memory.old.octets + (self.old.limits.pages - self.old.held) * page ≤ memory.old.reserved * page }
+        ensures turned { (instance_of self.new, memory.new.octets) ≡ steps_of quantum (instance_of self.old) memory.old.octets }
         ensures task { task_of self.new ≡ task_of self.old }
         ensures goes_with { GoesWith self.new.valid self.new.instance }
+        ensures grants { HasGrants self.new }
+        ensures asks { length memory.new.octets + (self.new.limits.pages - self.new.held) * page
+            ≡ length memory.old.octets + (self.old.limits.pages - self.old.held) * page }
+        ensures reserved { memory.new.reserved ≡ memory.old.reserved }
         ensures counted { self.new.ran ≡ self.old.ran + result }
         ensures over { IsSome self.old.ended → result ≡ 0 }
         ensures progress { self.old.ended ≡ None → 1 ≤ quantum → 1 ≤ result }
@@ -128,23 +145,36 @@ impl Seat {
     /// Executes up to `budget` instructions, and answers how many. They aren't counted yet.
     fn run(&mut self, memory: &mut Linear, budget: u64) -> u64
         requires goes_with { GoesWith self.old.valid self.old.instance }
-        requires runs { IsEndOf (state_in self.old) None }
+        requires runs { IsEndOf self.old (state_in self.old) None }
         requires unended { self.old.ended ≡ None }
-        requires room { self.old.ran + budget ≤ self.old.limits.steps }
-        requires no_trap { NeverTraps (counting self.old 0) memory.old }
-        ensures ran { (counting self.new result, memory.new) ≡ steps_of budget (counting self.old 0) memory.old }
+        requires steps { self.old.ran + budget ≤ self.old.limits.steps }
+        requires told { IsTold (counting self.old 0) memory.old.octets }
+        requires grants { HasGrants self.old }
+        requires room { length memory.old.octets + (self.old.limits.pages - self.old.held) * page ≤ memory.old.reserved * page }
+        ensures ran { (counting self.new result, memory.new.octets) ≡ steps_of budget (counting self.old 0) memory.old.octets }
         ensures seated { StaysSeated self.old self.new }
         ensures goes_with { GoesWith self.new.valid self.new.instance }
-        ensures end { IsEndOf (state_in self.new) self.new.ended }
+        ensures end { IsEndOf self.new (state_in self.new) self.new.ended }
+        ensures grants { HasGrants self.new }
+        ensures asks { length memory.new.octets + (self.new.limits.pages - self.new.held) * page
+            ≡ length memory.old.octets + (self.old.limits.pages - self.old.held) * page }
+        ensures reserved { memory.new.reserved ≡ memory.old.reserved }
         ensures count { self.new.ended ≡ None → result ≡ budget }
         ensures within { result ≤ budget }
         ensures progress { 1 ≤ budget → 1 ≤ result }
     {
         for taken in 0..budget {
-            match self.instance.step(&self.valid, memory) {
+            let spare = self.limits.pages - self.held;
+            match self.instance.step(&self.valid, memory, spare) {
                 Stepped::Ran => {}
+                Stepped::Grew { pages, .. } => self.note_grant(memory, pages),
+                Stepped::Refused { pages } => self.refused = Some(pages),
                 Stepped::Returned => {
                     self.ended = Some(Ended::Done);
+                    return taken + 1;
+                }
+                Stepped::Raised(_) => {
+                    self.ended = Some(self.past_limit());
                     return taken + 1;
                 }
                 Stepped::Trapped => unreachable!(),
@@ -152,9 +182,36 @@ impl Seat {
         }
         budget
     }
+
+    /// Notes that so many pages were granted, the last ones of the memory.
+    fn note_grant(&mut self, memory: &Linear, pages: u32)
+        requires reserved { length self.old.granted.items < vec_capacity self.old.granted }
+        requires fits { self.old.held + pages < 2 ^ 32 }
+        requires there { pages * page ≤ length memory.now.octets }
+        ensures seat { self.new ≡ record self.old { granted = self.new.granted; held = self.old.held + pages } }
+        ensures granted { (at : ℕ) × (length memory.now.octets ≡ (at + pages) * page)
+            × (self.new.granted.items ≡ self.old.granted.items ++ (record { at = at; pages = pages }) ∷ []) }
+        ensures capacity { vec_capacity self.new.granted ≡ vec_capacity self.old.granted }
+    {
+        let at = memory.size() - pages;
+        self.granted.push_reserved(Grant { at, pages });
+        self.held += pages;
+    }
+
+    /// The end where the last request was past the limit.
+    fn past_limit(&self) -> Ended
+        requires { IsSome self.now.refused }
+        ensures { IfSome self.now.refused (λ asked. result ≡ Ended.Pages self.now.held asked self.now.limits.pages) }
+    {
+        Ended::Pages {
+            held: self.held,
+            asked: self.refused.unwrap(),
+            limit: self.limits.pages,
+        }
+    }
 }
 
-/// Instances over one memory, which holds the column that they read.
+/// Instances over one memory, which holds the columns that they read.
 #[derive(Drop)]
 pub struct Bench {
     memory: Linear,
@@ -171,62 +228,43 @@ impl Model for Bench {
     ghost invariant = { λ b. IsBench (record { memory = b.memory; seats = b.seats.items }) };
 }
 
-/// A memory of two pages: that of the columns, which has the table, and the first page of the instance.
-fn first_memory(alloc: Global, loaded: &Loaded) -> Result<Linear, NoMemory>
-    ensures { IfOk result (IsFirstMemory loaded.now) }
-{
-    let mut memory = Linear::new(alloc, 2)?;
-    place(loaded, &mut memory);
-    begin_page(&mut memory, FIRST_PAGE, loaded.values().len() as u32);
-    Ok(memory)
-}
-
-/// An instance of a module of the shape that is executed, whose `run` has the first page as its argument.
-fn first_instance(alloc: Global, valid: &ValidModule) -> Result<Instance, NoMemory>
-    requires { (number : ℕ) × IsShaped valid.now number }
-    ensures begun { (number : ℕ) → IsShaped valid.now number
-        → IfOk result (λ instance. state_of valid.now instance ≡ begun valid.now number FIRST_PAGE) }
-    ensures goes_with { IfOk result (GoesWith valid.now) }
-{
-    match Instance::new(alloc, valid, FIRST_PAGE) {
-        Ok(instance) => Ok(instance),
-        Err(InstanceFault::NoMemory) => Err(NoMemory),
-        Err(InstanceFault::NotShaped) => unreachable!(),
-    }
-}
-
 impl Bench {
+    ghost use Rattle.std.specs.List.{AllByRecursion};
+    ghost use Rattle.qw_emit.specs.Layout.{used};
     ghost use Rattle.qw_module.specs.Turns.{EachInstance, turn, turns};
     ghost use Rattle.qw_top.specs.Bench.{AreRounds, IsStart, round, steps_left};
     ghost use Rattle.qw_top.specs.Seats.{IsBench, end_of, first_task, shared_of, tasks_of};
     ghost use Rattle.qw_top.specs.Bench.{end_in, ran_in};
 
-    /// A bench with one instance of the job over a table of one column. Its error is want of memory.
+    /// A bench with one instance of the job over a table, which has the columns that the job's statement
+    /// uses. Its error is want of memory.
     pub fn new(alloc: Global, loaded: &Loaded, job: Job, limits: Limits) -> Result<Self, NoMemory>
-        requires column { job.query.column ≡ 0 }
+        requires columns { AllByRecursion (λ column. column < loaded.now.width) (used job.statement) }
         requires pages { (1 ≤ limits.pages) × (limits.pages ≤ MAX_INSTANCE_PAGES) }
         requires steps { 1 ≤ limits.steps }
-        ensures tasks { IfOk result (λ bench. tasks_of bench ≡ first_task job limits ∷ []) }
-        ensures start { IfOk result (λ bench. IsStart loaded.now (tasks_of bench) (shared_of bench)) }
+        ensures tasks { IfOk result (λ bench. tasks_of bench ≡ first_task loaded.now.width (length loaded.now.rows) job limits ∷ []) }
+        ensures start { IfOk result (λ bench. IsStart loaded.now.width loaded.now.rows (tasks_of bench) (shared_of bench)) }
     {
-        let rows = loaded.values().len();
-        let memory = first_memory(alloc, loaded)?;
         let Job { query, valid } = job;
-        let instance = first_instance(alloc, &valid)?;
+        let memory = first_memory(alloc, loaded, &query, limits.pages)?;
+        let descriptor = PAGE as u32 * pages_needed(loaded);
+        let instance = first_instance(alloc, &valid, descriptor)?;
         let ended = match instance.last() {
-            Stepped::Ran => None,
             Stepped::Returned => Some(Ended::Done),
-            Stepped::Trapped => unreachable!(),
+            _ => None,
         };
+        let granted = Vec::with_capacity(alloc, limits.pages as usize)?;
         let seats = vec![in alloc;
             Seat {
                 query,
                 valid,
                 instance,
-                rows,
-                descriptor: u64::from(FIRST_PAGE),
+                rows: loaded.len(),
+                descriptor: u64::from(descriptor),
                 limits,
+                granted,
                 held: 1,
+                refused: None,
                 ran: 0,
                 ended,
             },
@@ -324,10 +362,21 @@ impl Bench {
         self.seats[i].descriptor
     }
 
+    /// The statement that an instance executes.
+    pub fn query(&self, i: usize) -> &Query
+        requires { i < length (tasks_of self.now) }
+        ensures { IfSome (slice_get (tasks_of self.now) i) (λ task. result.now ≡ task.statement) }
+    {
+        &self.seats[i].query
+    }
+
     pub fn memory(&self) -> &Linear
-        ensures memory { result.now ≡ (shared_of self.now).memory }
+        ensures memory { result.now.octets ≡ (shared_of self.now).memory }
         ensures kept { IsBench self.now }
     {
         &self.memory
     }
 }
+
+#[cfg(test)]
+mod tests;

@@ -9,7 +9,7 @@ ghost use Rattle.qw_top.specs.Bench.{AreServing, EachTask, IsAt, IsStart, Task};
 
 /// From their start on, whatever turns they are given, instances serve their tasks.
 pub fn turns_serve()
-    ensures start { (rows : List (List Val)) (tasks : List Task) (s : Shared) → IsStart rows tasks s → AreServing rows tasks s }
+    ensures start { (width : ℕ) (rows : List (List Val)) (tasks : List Task) (s : Shared) → IsStart width rows tasks s → AreServing rows tasks s }
     ensures turns { (rows : List (List Val)) (tasks : List Task) (s : Shared) (ts : List (ℕ × ℕ)) →
         AreServing rows tasks s → AreServing rows tasks (turns ts s) }
 {}

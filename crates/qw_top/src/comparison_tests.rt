@@ -1,26 +1,26 @@
 // Compiled statements beside the plain program, whatever turns they are given, and the octets that a run leaves.
 
+ghost use Rattle.std.specs.Prelude.{◌≡◌, [], ◌∷◌, IfOk};
+
 use crate::bench::{Bench, DEFAULT_LIMITS, Ended, Job};
-use crate::emit::module_of;
-use crate::meaning::Query;
-use crate::plain::plain_rows;
+use crate::loading::load;
+use crate::loading::tests::narrow;
 use crate::results::received;
-use crate::top::prepare;
-use crate::words::RunWords;
+use qw_emit::emit::module_of;
 use qw_io::{MemoryShelf, NamedFile};
-use qw_module::valid::validate;
+use qw_machine::valid::validate;
+use qw_meaning::plain::plain_rows;
+use qw_meaning::query::{Comparison, Query};
 use qw_types::{NoMemory, Row, Val};
 use std::alloc::{AllocError, Global};
 use std::test::Fail;
 
-mod columns;
+const SCHEMA: &[u8] = b"CREATE TABLE T (A INTEGER NOT NULL)";
 
 const STORED: [i32; 3] = [4, 1, 7];
 
-const ABOVE_FIVE: Query = Query {
-    column: 0,
-    literal: 5,
-};
+// How many instructions a run over the stored table takes, as docs/THEOREMS.md counts them by hand.
+const STEPS: u64 = 104;
 
 // The first octets of the stored table's memory after the run, by the addresses where they begin: the column, the
 // descriptor and the one result row. Eight octets a line.
@@ -54,15 +54,47 @@ fn file(alloc: Global, name: &str, bytes: &[u8]) -> Result<NamedFile, AllocError
     })
 }
 
-// The files of a table T of one column A with these values, and of the query of its values above the literal.
-fn shelf(alloc: Global, values: &[i32], literal: i64) -> Result<MemoryShelf, AllocError> {
+fn symbol_of(comparison: Comparison) -> &'static str {
+    match comparison {
+        Comparison::Equal => "=",
+        Comparison::NotEqual => "<>",
+        Comparison::Less => "<",
+        Comparison::LessOrEqual => "<=",
+        Comparison::Greater => ">",
+        Comparison::GreaterOrEqual => ">=",
+    }
+}
+
+// The statement that selects the one column where it compares so with the literal.
+fn asking(alloc: Global, comparison: Comparison, literal: i64) -> Result<Query, AllocError>
+    ensures columns { IfOk result (λ query. query.columns ≡ 0 ∷ []) }
+    ensures tested { IfOk result (λ query. query.tested ≡ 0) }
+{
+    let columns = vec![in alloc; 0]?;
+    Ok(Query::new(columns, 0, comparison, literal))
+}
+
+// The octets of a table file of one column A with these values.
+fn table_file(alloc: Global, values: &[i32]) -> Result<String, AllocError> {
     let mut table = String::from_str(alloc, "A\n")?;
     for value in values {
         table.push_str(format!(in alloc; "{value}\n")?.as_str())?;
     }
-    let query = format!(in alloc; "SELECT A FROM T WHERE A > {literal}")?;
+    Ok(table)
+}
+
+// The files of a table T of one column A with these values, and of the query of those that compare so with the literal.
+fn shelf(
+    alloc: Global,
+    values: &[i32],
+    comparison: Comparison,
+    literal: i64,
+) -> Result<MemoryShelf, AllocError> {
+    let table = table_file(alloc, values)?;
+    let symbol = symbol_of(comparison);
+    let query = format!(in alloc; "SELECT A FROM T WHERE A {symbol} {literal}")?;
     let files = vec![in alloc;
-        file(alloc, "s", b"CREATE TABLE T (A INTEGER NOT NULL)")?,
+        file(alloc, "s", SCHEMA)?,
         file(alloc, "d/t.csv", table.as_bytes())?,
         file(alloc, "q", query.as_bytes())?,
     ]?;
@@ -71,16 +103,15 @@ fn shelf(alloc: Global, values: &[i32], literal: i64) -> Result<MemoryShelf, All
 
 // A bench of the stored table and its query, before its first turn.
 fn stored_bench(alloc: Global) -> Result<Bench, Fail> {
-    let mut files = shelf(alloc, &STORED, ABOVE_FIVE.literal)?;
-    let names = RunWords {
-        schema: "s",
-        folder: "d",
-        queries: "q",
-    };
-    let run = prepare(alloc, &names, &mut files)?;
-    let valid = validate(alloc, module_of(alloc, &ABOVE_FIVE)?)?;
-    let job = Job::new(ABOVE_FIVE, valid);
-    Ok(Bench::new(alloc, &run.loaded, job, DEFAULT_LIMITS)?)
+    let bytes = table_file(alloc, &STORED)?;
+    let loaded = load(alloc, &narrow(alloc)?, bytes.as_bytes())?;
+    if loaded.width() == 0 {
+        return Err("no column".into());
+    }
+    let query = asking(alloc, Comparison::Greater, 5)?;
+    let valid = validate(alloc, module_of(alloc, &query)?)?;
+    let job = Job::new(query, valid);
+    Ok(Bench::new(alloc, &loaded, job, DEFAULT_LIMITS)?)
 }
 
 // Gives turns of 1 to 100 instructions until the end, and answers the generator's state then.
@@ -135,13 +166,13 @@ fn run_of(alloc: Global, bench: &Bench) -> Result<Option<(u64, Vec<i64>)>, NoMem
 #[test]
 fn turns_change_no_result(rt: HostRuntime) -> Result<(), Fail> {
     let alloc = rt.alloc();
-    let plain = plain_numbers(alloc, &ABOVE_FIVE, &STORED)?;
+    let plain = plain_numbers(alloc, &asking(alloc, Comparison::Greater, 5)?, &STORED)?;
     let mut random = 1;
     for _ in 0..1_000 {
         let mut bench = stored_bench(alloc)?;
         random = turn_to_the_end(&mut bench, random);
         let (steps, numbers) = run_of(alloc, &bench)?.ok_or("not done")?;
-        assert_eq!(rt; steps, 95);
+        assert_eq!(rt; steps, STEPS);
         assert_eq!(rt; numbers.as_slice(), plain.as_slice());
     }
     Ok(())
@@ -153,10 +184,12 @@ fn a_run_leaves_these_octets(rt: HostRuntime) -> Result<(), Fail> {
     let mut bench = stored_bench(alloc)?;
     bench.run_all(u64::MAX);
     let (steps, _) = run_of(alloc, &bench)?.ok_or("not done")?;
-    assert_eq!(rt; steps, 95);
+    assert_eq!(rt; steps, STEPS);
     for (address, octets) in OCTETS {
         let number = bench.memory().load64(address).ok_or("outside")?;
         assert_eq!(rt; number, u64::from_le_bytes(octets), "at {address}");
     }
     Ok(())
 }
+
+mod columns;

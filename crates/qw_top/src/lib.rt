@@ -6,19 +6,17 @@ pub mod bench_laws;
 pub mod columns;
 #[cfg(test)]
 mod comparison_tests;
-pub mod emit;
 pub mod files;
 pub mod first_page;
-pub mod layout;
 pub mod loading;
-pub mod meaning;
+pub mod notes;
 pub mod output;
 pub mod parse;
-pub mod plain;
 pub mod result_laws;
 pub mod results;
 pub mod sink;
 pub mod status;
+pub mod stop;
 #[cfg(test)]
 mod tests;
 pub mod token;

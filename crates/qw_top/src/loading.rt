@@ -1,7 +1,8 @@
 //! A table's file, read into its rows.
 
-ghost use Rattle.std.specs.Prelude.{◌≡◌, ◌≢◌, ◌≤◌, ◌+◌, ◌↔◌, ℕ, ℤ, List, [], ◌∷◌, ◌++◌, length, IsTrue, IfOk, IfErr, MatchResult};
+ghost use Rattle.std.specs.Prelude.{◌≡◌, ◌≢◌, ◌≤◌, ◌<◌, ◌+◌, ◌↔◌, ℕ, ℤ, List, [], ◌∷◌, ◌++◌, length, map, slice_index_or, IsTrue, Some, IfOk, IfErr, OnOk, MatchResult};
 ghost use Rattle.std.specs.Bool.{MatchBool};
+ghost use Rattle.std.specs.Char.{to_ascii_lowercase};
 ghost use Rattle.std.specs.Str.Parse.{without_leading_sign};
 ghost use Rattle.csv.specs.Reading.{AreRecords, default_config, strip_bom};
 ghost use Rattle.csv.specs.Records.{fields_of};
@@ -11,17 +12,16 @@ ghost use Rattle.qw_types.specs.declared.schema.Table.{Table};
 ghost use Rattle.qw_types.specs.declared.value.Val.{Val};
 ghost use Rattle.qw_types.specs.declared.value.Val.TheVariants.{Num};
 ghost use Rattle.qw_types.specs.declared.value.Ty.TheVariants.{Integer};
+ghost use Rattle.qw_emit.specs.Columns.{value_of};
 ghost use Rattle.qw_top.specs.declared.loading.LoadFault.{LoadFault};
-ghost use Rattle.qw_top.specs.Loading.{AreDigits, AreLoaded, HasRead, IsFieldFault, IsFieldOf, IsFirstFault, IsHeader, IsOneInteger, IsRecordFault, IsRecordOf, Loads, integer_rows};
+ghost use Rattle.qw_top.specs.Loading.{AreDigits, AreIntegers, AreLoaded, Contents, HasRead, IsFieldFault, IsFieldOf, IsFirstFault, IsHeader, IsRecordFault, IsRecordOf, Loads};
 
 use csv::{ByteRecord, Reader, ReaderBuilder};
-use qw_types::{Column, NoMemory, Table};
+use qw_types::schema::MAX_ROWS;
+use qw_types::{Column, Table};
 use std::alloc::{AllocFailed, Global};
 use std::marker::Model;
 use thiserror::Error;
-
-/// The most data records of a table's file.
-pub const MAX_ROWS: u32 = 2_727;
 
 /// Why a field stands for no value of its column's type.
 #[derive(Clone, Copy, Debug, PartialEq, Eq, Error)]
@@ -33,16 +33,25 @@ pub enum FieldFault {
     TooLarge,
 }
 
-/// Why a file can't be loaded. Data records are numbered from 1.
+/// Why a file can't be loaded. Data records are numbered from 1, columns from 0.
 #[derive(Clone, Copy, Debug, PartialEq, Eq, Error)]
 pub enum LoadFault {
     /// There is no record, or the first one doesn't name the table's columns.
     #[error("bad header")]
     BadHeader,
+    /// A record with more or fewer fields than there are columns.
     #[error("record {row}: field count")]
-    FieldCount { row: u32 },
-    #[error("record {row}: {fault}")]
-    Field { row: u32, fault: FieldFault },
+    FieldCount {
+        row: usize,
+    },
+    /// A field that stands for no value of its column.
+    #[error("record {row}, column {column}: {fault}")]
+    Field {
+        row: usize,
+        column: usize,
+        fault: FieldFault,
+    },
+    /// More data records than a table may have.
     #[error("too many rows")]
     TooManyRows,
     #[error("want of memory")]
@@ -59,46 +68,56 @@ impl<T: Drop> From<AllocFailed<T>> for LoadFault {
     }
 }
 
-/// The rows of a table of one INTEGER column. Contracts see them as lists of one value each.
+/// The rows of a table of INTEGER columns. Contracts see how many columns it has, and the rows as
+/// lists of values.
 #[derive(Debug, Drop)]
 pub struct Loaded {
+    width: usize,
+    len: usize,
+    // The rows one after another, in the order of the file.
     values: Vec<i32>,
 }
 
 impl Model for Loaded {
-    ghost use Rattle.std.specs.Prelude.{List};
-    ghost use Rattle.qw_types.specs.declared.value.Val.{Val};
+    ghost use Rattle.qw_top.specs.Loading.{AreKept, Contents, rows_of};
 
-    ghost Value = { List (List Val) };
+    ghost Value = { Contents };
 
-    ghost use Rattle.qw_top.specs.Loading.{AreLoaded, integer_rows};
+    ghost view = { λ a. record { width = a.width; rows = rows_of a.len a.width a.values.items } };
 
-    ghost view = { λ a. integer_rows a.values.items };
-
-    ghost invariant = { λ a. AreLoaded (integer_rows a.values.items) };
+    ghost invariant = { λ a. AreKept a.len a.width a.values.items };
 }
 
 impl Loaded {
-    ghost use Rattle.qw_top.specs.Loading.{AreLoaded, integer_rows};
+    /// How many columns the table has.
+    pub fn width(&self) -> usize
+        ensures { result ≡ self.now.width }
+    {
+        self.width
+    }
 
-    /// The values of the one column, in the order of the rows.
-    pub fn values(&self) -> &[i32]
-        ensures same { integer_rows result.now ≡ self.now }
+    /// How many rows the table has.
+    pub fn len(&self) -> usize
+        ensures rows { result ≡ length self.now.rows }
         ensures limits { AreLoaded self.now }
     {
-        self.values.as_slice()
+        self.len
     }
 
-    pub fn len(&self) -> usize
-        ensures { result ≡ length self.now }
-    {
-        self.values.len()
-    }
-
+    /// Whether the table has no row.
     pub fn is_empty(&self) -> bool
-        ensures { IsTrue result ↔ (self.now ≡ []) }
+        ensures { IsTrue result ↔ (self.now.rows ≡ []) }
     {
-        self.values.is_empty()
+        self.len == 0
+    }
+
+    /// The value of a column in a row, both counted from 0.
+    pub fn value(&self, row: usize, column: usize) -> i32
+        requires row { row < length self.now.rows }
+        requires column { column < self.now.width }
+        ensures { value_of self.now.rows row column ≡ Some (Num result) }
+    {
+        self.values[row * self.width + column]
     }
 }
 
@@ -107,8 +126,9 @@ impl Loaded {
 /// An error is the first fault from the start of the file; want of memory may come instead of any
 /// answer.
 pub fn load(alloc: Global, table: &Table, bytes: &[u8]) -> Result<Loaded, LoadFault>
-    requires { IsOneInteger table.now.columns }
-    ensures rows { IfOk result (λ loaded. Loads table.now bytes.now loaded) }
+    requires { AreIntegers table.now.columns }
+    ensures rows { IfOk result (λ loaded. Loads table.now bytes.now loaded.rows) }
+    ensures width { IfOk result (λ loaded. loaded.width ≡ length table.now.columns) }
     ensures fault { IfErr result (λ e. e ≢ LoadFault.NoMemory → IsFirstFault table.now bytes.now e) }
 {
     let mut reader = ReaderBuilder::new()
@@ -138,9 +158,10 @@ pub fn one_first_fault()
 
 // Works through a reference, so that no return leaves a reader behind.
 fn load_from(alloc: Global, table: &Table, reader: &mut Reader<&[u8]>) -> Result<Loaded, LoadFault>
-    requires { IsOneInteger table.now.columns }
+    requires { AreIntegers table.now.columns }
     ensures rows { IfOk result (λ loaded. (bytes : List ℕ) → HasRead reader.old (strip_bom bytes) []
-        → Loads table.now bytes loaded) }
+        → Loads table.now bytes loaded.rows) }
+    ensures width { IfOk result (λ loaded. loaded.width ≡ length table.now.columns) }
     ensures fault { IfErr result (λ e. (bytes : List ℕ) → HasRead reader.old (strip_bom bytes) []
         → e ≢ LoadFault.NoMemory → IsFirstFault table.now bytes e) }
 {
@@ -148,39 +169,39 @@ fn load_from(alloc: Global, table: &Table, reader: &mut Reader<&[u8]>) -> Result
     if !next_record(reader, &mut row)? || !is_header(table.columns.as_slice(), &row) {
         return Err(LoadFault::BadHeader);
     }
-    let values = rows_after_header(alloc, table, reader, &mut row)?;
-    Ok(Loaded { values })
+    rows_after_header(alloc, table, reader, &mut row)
 }
 
-// The values of the data records.
+// The rows of the data records.
 fn rows_after_header(
     alloc: Global,
     table: &Table,
     reader: &mut Reader<&[u8]>,
     row: &mut ByteRecord,
-) -> Result<Vec<i32>, LoadFault>
-    requires { IsOneInteger table.now.columns }
-    ensures rows { IfOk result (λ values. (bytes : List ℕ) (header : List (List ℕ))
+) -> Result<Loaded, LoadFault>
+    requires { AreIntegers table.now.columns }
+    ensures rows { IfOk result (λ loaded. (bytes : List ℕ) (header : List (List ℕ))
         → HasRead reader.old (strip_bom bytes) (header ∷ []) → IsHeader table.now.columns header
-        → Loads table.now bytes (integer_rows values.items)) }
-    ensures limits { IfOk result (λ values. AreLoaded (integer_rows values.items)) }
+        → Loads table.now bytes loaded.rows) }
+    ensures width { IfOk result (λ loaded. loaded.width ≡ length table.now.columns) }
     ensures fault { IfErr result (λ e. (bytes : List ℕ) (header : List (List ℕ))
         → HasRead reader.old (strip_bom bytes) (header ∷ []) → IsHeader table.now.columns header
         → e ≢ LoadFault.NoMemory → IsFirstFault table.now bytes e) }
 {
     let columns = table.columns.as_slice();
+    let width = columns.len();
     let mut values = Vec::new(alloc);
-    for number in 1..MAX_ROWS + 1 {
+    for len in 0..MAX_ROWS {
         if !next_record(reader, row)? {
-            return Ok(values);
+            return Ok(Loaded { width, len, values });
         }
-        let value = value_of(columns, row, number)?;
-        values.push(value)?;
+        push_row(&mut values, columns, row, len + 1)?;
     }
     if next_record(reader, row)? {
         return Err(LoadFault::TooManyRows);
     }
-    Ok(values)
+    let len = MAX_ROWS;
+    Ok(Loaded { width, len, values })
 }
 
 // Reads the next record, if there is one. No clause of `csv` tells a read's error over bytes in
@@ -198,33 +219,63 @@ fn next_record(reader: &mut Reader<&[u8]>, row: &mut ByteRecord) -> Result<bool,
     }
 }
 
-// Whether a record names the columns, of which there is one.
+// Whether a record names the columns.
 fn is_header(columns: &[Column], row: &ByteRecord) -> bool
-    requires { IsOneInteger columns.now }
     ensures { IsTrue result ↔ IsHeader columns.now (fields_of row.now) }
 {
-    match (columns, row.get(0)) {
-        ([column], Some(name)) => {
-            row.len() == 1 && name.eq_ignore_ascii_case(column.name.as_str().as_bytes())
-        }
-        _ => false,
+    if row.len() != columns.len() {
+        return false;
     }
+    for (place, column) in columns.iter().enumerate() {
+        if !is_name(field(row, place), column) {
+            return false;
+        }
+    }
+    true
 }
 
-// The value of the data record with this number, where there is one column.
-fn value_of(columns: &[Column], row: &ByteRecord, number: u32) -> Result<i32, LoadFault>
-    requires one { IsOneInteger columns.now }
-    requires few { number ≤ MAX_ROWS }
-    ensures { MatchResult result (λ n. IsRecordOf columns.now (fields_of row.now) (Num n ∷ []))
-        (IsRecordFault columns.now number (fields_of row.now)) }
+fn is_name(text: &[u8], column: &Column) -> bool
+    ensures { IsTrue result ↔ (map to_ascii_lowercase text.now ≡ map to_ascii_lowercase column.now.name) }
 {
-    match row.get(0) {
-        Some(field) if row.len() == 1 => match integer_of(field) {
-            Ok(value) => Ok(value),
-            Err(fault) => Err(LoadFault::Field { row: number, fault }),
-        },
-        _ => Err(LoadFault::FieldCount { row: number }),
+    text.eq_ignore_ascii_case(column.name.as_str().as_bytes())
+}
+
+// Pushes the values of the data record with this number.
+fn push_row(
+    values: &mut Vec<i32>,
+    columns: &[Column],
+    row: &ByteRecord,
+    number: usize,
+) -> Result<(), LoadFault>
+    requires integers { AreIntegers columns.now }
+    requires few { number ≤ MAX_ROWS }
+    ensures pushed { OnOk result ((numbers : List ℤ) × (values.new.items ≡ values.old.items ++ numbers)
+        × (length numbers ≡ length columns.now) × IsRecordOf columns.now (fields_of row.now) (map Num numbers)) }
+    ensures fault { IfErr result (λ e. e ≢ LoadFault.NoMemory → IsRecordFault columns.now number (fields_of row.now) e) }
+{
+    if row.len() != columns.len() {
+        return Err(LoadFault::FieldCount { row: number });
     }
+    for column in 0..columns.len() {
+        match integer_of(field(row, column)) {
+            Ok(value) => values.push(value)?,
+            Err(fault) => {
+                return Err(LoadFault::Field {
+                    row: number,
+                    column,
+                    fault,
+                });
+            }
+        }
+    }
+    Ok(())
+}
+
+fn field(row: &ByteRecord, place: usize) -> &[u8]
+    requires { place < length (fields_of row.now) }
+    ensures { result.now ≡ slice_index_or (fields_of row.now) place [] }
+{
+    row.get(place).unwrap()
 }
 
 // The value of a field of an INTEGER column.
@@ -258,4 +309,4 @@ fn are_digits(text: &[u8]) -> bool
 }
 
 #[cfg(test)]
-mod tests;
+pub mod tests;

@@ -1,7 +1,8 @@
-ghost use Rattle.std.specs.Prelude.{◌≡◌, ◌≤◌, OnOk, OnErr};
-ghost use Rattle.qw_top.specs.Counts.{CountsWrite};
+ghost use Rattle.std.specs.Prelude.{◌≡◌, ◌≤◌, IfErr, OnOk, OnErr};
+ghost use Rattle.qw_top.specs.Counts.{CountsWrite, write_fault_of};
 ghost use Rattle.qw_top.specs.Output.{TookFront, with_text};
 
+use crate::status::Status;
 use qw_io::{IoFault, Sink};
 
 /// Writes the whole text, going on behind each piece that the sink took. At a fault a front of the text
@@ -18,4 +19,16 @@ pub fn write_whole<O: Sink>(out: &mut O, text: &[u8]) -> Result<(), IoFault>
         written += count;
     }
     Ok(())
+}
+
+/// How a run ends whose last text was written so: as it would, but for what kept the text from being written.
+pub fn end_of_write(written: Result<(), IoFault>, status: Status) -> Status
+    ensures whole { OnOk written (result ≡ status) }
+    ensures cut_short { IfErr written (λ fault. result ≡ write_fault_of fault) }
+{
+    match written {
+        Ok(()) => status,
+        Err(IoFault::Failed) => Status::WriteFailed,
+        Err(IoFault::NoMemory) => Status::NoMemory,
+    }
 }

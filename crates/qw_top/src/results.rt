@@ -1,23 +1,21 @@
 //! The result rows of an instance, read from the memory.
 
-ghost use Rattle.std.specs.Prelude.{◌≡◌, ◌+◌, ◌<◌, ◌≤◌, ◌^◌, ◌∷◌, [], List, length, IfOk, IfSome, IsSome, Some, slice_get};
-ghost use Rattle.std.specs.Int.{cast_signed, w64};
+ghost use Rattle.std.specs.Prelude.{◌≡◌, ◌+◌, ◌<◌, ◌≤◌, ◌^◌, ◌*◌, List, length, IfOk, IfSome, IsSome, Some, slice_get};
 ghost use Rattle.std.specs.List.{AllByRecursion};
 ghost use Rattle.qw_types.specs.declared.value.Val.{Val};
-ghost use Rattle.qw_types.specs.declared.value.Val.TheVariants.{Num};
+ghost use Rattle.qw_meaning.specs.declared.query.TheConstants.{MAX_ITEMS};
+ghost use Rattle.qw_meaning.specs.Meaning.{Rows, outcome};
 ghost use Rattle.qw_module.specs.Map.{Area};
-ghost use Rattle.qw_module.specs.Memory.{number_at};
 ghost use Rattle.qw_module.specs.Turns.{Done, LiesWithin};
-ghost use Rattle.qw_top.specs.Bench.{AreServing};
-ghost use Rattle.qw_top.specs.Layout.{rows_at, rows_from};
-ghost use Rattle.qw_top.specs.Meaning.{Rows, outcome};
+ghost use Rattle.qw_emit.specs.Layout.{cell_at, cell_types, cells_at, rows_at, rows_from};
+ghost use Rattle.qw_top.specs.Bench.{AreServing, end_in};
 ghost use Rattle.qw_top.specs.Seats.{rows_in, shared_of, tasks_of};
-ghost use Rattle.qw_top.specs.Bench.{end_in};
 
 use crate::bench::Bench;
-use crate::layout::{CELL_OFFSET, COUNT_OFFSET, FIRST_ROW_OFFSET};
-use qw_module::linear::Linear;
-use qw_types::{NoMemory, Row, Val};
+use qw_emit::layout::{CELL_OFFSET, CELL_SIZE, COUNT_OFFSET, FIRST_ROW_OFFSET};
+use qw_linear::linear::Linear;
+use qw_meaning::query::{MAX_ITEMS, Query};
+use qw_types::{NoMemory, Row, Ty, Val};
 use std::alloc::Global;
 
 /// The result rows of an instance that is done. The error is want of memory.
@@ -25,24 +23,40 @@ pub fn received(alloc: Global, bench: &Bench, i: usize) -> Result<Vec<Row>, NoMe
     requires { end_in (shared_of bench.now) i ≡ Some Done }
     ensures rows { IfOk result (λ rows. rows_in bench.now i ≡ Some rows.items) }
     ensures answer { IfOk result (λ rows. (table : List (List Val)) → AreServing table (tasks_of bench.now) (shared_of bench.now)
-        → IfSome (slice_get (tasks_of bench.now) i) (λ task. outcome task.query table ≡ Rows rows.items)) }
+        → IfSome (slice_get (tasks_of bench.now) i) (λ task. outcome task.statement table ≡ Rows rows.items)) }
 {
-    rows_of(alloc, bench.memory(), bench.descriptor(i))
+    let types = types_of(alloc, bench.query(i))?;
+    rows_of(alloc, bench.memory(), bench.descriptor(i), types.as_slice())
+}
+
+/// The types of the cells of a statement's result rows.
+fn types_of(alloc: Global, query: &Query) -> Result<Vec<Ty>, NoMemory>
+    ensures types { IfOk result (λ types. types.items ≡ cell_types query.now) }
+    ensures few { IfOk result (λ types. length types.items ≤ MAX_ITEMS) }
+{
+    let types = query.columns().iter().map(|_| Ty::Integer).collect(alloc)?;
+    Ok(types)
 }
 
 /// The result rows that a descriptor leads to.
-fn rows_of(alloc: Global, memory: &Linear, descriptor: u64) -> Result<Vec<Row>, NoMemory>
-    ghost own: { List Area }
-    requires inside { AllByRecursion (LiesWithin (length memory.now)) own }
+fn rows_of(
+    alloc: Global,
+    memory: &Linear,
+    descriptor: u64,
+    types: &[Ty],
+) -> Result<Vec<Row>, NoMemory>
     requires small { descriptor < 2 ^ 32 }
-    requires there { IsSome (rows_at own memory.now descriptor) }
-    ensures { IfOk result (λ rows. rows_at own memory.now descriptor ≡ Some rows.items) }
+    requires few { length types.now ≤ MAX_ITEMS }
+    requires there { (own : List Area) × AllByRecursion (LiesWithin (length memory.now.octets)) own
+        × IsSome (rows_at types.now own memory.now.octets descriptor) }
+    ensures { IfOk result (λ rows. (own : List Area) → IsSome (rows_at types.now own memory.now.octets descriptor)
+        → rows_at types.now own memory.now.octets descriptor ≡ Some rows.items) }
 {
     let first = memory
         .load32(descriptor + u64::from(FIRST_ROW_OFFSET))
         .unwrap();
     let count = memory.load64(descriptor + u64::from(COUNT_OFFSET)).unwrap();
-    chained_rows(alloc, memory, first, count)
+    chained_rows(alloc, memory, first, count, types)
 }
 
 /// So many rows, each of which has the address of the next one.
@@ -51,29 +65,47 @@ fn chained_rows(
     memory: &Linear,
     first: u64,
     count: u64,
+    types: &[Ty],
 ) -> Result<Vec<Row>, NoMemory>
-    ghost own: { List Area }
-    requires inside { AllByRecursion (LiesWithin (length memory.now)) own }
     requires small { first < 2 ^ 32 }
-    requires there { IsSome (rows_from own memory.now count first) }
-    ensures { IfOk result (λ rows. rows_from own memory.now count first ≡ Some rows.items) }
+    requires few { length types.now ≤ MAX_ITEMS }
+    requires there { (own : List Area) × AllByRecursion (LiesWithin (length memory.now.octets)) own
+        × IsSome (rows_from types.now own memory.now.octets count first) }
+    ensures { IfOk result (λ rows. (own : List Area) → IsSome (rows_from types.now own memory.now.octets count first)
+        → rows_from types.now own memory.now.octets count first ≡ Some rows.items) }
 {
     let mut rows = Vec::new(alloc);
     let mut at = first;
     for _ in 0..count {
-        rows.push(row_at(alloc, memory, at)?)?;
+        rows.push(row_at(alloc, memory, at + u64::from(CELL_OFFSET), types)?)?;
         at = memory.load32(at).unwrap();
     }
     Ok(rows)
 }
 
-/// The row at an address, of one value that isn't null.
-fn row_at(alloc: Global, memory: &Linear, at: u64) -> Result<Row, NoMemory>
-    requires small { at < 2 ^ 32 }
-    requires inside { at + 16 ≤ length memory.now }
-    ensures { IfOk result (λ row. row ≡ Num (cast_signed w64 (number_at memory.now (at + 8) 8)) ∷ []) }
+/// The row whose cells begin at an address.
+fn row_at(alloc: Global, memory: &Linear, cells: u64, types: &[Ty]) -> Result<Row, NoMemory>
+    requires small { cells < 2 ^ 33 }
+    requires few { length types.now ≤ MAX_ITEMS }
+    requires inside { cells + 16 * length types.now ≤ length memory.now.octets }
+    requires there { IsSome (cells_at memory.now.octets cells types.now) }
+    ensures { IfOk result (λ row. cells_at memory.now.octets cells types.now ≡ Some row) }
 {
-    let value = memory.load64(at + u64::from(CELL_OFFSET)).unwrap();
-    let values = vec![in alloc; Val::Num(value.cast_signed())]?;
+    let mut values = Vec::with_capacity(alloc, types.len())?;
+    for (place, ty) in types.iter().enumerate() {
+        let cell = cells + u64::from(CELL_SIZE) * place as u64;
+        values.push(value_at(memory, cell, *ty))?;
+    }
     Ok(Row::new(values))
+}
+
+/// The value of a cell that isn't null.
+fn value_at(memory: &Linear, cell: u64, ty: Ty) -> Val
+    requires inside { cell + 16 ≤ length memory.now.octets }
+    requires there { IsSome (cell_at memory.now.octets cell ty) }
+    ensures { cell_at memory.now.octets cell ty ≡ Some result }
+{
+    match ty {
+        Ty::Integer => Val::Num(memory.load64(cell).unwrap().cast_signed()),
+    }
 }

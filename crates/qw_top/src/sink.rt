@@ -3,7 +3,7 @@
 ghost use Rattle.std.specs.Prelude.{◌≡◌, ◌++◌, List, ℕ, map, IfOk, OnOk};
 ghost use Rattle.std.specs.String.{string_bytes};
 ghost use Rattle.csv.specs.Records.{fields_of};
-ghost use Rattle.qw_top.specs.Sink.{AreRowsOf, HasWritten, line_of, printed, report_of_rows, text_of_rows};
+ghost use Rattle.qw_top.specs.Sink.{AreRowsOf, HasWritten, line_of, printed, report_of_pages, report_of_rows, text_of_rows};
 
 use csv::{ByteRecord, Writer, WriterBuilder};
 use qw_types::{NoMemory, Row, Text, Val};
@@ -38,6 +38,21 @@ pub fn report_text(
     let rows = rows_text(alloc, header, rows)?;
     text.extend_from_slice(rows.as_slice())?;
     Ok(text)
+}
+
+/// A query's part of the report where a request for pages was past its limit: `QUERY k PAGES held asked limit`.
+/// It held so many pages, and asked for so many more.
+pub fn pages_text(
+    alloc: Global,
+    number: u32,
+    held: u32,
+    asked: u32,
+    limit: u32,
+) -> Result<Vec<u8>, NoMemory>
+    ensures { IfOk result (λ text. text.items ≡ report_of_pages number held asked limit) }
+{
+    let text = format!(in alloc; "QUERY {number} PAGES {held} {asked} {limit}\n")?;
+    Ok(text.into_bytes())
 }
 
 /// The rows under their header, a line each.

@@ -18,8 +18,10 @@ pub enum Status {
     QueriesRefused,
     /// A file could not be read.
     ReadFailed,
-    /// The report or the note could not be written.
+    /// The report or a line on what went wrong could not be written.
     WriteFailed,
+    /// The report was written, and it says of a query that it met its limit of pages.
+    PageLimitMet,
     /// There was no memory left.
     NoMemory,
 }
@@ -47,6 +49,7 @@ impl Status {
             Status::QueriesRefused => 5,
             Status::ReadFailed => 6,
             Status::WriteFailed => 7,
+            Status::PageLimitMet => 8,
             Status::NoMemory => 9,
         }
     }

@@ -11,6 +11,9 @@ pub const MAX_COLUMNS: usize = 64;
 /// The most tables of a schema.
 pub const MAX_TABLES: usize = 32;
 
+/// The most data rows of a table.
+pub const MAX_ROWS: usize = 1_000_000;
+
 /// A column as it is declared (ISO/IEC 9075:1992, 11.4 "column definition").
 #[derive(Debug, Drop)]
 pub struct Column {

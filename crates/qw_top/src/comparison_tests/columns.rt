@@ -1,10 +1,10 @@
 // Columns of all kinds of values and literals: what `qwasm` prints of each, beside the plain program's rows.
 
-use super::{next_random, plain_numbers, shelf};
-use crate::meaning::Query;
+use super::{asking, next_random, plain_numbers, shelf};
 use crate::status::Status;
 use crate::top::qwasm;
 use qw_io::MemorySink;
+use qw_meaning::query::Comparison;
 use qw_types::NoMemory;
 use std::alloc::{AllocError, Global};
 use std::test::Fail;
@@ -47,6 +47,18 @@ const EDGES: [(&[i32], u32, i64, usize); 24] = [
 // With the columns at the edges these make 200.
 const GENERATED: u32 = 176;
 
+// The comparison for the generated column of this number: each in its turn.
+fn comparison_of(number: u32) -> Comparison {
+    match number % 6 {
+        0 => Comparison::Greater,
+        1 => Comparison::Less,
+        2 => Comparison::GreaterOrEqual,
+        3 => Comparison::LessOrEqual,
+        4 => Comparison::NotEqual,
+        _ => Comparison::Equal,
+    }
+}
+
 // So many values: these ones, over and over.
 fn repeated(alloc: Global, values: &[i32], rows: u32) -> Result<Vec<i32>, AllocError> {
     let mut column = Vec::new(alloc);
@@ -56,8 +68,17 @@ fn repeated(alloc: Global, values: &[i32], rows: u32) -> Result<Vec<i32>, AllocE
     Ok(column)
 }
 
-// A literal: one of the least, one about the greatest INTEGER, any INTEGER, or one of up to 18 digits.
+// A literal, negative or not: one of the least, one about the greatest INTEGER, any INTEGER, or one of up to 18 digits.
 fn literal_of(random: u32) -> i64 {
+    let magnitude = magnitude_of(random);
+    if (random >> 12) % 2 == 0 {
+        magnitude
+    } else {
+        magnitude.wrapping_neg()
+    }
+}
+
+fn magnitude_of(random: u32) -> i64 {
     let few = i64::from((random >> 16) % 16);
     let many = i64::from(next_random(random) >> 1);
     match random >> 30 {
@@ -100,9 +121,10 @@ fn generated(alloc: Global, random: u32, literal: i64) -> Result<(Vec<i32>, u32)
 fn printed(
     alloc: Global,
     column: &[i32],
+    comparison: Comparison,
     literal: i64,
 ) -> Result<(Status, MemorySink), AllocError> {
-    let mut files = shelf(alloc, column, literal)?;
+    let mut files = shelf(alloc, column, comparison, literal)?;
     let mut out = MemorySink::new(alloc, 4_096, Vec::new(alloc));
     let mut notes = MemorySink::new(alloc, 1, Vec::new(alloc));
     let mut words = Vec::new(alloc);
@@ -121,9 +143,14 @@ fn printed(
     Ok((status, out))
 }
 
-// The values above the literal, by the plain program.
-fn plain(alloc: Global, column: &[i32], literal: i64) -> Result<Vec<i64>, NoMemory> {
-    plain_numbers(alloc, &Query { column: 0, literal }, column)
+// The values that compare so with the literal, by the plain program.
+fn plain(
+    alloc: Global,
+    column: &[i32],
+    comparison: Comparison,
+    literal: i64,
+) -> Result<Vec<i64>, NoMemory> {
+    plain_numbers(alloc, &asking(alloc, comparison, literal)?, column)
 }
 
 // The report of these numbers, a line each.
@@ -141,10 +168,10 @@ fn columns_at_the_edges(rt: HostRuntime) -> Result<(), Fail> {
     let alloc = rt.alloc();
     for (values, rows, literal, above) in EDGES {
         let column = repeated(alloc, values, rows)?;
-        let numbers = plain(alloc, column.as_slice(), literal)?;
+        let numbers = plain(alloc, column.as_slice(), Comparison::Greater, literal)?;
         assert_eq!(rt; numbers.len(), above, "above {literal}");
         let report = report_of(alloc, numbers.as_slice())?;
-        let (status, out) = printed(alloc, column.as_slice(), literal)?;
+        let (status, out) = printed(alloc, column.as_slice(), Comparison::Greater, literal)?;
         assert_eq!(rt; status, Status::Done);
         assert_eq!(rt; out.bytes(), report.as_bytes(), "above {literal}");
     }
@@ -160,9 +187,10 @@ fn generated_columns(rt: HostRuntime) -> Result<(), Fail> {
         let literal = literal_of(random);
         let (column, state) = generated(alloc, random, literal)?;
         random = state;
-        let numbers = plain(alloc, column.as_slice(), literal)?;
+        let comparison = comparison_of(number);
+        let numbers = plain(alloc, column.as_slice(), comparison, literal)?;
         let report = report_of(alloc, numbers.as_slice())?;
-        let (status, out) = printed(alloc, column.as_slice(), literal)?;
+        let (status, out) = printed(alloc, column.as_slice(), comparison, literal)?;
         assert_eq!(rt; status, Status::Done);
         assert_eq!(rt; out.bytes(), report.as_bytes(), "column {number}");
     }

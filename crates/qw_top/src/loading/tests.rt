@@ -1,23 +1,41 @@
 // Files at the edges of what can be loaded. That `load` doesn't answer want of memory is what no
 // clause says.
-ghost use Rattle.std.specs.Prelude.{IfOk};
-ghost use Rattle.qw_top.specs.Loading.{IsOneInteger};
+ghost use Rattle.std.specs.Prelude.{◌≡◌, IfOk, true};
+ghost use Rattle.qw_types.specs.declared.value.Ty.TheVariants.{Integer};
+ghost use Rattle.qw_top.specs.Loading.{AreIntegers};
 
-use super::{FieldFault, LoadFault, MAX_ROWS, load};
+use super::{FieldFault, LoadFault, Loaded, load};
+use qw_types::schema::MAX_ROWS;
 use qw_types::{Column, Columns, Table, Text, Ty};
 use std::alloc::{AllocError, Global};
 use std::test::Fail;
 
-// CREATE TABLE T ( A INTEGER NOT NULL )
-fn table(alloc: Global) -> Result<Table, AllocError>
-    ensures { IfOk result (λ t. IsOneInteger t.columns) }
+fn integer(alloc: Global, name: &str) -> Result<Column, AllocError>
+    ensures { IfOk result (λ c. (c.name ≡ name.now) × (c.ty ≡ Integer) × (c.not_null ≡ true)) }
 {
-    let column = Column {
-        name: Text::new(String::from_str(alloc, "A")?),
+    Ok(Column {
+        name: Text::new(String::from_str(alloc, name)?),
         ty: Ty::Integer,
         not_null: true,
-    };
-    let columns = vec![in alloc; column]?;
+    })
+}
+
+// CREATE TABLE T ( A INTEGER NOT NULL )
+pub fn narrow(alloc: Global) -> Result<Table, AllocError>
+    ensures { IfOk result (λ t. AreIntegers t.columns) }
+{
+    let columns = vec![in alloc; integer(alloc, "A")?]?;
+    Ok(Table {
+        name: Text::new(String::from_str(alloc, "T")?),
+        columns: Columns::new(columns),
+    })
+}
+
+// CREATE TABLE T ( A INTEGER NOT NULL , B INTEGER NOT NULL )
+pub fn wide(alloc: Global) -> Result<Table, AllocError>
+    ensures { IfOk result (λ t. AreIntegers t.columns) }
+{
+    let columns = vec![in alloc; integer(alloc, "A")?, integer(alloc, "B")?]?;
     Ok(Table {
         name: Text::new(String::from_str(alloc, "T")?),
         columns: Columns::new(columns),
@@ -25,12 +43,23 @@ fn table(alloc: Global) -> Result<Table, AllocError>
 }
 
 // The file of a table of so many rows, each 7.
-fn sevens(alloc: Global, rows: u32) -> Result<Vec<u8>, AllocError> {
+fn sevens(alloc: Global, rows: usize) -> Result<Vec<u8>, AllocError> {
     let mut bytes = Vec::from_slice(alloc, b"A\n")?;
     for _ in 0..rows {
         bytes.extend_from_slice(b"7\n")?;
     }
     Ok(bytes)
+}
+
+// The values, row by row.
+fn values(alloc: Global, loaded: &Loaded) -> Result<Vec<i32>, Fail> {
+    let mut values = Vec::new(alloc);
+    for row in 0..loaded.len() {
+        for column in 0..loaded.width() {
+            values.push(loaded.value(row, column))?;
+        }
+    }
+    Ok(values)
 }
 
 const LOADED: [(&[u8], &[i32]); 12] = [
@@ -65,6 +94,7 @@ const REFUSED: [(&[u8], LoadFault); 18] = [
         b"A\n7.0\n",
         LoadFault::Field {
             row: 1,
+            column: 0,
             fault: NOT_NUMBER,
         },
     ),
@@ -72,6 +102,7 @@ const REFUSED: [(&[u8], LoadFault); 18] = [
         b"A\n7\n 7\n",
         LoadFault::Field {
             row: 2,
+            column: 0,
             fault: NOT_NUMBER,
         },
     ),
@@ -79,6 +110,7 @@ const REFUSED: [(&[u8], LoadFault); 18] = [
         b"A\n\"\"\n",
         LoadFault::Field {
             row: 1,
+            column: 0,
             fault: NOT_NUMBER,
         },
     ),
@@ -86,6 +118,7 @@ const REFUSED: [(&[u8], LoadFault); 18] = [
         b"A\n+\n",
         LoadFault::Field {
             row: 1,
+            column: 0,
             fault: NOT_NUMBER,
         },
     ),
@@ -93,6 +126,7 @@ const REFUSED: [(&[u8], LoadFault); 18] = [
         b"A\n-+7\n",
         LoadFault::Field {
             row: 1,
+            column: 0,
             fault: NOT_NUMBER,
         },
     ),
@@ -100,6 +134,7 @@ const REFUSED: [(&[u8], LoadFault); 18] = [
         b"A\n\xFF\n",
         LoadFault::Field {
             row: 1,
+            column: 0,
             fault: NOT_NUMBER,
         },
     ),
@@ -107,6 +142,7 @@ const REFUSED: [(&[u8], LoadFault); 18] = [
         b"A\n99999999999x\n",
         LoadFault::Field {
             row: 1,
+            column: 0,
             fault: NOT_NUMBER,
         },
     ),
@@ -114,6 +150,7 @@ const REFUSED: [(&[u8], LoadFault); 18] = [
         b"A\n2147483648\n",
         LoadFault::Field {
             row: 1,
+            column: 0,
             fault: TOO_LARGE,
         },
     ),
@@ -121,6 +158,7 @@ const REFUSED: [(&[u8], LoadFault); 18] = [
         b"A\n-2147483649\n",
         LoadFault::Field {
             row: 1,
+            column: 0,
             fault: TOO_LARGE,
         },
     ),
@@ -128,6 +166,56 @@ const REFUSED: [(&[u8], LoadFault); 18] = [
         b"A\n99999999999\nx\n",
         LoadFault::Field {
             row: 1,
+            column: 0,
+            fault: TOO_LARGE,
+        },
+    ),
+];
+
+const WIDE_LOADED: [(&[u8], &[i32]); 5] = [
+    (b"A,B", &[]),
+    (b"a,b\n7,8\n", &[7, 8]),
+    (b"A,B\r\n1,2\r\n3,4\r\n5,6", &[1, 2, 3, 4, 5, 6]),
+    (b"\n\"a\",B\n\n-1,\"+2\"\n", &[-1, 2]),
+    (b"\xEF\xBB\xBFA,B\n7,7\n", &[7, 7]),
+];
+
+const WIDE_REFUSED: [(&[u8], LoadFault); 10] = [
+    (b"A\n7\n", LoadFault::BadHeader),
+    (b"A,C\n7,8\n", LoadFault::BadHeader),
+    (b"B,A\n7,8\n", LoadFault::BadHeader),
+    (b"A,B,C\n7,8,9\n", LoadFault::BadHeader),
+    (b"A,B\n7\n", LoadFault::FieldCount { row: 1 }),
+    (b"A,B\n7,8\nx,8,9\n", LoadFault::FieldCount { row: 2 }),
+    (
+        b"A,B\n7,\n",
+        LoadFault::Field {
+            row: 1,
+            column: 1,
+            fault: NOT_NUMBER,
+        },
+    ),
+    (
+        b"A,B\n7,8\n9999999999,x\n",
+        LoadFault::Field {
+            row: 2,
+            column: 0,
+            fault: TOO_LARGE,
+        },
+    ),
+    (
+        b"A,B\n7,x\nx,7\n",
+        LoadFault::Field {
+            row: 1,
+            column: 1,
+            fault: NOT_NUMBER,
+        },
+    ),
+    (
+        b"A,B\n7,2147483648\n1\n",
+        LoadFault::Field {
+            row: 1,
+            column: 1,
             fault: TOO_LARGE,
         },
     ),
@@ -135,24 +223,38 @@ const REFUSED: [(&[u8], LoadFault); 18] = [
 
 #[test]
 fn files_at_the_edges(rt: HostRuntime) -> Result<(), Fail> {
-    let table = table(rt.alloc())?;
-    for (bytes, values) in LOADED {
-        assert_eq!(rt; load(rt.alloc(), &table, bytes)?.values(), values);
+    let table = narrow(rt.alloc())?;
+    for (bytes, expected) in LOADED {
+        let loaded = load(rt.alloc(), &table, bytes)?;
+        assert_eq!(rt; loaded.width(), 1);
+        assert_eq!(rt; values(rt.alloc(), &loaded)?.as_slice(), expected);
     }
     for (bytes, fault) in REFUSED {
-        match load(rt.alloc(), &table, bytes) {
-            Ok(_) => return Err(Fail::from(fault)),
-            Err(e) => assert_eq!(rt; e, fault),
-        }
+        assert_eq!(rt; load(rt.alloc(), &table, bytes).err(), Some(fault));
+    }
+    Ok(())
+}
+
+#[test]
+fn files_of_two_columns(rt: HostRuntime) -> Result<(), Fail> {
+    let table = wide(rt.alloc())?;
+    for (bytes, expected) in WIDE_LOADED {
+        let loaded = load(rt.alloc(), &table, bytes)?;
+        assert_eq!(rt; loaded.width(), 2);
+        assert_eq!(rt; loaded.is_empty(), expected.is_empty());
+        assert_eq!(rt; values(rt.alloc(), &loaded)?.as_slice(), expected);
+    }
+    for (bytes, fault) in WIDE_REFUSED {
+        assert_eq!(rt; load(rt.alloc(), &table, bytes).err(), Some(fault));
     }
     Ok(())
 }
 
 #[test]
 fn files_at_the_limit(rt: HostRuntime) -> Result<(), Fail> {
-    let table = table(rt.alloc())?;
+    let table = narrow(rt.alloc())?;
     let full = sevens(rt.alloc(), MAX_ROWS)?;
-    assert_eq!(rt; load(rt.alloc(), &table, full.as_slice())?.len(), 2_727);
+    assert_eq!(rt; load(rt.alloc(), &table, full.as_slice())?.len(), 1_000_000);
     let over = sevens(rt.alloc(), MAX_ROWS + 1)?;
     assert_eq!(rt;
         load(rt.alloc(), &table, over.as_slice()).err(),

@@ -2,7 +2,7 @@
 ghost use Rattle.std.specs.Prelude.{IfOk};
 ghost use Rattle.qw_top.specs.Sink.{AreRowsOf};
 
-use super::{Head, Kind, report_text};
+use super::{Head, Kind, pages_text, report_text};
 use qw_types::{Row, Text, Val};
 use std::alloc::{AllocError, Global};
 use std::test::Fail;
@@ -40,5 +40,12 @@ fn reports(rt: HostRuntime) -> Result<(), Fail> {
         let report = report_text(rt.alloc(), number, header.as_slice(), rows.as_slice())?;
         assert_eq!(rt; report.as_slice(), text);
     }
+    Ok(())
+}
+
+#[test]
+fn pages(rt: HostRuntime) -> Result<(), Fail> {
+    let report = pages_text(rt.alloc(), 1, 128, 2, 129)?;
+    assert_eq!(rt; report.as_slice(), b"QUERY 1 PAGES 128 2 129\n".as_slice());
     Ok(())
 }

@@ -7,6 +7,8 @@ use qw_io::{MemoryShelf, MemorySink, NamedFile};
 use std::alloc::{AllocError, Global};
 use std::test::Fail;
 
+mod sizes;
+
 const SCHEMA: &[u8] = b"CREATE TABLE T (A INTEGER NOT NULL);";
 
 const TABLE: &[u8] = b"A\n4\n1\n7\n";
@@ -17,8 +19,13 @@ const SEVEN: &[u8] = b"QUERY 1 ROWS 1\nA\n7\n";
 
 const NO_ROWS: &[u8] = b"QUERY 1 ROWS 0\nA\n";
 
+const WIDE_SCHEMA: &[u8] =
+    b"CREATE TABLE T (A INTEGER NOT NULL, B INTEGER NOT NULL, C INTEGER NOT NULL);";
+
+const WIDE_TABLE: &[u8] = b"A,B,C\n1,20,-300\n2,-10,400\n3,30,500\n";
+
 // A schema, a table, a query, the end of their run and its report.
-const RUNS: [(&[u8], &[u8], &[u8], Status, &[u8]); 16] = [
+const RUNS: [(&[u8], &[u8], &[u8], Status, &[u8]); 27] = [
     (SCHEMA, TABLE, QUERY, Status::Done, SEVEN),
     (
         b"create table t ( a integer not null )",
@@ -45,6 +52,34 @@ const RUNS: [(&[u8], &[u8], &[u8], Status, &[u8]); 16] = [
     (
         SCHEMA,
         TABLE,
+        b"SELECT A FROM T WHERE A = 4",
+        Status::Done,
+        b"QUERY 1 ROWS 1\nA\n4\n",
+    ),
+    (
+        SCHEMA,
+        TABLE,
+        b"SELECT A FROM T WHERE A <> 4",
+        Status::Done,
+        b"QUERY 1 ROWS 2\nA\n1\n7\n",
+    ),
+    (
+        SCHEMA,
+        TABLE,
+        b"SELECT A FROM T WHERE A < 4",
+        Status::Done,
+        b"QUERY 1 ROWS 1\nA\n1\n",
+    ),
+    (
+        SCHEMA,
+        TABLE,
+        b"SELECT A FROM T WHERE A <= 4",
+        Status::Done,
+        b"QUERY 1 ROWS 2\nA\n4\n1\n",
+    ),
+    (
+        SCHEMA,
+        TABLE,
         b"SELECT A FROM T WHERE A > 7",
         Status::Done,
         NO_ROWS,
@@ -52,9 +87,44 @@ const RUNS: [(&[u8], &[u8], &[u8], Status, &[u8]); 16] = [
     (
         SCHEMA,
         TABLE,
+        b"SELECT A FROM T WHERE A >= 7",
+        Status::Done,
+        SEVEN,
+    ),
+    (
+        SCHEMA,
+        b"A\n-5\n-6\n0\n",
+        b"SELECT A FROM T WHERE A > - 6",
+        Status::Done,
+        b"QUERY 1 ROWS 2\nA\n-5\n0\n",
+    ),
+    (
+        SCHEMA,
+        TABLE,
         b"SELECT A FROM T WHERE A > 999999999999999999",
         Status::Done,
         NO_ROWS,
+    ),
+    (
+        WIDE_SCHEMA,
+        WIDE_TABLE,
+        b"SELECT C, A FROM T WHERE B < 30",
+        Status::Done,
+        b"QUERY 1 ROWS 2\nC,A\n-300,1\n400,2\n",
+    ),
+    (
+        WIDE_SCHEMA,
+        WIDE_TABLE,
+        b"SELECT B, C, A FROM T WHERE A <> 2",
+        Status::Done,
+        b"QUERY 1 ROWS 2\nB,C,A\n20,-300,1\n30,500,3\n",
+    ),
+    (
+        WIDE_SCHEMA,
+        WIDE_TABLE,
+        b"SELECT B, A, B FROM T WHERE C = 400",
+        Status::Done,
+        b"QUERY 1 ROWS 1\nB,A,B\n-10,2,-10\n",
     ),
     (
         SCHEMA,
@@ -66,7 +136,7 @@ const RUNS: [(&[u8], &[u8], &[u8], Status, &[u8]); 16] = [
     (
         SCHEMA,
         TABLE,
-        b"SELECT A FROM T WHERE A > -5",
+        b"SELECT A FROM T WHERE A > +5",
         Status::QueriesRefused,
         b"",
     ),
@@ -100,8 +170,22 @@ const RUNS: [(&[u8], &[u8], &[u8], Status, &[u8]); 16] = [
         b"",
     ),
     (
+        WIDE_SCHEMA,
+        b"A,B,C\n1,2\n",
+        QUERY,
+        Status::TableFileRefused,
+        b"",
+    ),
+    (
         b"CREATE TABLE T (A INTEGER)",
         b"x\n",
+        QUERY,
+        Status::SchemaRefused,
+        b"",
+    ),
+    (
+        b"CREATE TABLE T (A INTEGER NOT NULL, A INTEGER NOT NULL)",
+        TABLE,
         QUERY,
         Status::SchemaRefused,
         b"",
@@ -144,27 +228,42 @@ fn words(alloc: Global, texts: &[&str]) -> Result<Vec<String>, AllocError> {
     Ok(words)
 }
 
-// What a run over these files came to: its end, the bench, and what was written.
+// What a run over these files came to: its end, and the bench.
 fn run(
     alloc: Global,
     files: &mut MemoryShelf,
     texts: &[&str],
     out: &mut MemorySink,
+    notes: &mut MemorySink,
 ) -> Result<(Status, Option<Bench>), AllocError> {
     let words = words(alloc, texts)?;
-    let mut notes = MemorySink::new(alloc, 1, Vec::new(alloc));
     let mut kept = None;
-    let status = qwasm(alloc, words.as_slice(), files, out, &mut notes, &mut kept);
+    let status = qwasm(alloc, words.as_slice(), files, out, notes, &mut kept);
     Ok((status, kept))
+}
+
+// The end, the report and the bench of a run over these files, whose words are read. Nothing is noted.
+fn report_of(
+    alloc: Global,
+    schema: &[u8],
+    table: &[u8],
+    query: &[u8],
+) -> Result<(Status, MemorySink, Option<Bench>), Fail> {
+    let mut files = shelf(alloc, schema, table, query)?;
+    let mut out = MemorySink::new(alloc, 4_096, Vec::new(alloc));
+    let mut notes = MemorySink::new(alloc, 1, Vec::new(alloc));
+    let texts = ["run", "s", "d", "q"];
+    let (status, kept) = run(alloc, &mut files, &texts, &mut out, &mut notes)?;
+    if !notes.bytes().is_empty() {
+        return Err("noted".into());
+    }
+    Ok((status, out, kept))
 }
 
 #[test]
 fn files_and_their_reports(rt: HostRuntime) -> Result<(), Fail> {
-    let alloc = rt.alloc();
     for (schema, table, query, end, report) in RUNS {
-        let mut files = shelf(alloc, schema, table, query)?;
-        let mut out = MemorySink::new(alloc, 3, Vec::new(alloc));
-        let (status, kept) = run(alloc, &mut files, &["run", "s", "d", "q"], &mut out)?;
+        let (status, out, kept) = report_of(rt.alloc(), schema, table, query)?;
         assert_eq!(rt; status, end);
         assert_eq!(rt; out.bytes(), report);
         assert_eq!(rt; kept.is_some(), end == Status::Done);
@@ -172,57 +271,88 @@ fn files_and_their_reports(rt: HostRuntime) -> Result<(), Fail> {
     Ok(())
 }
 
+// The words, the call of the report's sink that fails, the one of the notes' sink, the end, and what was written to
+// both. Both sinks take an octet a call.
+const FAULTS: [(&[&str], u64, u64, Status, &[u8], &[u8]); 9] = [
+    (&["run", "s"], 99, 99, Status::WordsRefused, b"", b""),
+    (
+        &["run", "s", "d", "-q"],
+        99,
+        0,
+        Status::WordsRefused,
+        b"",
+        b"",
+    ),
+    (
+        &["run", "S", "d", "q"],
+        99,
+        99,
+        Status::ReadFailed,
+        b"",
+        b"read fault: S\n",
+    ),
+    (
+        &["run", "s", "e", "q"],
+        99,
+        99,
+        Status::ReadFailed,
+        b"",
+        b"read fault: e/t.csv\n",
+    ),
+    (
+        &["run", "s", "d", "Q"],
+        99,
+        99,
+        Status::ReadFailed,
+        b"",
+        b"read fault: Q\n",
+    ),
+    (
+        &["run", "s", "d", "Q"],
+        99,
+        0,
+        Status::WriteFailed,
+        b"",
+        b"",
+    ),
+    (
+        &["run", "s", "e", "q"],
+        99,
+        4,
+        Status::WriteFailed,
+        b"",
+        b"read",
+    ),
+    (
+        &["run", "s", "d", "q"],
+        0,
+        99,
+        Status::WriteFailed,
+        b"",
+        b"",
+    ),
+    (
+        &["run", "s", "d", "q"],
+        1,
+        99,
+        Status::WriteFailed,
+        b"Q",
+        b"",
+    ),
+];
+
 #[test]
 fn words_and_faults(rt: HostRuntime) -> Result<(), Fail> {
     let alloc = rt.alloc();
-    let cases: [(&[&str], u64, Status, &[u8]); 6] = [
-        (&["run", "s"], 9, Status::WordsRefused, b""),
-        (&["run", "s", "d", "-q"], 9, Status::WordsRefused, b""),
-        (&["run", "S", "d", "q"], 9, Status::ReadFailed, b""),
-        (&["run", "s", "e", "q"], 9, Status::ReadFailed, b""),
-        (&["run", "s", "d", "q"], 0, Status::WriteFailed, b""),
-        (&["run", "s", "d", "q"], 1, Status::WriteFailed, b"Q"),
-    ];
-    for (texts, failing, end, report) in cases {
+    for (texts, failing, failing_note, end, report, noted) in FAULTS {
         let mut files = shelf(alloc, SCHEMA, TABLE, QUERY)?;
         let mut out = MemorySink::new(alloc, 1, vec![in alloc; failing]?);
-        let (status, kept) = run(alloc, &mut files, texts, &mut out)?;
+        let mut notes = MemorySink::new(alloc, 1, vec![in alloc; failing_note]?);
+        let (status, kept) = run(alloc, &mut files, texts, &mut out, &mut notes)?;
         assert_eq!(rt; status, end);
         assert_eq!(rt; out.bytes(), report);
-        assert_eq!(rt; kept.is_some(), end == Status::WriteFailed);
-    }
-    Ok(())
-}
-
-// A table of so many rows, each 7.
-fn sevens(alloc: Global, rows: u32) -> Result<Vec<u8>, AllocError> {
-    let mut bytes = Vec::from_slice(alloc, b"A\n")?;
-    for _ in 0..rows {
-        bytes.extend_from_slice(b"7\n")?;
-    }
-    Ok(bytes)
-}
-
-#[test]
-fn the_most_rows(rt: HostRuntime) -> Result<(), Fail> {
-    let alloc = rt.alloc();
-    let mut report = Vec::from_slice(alloc, b"QUERY 1 ROWS 2727\n")?;
-    report.extend_from_slice(sevens(alloc, 2_727)?.as_slice())?;
-    let cases: [(u32, Status, &[u8]); 2] = [
-        (2_727, Status::Done, report.as_slice()),
-        (2_728, Status::TableFileRefused, b""),
-    ];
-    for (rows, end, report) in cases {
-        let table = sevens(alloc, rows)?;
-        let mut files = shelf(alloc, SCHEMA, table.as_slice(), QUERY)?;
-        let mut out = MemorySink::new(alloc, 4_096, Vec::new(alloc));
-        let (status, kept) = run(alloc, &mut files, &["run", "s", "d", "q"], &mut out)?;
-        assert_eq!(rt; status, end);
-        assert_eq!(rt; out.bytes(), report);
-        if let Some(bench) = kept {
-            assert_eq!(rt; bench.len(), 1);
-            assert_eq!(rt; bench.ended(0), Some(Ended::Done));
-        }
+        assert_eq!(rt; notes.bytes(), noted);
+        assert_eq!(rt; kept.is_some(), failing < 99);
     }
     Ok(())
 }

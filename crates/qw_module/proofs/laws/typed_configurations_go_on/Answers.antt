@@ -1,4 +1,4 @@
-use Rattle.qw_module.proofs.Sound.{progress, preservation, octets_stay, length_stays}
+use Rattle.qw_module.proofs.Sound.{progress, preservation, octets_stay, length_grows}
 use Rattle.qw_module.proofs.laws.typed_configurations_go_on.Goals as goal
 
 pub returns-clause-progress : goal.returns-clause-progress
@@ -11,4 +11,4 @@ pub returns-clause-memory : goal.returns-clause-memory
 returns-clause-memory c = octets_stay
 
 pub returns-clause-size : goal.returns-clause-size
-returns-clause-size c = length_stays
+returns-clause-size c = length_grows

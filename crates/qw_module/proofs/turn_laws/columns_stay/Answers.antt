@@ -1,5 +1,3 @@
-use Rattle.std.proofs.Common.{ap}
-use Rattle.qw_module.specs.Map.{World}
 use Rattle.qw_module.proofs.Separate.{worlds-turns, columns-turns}
 use Rattle.qw_module.proofs.TurnSteps.{limits-turns}
 use Rattle.qw_module.proofs.turn_laws.columns_stay.Goals as goal
@@ -10,4 +8,4 @@ returns-clause-octets c = columns-turns
 pub returns-clause-maps : goal.returns-clause-maps
 returns-clause-maps c = λ s ts safe k i later found found_later.
     let same = worlds-turns s ts safe k i later found found_later in
-    (ap (λ (w : World). w.mapped) same, ap (λ (w : World). w.limit) same, limits-turns s ts k i later found found_later)
+    (same.0, same.1, limits-turns s ts k i later found found_later)

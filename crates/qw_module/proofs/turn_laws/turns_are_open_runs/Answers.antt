@@ -12,5 +12,5 @@ returns-clause-onwards c = run-after
 
 -- an open run may end with anything
 pub returns-clause-behaves : goal.returns-clause-behaves
-returns-clause-behaves c = λ s ts most safe k i later found found_later.
-    behaves-turns s ts safe k i later found found_later most (λ b. Unit {0}) (λ b after others h. tt)
+returns-clause-behaves c = λ s ts most pages safe k i later found found_later.
+    behaves-turns s ts safe k i later found found_later most pages (λ b. Unit {0}) (λ b after others h. tt)

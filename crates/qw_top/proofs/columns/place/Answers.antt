@@ -1,55 +1,40 @@
-use Rattle.std.proofs.Common.{◌≡◌, ◌≤◌, ◌+◌, ◌*◌, ◌∙◌, ap, arith, get_or, length, w32, pos, refl, sym, take}
-use Rattle.std.proofs.Math.Seq.{take-length}
-use Rattle.std.proofs.lemmas.List.{append-nil}
-use borrow.Rule.Slice.PartMut.{put_mid}
-use Rattle.std.specs.Int.{to_le_bytes}
-use Rattle.qw_module.specs.Memory.{with_number}
-use Rattle.qw_module.proofs.MemoryFacts.{AreOctets-with_number, length-with_number}
-use Rattle.qw_top.specs.Columns.{columns_start}
-use Rattle.qw_top.proofs.ColumnLemmas.{above_more, all_fit, few_numbers, holds, octets_same, outside, stored_is_put, written_more}
+use Rattle.std.proofs.Common.{◌≡◌, ◌≤◌, ◌+◌, ◌*◌, ◌∙◌, arith, length, refl}
+use Rattle.qw_linear.proofs.GrowthFacts.{AreOctets-grown_by, length-grown_by}
+use Rattle.qw_linear.specs.Memory.{page}
+use Rattle.qw_top.proofs.ColumnLemmas.{columns_more, columns_none, none_at_all, within_pages}
 use Rattle.qw_top.proofs.columns.place.Goals as goal
-
-pub loop-row-init : goal.loop-row-init
-loop-row-init c = record { written = sym (append-nil (take columns_start c.args.memory.now)); above = refl; len = refl; octets = λ h. h }
 
 pub unwrap-requires : goal.unwrap-requires
 unwrap-requires c =
-    let few = few_numbers c.values-value-items.result.now c.args.loaded.now c.values-value-items.ensures.same c.values-value-items.ensures.limits in
-    let inside : columns_start + 4 * c.loop-row.row + 4 ≤ length c.loop-row.memory = omega (arith, c.loop-row.invariant.len) in
-    c.store32.ensures.inside.1 inside
+    let pages = c.pages_needed.ensures in
+    let room : length c.args.memory.now.octets + c.pages_needed.result * page ≤ c.args.memory.now.reserved * page = omega (arith, c.requires.empty, c.requires.room) in
+    c.grow.ensures.granted.1 room
 
-pub loop-row-preserved : goal.loop-row-preserved
-loop-row-preserved c =
-    let ns = c.values-value-items.result.now in
-    let memory = c.loop-row.memory in
-    let at = columns_start + 4 * c.loop-row.row in
-    let number = c.from-number.result in
-    let fit = all_fit ns (rw (← c.values-value-items.ensures.same) at c.values-value-items.ensures.limits.typed) in
-    let few = few_numbers ns c.args.loaded.now c.values-value-items.ensures.same c.values-value-items.ensures.limits in
-    let octets = ap (to_le_bytes w32) (c.from-number.ensures ∙ c.cast_unsigned.ensures) ∙ octets_same ns c.loop-row.row fit c.loop-row-test.true in
-    let inside : at + 4 ≤ length memory = omega (arith, c.loop-row.invariant.len) in
-    let room : at ≤ length memory = omega arith in
-    let stored : c.store32.new.self ≡ with_number memory at 4 number = rw c.unwrap.ensures at c.store32.ensures.stored in
-    let put : c.store32.new.self ≡ put_mid at 4 memory (to_le_bytes w32 number) = stored ∙ stored_is_put memory at number inside in
-    record {
-      written = rw put (written_more memory c.args.memory.now (to_le_bytes w32 number) ns c.loop-row.row 4 c.loop-row-test.true octets room c.loop-row.invariant.written);
-      above = rw put (above_more memory c.args.memory.now (to_le_bytes w32 number) c.loop-row.row 4 (get_or ns c.loop-row.row (pos 0)) refl octets room c.loop-row.invariant.above);
-      octets = λ h. rw stored (AreOctets-with_number memory (c.loop-row.invariant.octets h) at 4 number);
-      len = ap length stored ∙ length-with_number memory at 4 number ∙ c.loop-row.invariant.len;
+pub loop-column-init : goal.loop-column-init
+loop-column-init c =
+    let grown = rw c.unwrap.ensures at c.grow.ensures.grown in
+    rw (grown) record {
+      holds = columns_none _ c.args.loaded.now.rows;
+      octets = AreOctets-grown_by c.pages_needed.result c.args.memory.now.octets (none_at_all c.args.memory.now.octets c.requires.empty);
+      len = length-grown_by c.pages_needed.result c.args.memory.now.octets ∙ rw (c.requires.empty, c.pages_needed.ensures) (omega arith);
+      reserved = refl;
     }
+
+pub place_column-requires-clause-room : goal.place_column-requires-clause-room
+place_column-requires-clause-room c =
+    let room = within_pages c.args.loaded.now.width (length c.args.loaded.now.rows) c.loop-column.column (rw c.width-column-end.ensures at c.loop-column-test.true) in
+    rw (c.loop-column.invariant.len) room
+
+pub loop-column-preserved : goal.loop-column-preserved
+loop-column-preserved c = record {
+  holds = columns_more c.loop-column.memory.octets c.place_column.new.memory.octets c.args.loaded.now.rows c.loop-column.column c.place_column.ensures.below
+      c.place_column.ensures.len c.loop-column.invariant.holds c.place_column.ensures.holds;
+  octets = c.place_column.ensures.octets c.loop-column.invariant.octets;
+  len = c.place_column.ensures.len ∙ c.loop-column.invariant.len;
+  reserved = c.place_column.ensures.reserved ∙ c.loop-column.invariant.reserved;
+}
 
 pub returns-clause-holds : goal.returns-clause-holds
 returns-clause-holds c =
-    let ns = c.values-value-items.result.now in
-    let fit = all_fit ns (rw (← c.values-value-items.ensures.same) at c.values-value-items.ensures.limits.typed) in
-    let few = few_numbers ns c.args.loaded.now c.values-value-items.ensures.same c.values-value-items.ensures.limits in
-    let e : c.loop-row.row ≡ length ns = omega arith in
-    rw (← c.values-value-items.ensures.same)
-    (holds c.loop-row.memory c.args.memory.now ns fit (omega arith) (omega arith) (rw (e, take-length ns) at c.loop-row.invariant.written))
-
-pub returns-clause-outside : goal.returns-clause-outside
-returns-clause-outside c =
-    let ns = c.values-value-items.result.now in
-    let e : c.loop-row.row ≡ length ns = omega arith in
-    rw (← c.values-value-items.ensures.same)
-    (outside c.loop-row.memory c.args.memory.now ns (omega arith) (rw (e, take-length ns) at c.loop-row.invariant.written) (rw e at c.loop-row.invariant.above))
+    let all : c.loop-column.column ≡ c.args.loaded.now.width = omega (arith, c.width-column-end.ensures) in
+    record { columns = (rw all at c.loop-column.invariant.holds).each }

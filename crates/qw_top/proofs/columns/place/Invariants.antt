@@ -1,13 +1,13 @@
-use Rattle.std.proofs.Common.{◌≡◌, ◌+◌, ◌*◌, ◌++◌, length, take, drop}
-use Rattle.qw_module.specs.Memory.{AreOctets}
-use Rattle.qw_top.specs.Columns.{columns_start}
-use Rattle.qw_top.proofs.ColumnLemmas.{octets_of}
+use Rattle.std.proofs.Common.{◌≡◌, ◌*◌, length}
+use Rattle.qw_linear.specs.Memory.{AreOctets, page}
+use Rattle.qw_emit.specs.Columns.{column_pages}
+use Rattle.qw_top.proofs.ColumnLemmas.{HoldsColumns}
 use Rattle.qw_top.proofs.columns.place.Given as goal
 
-abbrev pub invariant-loop-row : goal.invariant-loop-row
-invariant-loop-row l = record {
-  written : take (columns_start + 4 * l.row) l.memory ≡ take columns_start l.fn.memory ++ octets_of (take l.row l.value-items);
-  above : drop (columns_start + 4 * l.row) l.memory ≡ drop (columns_start + 4 * l.row) l.fn.memory;
-  len : length l.memory ≡ length l.fn.memory;
-  octets : AreOctets l.fn.memory → AreOctets l.memory;
+abbrev pub invariant-loop-column : goal.invariant-loop-column
+invariant-loop-column l = record {
+  holds : HoldsColumns l.memory.octets l.loaded.rows l.column;
+  octets : AreOctets l.memory.octets;
+  len : length l.memory.octets ≡ column_pages l.loaded.width (length l.loaded.rows) * page;
+  reserved : l.memory.reserved ≡ l.fn.memory.reserved;
 }

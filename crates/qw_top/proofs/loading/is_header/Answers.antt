@@ -1,12 +1,23 @@
 use Rattle.std.proofs.Common.{sym, ◌∙◌}
-use Rattle.qw_top.proofs.RecordLemmas.{header_none, header_one}
+use Rattle.std.proofs.lemmas.Bool.{false≢true}
+use Rattle.csv.specs.Records.{fields_of}
+use Rattle.qw_top.proofs.RecordLemmas.{header_count, header_more, header_name}
 use Rattle.qw_top.proofs.loading.is_header.Goals as goal
 
-pub returns-then-len-eq1 : goal.returns-then-len-eq1
-returns-then-len-eq1 c =
-    let test = rw (c.as_bytes.ensures.value, c.as_str.ensures) at c.eq_ignore_ascii_case.ensures.test in
-    let first = c.in-len1-Some.ensures.value in
-    header_one _ c.column-item.result _ c.in-len1-Some.name.now _ c.requires c.column-item.is first (sym c.len.ensures ∙ c.if-len-eq1.true) test
+pub returns-then-len-columns : goal.returns-then-len-columns
+returns-then-len-columns c =
+    ((λ yes. cc yes), (λ h. absurd (c.if-len-columns.true (c.len.ensures ∙ header_count c.args.columns.now (fields_of c.args.row.now) h))))
 
-pub returns-in_default-2 : goal.returns-in_default-2
-returns-in_default-2 c = let first = c.in_default.ensures.value in ((λ yes. cc yes), (λ h. absurd (header_none _ _ c.requires first h)))
+pub loop-place-preserved : goal.loop-place-preserved
+loop-place-preserved c =
+    let name = rw (c.field.ensures, c.index-columns-place.is) at (c.is_name.ensures.0 c.if-not-is_name.false) in
+    header_more c.args.columns.now (fields_of c.args.row.now) c.loop-place.place c.index-columns-place.result c.loop-place-test.true
+    (sym c.len.ensures ∙ c.if-len-columns.false) name c.loop-place.invariant
+
+pub returns-then-not-is_name : goal.returns-then-not-is_name
+returns-then-not-is_name c = (
+  (λ yes. cc yes),
+  (λ h.
+      let name = header_name c.args.columns.now (fields_of c.args.row.now) c.loop-place.place c.index-columns-place.result c.loop-place-test.true h in
+      absurd (false≢true (sym c.if-not-is_name.true ∙ c.is_name.ensures.1 (rw (c.field.ensures, c.index-columns-place.is) name)))),
+)

@@ -1,6 +1,6 @@
 use Rattle.std.proofs.Common.{[], ◌∙◌, inl, inr, sym}
 use Rattle.std.proofs.lemmas.Bool.{false≢true}
-use Rattle.std.proofs.lemmas.Result.{err_from_is_err_and}
+use Rattle.std.proofs.lemmas.Result.{MatchResult-weaker}
 use Rattle.csv.specs.Reading.{strip_bom}
 use Rattle.csv.specs.Records.{fields_of}
 use Rattle.qw_top.proofs.loading.load_from.Goals as goal
@@ -20,16 +20,15 @@ returns-then-not-branch-clause-fault c bytes start _ =
           )
     ]
 
-pub returns-in_err-values-clause-fault : goal.returns-in_err-values-clause-fault
-returns-in_err-values-clause-fault c =
-    let p = err_from_is_err_and c.from_residual-in_err-values.result c.from_residual-in_err-values.ensures.1 in
+pub returns-clause-fault : goal.returns-clause-fault
+returns-clause-fault c =
     let named = rw c.as_slice.ensures.same at (c.is_header.ensures.0 c.if-not-is_header.false) in
-    rw (p.1, p.2) (λ bytes start.
-    c.in_err-values.ensures.fault bytes (fields_of c.next_record.new.row)
-    (rw c.if-not-branch.false at (c.in_ok-next_record.ensures.read (strip_bom bytes) [] start)) named)
+    MatchResult-weaker c.rows_after_header.result c.rows_after_header.ensures.fault (λ _ h. h)
+    (λ _ h bytes start. h bytes (fields_of c.next_record.new.row) (rw c.if-not-branch.false at (c.in_ok-next_record.ensures.read (strip_bom bytes) [] start)) named)
 
 pub returns-clause-rows : goal.returns-clause-rows
-returns-clause-rows c bytes start =
+returns-clause-rows c =
     let named = rw c.as_slice.ensures.same at (c.is_header.ensures.0 c.if-not-is_header.false) in
-    c.in_ok-values.ensures.rows bytes (fields_of c.next_record.new.row)
-    (rw c.if-not-branch.false at (c.in_ok-next_record.ensures.read (strip_bom bytes) [] start)) named
+    MatchResult-weaker c.rows_after_header.result c.rows_after_header.ensures.rows
+    (λ _ h bytes start. h bytes (fields_of c.next_record.new.row) (rw c.if-not-branch.false at (c.in_ok-next_record.ensures.read (strip_bom bytes) [] start)) named)
+    (λ _ h. h)

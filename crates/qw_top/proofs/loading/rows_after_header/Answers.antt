@@ -1,58 +1,66 @@
-use Rattle.std.proofs.Common.{◌≡◌, ◌+◌, arith, length, length-append, refl, rules, w32, ◌∷◌}
-use Rattle.std.specs.Prelude.{FitsSigned}
-use Rattle.std.proofs.lemmas.Int.{to_z-of_z}
+use Rattle.std.proofs.Common.{◌≡◌, ◌+◌, arith, length, length-append, ◌∷◌, []}
+use Rattle.std.proofs.lemmas.List.Elements.{All-append, All-nil}
 use Rattle.std.proofs.lemmas.Result.{err_from_is_err_and}
 use Rattle.csv.specs.Reading.{strip_bom}
 use Rattle.csv.specs.Records.{fields_of}
+use Rattle.qw_types.specs.Value.{IsOfType}
+use Rattle.qw_types.specs.declared.value.Ty.TheVariants.{Integer}
+use Rattle.qw_types.specs.declared.value.Val.TheVariants.{Num}
 use Rattle.qw_top.specs.declared.loading.LoadFault.TheVariants.{TooManyRows}
-use Rattle.qw_top.proofs.RowLemmas.{fails_at, integers_push, loaded_rows, loads_all, typed_push}
+use Rattle.qw_top.proofs.RecordLemmas.{record_typed}
+use Rattle.qw_top.proofs.RowLemmas.{fails_at, loads_all, no_rows, rows_push}
 use Rattle.qw_top.proofs.loading.rows_after_header.Goals as goal
 
-pub returns-then-not-branch-clause-limits : goal.returns-then-not-branch-clause-limits
-returns-then-not-branch-clause-limits c = loaded_rows c.loop-number.values.items (omega arith) c.loop-number.invariant.typed
+pub loop-len-init : goal.loop-len-init
+loop-len-init c = rw c.new-values.ensures.items record {
+  full = omega arith;
+  typed = All-nil (λ n. IsOfType Integer (Num n));
+  read = λ bytes header start. ([], start, no_rows c.args.table.now.columns (length c.as_slice-columns.result.now));
+}
 
 pub returns-then-not-branch-clause-rows : goal.returns-then-not-branch-clause-rows
 returns-then-not-branch-clause-rows c bytes header start named =
-    let (records, read, each) = c.loop-number.invariant.read bytes header start in
-    loads_all c.args.table.now bytes header records c.loop-number.values.items
+    let (records, read, each) = c.loop-len.invariant.read bytes header start in
+    loads_all c.args.table.now bytes header records c.loop-len.len (length c.as_slice-columns.result.now) c.loop-len.values.items
     (rw c.if-not-branch.true at (c.in_ok-next_record.ensures.read (strip_bom bytes) (header ∷ records) read)) named (omega arith) each
 
-pub returns-in_err-value-clause-fault : goal.returns-in_err-value-clause-fault
-returns-in_err-value-clause-fault c =
-    let p = err_from_is_err_and c.from_residual-in_err-value.result c.from_residual-in_err-value.ensures.1 in
-    rw (p.1, p.2) (λ bytes header start named _.
-    let (records, read, each) = c.loop-number.invariant.read bytes header start in
-    fails_at c.args.table.now bytes header records c.loop-number.values.items c.next_record.new.reader (fields_of c.next_record.new.row) c.loop-number.number _
-    (rw c.if-not-branch.false at (c.in_ok-next_record.ensures.read (strip_bom bytes) (header ∷ records) read)) named each c.loop-number.invariant.counted
-    (rw c.as_slice-columns.ensures.same at c.in_err-value.ensures))
+pub returns-in_err-push_row-clause-fault : goal.returns-in_err-push_row-clause-fault
+returns-in_err-push_row-clause-fault c =
+    let p = err_from_is_err_and c.from_residual-in_err-push_row.result c.from_residual-in_err-push_row.ensures.1 in
+    rw (p.1, p.2) (λ bytes header start named memory.
+    let (records, read, each) = c.loop-len.invariant.read bytes header start in
+    fails_at c.args.table.now bytes header records c.loop-len.len (length c.as_slice-columns.result.now) c.loop-len.values.items c.next_record.new.reader
+    (fields_of c.next_record.new.row) _ (rw c.if-not-branch.false at (c.in_ok-next_record.ensures.read (strip_bom bytes) (header ∷ records) read)) named each
+    (rw c.as_slice-columns.ensures.same at (c.in_err-push_row.ensures.fault memory)))
 
-pub loop-number-preserved : goal.loop-number-preserved
-loop-number-preserved c =
-    let stands = rw c.as_slice-columns.ensures.same at c.in_ok-value.ensures in
-    let range : FitsSigned w32 c.in_ok-value.value = search rules in
-    rw (c.in_ok-push.ensures.items, to_z-of_z w32 c.in_ok-value.value range) record {
-      counted = simp length-append (omega arith);
-      typed = typed_push c.args.table.now.columns c.loop-number.values.items (fields_of c.next_record.new.row) c.in_ok-value.value c.requires stands c.loop-number.invariant.typed;
+pub loop-len-preserved : goal.loop-len-preserved
+loop-len-preserved c =
+    let (more, items, wide, stands) = c.in_ok-push_row.ensures.pushed in
+    let stands' = rw c.as_slice-columns.ensures.same at stands in
+    rw items record {
+      full = simp length-append (omega arith);
+      typed = All-append (λ n. IsOfType Integer (Num n)) c.loop-len.values.items more c.loop-len.invariant.typed
+          (record_typed c.args.table.now.columns (fields_of c.next_record.new.row) more c.requires stands');
       read = λ bytes header start.
-          let (records, read, each) = c.loop-number.invariant.read bytes header start in (
+          let (records, read, each) = c.loop-len.invariant.read bytes header start in (
             _,
             rw c.if-not-branch.false at (c.in_ok-next_record.ensures.read (strip_bom bytes) (header ∷ records) read),
-            integers_push c.args.table.now.columns records c.loop-number.values.items (fields_of c.next_record.new.row) c.in_ok-value.value each stands,
+            rows_push c.args.table.now.columns records c.loop-len.len (length c.as_slice-columns.result.now) c.loop-len.values.items more
+                (fields_of c.next_record.new.row) c.loop-len.invariant.full wide each stands',
           );
     }
 
 pub returns-then-branch-clause-fault : goal.returns-then-branch-clause-fault
 returns-then-branch-clause-fault c bytes header start named _ =
-    let (records, read, each) = c.loop-number.invariant.read bytes header start in
-    let full : length c.loop-number.values.items + 1 ≡ 2728 = omega arith in
-    fails_at c.args.table.now bytes header records c.loop-number.values.items c.next_record-2.new.reader (fields_of c.next_record-2.new.row) 2728 TooManyRows
-    (rw c.if-branch.true at (c.in_ok-next_record-2.ensures.read (strip_bom bytes) (header ∷ records) read)) named each full refl
+    let (records, read, each) = c.loop-len.invariant.read bytes header start in
+    let full : c.loop-len.len + 1 ≡ 1000001 = omega arith in
+    fails_at c.args.table.now bytes header records c.loop-len.len (length c.as_slice-columns.result.now) c.loop-len.values.items c.next_record-2.new.reader
+    (fields_of c.next_record-2.new.row) TooManyRows (rw c.if-branch.true at (c.in_ok-next_record-2.ensures.read (strip_bom bytes) (header ∷ records) read)) named
+    each full
 
 pub returns-clause-rows : goal.returns-clause-rows
 returns-clause-rows c bytes header start named =
-    let (records, read, each) = c.loop-number.invariant.read bytes header start in
-    loads_all c.args.table.now bytes header records c.loop-number.values.items
-    (rw c.if-branch.false at (c.in_ok-next_record-2.ensures.read (strip_bom bytes) (header ∷ records) read)) named (omega arith) each
-
-pub returns-clause-limits : goal.returns-clause-limits
-returns-clause-limits c = loaded_rows c.loop-number.values.items (omega arith) c.loop-number.invariant.typed
+    let (records, read, each) = c.loop-len.invariant.read bytes header start in
+    let full : c.loop-len.len ≡ 1000000 = omega arith in
+    rw (← full) (loads_all c.args.table.now bytes header records c.loop-len.len (length c.as_slice-columns.result.now) c.loop-len.values.items
+    (rw c.if-branch.false at (c.in_ok-next_record-2.ensures.read (strip_bom bytes) (header ∷ records) read)) named (omega arith) each)

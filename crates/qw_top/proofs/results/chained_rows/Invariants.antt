@@ -1,5 +1,12 @@
+use Rattle.std.proofs.Common.{List, IsSome, ◌<◌, ◌^◌}
+use Rattle.qw_module.specs.Map.{Area}
+use Rattle.qw_emit.specs.Layout.{rows_from}
 use Rattle.qw_top.proofs.RowReading.{IsRead}
 use Rattle.qw_top.proofs.results.chained_rows.Given as goal
 
 abbrev pub invariant-loop : goal.invariant-loop
-invariant-loop g l = IsRead g.own l.memory l.count l.first l.counter l.at l.rows.items
+invariant-loop l = record {
+  read : (own : List Area) → IsSome (rows_from l.types own l.memory.octets l.count l.first) →
+      IsRead l.types own l.memory.octets l.count l.first l.counter l.at l.rows.items;
+  small : l.at < 2 ^ 32;
+}

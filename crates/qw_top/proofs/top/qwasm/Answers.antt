@@ -1,24 +1,53 @@
-use Rattle.qw_top.proofs.DeliverLemmas.{delivered, exactly_explained, no_read, written_left}
+use Rattle.qw_top.proofs.DeliverLemmas.{delivered, delivered_explained, delivered_left, delivered_noted, delivered_reads, enough_explained, exactly_explained, runs_explained, stopped_explained, stopped_noted, want_noted, wanted_left}
 use Rattle.qw_top.proofs.top.qwasm.Goals as goal
+
+pub returns-in-NoMemory-clause-left : goal.returns-in-NoMemory-clause-left
+returns-in-NoMemory-clause-left g c =
+    let d = delivered _ _ _ _ _ _ _ c.in-Ok.ensures.asked c.in-NoMemory.ensures.writes in
+    wanted_left _ _ _ _ _ _ _ _ d c.note_want_of_memory.ensures.noted
+
+pub returns-in-NoMemory-clause-noted : goal.returns-in-NoMemory-clause-noted
+returns-in-NoMemory-clause-noted g c = want_noted _ _ _ _ _ c.note_want_of_memory.ensures.noted
 
 pub returns-in-Ok-clause-explained : goal.returns-in-Ok-clause-explained
 returns-in-Ok-clause-explained g c =
-    let d = delivered _ _ _ _ _ _ _ _ _ c.in-Ok.ensures.asks c.in-Ok.ensures.run c.deliver-status.ensures.writes in d.3
+    delivered_explained _ _ _ _ _ _ (delivered _ _ _ _ _ _ _ c.in-Ok.ensures.asked c.deliver-status.ensures.writes)
 
 pub returns-in-Ok-clause-exactly : goal.returns-in-Ok-clause-exactly
 returns-in-Ok-clause-exactly g c =
-    let d = delivered _ _ _ _ _ _ _ _ _ c.in-Ok.ensures.asks c.in-Ok.ensures.run c.deliver-status.ensures.writes in
-    exactly_explained _ _ _ d.3
+    exactly_explained _ _ _ (delivered_explained _ _ _ _ _ _ (delivered _ _ _ _ _ _ _ c.in-Ok.ensures.asked c.deliver-status.ensures.writes))
+
+pub returns-in-Ok-clause-runs : goal.returns-in-Ok-clause-runs
+returns-in-Ok-clause-runs g c =
+    runs_explained _ _ _ (delivered_explained _ _ _ _ _ _ (delivered _ _ _ _ _ _ _ c.in-Ok.ensures.asked c.deliver-status.ensures.writes))
+
+pub returns-in-Ok-clause-enough : goal.returns-in-Ok-clause-enough
+returns-in-Ok-clause-enough g c =
+    enough_explained _ _ _ (delivered_explained _ _ _ _ _ _ (delivered _ _ _ _ _ _ _ c.in-Ok.ensures.asked c.deliver-status.ensures.writes))
 
 pub returns-in-Ok-clause-left : goal.returns-in-Ok-clause-left
 returns-in-Ok-clause-left g c =
-    let d = delivered _ _ _ _ _ _ _ _ _ c.in-Ok.ensures.asks c.in-Ok.ensures.run c.deliver-status.ensures.writes in
-    written_left _ _ _ d.0 _ _ _ d.1 d.2
+    delivered_left _ _ _ _ _ _ (delivered _ _ _ _ _ _ _ c.in-Ok.ensures.asked c.deliver-status.ensures.writes)
+
+pub returns-in-Ok-clause-noted : goal.returns-in-Ok-clause-noted
+returns-in-Ok-clause-noted g c =
+    delivered_noted _ _ _ _ _ _ _ (delivered _ _ _ _ _ _ _ c.in-Ok.ensures.asked c.deliver-status.ensures.writes)
 
 pub returns-in-Ok-clause-read_fault : goal.returns-in-Ok-clause-read_fault
-returns-in-Ok-clause-read_fault g c =
-    let d = delivered _ _ _ _ _ _ _ _ _ c.in-Ok.ensures.asks c.in-Ok.ensures.run c.deliver-status.ensures.writes in
-    λ is. absurd (no_read _ _ _ d.0 d.2 is)
+returns-in-Ok-clause-read_fault g c is =
+    absurd (delivered_reads _ _ _ _ _ _ (delivered _ _ _ _ _ _ _ c.in-Ok.ensures.asked c.deliver-status.ensures.writes) is)
 
-pub returns-in-Err-clause-exactly : goal.returns-in-Err-clause-exactly
-returns-in-Err-clause-exactly g c = exactly_explained _ _ _ c.in-Err.ensures.explained
+pub returns-clause-exactly : goal.returns-clause-exactly
+returns-clause-exactly g c =
+    exactly_explained _ _ _ (stopped_explained _ _ c.in-Err.stop _ _ _ c.in-Err.ensures.stops c.note_stop.ensures.noted)
+
+pub returns-clause-runs : goal.returns-clause-runs
+returns-clause-runs g c =
+    runs_explained _ _ _ (stopped_explained _ _ c.in-Err.stop _ _ _ c.in-Err.ensures.stops c.note_stop.ensures.noted)
+
+pub returns-clause-enough : goal.returns-clause-enough
+returns-clause-enough g c =
+    enough_explained _ _ _ (stopped_explained _ _ c.in-Err.stop _ _ _ c.in-Err.ensures.stops c.note_stop.ensures.noted)
+
+pub returns-clause-noted : goal.returns-clause-noted
+returns-clause-noted g c = stopped_noted _ _ c.in-Err.stop _ _ _ c.in-Err.ensures.stops c.note_stop.ensures.noted

@@ -1,13 +1,15 @@
-use Rattle.std.proofs.Common.{◌≡◌, ◌≤◌, ◌∷◌, [], ℤ, ap, length, refl, sym, ◌∙◌}
-use Rattle.std.proofs.lemmas.List.{length-map}
-use Rattle.qw_types.specs.declared.value.Val.TheVariants.{Num}
-use Rattle.qw_module.specs.Instance.{state_of}
+use Rattle.std.proofs.Common.{◌≡◌, ◌<◌, ◌*◌, length, None, refl, sym, ap, ◌∙◌, subst, arith}
+use Rattle.std.specs.List.{AllByRecursion}
+use Rattle.qw_linear.specs.Memory.{page}
+use Rattle.qw_module.specs.Start.{begun}
+use Rattle.qw_emit.specs.Columns.{column_pages}
+use Rattle.qw_emit.specs.Layout.{used}
 use Rattle.qw_top.specs.declared.bench.Seat.{Seat}
 use Rattle.qw_top.specs.Bench.{CompiledQuery}
-use Rattle.qw_top.specs.Seats.{IsEndOf}
-use Rattle.qw_top.proofs.BenchStart.{bench, end-ran, end-returned, start}
+use Rattle.qw_top.specs.Seats.{IsEndOf, state_in}
+use Rattle.qw_top.proofs.BenchStart.{bench, end-begun, start}
 use Rattle.qw_top.proofs.bench.Bench.new.Goals as goal
-use Rattle.qw_top.proofs.bench.Bench.new.Goals.{in-Ran, in-Returned}
+use Rattle.qw_top.proofs.bench.Bench.new.Goals.{in-Returned, in_default}
 
 -- the seat that is made
 abbrev seat : goal.In_ok-seats → Seat
@@ -15,42 +17,45 @@ seat c = record {
   query = c.job.inside.query;
   valid = c.job.inside.valid;
   instance = c.in_ok-instance.instance;
-  rows = length c.values-rows.result.now;
+  rows = c.len.result;
   descriptor = c.from.result;
   limits = c.args.limits;
+  granted = c.in_ok-granted.granted;
   held = 1;
+  refused = None;
   ran = 0;
   ended = c.match-last.ended;
 }
 
-column : (c : goal.In_ok-seats) → c.job.inside.query.column ≡ 0
-column c = ap (λ (job : CompiledQuery). job.query.column) c.job.view_is ∙ c.requires.column
+columns : (c : goal.In_ok-seats) → AllByRecursion (λ column. column < c.args.loaded.now.width) (used c.job.inside.query)
+columns c = subst (λ (job : CompiledQuery). AllByRecursion (λ column. column < c.args.loaded.now.width) (used job.statement)) (sym c.job.view_is) c.requires.columns
 
-many : (c : goal.In_ok-seats) → length c.values-rows.result.now ≡ length c.args.loaded.now
-many c = sym (length-map c.values-rows.result.now (λ (n : ℤ). Num n ∷ [])) ∙ ap length c.values-rows.ensures.same
+place : (c : goal.In_ok-seats) → c.from.result ≡ column_pages c.args.loaded.now.width (length c.args.loaded.now.rows) * page
+place c = omega (arith, c.from.ensures, c.pages_needed.ensures.pages)
 
-end : (c : goal.In_ok-seats) → IsEndOf (state_of c.job.inside.valid c.in_ok-instance.instance) c.match-last.ended
+begins : (c : goal.In_ok-seats) → state_in (seat c) ≡ begun c.job.inside.valid c.job.invariant.shaped.0 c.from.result
+begins c =
+    let shaped = c.job.invariant.shaped in
+    c.in_ok-instance.ensures.begun shaped.0 shaped.1 ∙ ap (begun c.job.inside.valid shaped.0) (sym c.from.ensures)
+
+end : (c : goal.In_ok-seats) → IsEndOf (seat c) (state_in (seat c)) c.match-last.ended
 end c =
-    let instance = c.in_ok-instance.instance in
-    let state = state_of c.job.inside.valid instance in
-    let answer = c.last.ensures c.job.inside.valid c.in_ok-instance.ensures.goes_with in
+    let told = c.last.ensures c.job.inside.valid c.in_ok-instance.ensures.goes_with in
+    let ends = end-begun (seat c) c.last.result c.job.invariant.shaped.0 c.from.result (begins c) told in
     elim c.match-last.branch [
-      | in-Ran w ↦ end-ran c.last.result c.match-last.ended state answer w.in-Ran.is w.ended-is
-      | in-Returned w ↦ end-returned c.last.result c.match-last.ended state answer w.in-Returned.is w.ended-is
+      | in-Returned w ↦ rw w.ended-is (ends.0 w.in-Returned.is)
+      | in_default w ↦ rw w.ended-is (ends.1 w.in_default.not-Returned)
     ]
 
 pub invariant_of-result : goal.invariant_of-result
 invariant_of-result c =
-    let shaped = c.job.invariant.shaped in
-    let begins = c.in_ok-instance.ensures.begun shaped.0 shaped.1 in
     rw c.in_ok-seats.ensures.items
-    (bench c.args.loaded.now c.in_ok-memory.memory (seat c) c.in_ok-memory.ensures c.values-rows.ensures.limits c.job.invariant (column c) c.from.ensures (many c)
-    c.requires.steps c.requires.pages.1 refl refl begins (end c) c.in_ok-instance.ensures.goes_with)
+    (bench c.args.loaded.now.width c.args.loaded.now.rows c.in_ok-memory.memory (seat c) c.in_ok-memory.ensures.first c.len.ensures.limits c.job.invariant
+    (columns c) (place c) c.len.ensures.rows c.requires.steps c.requires.pages.0 c.requires.pages.1 c.in_ok-granted.ensures.items refl refl refl (begins c) (end c)
+    c.in_ok-instance.ensures.goes_with c.in_ok-granted.ensures.capacity c.in_ok-memory.ensures.reserved)
 
 pub returns-clause-start : goal.returns-clause-start
 returns-clause-start c =
-    let shaped = c.job.invariant.shaped in
-    let begins = c.in_ok-instance.ensures.begun shaped.0 shaped.1 in
     rw c.in_ok-seats.ensures.items
-    (start c.args.loaded.now c.in_ok-memory.memory (seat c) c.in_ok-memory.ensures c.values-rows.ensures.limits c.job.invariant (column c) c.from.ensures (many c)
-    c.requires.steps c.requires.pages.1 refl refl begins (end c))
+    (start c.args.loaded.now.width c.args.loaded.now.rows c.in_ok-memory.memory (seat c) c.in_ok-memory.ensures.first c.len.ensures.limits c.job.invariant
+    (columns c) (place c) c.len.ensures.rows c.requires.steps c.requires.pages.0 c.requires.pages.1 c.in_ok-granted.ensures.items refl refl refl (begins c) (end c))

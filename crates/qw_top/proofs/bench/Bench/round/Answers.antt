@@ -1,6 +1,6 @@
-use Rattle.std.proofs.Common.{◌<◌, ◌∙◌, arith, length, subst}
-use Rattle.qw_top.specs.Seats.{Standing, shared_of, tasks_of}
-use Rattle.qw_top.proofs.Rounds.{IsRounding, passed-next, turned-next}
+use Rattle.std.proofs.Common.{◌<◌, ◌∙◌, arith, length}
+use Rattle.qw_top.specs.Seats.{shared_of}
+use Rattle.qw_top.proofs.Rounds.{passed-next, turned-next}
 use Rattle.qw_top.proofs.bench.Bench.round.Goals as goal
 use Rattle.qw_top.proofs.bench.Bench.round.Goals.{else-is_none, then-is_none}
 

@@ -1,8 +1,8 @@
-use Rattle.std.proofs.Common.{◌≡◌, List, Some, ap, ◌+◌, ◌∙◌}
-use Rattle.qw_module.specs.Turns.{Shared, turn}
+use Rattle.std.proofs.Common.{ap, ◌+◌, ◌∙◌}
+use Rattle.qw_module.specs.Turns.{turn}
 use Rattle.qw_top.specs.Seats.{Standing, shared_of, tasks_of}
-use Rattle.qw_top.specs.Bench.{end_in, ran_in}
-use Rattle.qw_top.proofs.BenchTurns.{seat-fits, seat-found, seat-untrapped, seat-whole, turned-bench, turned-none, turned-ran, turned-shared, turned-tasks}
+use Rattle.qw_top.specs.Bench.{ran_in}
+use Rattle.qw_top.proofs.BenchTurns.{seat-fits, seat-found, seat-granted, seat-room, seat-told, seat-whole, turned-bench, turned-none, turned-ran, turned-shared, turned-tasks}
 use Rattle.qw_top.proofs.bench.Bench.turn.Goals as goal
 
 pub turn-requires-clause-goes_with : goal.turn-requires-clause-goes_with
@@ -19,12 +19,26 @@ turn-requires-clause-whole c =
     let found = seat-found c.args.self.now c.self.inside.memory seats c.args.i seat c.self.view_is c.requires.there c.index_mut-seat.ensures.value in
     seat-whole c.self.inside.memory seats c.args.i seat found c.self.invariant
 
-pub turn-requires-clause-no_trap : goal.turn-requires-clause-no_trap
-turn-requires-clause-no_trap c =
+pub turn-requires-clause-told : goal.turn-requires-clause-told
+turn-requires-clause-told c =
     let seats = c.self.inside.seats.items in
     let seat = c.index_mut-seat.result.now in
     let found = seat-found c.args.self.now c.self.inside.memory seats c.args.i seat c.self.view_is c.requires.there c.index_mut-seat.ensures.value in
-    seat-untrapped c.self.inside.memory seats c.args.i seat found c.self.invariant
+    seat-told c.self.inside.memory seats c.args.i seat found c.self.invariant
+
+pub turn-requires-clause-grants : goal.turn-requires-clause-grants
+turn-requires-clause-grants c =
+    let seats = c.self.inside.seats.items in
+    let seat = c.index_mut-seat.result.now in
+    let found = seat-found c.args.self.now c.self.inside.memory seats c.args.i seat c.self.view_is c.requires.there c.index_mut-seat.ensures.value in
+    seat-granted c.self.inside.memory seats c.args.i seat found c.self.invariant
+
+pub turn-requires-clause-room : goal.turn-requires-clause-room
+turn-requires-clause-room c =
+    let seats = c.self.inside.seats.items in
+    let seat = c.index_mut-seat.result.now in
+    let found = seat-found c.args.self.now c.self.inside.memory seats c.args.i seat c.self.view_is c.requires.there c.index_mut-seat.ensures.value in
+    seat-room c.self.inside.memory seats c.args.i seat found c.self.invariant
 
 pub invariant_of-self : goal.invariant_of-self
 invariant_of-self c =
@@ -33,7 +47,7 @@ invariant_of-self c =
     let found = seat-found c.args.self.now c.self.inside.memory seats c.args.i seat c.self.view_is c.requires.there c.index_mut-seat.ensures.value in
     let e = c.turn.ensures in
     turned-bench c.self.inside.memory seats c.args.i seat found c.self.invariant
-    c.args.quantum c.turn.new.self c.turn.new.memory e.turned e.task e.goes_with
+    c.args.quantum c.turn.new.self c.turn.new.memory e.turned e.task e.goes_with e.grants e.reserved e.asks
 
 pub returns-clause-turn : goal.returns-clause-turn
 returns-clause-turn c =

@@ -1,0 +1,7 @@
+use Rattle.qw_emit.proofs.ScanCompiled.{scan_compiled}
+use Rattle.qw_emit.proofs.emit.module_of.Goals as goal
+
+pub returns : goal.returns
+returns c =
+    let made = c.in_ok-module.ensures in
+    scan_compiled c.args.query.now made.limits made.literal c.in_ok-module.module made.module

@@ -1,0 +1,6 @@
+pub mod Columns
+pub mod Layout
+pub mod Emit
+pub mod Plan
+pub mod Sequences
+pub mod Compiled

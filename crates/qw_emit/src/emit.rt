@@ -1,0 +1,141 @@
+ghost use Rattle.std.specs.Prelude.{◌≡◌, ◌++◌, FitsSigned, IfOk, OnOk};
+ghost use Rattle.std.specs.Int.{w64};
+ghost use Rattle.qw_module.specs.Syntax.{IsNumbered};
+ghost use Rattle.qw_module.specs.Validity.{code_of_body, sequences_of};
+ghost use Rattle.qw_meaning.specs.Statement.{IsStatement};
+ghost use Rattle.qw_emit.specs.Compiled.{IsCompiled};
+ghost use Rattle.qw_emit.specs.Emit as emit;
+
+mod instructions;
+mod locals;
+mod numbers;
+mod outer;
+mod plan;
+mod row;
+
+use crate::layout::row_size;
+use instructions::{get, i32_const, repeat};
+use locals::LINK;
+use numbers::ROW;
+use outer::outer_sequence;
+use plan::Plan;
+use qw_meaning::query::Query;
+use qw_module::instruction::ValType;
+use qw_module::module::{Body, Export, ExportKind, FuncType, Function, Import, Limits, Module};
+use qw_types::NoMemory;
+use row::{ask_sequence, raise_sequence, row_sequence};
+use std::alloc::Global;
+
+/// The body of `run`, inner sequences before those that hold them.
+fn body_of(alloc: Global, plan: &Plan) -> Result<Body, NoMemory>
+    ensures code { IfOk result (λ b. code_of_body b ≡ emit.scan_code plan.now) }
+    ensures numbered { IfOk result (λ b. IsNumbered (sequences_of b)) }
+{
+    let raise = raise_sequence(alloc)?;
+    let nothing = Vec::new(alloc);
+    let ask = ask_sequence(alloc, row_size(plan.cells().len()))?;
+    let row = row_sequence(alloc, plan)?;
+    let all_rows = vec![in alloc; repeat(ROW)]?;
+    let no_row = vec![in alloc; i32_const(0)]?;
+    let last_row = vec![in alloc; get(LINK)]?;
+    let outer = outer_sequence(alloc, plan)?;
+    let sequences = vec![in alloc; raise, nothing, ask, row, all_rows, no_row, last_row, outer]?;
+    Ok(Body { sequences })
+}
+
+/// Adds the locals of the other columns: the distance and the value of each.
+fn push_other_locals(locals: &mut Vec<ValType>, others: &[u32]) -> Result<(), NoMemory>
+    ensures { OnOk result (locals.new.items ≡ locals.old.items ++ emit.other_locals others.now) }
+{
+    for _place in others {
+        locals.extend_from_slice(&[ValType::I32, ValType::I64])?;
+    }
+    Ok(())
+}
+
+/// The locals of `run` after its argument.
+fn locals_of(alloc: Global, plan: &Plan) -> Result<Vec<ValType>, NoMemory>
+    ensures { IfOk result (λ locals. locals.items ≡ emit.scan_locals plan.now) }
+{
+    let mut locals = vec![in alloc;
+        ValType::I32,
+        ValType::I32,
+        ValType::I32,
+        ValType::I32,
+        ValType::I32,
+        ValType::I64,
+        ValType::I64,
+    ]?;
+    push_other_locals(&mut locals, plan.others())?;
+    Ok(locals)
+}
+
+/// The function `run`, whose type is the module's first.
+fn run_of(alloc: Global, plan: &Plan) -> Result<Function, NoMemory>
+    ensures contents { IfOk result (λ run. emit.contents_of run ≡ (0, emit.scan_locals plan.now, emit.scan_code plan.now)) }
+    ensures numbered { IfOk result (λ run. IsNumbered (sequences_of run.body)) }
+{
+    Ok(Function {
+        type_index: 0,
+        locals: locals_of(alloc, plan)?,
+        body: body_of(alloc, plan)?,
+    })
+}
+
+/// The module of the statement's code.
+fn scan_module(alloc: Global, query: &Query) -> Result<Module, NoMemory>
+    ensures module { IfOk result (λ m. emit.IsScan (emit.scan_of query.now) m) }
+    ensures limits { IfOk result (λ m. IsStatement query.now) }
+    ensures literal { IfOk result (λ m. FitsSigned w64 query.now.literal) }
+{
+    let plan = Plan::new(alloc, query)?;
+    let run = run_of(alloc, &plan)?;
+    let signature = FuncType {
+        params: vec![in alloc; ValType::I32]?,
+        results: Vec::new(alloc),
+    };
+    let memory = Import::Memory(Limits { min: 1, max: None });
+    let export = Export {
+        name: String::from_str(alloc, "run")?,
+        kind: ExportKind::Function(1),
+    };
+    Ok(Module {
+        types: vec![in alloc; signature]?,
+        imports: vec![in alloc; memory, Import::Raise(0)]?,
+        functions: vec![in alloc; run]?,
+        memory: None,
+        globals: Vec::new(alloc),
+        exports: vec![in alloc; export]?,
+    })
+}
+
+/// The module that runs the statement over its table, whose values are of four octets and not null. Its `run` takes the
+/// address of the descriptor, chains the result rows in the instance's pages, and writes in the descriptor where they
+/// begin, how many they are, and where the next object would stand. Where a row doesn't fit the rest of a page it asks for
+/// another, and raises 3 where that is refused.
+///
+/// # Errors
+///
+/// [`NoMemory`] where the module does not fit memory, and nowhere else.
+pub fn module_of(alloc: Global, query: &Query) -> Result<Module, NoMemory>
+    ensures { IfOk result (λ m. IsCompiled query.now m) }
+{
+    let module = scan_module(alloc, query)?;
+    Ok(module)
+}
+
+#[cfg(test)]
+mod tests {
+    use super::*;
+    use qw_meaning::query::Comparison;
+    use std::test::Fail;
+
+    #[test]
+    fn a_module_is_made(rt: HostRuntime) -> Result<(), Fail> {
+        let columns = vec![in rt.alloc(); 2, 0, 2]?;
+        let query = Query::new(columns, 1, Comparison::NotEqual, -5);
+        let module = module_of(rt.alloc(), &query)?;
+        assert_eq!(rt; module.functions.len(), 1);
+        Ok(())
+    }
+}

@@ -1,0 +1,47 @@
+//! The locals of `run`, by their indices. Behind the first eight each other column has two: its distance, and its value.
+
+ghost use Rattle.std.specs.Prelude.{◌≡◌, ◌≤◌};
+ghost use Rattle.qw_types.specs.declared.schema.TheConstants.{MAX_COLUMNS};
+ghost use Rattle.qw_emit.specs.Emit as emit;
+
+use qw_types::schema::MAX_COLUMNS;
+
+/// The address of the descriptor: the argument.
+pub const DESCRIPTOR: u32 = 0;
+
+/// The place before the compared column's next value.
+pub const PLACE: u32 = 1;
+
+/// The place of its last value.
+pub const LAST_PLACE: u32 = 2;
+
+/// The address of the next result row.
+pub const NEXT_ROW: u32 = 3;
+
+/// The place of the link that the next row is to be put at.
+pub const LINK: u32 = 4;
+
+/// The last address at which a row fits the page.
+pub const LAST_START: u32 = 5;
+
+/// The compared value.
+pub const VALUE: u32 = 6;
+
+/// How many result rows there are.
+pub const COUNT: u32 = 7;
+
+/// The local that holds the value of the other column of this number.
+pub fn value_of_other(number: u32) -> u32
+    requires { number ≤ MAX_COLUMNS }
+    ensures { result ≡ emit.value_of_other number }
+{
+    9 + 2 * number
+}
+
+/// The local that holds the distance of the other column of this number.
+pub fn distance_of(number: u32) -> u32
+    requires { number ≤ MAX_COLUMNS }
+    ensures { result ≡ emit.distance_of number }
+{
+    8 + 2 * number
+}

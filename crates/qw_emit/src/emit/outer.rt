@@ -1,0 +1,160 @@
+//! What `run` does before and after its loop.
+
+ghost use Rattle.std.specs.Prelude.{◌≡◌, ℕ, IfOk, OnOk, length, ◌∷◌, [], ◌+◌, ◌-◌, ◌^◌, ◌≤◌, None, Some};
+ghost use Rattle.std.specs.List.{AllByRecursion};
+ghost use Rattle.qw_types.specs.declared.schema.TheConstants.{MAX_COLUMNS};
+ghost use Rattle.qw_module.specs.declared.instruction.Binary.TheVariants.{I32Add, I32Mul};
+ghost use Rattle.qw_module.specs.declared.instruction.Relation.TheVariants.{I64Eq};
+ghost use Rattle.qw_module.specs.declared.instruction.ValType.TheVariants.{I32};
+ghost use Rattle.qw_module.specs.declared.instruction.Op.TheVariants as o;
+ghost use Rattle.qw_module.specs.Syntax.{Code, NamesBelow, nested, op, block, if_else};
+ghost use Rattle.qw_emit.specs.Emit as emit;
+ghost use Rattle.qw_emit.specs.Layout as layout;
+ghost use Rattle.qw_emit.specs.Sequences.{Adds};
+
+use super::instructions::{
+    binary, block, get, i32_choice, i32_const, i64_const, load, relation, set, store_i32,
+    store_i64, tee,
+};
+use super::locals::{
+    COUNT, DESCRIPTOR, LAST_PLACE, LAST_START, LINK, NEXT_ROW, PLACE, distance_of,
+};
+use super::numbers::{ALL_ROWS, LAST_ROW, NO_ROW};
+use super::plan::Plan;
+use crate::layout::{
+    COUNT_OFFSET, ENTRY_ROWS_OFFSET, FIRST_ROW_OFFSET, FREE_OFFSET, LAST_ROW_OFFSET,
+    PAGE_END_OFFSET, entry_offset, row_size,
+};
+use qw_module::instruction::{Binary, Instr, Load, Relation};
+use qw_types::NoMemory;
+use std::alloc::Global;
+
+/// What to add modulo 2^32 for a number to be taken away.
+fn minus(number: u32) -> u32
+    requires { 1 ≤ number }
+    ensures { result ≡ 2 ^ 32 - number }
+{
+    u32::MAX - number + 1
+}
+
+/// Reads the places before the compared column's first value and of its last.
+fn push_places(sequence: &mut Vec<Instr>, tested: u32) -> Result<(), NoMemory>
+    requires { tested ≤ MAX_COLUMNS }
+    ensures { OnOk result (Adds 7 sequence.old.items sequence.new.items (λ named rest.
+        emit.get 0 (emit.load_i32 (layout.entry_offset tested) (emit.i32 (2 ^ 32 - 4) (op (o.Binary I32Add) (emit.tee 1
+        (emit.get 0 (emit.load_i32 (layout.entry_offset tested + 12) (emit.i32 4 (op (o.Binary I32Mul) (op (o.Binary I32Add) (emit.set 2 rest)))))))))))) }
+{
+    sequence.extend_from_slice(&[
+        get(DESCRIPTOR),
+        load(Load::I32, entry_offset(tested)),
+        i32_const(minus(4)),
+        binary(Binary::I32Add),
+        tee(PLACE),
+        get(DESCRIPTOR),
+        load(Load::I32, entry_offset(tested) + ENTRY_ROWS_OFFSET),
+        i32_const(4),
+        binary(Binary::I32Mul),
+        binary(Binary::I32Add),
+        set(LAST_PLACE),
+    ])?;
+    Ok(())
+}
+
+/// Reads the distance of the other column of this number.
+fn push_distance(
+    sequence: &mut Vec<Instr>,
+    tested: u32,
+    number: u32,
+    place: u32,
+) -> Result<(), NoMemory>
+    requires tested { tested ≤ MAX_COLUMNS }
+    requires number { number ≤ MAX_COLUMNS }
+    requires place { place ≤ MAX_COLUMNS }
+    ensures { OnOk result (Adds 7 sequence.old.items sequence.new.items (λ named rest. emit.read_distances tested number (place ∷ []) rest)) }
+{
+    sequence.extend_from_slice(&[
+        get(DESCRIPTOR),
+        load(Load::I32, entry_offset(place)),
+        get(DESCRIPTOR),
+        load(Load::I32, entry_offset(tested)),
+        binary(Binary::I32Sub),
+        set(distance_of(number)),
+    ])?;
+    Ok(())
+}
+
+/// Reads the distances of the other columns.
+fn push_distances(sequence: &mut Vec<Instr>, tested: u32, others: &[u32]) -> Result<(), NoMemory>
+    requires tested { tested ≤ MAX_COLUMNS }
+    requires few { length others.now ≤ MAX_COLUMNS }
+    requires small { AllByRecursion (λ place. place ≤ MAX_COLUMNS) others.now }
+    ensures { OnOk result (Adds 7 sequence.old.items sequence.new.items (λ named rest. emit.read_distances tested 0 others.now rest)) }
+{
+    for (number, place) in others.iter().enumerate() {
+        push_distance(sequence, tested, number as u32, *place)?;
+    }
+    Ok(())
+}
+
+/// Reads where the first row, of so many octets, stands, and the last that fits its page; then looks at all rows.
+fn push_rows(sequence: &mut Vec<Instr>, size: u32) -> Result<(), NoMemory>
+    requires { 1 ≤ size }
+    ensures { OnOk result (Adds 7 sequence.old.items sequence.new.items (λ named rest.
+        emit.get 0 (emit.load_i32 0 (emit.set 3
+        (emit.get 0 (emit.load_i32 4 (emit.i32 (2 ^ 32 - size) (op (o.Binary I32Add) (emit.set 5
+        (emit.get 0 (emit.i32 8 (op (o.Binary I32Add) (emit.set 4 (block None (named 4) rest)))))))))))))) }
+{
+    sequence.extend_from_slice(&[
+        get(DESCRIPTOR),
+        load(Load::I32, FREE_OFFSET),
+        set(NEXT_ROW),
+        get(DESCRIPTOR),
+        load(Load::I32, PAGE_END_OFFSET),
+        i32_const(minus(size)),
+        binary(Binary::I32Add),
+        set(LAST_START),
+        get(DESCRIPTOR),
+        i32_const(FIRST_ROW_OFFSET),
+        binary(Binary::I32Add),
+        set(LINK),
+        block(ALL_ROWS),
+    ])?;
+    Ok(())
+}
+
+/// Writes the next free address, the last row and the number of rows.
+fn push_end(sequence: &mut Vec<Instr>) -> Result<(), NoMemory>
+    ensures { OnOk result (Adds 7 sequence.old.items sequence.new.items (λ named rest.
+        emit.get 0 (emit.get 3 (emit.store_i32 0
+        (emit.get 0 (emit.get 7 (emit.i64 0 (op (o.Relation I64Eq) (if_else (Some I32) (named 5) (named 6)
+        (emit.store_i32 12 (emit.get 0 (emit.get 7 (emit.store_i64 16 rest))))))))))))) }
+{
+    sequence.extend_from_slice(&[
+        get(DESCRIPTOR),
+        get(NEXT_ROW),
+        store_i32(FREE_OFFSET),
+        get(DESCRIPTOR),
+        get(COUNT),
+        i64_const(0),
+        relation(Relation::I64Eq),
+        i32_choice(NO_ROW, LAST_ROW),
+        store_i32(LAST_ROW_OFFSET),
+        get(DESCRIPTOR),
+        get(COUNT),
+        store_i64(COUNT_OFFSET),
+    ])?;
+    Ok(())
+}
+
+/// The outermost sequence.
+pub fn outer_sequence(alloc: Global, plan: &Plan) -> Result<Vec<Instr>, NoMemory>
+    ensures code { IfOk result (λ v. (named : ℕ → Code) → nested named v.items ≡ emit.scan_frame plan.now (named 4) (named 5) (named 6)) }
+    ensures names { IfOk result (λ v. AllByRecursion (NamesBelow 7) v.items) }
+{
+    let mut sequence = Vec::new(alloc);
+    push_places(&mut sequence, plan.tested())?;
+    push_distances(&mut sequence, plan.tested(), plan.others())?;
+    push_rows(&mut sequence, row_size(plan.cells().len()))?;
+    push_end(&mut sequence)?;
+    Ok(sequence)
+}

@@ -1,0 +1,170 @@
+//! What the code of a statement depends on.
+
+ghost use Rattle.std.specs.Prelude.{◌≡◌, ◌≤◌, ◌==◌, IfOk, length, map, filter, not, if◌then◌else◌};
+ghost use Rattle.std.specs.List.{AllByRecursion, position};
+ghost use Rattle.qw_types.specs.declared.schema.TheConstants.{MAX_COLUMNS};
+ghost use Rattle.qw_meaning.specs.declared.query.TheConstants.{MAX_ITEMS};
+ghost use Rattle.qw_meaning.specs.Statement.{IsStatement};
+ghost use Rattle.qw_emit.specs.Emit as emit;
+
+use super::locals::{VALUE, value_of_other};
+use crate::layout::used_columns;
+use qw_meaning::query::{Comparison, Query};
+use qw_types::NoMemory;
+use qw_types::schema::MAX_COLUMNS;
+use std::alloc::Global;
+use std::marker::Model;
+
+/// What the code of a statement depends on: the place of the compared column among those that are used, the places of the
+/// others, for each cell of a result row the local that holds its value, the comparison and the literal.
+#[derive(Debug, Drop)]
+pub struct Plan {
+    tested: u32,
+    others: Vec<u32>,
+    cells: Vec<u32>,
+    comparison: Comparison,
+    literal: i64,
+}
+
+impl Model for Plan {
+    ghost use Rattle.qw_emit.specs.Emit.{Scan};
+    ghost use Rattle.qw_emit.specs.Plan.{IsPlan};
+
+    ghost Value = { Scan };
+
+    ghost view = { λ p. record {
+      tested = p.tested;
+      others = p.others.items;
+      cells = p.cells.items;
+      comparison = p.comparison;
+      literal = p.literal;
+    } };
+
+    ghost invariant = { λ p. IsPlan (record {
+      tested = p.tested;
+      others = p.others.items;
+      cells = p.cells.items;
+      comparison = p.comparison;
+      literal = p.literal;
+    }) };
+}
+
+impl Plan {
+    /// What the code of this statement depends on.
+    pub fn new(alloc: Global, query: &Query) -> Result<Self, NoMemory>
+        ensures plan { IfOk result (λ plan. plan ≡ emit.scan_of query.now) }
+        ensures limits { IfOk result (λ plan. IsStatement query.now) }
+    {
+        let used = used_columns(alloc, query)?;
+        let others = other_columns(alloc, &used, query.tested())?;
+        let cells = cell_locals(alloc, query.tested(), &others, query.columns())?;
+        Ok(Plan {
+            tested: index_in(&used, query.tested()),
+            others: places_of(alloc, &used, &others)?,
+            cells,
+            comparison: query.comparison(),
+            literal: query.literal(),
+        })
+    }
+
+    /// The place of the compared column among those that are used.
+    pub fn tested(&self) -> u32
+        ensures tested { result ≡ self.now.tested }
+        ensures few { result ≤ MAX_COLUMNS }
+    {
+        self.tested
+    }
+
+    /// The places of the other columns.
+    pub fn others(&self) -> &[u32]
+        ensures others { result.now ≡ self.now.others }
+        ensures few { length result.now ≤ MAX_COLUMNS }
+        ensures small { AllByRecursion (λ place. place ≤ MAX_COLUMNS) result.now }
+    {
+        self.others.as_slice()
+    }
+
+    /// The locals that hold the cells of a result row.
+    pub fn cells(&self) -> &[u32]
+        ensures cells { result.now ≡ self.now.cells }
+        ensures few { length result.now ≤ MAX_ITEMS }
+    {
+        self.cells.as_slice()
+    }
+
+    pub fn comparison(&self) -> Comparison
+        ensures { result ≡ self.now.comparison }
+    {
+        self.comparison
+    }
+
+    pub fn literal(&self) -> i64
+        ensures { result ≡ self.now.literal }
+    {
+        self.literal
+    }
+}
+
+fn first_place(columns: &[usize], column: usize) -> Option<usize>
+    ensures { result ≡ position (λ c. c == column) columns.now }
+{
+    columns.iter().position(|c| *c == column)
+}
+
+/// The first place of a column in a list, or its length.
+fn index_in(columns: &[usize], column: usize) -> u32
+    requires { length columns.now ≤ MAX_COLUMNS }
+    ensures { result ≡ emit.index_in columns.now column }
+{
+    first_place(columns, column).unwrap_or(columns.len()) as u32
+}
+
+/// The columns beside the compared one.
+fn other_columns(alloc: Global, used: &[usize], tested: usize) -> Result<Vec<usize>, NoMemory>
+    ensures { IfOk result (λ others. others.items ≡ filter (λ column. not (column == tested)) used.now) }
+{
+    let others = used
+        .iter()
+        .copied()
+        .filter(|c| *c != tested)
+        .collect(alloc)?;
+    Ok(others)
+}
+
+/// The places of columns among those that are used.
+fn places_of(alloc: Global, used: &[usize], columns: &[usize]) -> Result<Vec<u32>, NoMemory>
+    requires { length used.now ≤ MAX_COLUMNS }
+    ensures { IfOk result (λ places. places.items ≡ map (emit.index_in used.now) columns.now) }
+{
+    let places = columns.iter().map(|c| index_in(used, *c)).collect(alloc)?;
+    Ok(places)
+}
+
+/// The local that holds the value of a column, by the compared column and the others.
+fn local_of(tested: usize, others: &[usize], column: usize) -> u32
+    requires { length others.now ≤ MAX_COLUMNS }
+    ensures { result ≡ (if column == tested then emit.value_local else emit.value_of_other (emit.index_in others.now column)) }
+{
+    if column == tested {
+        VALUE
+    } else {
+        value_of_other(index_in(others, column))
+    }
+}
+
+/// The local that holds the value, for each of these columns.
+fn cell_locals(
+    alloc: Global,
+    tested: usize,
+    others: &[usize],
+    columns: &[usize],
+) -> Result<Vec<u32>, NoMemory>
+    requires { length others.now ≤ MAX_COLUMNS }
+    ensures { IfOk result (λ locals. locals.items ≡ map (λ column. if column == tested then emit.value_local else emit.value_of_other (emit.index_in others.now column)) columns.now) }
+{
+    let locals = columns
+        .iter()
+        .map(|c| local_of(tested, others, *c))
+        .collect(alloc)?;
+    Ok(locals)
+}

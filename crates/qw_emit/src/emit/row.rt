@@ -1,0 +1,211 @@
+//! The loop's body, and what is done where a result row does not fit the page.
+
+ghost use Rattle.std.specs.Prelude.{◌≡◌, ℕ, IfOk, OnOk, length, ◌∷◌, [], ◌≤◌, ◌<◌, None};
+ghost use Rattle.std.specs.Int.{cast_unsigned, w64};
+ghost use Rattle.std.specs.List.{AllByRecursion};
+ghost use Rattle.qw_types.specs.declared.schema.TheConstants.{MAX_COLUMNS};
+ghost use Rattle.qw_meaning.specs.declared.query.TheConstants.{MAX_ITEMS};
+ghost use Rattle.qw_linear.specs.Memory.{page};
+ghost use Rattle.qw_module.specs.declared.instruction.Binary.TheVariants.{I32Add, I64Add};
+ghost use Rattle.qw_module.specs.declared.instruction.Relation.TheVariants.{I32Eq, I32Gt};
+ghost use Rattle.qw_module.specs.declared.instruction.Sign.TheVariants.{Unsigned};
+ghost use Rattle.qw_module.specs.declared.instruction.Op.TheVariants as o;
+ghost use Rattle.qw_module.specs.Syntax.{Code, NamesBelow, nested, op, if_else, br, br_if};
+ghost use Rattle.qw_emit.specs.Emit as emit;
+ghost use Rattle.qw_emit.specs.Layout as layout;
+ghost use Rattle.qw_emit.specs.Sequences.{Adds};
+
+use super::instructions::{
+    binary, choice, get, i32_const, i64_const, load, relation, set, store_i32, store_i64, tee,
+};
+use super::locals::{
+    COUNT, LAST_PLACE, LAST_START, LINK, NEXT_ROW, PLACE, VALUE, distance_of, value_of_other,
+};
+use super::numbers::{ASK, NOTHING, RAISE};
+use super::plan::Plan;
+use crate::layout::{CELL_OFFSET, CELL_SIZE, row_size};
+use qw_linear::linear::PAGE;
+use qw_meaning::query::Comparison;
+use qw_module::instruction::{Binary, Instr, Load, Op, Relation, Sign};
+use qw_types::NoMemory;
+use std::alloc::Global;
+
+/// What a growth that is refused gives.
+const REFUSAL: u32 = u32::MAX;
+
+/// The code that is raised after a request that was refused.
+const OUT_OF_PAGES: u32 = 3;
+
+/// Raises after a request that was refused.
+pub fn raise_sequence(alloc: Global) -> Result<Vec<Instr>, NoMemory>
+    ensures code { IfOk result (λ v. (named : ℕ → Code) → nested named v.items ≡ emit.raise_refused) }
+    ensures names { IfOk result (λ v. AllByRecursion (NamesBelow 0) v.items) }
+{
+    Ok(vec![in alloc; i32_const(OUT_OF_PAGES), Instr::Op(Op::Call(0))]?)
+}
+
+/// Asks for one page. The next row, of so many octets, then stands where the page begins.
+pub fn ask_sequence(alloc: Global, size: u32) -> Result<Vec<Instr>, NoMemory>
+    requires { size ≤ page }
+    ensures code { IfOk result (λ v. (named : ℕ → Code) → nested named v.items ≡ emit.ask_page size (named 0) (named 1)) }
+    ensures names { IfOk result (λ v. AllByRecursion (NamesBelow 2) v.items) }
+{
+    Ok(vec![in alloc;
+        i32_const(1),
+        Instr::Op(Op::MemoryGrow),
+        tee(NEXT_ROW),
+        i32_const(REFUSAL),
+        relation(Relation::I32Eq),
+        choice(RAISE, NOTHING),
+        get(NEXT_ROW),
+        i32_const(PAGE as u32),
+        binary(Binary::I32Mul),
+        tee(NEXT_ROW),
+        i32_const(PAGE as u32 - size),
+        binary(Binary::I32Add),
+        set(LAST_START),
+    ]?)
+}
+
+/// The comparison with the literal that rejects a row.
+fn rejecting(comparison: Comparison) -> Relation
+    ensures { result ≡ emit.rejects comparison }
+{
+    match comparison {
+        Comparison::Equal => Relation::I64Ne,
+        Comparison::NotEqual => Relation::I64Eq,
+        Comparison::Less => Relation::I64Ge(Sign::Signed),
+        Comparison::LessOrEqual => Relation::I64Gt(Sign::Signed),
+        Comparison::Greater => Relation::I64Le(Sign::Signed),
+        Comparison::GreaterOrEqual => Relation::I64Lt(Sign::Signed),
+    }
+}
+
+/// Leaves the loop after the last row, and goes to the next. Where its compared value is rejected, the loop begins again.
+fn push_test(sequence: &mut Vec<Instr>, plan: &Plan) -> Result<(), NoMemory>
+    ensures { OnOk result (Adds 3 sequence.old.items sequence.new.items (λ named rest.
+        emit.get 1 (emit.get 2 (op (o.Relation I32Eq) (br_if 1
+        (emit.get 1 (emit.i32 4 (op (o.Binary I32Add) (emit.tee 1 (emit.load_value (emit.tee emit.value_local
+        (emit.i64 (cast_unsigned w64 plan.now.literal) (op (o.Relation (emit.rejects plan.now.comparison)) (br_if 0 rest)))))))))))))) }
+{
+    sequence.extend_from_slice(&[
+        get(PLACE),
+        get(LAST_PLACE),
+        relation(Relation::I32Eq),
+        Instr::BrIf(1),
+        get(PLACE),
+        i32_const(4),
+        binary(Binary::I32Add),
+        tee(PLACE),
+        load(Load::I64From32(Sign::Signed), 0),
+        tee(VALUE),
+        i64_const(plan.literal()),
+        relation(rejecting(plan.comparison())),
+        Instr::BrIf(0),
+    ])?;
+    Ok(())
+}
+
+/// Asks for a page where the next result row does not fit this one, and links the row to those before.
+fn push_room(sequence: &mut Vec<Instr>) -> Result<(), NoMemory>
+    ensures { OnOk result (Adds 3 sequence.old.items sequence.new.items (λ named rest.
+        emit.get 3 (emit.get 5 (op (o.Relation (I32Gt Unsigned)) (if_else None (named 2) (named 1)
+        (emit.get 4 (emit.get 3 (emit.tee 4 (emit.store_i32 0 rest))))))))) }
+{
+    sequence.extend_from_slice(&[
+        get(NEXT_ROW),
+        get(LAST_START),
+        relation(Relation::I32Gt(Sign::Unsigned)),
+        choice(ASK, NOTHING),
+        get(LINK),
+        get(NEXT_ROW),
+        tee(LINK),
+        store_i32(0),
+    ])?;
+    Ok(())
+}
+
+/// Reads the value of the other column of this number.
+fn push_value(sequence: &mut Vec<Instr>, number: u32) -> Result<(), NoMemory>
+    requires { number ≤ MAX_COLUMNS }
+    ensures { OnOk result (Adds 3 sequence.old.items sequence.new.items (λ named rest.
+        emit.get 1 (emit.get (emit.distance_of number) (op (o.Binary I32Add) (emit.load_value (emit.set (emit.value_of_other number) rest)))))) }
+{
+    sequence.extend_from_slice(&[
+        get(PLACE),
+        get(distance_of(number)),
+        binary(Binary::I32Add),
+        load(Load::I64From32(Sign::Signed), 0),
+        set(value_of_other(number)),
+    ])?;
+    Ok(())
+}
+
+/// Reads the values of the other columns.
+fn push_values(sequence: &mut Vec<Instr>, others: &[u32]) -> Result<(), NoMemory>
+    requires { length others.now ≤ MAX_COLUMNS }
+    ensures { OnOk result (Adds 3 sequence.old.items sequence.new.items (λ named rest. emit.read_values 0 others.now rest)) }
+{
+    for (number, _place) in others.iter().enumerate() {
+        push_value(sequence, number as u32)?;
+    }
+    Ok(())
+}
+
+/// Writes the cell of this number.
+fn push_cell(sequence: &mut Vec<Instr>, number: u32, local: u32) -> Result<(), NoMemory>
+    requires { number ≤ MAX_ITEMS }
+    ensures { OnOk result (Adds 3 sequence.old.items sequence.new.items (λ named rest. emit.write_cells number (local ∷ []) rest)) }
+{
+    sequence.extend_from_slice(&[
+        get(NEXT_ROW),
+        get(local),
+        store_i64(CELL_OFFSET + CELL_SIZE * number),
+    ])?;
+    Ok(())
+}
+
+/// Writes the cells of the row.
+fn push_cells(sequence: &mut Vec<Instr>, locals: &[u32]) -> Result<(), NoMemory>
+    requires { length locals.now ≤ MAX_ITEMS }
+    ensures { OnOk result (Adds 3 sequence.old.items sequence.new.items (λ named rest. emit.write_cells 0 locals.now rest)) }
+{
+    for (number, local) in locals.iter().enumerate() {
+        push_cell(sequence, number as u32, *local)?;
+    }
+    Ok(())
+}
+
+/// Goes behind the row, counts it, and begins the loop again.
+fn push_count(sequence: &mut Vec<Instr>, size: u32) -> Result<(), NoMemory>
+    ensures { OnOk result (Adds 3 sequence.old.items sequence.new.items (λ named rest.
+        emit.get 3 (emit.i32 size (op (o.Binary I32Add) (emit.set 3
+        (emit.get 7 (emit.i64 1 (op (o.Binary I64Add) (emit.set 7 (br 0 rest)))))))))) }
+{
+    sequence.extend_from_slice(&[
+        get(NEXT_ROW),
+        i32_const(size),
+        binary(Binary::I32Add),
+        set(NEXT_ROW),
+        get(COUNT),
+        i64_const(1),
+        binary(Binary::I64Add),
+        set(COUNT),
+        Instr::Br(0),
+    ])?;
+    Ok(())
+}
+
+/// The loop's body, which looks at one row of the table.
+pub fn row_sequence(alloc: Global, plan: &Plan) -> Result<Vec<Instr>, NoMemory>
+    ensures code { IfOk result (λ v. (named : ℕ → Code) → nested named v.items ≡ emit.scan_row plan.now (named 2) (named 1)) }
+    ensures names { IfOk result (λ v. AllByRecursion (NamesBelow 3) v.items) }
+{
+    let mut sequence = Vec::new(alloc);
+    push_test(&mut sequence, plan)?;
+    push_room(&mut sequence)?;
+    push_values(&mut sequence, plan.others())?;
+    push_cells(&mut sequence, plan.cells())?;
+    push_count(&mut sequence, row_size(plan.cells().len()))?;
+    Ok(sequence)
+}

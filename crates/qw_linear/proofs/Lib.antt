@@ -1,0 +1,6 @@
+pub mod MemoryFacts
+pub mod AccessFacts
+pub mod GrowthFacts
+pub mod StoreFacts
+pub mod WriteFacts
+pub mod CopyFacts

@@ -1,0 +1,14 @@
+//! A linear memory (WebAssembly Core Specification 1.0, 4.2.8), which every other crate sees as a list of
+//! octets and a reservation.
+//!
+//! - [`linear::Linear`]: the memory. Only `new` takes memory of the system; it reserves all that `grow`
+//!   may ask for.
+//! - `specs/Memory`: the number at a place, the memory with a number put at a place, a memory that grew.
+//! - `proofs/MemoryFacts`: the laws of numbers in memory; `AccessFacts`: of loads and stores; `WriteFacts`:
+//!   of one store after another; `CopyFacts`: of copied octets; `GrowthFacts`: of growth.
+//! - `proofs/StoreFacts`: the octets that the processor reads and writes stand for these numbers.
+#![tactic(auto)]
+
+pub mod linear;
+
+pub use linear::Linear;

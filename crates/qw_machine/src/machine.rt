@@ -1,0 +1,380 @@
+//! The machine: executes an instance's `run` instruction by instruction (WebAssembly Core Specification
+//! 1.0, 4.4), as the step relation of `specs/Execution` says.
+
+ghost use Rattle.std.specs.Prelude.{◌≡◌, ℕ, List, ◌∷◌, ◌++◌, ◌+◌, ◌-◌, ◌*◌, ◌<◌, ◌≤◌, ◌^◌, ◌↔◌, map, length, replicate, take, drop, IfOk, IfSome};
+ghost use Rattle.qw_module.specs.Numbers.{constant, truth};
+ghost use Rattle.qw_module.specs.Syntax.{IsNumbered, sequence_at};
+ghost use Rattle.qw_linear.specs.Memory.{page};
+ghost use Rattle.qw_machine.specs.Machine.{CanJump, IsJump, IsPoint, entered, first_point, instructions_below, whole_room, point_of, rooms_of, under};
+ghost use Rattle.qw_machine.specs.Executed.{IsExecuted, IsLeft, IsStepped, is_over};
+ghost use Rattle.qw_module.specs.Validity.{IsShaped, IsValid, items_of};
+
+use crate::operators::{operate, value_of};
+use crate::shape::shaped_run;
+use crate::stack::Stack;
+use crate::valid::ValidModule;
+use qw_linear::linear::Linear;
+use qw_module::instruction::{Instr, ValType};
+use qw_module::module::{self, Module};
+use qw_types::NoMemory;
+use std::alloc::Global;
+use thiserror::Error;
+
+/// What a step came to.
+#[derive(Clone, Copy, Debug, PartialEq, Eq)]
+pub enum Stepped {
+    Ran,
+    /// A request was granted: the memory's size before, and how much it grew, in pages.
+    Grew { at: u32, pages: u32 },
+    /// A request for so many pages was refused.
+    Refused { pages: u32 },
+    /// This step left `run`, whatever its instruction.
+    Returned,
+    /// `raise` was called with this code.
+    Raised(u32),
+    Trapped,
+}
+
+impl Stepped {
+    /// Whether the run has ended: no step follows.
+    pub(crate) fn is_over(self) -> bool
+        ensures { result ≡ is_over self }
+    {
+        matches!(
+            self,
+            Stepped::Returned | Stepped::Raised(_) | Stepped::Trapped
+        )
+    }
+}
+
+/// Why a module isn't called.
+#[derive(Clone, Copy, Debug, PartialEq, Eq, Error)]
+pub enum InstanceFault {
+    #[error("the module hasn't the shape that is executed")]
+    NotShaped,
+    #[error("want of memory")]
+    NoMemory,
+}
+
+/// A label that the instance is in (4.2.12).
+#[derive(Clone, Copy, Debug, PartialEq, Eq)]
+pub struct Entry {
+    /// How many operands lie below the label's own.
+    pub base: usize,
+    /// Whether a branch to the label takes an operand.
+    pub takes: bool,
+    /// The number of the sequence that the label stands in.
+    pub sequence: usize,
+    /// The place there that a branch goes to: a loop's own, or the one after the block.
+    pub target: usize,
+    /// The place there after the label's end.
+    pub after: usize,
+}
+
+/// Where the execution of a numbered body is (4.2.12): the labels that it is in, the sequence that runs
+/// and the place in it, the operands of all labels, and the locals. All room is reserved at first.
+#[derive(Drop)]
+pub struct Activity {
+    labels: Stack<Entry>,
+    sequence: usize,
+    place: usize,
+    operands: Stack<u64>,
+    locals: Vec<u64>,
+}
+
+impl Activity {
+    /// The activity of a call of a body with one argument, whose declared locals are zeros. The error is
+    /// want of memory.
+    fn begin(
+        alloc: Global,
+        sequences: &[Vec<Instr>],
+        declared: &[ValType],
+        argument: u32,
+    ) -> Result<Self, NoMemory>
+        requires { 1 ≤ length sequences.now }
+        ensures point { IfOk result (λ activity. point_of activity ≡ first_point (items_of sequences.now) (argument ∷ replicate (length declared.now) 0)) }
+        ensures rooms { IfOk result (λ activity. rooms_of activity ≡ whole_room (items_of sequences.now)) }
+    {
+        let room = instructions(sequences).ok_or(NoMemory)?;
+        let sequence = sequences.len() - 1;
+        let end = sequences[sequence].len();
+        let mut labels = Stack::with_room(alloc, sequences.len() + 1)?;
+        labels.push(Entry {
+            base: 0,
+            takes: false,
+            sequence,
+            target: end,
+            after: end,
+        });
+        let operands = Stack::with_room(alloc, room)?;
+        let mut locals = vec![in alloc; 0; declared.len() + 1]?;
+        locals[0] = u64::from(argument);
+        Ok(Activity {
+            labels,
+            sequence,
+            place: 0,
+            operands,
+            locals,
+        })
+    }
+
+    /// Enters a block that begins with a sequence of this number (4.4.6).
+    fn enter(&mut self, inner: usize, takes: bool, target: usize)
+        requires room { length self.old.labels.values < self.old.labels.room }
+        requires place { self.old.place < 2 ^ 64 - 1 }
+        ensures point { point_of self.new ≡ entered (point_of self.old) inner takes target }
+        ensures rooms { rooms_of self.new ≡ rooms_of self.old }
+    {
+        self.labels.push(Entry {
+            base: self.operands.len(),
+            takes,
+            sequence: self.sequence,
+            target,
+            after: self.place + 1,
+        });
+        self.sequence = inner;
+        self.place = 0;
+    }
+
+    /// Branches to the label of an index, counted from the innermost (4.4.5, `br`).
+    fn branch(&mut self, index: usize)
+        requires there { CanJump index (point_of self.old) }
+        requires room { length self.old.operands.values ≤ self.old.operands.room }
+        ensures jump { IsJump index (point_of self.old) (point_of self.new) }
+        ensures rooms { rooms_of self.new ≡ rooms_of self.old }
+    {
+        self.labels.truncate(self.labels.len() - index);
+        let entry = self.labels.pop();
+        unwind(&mut self.operands, entry.base, entry.takes);
+        self.sequence = entry.sequence;
+        self.place = entry.target;
+    }
+
+    /// Executes the instruction at the place, and leaves no label yet. Never answers `Returned`.
+    fn execute(&mut self, sequences: &[Vec<Instr>], memory: &mut Linear, spare: u32) -> Stepped
+        requires numbered { IsNumbered (items_of sequences.now) }
+        requires point { IsPoint (items_of sequences.now) (rooms_of self.old) (point_of self.old) }
+        requires unfinished { self.old.place < length (sequence_at (items_of sequences.now) self.old.sequence) }
+        requires pages { length memory.old.octets + spare * page ≤ memory.old.reserved * page }
+        ensures executed { IsExecuted (items_of sequences.now) (rooms_of self.old) spare (point_of self.old) memory.old.octets result (point_of self.new) memory.new.octets }
+        ensures rooms { rooms_of self.new ≡ rooms_of self.old }
+        ensures reserved { memory.new.reserved ≡ memory.old.reserved }
+    {
+        let sequence = sequences[self.sequence].as_slice();
+        let after = self.place + 1;
+        match sequence[self.place] {
+            Instr::Op(op) => {
+                self.place = after;
+                operate(
+                    op,
+                    &mut self.operands,
+                    self.locals.as_mut_slice(),
+                    memory,
+                    spare,
+                )
+            }
+            Instr::Block { result, body } => {
+                self.enter(body, result.is_some(), after);
+                Stepped::Ran
+            }
+            Instr::Loop { body, .. } => {
+                self.enter(body, false, self.place);
+                Stepped::Ran
+            }
+            Instr::If {
+                result,
+                then_body,
+                else_body,
+            } => {
+                if self.operands.pop() != 0 {
+                    self.enter(then_body, result.is_some(), after);
+                    return Stepped::Ran;
+                }
+                self.enter(else_body, result.is_some(), after);
+                Stepped::Ran
+            }
+            Instr::Br(index) => {
+                self.branch(index as usize);
+                Stepped::Ran
+            }
+            Instr::BrIf(index) => {
+                if self.operands.pop() != 0 {
+                    self.branch(index as usize);
+                    return Stepped::Ran;
+                }
+                self.place = after;
+                Stepped::Ran
+            }
+        }
+    }
+
+    /// Leaves the labels whose sequences are finished (4.4.6). Answers whether the run goes on: `run` wasn't left.
+    fn leave_finished(&mut self, sequences: &[Vec<Instr>]) -> bool
+        requires { IsPoint (items_of sequences.now) (rooms_of self.old) (point_of self.old) }
+        ensures left { IsLeft (items_of sequences.now) (rooms_of self.old) (point_of self.old) result (point_of self.new) }
+        ensures rooms { rooms_of self.new ≡ rooms_of self.old }
+    {
+        while self.place == sequences[self.sequence].len() {
+            if self.labels.len() == 0 {
+                return false;
+            }
+            let entry = self.labels.pop();
+            self.sequence = entry.sequence;
+            self.place = entry.after;
+        }
+        true
+    }
+
+    /// One step: an instruction, and the labels that it finishes.
+    fn step(&mut self, sequences: &[Vec<Instr>], memory: &mut Linear, spare: u32) -> Stepped
+        requires numbered { IsNumbered (items_of sequences.now) }
+        requires point { IsPoint (items_of sequences.now) (rooms_of self.old) (point_of self.old) }
+        requires unfinished { self.old.place < length (sequence_at (items_of sequences.now) self.old.sequence) }
+        requires pages { length memory.old.octets + spare * page ≤ memory.old.reserved * page }
+        ensures stepped { IsStepped (items_of sequences.now) (rooms_of self.old) spare (point_of self.old) memory.old.octets result (point_of self.new) memory.new.octets }
+        ensures rooms { rooms_of self.new ≡ rooms_of self.old }
+        ensures reserved { memory.new.reserved ≡ memory.old.reserved }
+    {
+        let stepped = self.execute(sequences, memory, spare);
+        if stepped.is_over() {
+            return stepped;
+        }
+        if !self.leave_finished(sequences) {
+            return Stepped::Returned;
+        }
+        stepped
+    }
+}
+
+/// An instance of a module whose `run` was called. Which module it goes with is the caller's to know.
+#[derive(Drop)]
+pub struct Instance {
+    globals: Vec<u64>,
+    /// The number of the module's own function that is `run`.
+    function: usize,
+    /// What the last step came to. It is `Ran` as long as the run goes on.
+    last: Stepped,
+    activity: Activity,
+}
+
+impl Instance {
+    ghost use Rattle.qw_machine.specs.Instance.{GoesWith, IsLast, Went, state_of};
+    ghost use Rattle.qw_module.specs.Start.{begun};
+    ghost use Rattle.qw_module.specs.Runs.{IsOver};
+    ghost use Rattle.qw_module.specs.Execution.{Config, Running};
+
+    /// Calls the `run` of a module with an argument. The errors are that the module hasn't the shape that is
+    /// executed, and want of memory.
+    pub fn new(alloc: Global, valid: &ValidModule, argument: u32) -> Result<Self, InstanceFault>
+        ensures begun { (number : ℕ) → IsShaped valid.now number → IfOk result (λ instance. state_of valid.now instance ≡ begun valid.now number argument) }
+        ensures goes_with { IfOk result (GoesWith valid.now) }
+        ensures not_shaped { (result ≡ Err InstanceFault.NotShaped) ↔ ((number : ℕ) → IsShaped valid.now number → ⊥) }
+    {
+        let module = valid.module();
+        let Some(number) = shaped_run(module) else {
+            return Err(InstanceFault::NotShaped);
+        };
+        match Instance::call(alloc, module, number, argument) {
+            Ok(instance) => Ok(instance),
+            Err(NoMemory) => Err(InstanceFault::NoMemory),
+        }
+    }
+
+    fn call(alloc: Global, module: &Module, number: usize, argument: u32) -> Result<Self, NoMemory>
+        requires valid { IsValid «module».now }
+        requires shaped { IsShaped «module».now number }
+        ensures begun { IfOk result (λ instance. state_of «module».now instance ≡ begun «module».now number argument) }
+        ensures goes_with { IfOk result (GoesWith «module».now) }
+    {
+        let function = &module.functions[number];
+        let sequences = function.body.sequences.as_slice();
+        let globals = initial_values(alloc, &module.globals)?;
+        let mut activity = Activity::begin(alloc, sequences, &function.locals, argument)?;
+        let runs = activity.leave_finished(sequences);
+        Ok(Instance {
+            globals,
+            function: number,
+            last: if runs {
+                Stepped::Ran
+            } else {
+                Stepped::Returned
+            },
+            activity,
+        })
+    }
+
+    /// What the last step came to. It is `Ran` as long as `run` goes on, also before the first step.
+    pub fn last(&self) -> Stepped
+        ensures { (m : Module) → GoesWith m self.now → IsLast result (state_of m self.now) }
+    {
+        if self.last.is_over() {
+            return self.last;
+        }
+        Stepped::Ran
+    }
+
+    /// Executes one instruction, and leaves what it finishes. A request is granted exactly where it is for at most `spare`
+    /// pages. After `Returned`, `Raised` or `Trapped` nothing changes any more, and the answer is the same again.
+    pub fn step(&mut self, valid: &ValidModule, memory: &mut Linear, spare: u32) -> Stepped
+        requires goes_with { GoesWith valid.now self.old }
+        requires room { length memory.old.octets + spare * page ≤ memory.old.reserved * page }
+        ensures step { (c : Config) → state_of valid.now self.old ≡ Running c
+            → Went spare c memory.old.octets (state_of valid.now self.new) memory.new.octets result }
+        ensures over { IsOver (state_of valid.now self.old)
+            → (self.new ≡ self.old) × (memory.new ≡ memory.old) × IsLast result (state_of valid.now self.old) }
+        ensures reserved { memory.new.reserved ≡ memory.old.reserved }
+        ensures goes_with { GoesWith valid.now self.new }
+    {
+        if self.last.is_over() {
+            return self.last;
+        }
+        let function = &valid.module().functions[self.function];
+        let stepped = self.activity.step(&function.body.sequences, memory, spare);
+        if !stepped.is_over() {
+            return stepped;
+        }
+        self.last = stepped;
+        stepped
+    }
+}
+
+/// The values that globals begin with (4.5.4).
+fn initial_values(alloc: Global, globals: &[module::Global]) -> Result<Vec<u64>, NoMemory>
+    ensures { IfOk result (λ values. values.items ≡ map (λ global. constant global.init) globals.now) }
+{
+    let values = globals
+        .iter()
+        .map(|global| value_of(global.init))
+        .collect(alloc)?;
+    Ok(values)
+}
+
+/// How many instructions there are in all, or `None` where no machine word counts them.
+fn instructions(sequences: &[Vec<Instr>]) -> Option<usize>
+    ensures { IfSome result (λ count. count ≡ instructions_below (items_of sequences.now) (length sequences.now)) }
+{
+    let mut count = 0usize;
+    for sequence in sequences {
+        count = count.checked_add(sequence.len())?;
+    }
+    Some(count)
+}
+
+/// Drops the operands above the first `base`, but for the last one where the branch takes one.
+fn unwind(operands: &mut Stack<u64>, base: usize, takes: bool)
+    requires there { base + truth takes ≤ length operands.old.values }
+    requires room { length operands.old.values ≤ operands.old.room }
+    ensures operands { operands.new.values ≡ take (truth takes) operands.old.values ++ under base operands.old.values }
+    ensures room { operands.new.room ≡ operands.old.room }
+{
+    if !takes {
+        operands.truncate(base);
+        return;
+    }
+    let taken = operands.pop();
+    operands.truncate(base);
+    operands.push(taken);
+}
+
+#[cfg(test)]
+mod tests;

@@ -1,0 +1,116 @@
+//! Whether a module has the shape that is executed: it imports the memory and `raise`, and exports a
+//! function of its own as `run`; both functions take one i32 and leave nothing.
+
+ghost use Rattle.std.specs.Prelude.{◌≡◌, ◌↔◌, ℕ, ◌+◌, length, IsTrue, MatchOption, IfNone, IfSome, All, Any, Contains};
+ghost use Rattle.qw_module.specs.Validity.{imported_function, imported_functions, IsOneI32, IsShaped, TakesOneI32};
+ghost use Rattle.qw_machine.specs.Shape.{ImportsMemory, ImportsRaise, IsNoRun, IsRun};
+
+use crate::imports::imported_functions;
+use qw_module::instruction::ValType;
+use qw_module::module::{Export, ExportKind, FuncType, Import, Module};
+
+fn takes_one_i32(ty: &FuncType) -> bool
+    ensures { IsTrue result ↔ TakesOneI32 ty.now }
+{
+    if !ty.results.is_empty() {
+        return false;
+    }
+    match ty.params.as_slice() {
+        [ValType::I32] => true,
+        _ => false,
+    }
+}
+
+fn is_one_i32(module: &Module, ty: u32) -> bool
+    ensures { IsTrue result ↔ IsOneI32 «module».now ty }
+{
+    let Some(ty) = module.types.get(ty as usize) else {
+        return false;
+    };
+    takes_one_i32(ty)
+}
+
+fn imports_memory(imports: &[Import]) -> bool
+    ensures { IsTrue result ↔ ImportsMemory imports.now }
+{
+    imports
+        .iter()
+        .any(|import| matches!(import, Import::Memory(_)))
+}
+
+fn imports_function(imports: &[Import]) -> bool
+    ensures { IsTrue result ↔ ((ty : ℕ) × Contains imports.now (Import.Raise ty)) }
+{
+    imports
+        .iter()
+        .any(|import| matches!(import, Import::Raise(_)))
+}
+
+/// Whether an import is no function, or one that takes one i32 and leaves nothing.
+fn fits_raise(module: &Module, import: Import) -> bool
+    ensures { IsTrue result ↔ IfSome (imported_function import) (IsOneI32 «module».now) }
+{
+    match import {
+        Import::Raise(ty) => is_one_i32(module, ty),
+        Import::Memory(_) => true,
+    }
+}
+
+fn all_fit_raise(module: &Module) -> bool
+    ensures { IsTrue result ↔ All (λ import. IfSome (imported_function import) (IsOneI32 «module».now)) «module».now.imports.items }
+{
+    module
+        .imports
+        .iter()
+        .all(|import| fits_raise(module, *import))
+}
+
+fn imports_raise(module: &Module) -> bool
+    ensures { IsTrue result ↔ ImportsRaise «module».now }
+{
+    imports_function(&module.imports) && all_fit_raise(module)
+}
+
+/// The number of the function that is exported as `run` here, `imported` being how many come before the
+/// module's own.
+fn run_number(module: &Module, imported: usize, export: &Export) -> Option<usize>
+    requires { imported ≡ length (imported_functions «module».now) }
+    ensures { MatchOption result (IsNoRun «module».now export.now) (IsRun «module».now export.now) }
+{
+    let ExportKind::Function(index) = export.kind else {
+        return None;
+    };
+    if export.name.as_str() != "run" {
+        return None;
+    }
+    let number = (index as usize).checked_sub(imported)?;
+    let function = module.functions.get(number)?;
+    if !is_one_i32(module, function.type_index) {
+        return None;
+    }
+    Some(number)
+}
+
+/// The number of the module's own function that an export gives as `run`.
+fn exported_run(module: &Module) -> Option<usize>
+    ensures none { IfNone result (All (IsNoRun «module».now) «module».now.exports.items) }
+    ensures some { IfSome result (λ number. Any (λ export. IsRun «module».now export number) «module».now.exports.items) }
+{
+    let imported = imported_functions(&module.imports);
+    for export in &module.exports {
+        if let Some(number) = run_number(module, imported, export) {
+            return Some(number);
+        }
+    }
+    None
+}
+
+/// The number of the module's own function that is exported as `run`, where the module has the shape.
+pub(crate) fn shaped_run(module: &Module) -> Option<usize>
+    ensures { MatchOption result ((number : ℕ) → IsShaped «module».now number → ⊥) (IsShaped «module».now) }
+{
+    if !imports_memory(&module.imports) || !imports_raise(module) {
+        return None;
+    }
+    exported_run(module)
+}

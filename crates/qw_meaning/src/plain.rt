@@ -1,0 +1,132 @@
+//! The meaning of a statement as a slow program: it reads the rows one by one, without a module or a linear memory. What
+//! compiled statements give is compared with it.
+
+ghost use Rattle.std.specs.Prelude.{◌≡◌, ◌++◌, [], ◌∷◌, IfOk, OnOk, slice_get};
+ghost use Rattle.std.specs.List.{filter_map};
+ghost use Rattle.qw_meaning.specs.Meaning.{Rows, compares, condition, is_true, outcome, results, selected};
+
+use crate::query::{Comparison, Query};
+use qw_types::{NoMemory, Row, Val};
+use std::alloc::Global;
+
+/// The rows that a statement gives of a table's rows, in their order (ISO/IEC 9075:1992, 7.6 and 7.9).
+///
+/// # Errors
+///
+/// [`NoMemory`] where the rows do not fit memory, and nowhere else.
+pub fn plain_rows(alloc: Global, query: &Query, rows: &[Row]) -> Result<Vec<Row>, NoMemory>
+    ensures { IfOk result (λ bag. outcome query.now rows.now ≡ Rows bag.items) }
+{
+    let mut bag = Vec::new(alloc);
+    for row in rows {
+        add_result(alloc, query, row, &mut bag)?;
+    }
+    Ok(bag)
+}
+
+/// Adds what the statement gives of one row.
+fn add_result(alloc: Global, query: &Query, row: &Row, bag: &mut Vec<Row>) -> Result<(), NoMemory>
+    ensures { OnOk result (bag.new.items ≡ bag.old.items ++ results query.now (row.now ∷ [])) }
+{
+    if is_kept(query, row) {
+        bag.push(selected_row(alloc, query, row)?)?;
+    }
+    Ok(())
+}
+
+/// Whether the statement's condition is true at a row. It isn't where the row has no such column.
+fn is_kept(query: &Query, row: &Row) -> bool
+    ensures { result ≡ is_true (condition query.now row.now) }
+{
+    match row.values().get(query.tested()) {
+        Some(Val::Num(value)) => holds(query.comparison(), *value, query.literal()),
+        None => false,
+    }
+}
+
+/// Whether two numbers compare so (8.2).
+fn holds(comparison: Comparison, left: i64, right: i64) -> bool
+    ensures { result ≡ compares comparison left right }
+{
+    match comparison {
+        Comparison::Equal => left == right,
+        Comparison::NotEqual => left != right,
+        Comparison::Less => left < right,
+        Comparison::LessOrEqual => left <= right,
+        Comparison::Greater => left > right,
+        Comparison::GreaterOrEqual => left >= right,
+    }
+}
+
+/// The row that the statement makes of a row: the values of its columns.
+fn selected_row(alloc: Global, query: &Query, row: &Row) -> Result<Row, NoMemory>
+    ensures { IfOk result (λ made. made ≡ selected query.now row.now) }
+{
+    let mut values = Vec::new(alloc);
+    for column in query.columns() {
+        add_value(row, *column, &mut values)?;
+    }
+    Ok(Row::new(values))
+}
+
+/// Adds the value of a column, where the row has it.
+fn add_value(row: &Row, column: usize, values: &mut Vec<Val>) -> Result<(), NoMemory>
+    ensures { OnOk result (values.new.items ≡ values.old.items ++ filter_map (λ c. slice_get row.now c) (column ∷ [])) }
+{
+    if let Some(value) = row.values().get(column) {
+        values.push(*value)?;
+    }
+    Ok(())
+}
+
+#[cfg(test)]
+mod tests {
+    use super::*;
+    use std::test::Fail;
+
+    fn pair(alloc: Global, number: i64, tens: i64) -> Result<Row, NoMemory> {
+        Ok(Row::new(vec![in alloc; Val::Num(number), Val::Num(tens)]?))
+    }
+
+    /// The tens of the rows 4, 5 and 6 that compare with 5.
+    fn kept(alloc: Global, comparison: Comparison) -> Result<Vec<i64>, NoMemory> {
+        let query = Query::new(vec![in alloc; 1]?, 0, comparison, 5);
+        let rows = vec![in alloc;
+            pair(alloc, 4, 40)?,
+            pair(alloc, 5, 50)?,
+            pair(alloc, 6, 60)?,
+        ]?;
+        let bag = plain_rows(alloc, &query, &rows)?;
+        let mut tens = Vec::new(alloc);
+        for row in &bag {
+            if let Some(Val::Num(number)) = row.values().first() {
+                tens.push(*number)?;
+            }
+        }
+        Ok(tens)
+    }
+
+    #[test]
+    fn comparisons_at_their_edges(rt: HostRuntime) -> Result<(), Fail> {
+        let alloc = rt.alloc();
+        assert_eq!(rt; kept(alloc, Comparison::Equal)?.as_slice(), [50].as_slice());
+        assert_eq!(rt;
+            kept(alloc, Comparison::NotEqual)?.as_slice(),
+            [40, 60].as_slice()
+        );
+        assert_eq!(rt; kept(alloc, Comparison::Less)?.as_slice(), [40].as_slice());
+        assert_eq!(rt;
+            kept(alloc, Comparison::LessOrEqual)?.as_slice(),
+            [40, 50].as_slice()
+        );
+        assert_eq!(rt;
+            kept(alloc, Comparison::Greater)?.as_slice(),
+            [60].as_slice()
+        );
+        assert_eq!(rt;
+            kept(alloc, Comparison::GreaterOrEqual)?.as_slice(),
+            [50, 60].as_slice()
+        );
+        Ok(())
+    }
+}

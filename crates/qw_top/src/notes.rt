@@ -1,0 +1,59 @@
+//! The lines that say what went wrong. They are written piece by piece, without taking memory.
+
+ghost use Rattle.std.specs.Prelude.{◌≡◌, ◌≢◌, ◌≤◌, OnOk, OnErr};
+ghost use Rattle.qw_io.specs.Faults.{IsCounted};
+ghost use Rattle.qw_top.specs.declared.status.Status.{Status};
+ghost use Rattle.qw_top.specs.Counts.{CountsWrite};
+ghost use Rattle.qw_top.specs.Noted.{NotesLine, NotesStop};
+ghost use Rattle.qw_top.specs.Notes.{read_fault_line, want_of_memory_line};
+ghost use Rattle.qw_top.specs.Output.{TookFront, with_text};
+
+use crate::output::{end_of_write, write_whole};
+use crate::status::Status;
+use crate::stop::Stop;
+use qw_io::{IoFault, Sink};
+
+/// Notes why a run stopped, where a file couldn't be read or memory is wanted. Answers how the run ends: with
+/// what kept the line from being written, if that comes.
+pub fn note_stop<E: Sink>(notes: &mut E, stop: &Stop<'_>) -> Status
+    ensures noted { NotesStop stop.now result (E.taken notes.old) (E.taken notes.new) }
+    ensures fault { result ≡ Status.WriteFailed → IsCounted (E.faults notes.old) (E.faults notes.new) }
+    ensures no_fault { result ≢ Status.WriteFailed → E.faults notes.new ≡ E.faults notes.old }
+{
+    match stop {
+        Stop::Refused(refusal) => refusal.status(),
+        Stop::Unread(name) => note_read_fault(notes, name.as_str()),
+        Stop::NoMemory => note_want_of_memory(notes),
+    }
+}
+
+/// Notes that there was no memory left, and answers how the run ends.
+pub fn note_want_of_memory<E: Sink>(notes: &mut E) -> Status
+    ensures noted { NotesLine want_of_memory_line Status.NoMemory result (E.taken notes.old) (E.taken notes.new) }
+    ensures fault { result ≡ Status.WriteFailed → IsCounted (E.faults notes.old) (E.faults notes.new) }
+    ensures no_fault { result ≢ Status.WriteFailed → E.faults notes.new ≡ E.faults notes.old }
+{
+    end_of_write(write_whole(notes, b"want of memory\n"), Status::NoMemory)
+}
+
+/// Notes that the file of this name couldn't be read, and answers how the run ends.
+fn note_read_fault<E: Sink>(notes: &mut E, name: &str) -> Status
+    ensures noted { NotesLine (read_fault_line name.now) Status.ReadFailed result (E.taken notes.old) (E.taken notes.new) }
+    ensures fault { result ≡ Status.WriteFailed → IsCounted (E.faults notes.old) (E.faults notes.new) }
+    ensures no_fault { result ≢ Status.WriteFailed → E.faults notes.new ≡ E.faults notes.old }
+{
+    end_of_write(write_read_fault(notes, name), Status::ReadFailed)
+}
+
+fn write_read_fault<E: Sink>(notes: &mut E, name: &str) -> Result<(), IoFault>
+    ensures whole { OnOk result (E.taken notes.new ≡ with_text (E.taken notes.old) (read_fault_line name.now)) }
+    ensures front { OnErr result (TookFront (E.taken notes.old) (E.taken notes.new) (read_fault_line name.now)) }
+    ensures counts { CountsWrite result (E.faults notes.old) (E.faults notes.new) }
+{
+    write_whole(notes, b"read fault: ")?;
+    write_whole(notes, name.as_bytes())?;
+    write_whole(notes, b"\n")
+}
+
+#[cfg(test)]
+mod tests;
