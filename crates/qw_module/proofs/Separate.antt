@@ -117,13 +117,13 @@ behaves-after n most pages P kept a b to behaves = record {
 }
 
 -- ---- pages that may be asked for
-asks_within : (instances : List Instance) (k : ℕ) (i : Instance) → slice_get instances k ≡ Some i → i.world.limit - i.world.held ≤ may_ask instances
+pub asks_within : (instances : List Instance) (k : ℕ) (i : Instance) → slice_get instances k ≡ Some i → i.world.limit - i.world.held ≤ may_ask instances
 asks_within [] k i found = absurd (none-some i found)
 asks_within (one ∷ instances) zero i found = let same : one ≡ i = same_Some one i found in rw (← same) (omega arith)
 asks_within (one ∷ instances) (suc k) i found = let rest : i.world.limit - i.world.held ≤ may_ask instances = asks_within instances k i found in omega arith
 
 -- the sum changes as what one of them may ask for
-asks_changed : (instances : List Instance) (j : ℕ) (one put : Instance) → slice_get instances j ≡ Some one →
+pub asks_changed : (instances : List Instance) (j : ℕ) (one put : Instance) → slice_get instances j ≡ Some one →
     may_ask (slice_set instances j put) + (one.world.limit - one.world.held) ≡ may_ask instances + (put.world.limit - put.world.held)
 asks_changed [] j one put found = absurd (none-some one found)
 asks_changed (first ∷ instances) zero one put found = let is : first ≡ one = same_Some first one found in rw (← is) (omega arith)

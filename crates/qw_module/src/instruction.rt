@@ -67,6 +67,9 @@ pub struct MemArg {
     pub offset: u32,
 }
 
+/// What `memory.grow` gives where it is refused: -1, read as an unsigned number (4.4.4).
+pub const REFUSAL: u32 = u32::MAX;
+
 /// An instruction that holds no other and after which the next of its sequence comes.
 #[derive(Clone, Copy, Debug, PartialEq, Eq)]
 pub enum Op {
@@ -78,8 +81,8 @@ pub enum Op {
     Relation(Relation),
     Load(Load, MemArg),
     Store(Store, MemArg),
-    /// A request for as many pages as its operand says; its result is the number of pages before, or 2^32 - 1 where it
-    /// is refused (2.4.4, `memory.grow`).
+    /// A request for as many pages as its operand says; its result is the number of pages before, or
+    /// [`REFUSAL`] (2.4.4, `memory.grow`).
     MemoryGrow,
     /// A call of an imported function, by its index (2.4.5, `call`). The index counts the imported functions
     /// first, so it is below their number.

@@ -10,7 +10,7 @@ use Rattle.qw_machine.specs.Instance.{GoesWith}
 use Rattle.qw_linear.specs.Linear.{Octets}
 use Rattle.qw_linear.specs.Memory.{page}
 use Rattle.qw_module.specs.Turns.{Instance, IsWhole, may_ask, steps_of, turn, turn_at, with_instance}
-use Rattle.qw_top.proofs.Requests.{asks_changed, asks_within}
+use Rattle.qw_module.proofs.Separate.{asks_changed, asks_within}
 use Rattle.qw_module.proofs.TurnFacts.{slice_get-set_same}
 use Rattle.qw_top.specs.declared.bench.Ended.{Ended}
 use Rattle.qw_top.specs.declared.bench.Ended.TheVariants as ended

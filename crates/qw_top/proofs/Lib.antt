@@ -11,7 +11,6 @@ pub mod Received
 pub mod Serving
 pub mod FirstPages
 pub mod SeatSteps
-pub mod Requests
 pub mod BenchTurns
 pub mod BenchStart
 pub mod Rounds

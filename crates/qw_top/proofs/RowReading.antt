@@ -86,10 +86,6 @@ cells-all memory types cells k values all read =
     let empty : read.rest ≡ [] = sym (same_Some [] read.rest (subst (λ (tys : List Ty). cells_at memory (cells + 16 * k) tys ≡ Some read.rest) none read.left)) in
     read.all ∙ ap (λ (vs : List Val). Some (values ++ vs)) empty ∙ ap Some (append-nil values)
 
--- what is loaded inside the memory
-pub loaded-inside : (memory : List ℕ) (at width : ℕ) → at + width ≤ length memory → loaded memory at width ≡ Some (number_at memory at width)
-loaded-inside memory at width inside = rw (le-leb (at + width) (length memory) inside) refl
-
 -- ---- rows
 -- a row that is there lies in an own area, and has its cells
 pub record IsRow (types : List Ty) (own : List Area) (memory : List ℕ) (at : ℕ) (row : List Val) : Type 0 where

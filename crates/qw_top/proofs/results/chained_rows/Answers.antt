@@ -2,7 +2,8 @@ use Rattle.std.proofs.Common.{◌+◌, ◌<◌, ◌≤◌, ◌≡◌, length, �
 use Rattle.std.proofs.lemmas.Option.{same_Some}
 use Rattle.qw_linear.specs.Memory.{number_at}
 use Rattle.qw_emit.specs.Layout.{row_size}
-use Rattle.qw_top.proofs.RowReading.{loaded-inside, next-inside, next-there, read-all, read-more, read-none}
+use Rattle.qw_linear.proofs.AccessFacts.{loaded-inside}
+use Rattle.qw_top.proofs.RowReading.{next-inside, next-there, read-all, read-more, read-none}
 use Rattle.qw_top.proofs.results.chained_rows.Goals as goal
 
 pub loop-init : goal.loop-init
