@@ -1,16 +1,14 @@
 -- What holds of every module of a statement's code, whatever its runs do.
-use Rattle.std.proofs.Common.{◌≡◌, ℕ, ◌+◌, ◌*◌, ◌^◌, ◌≤◌, length, Some, ap, ◌∙◌, arith, w64, SFits}
-use Rattle.std.specs.Prelude.{slice_get}
+use Rattle.std.proofs.Common.{ℕ, ◌^◌, ◌≤◌, length, ap, arith, w64, SFits}
 use Rattle.std.proofs.lemmas.List.{length-map}
-use Rattle.qw_module.specs.declared.module.Function.{Function}
 use Rattle.qw_module.specs.declared.module.Module.{Module}
 use Rattle.qw_module.specs.Start.{weight}
-use Rattle.qw_module.specs.Validity.{code_of_body, IsValid, IsShaped}
+use Rattle.qw_module.specs.Validity.{IsValid, IsShaped}
 use Rattle.qw_meaning.specs.Statement.{Statement, IsStatement}
-use Rattle.qw_emit.specs.Compiled.{weight_of}
-use Rattle.qw_emit.specs.Emit.{IsScan, local_of, scan_of, scan_code}
-use Rattle.qw_emit.proofs.ScanFacts.{are_values, weight-scan_code, weight-scan_of}
-use Rattle.qw_emit.proofs.ScanValid.{valid, shaped, runs_only, code_is}
+use Rattle.qw_emit.specs.Compiled.{module_weight, weight_of}
+use Rattle.qw_emit.specs.Emit.{IsScan, local_of, scan_of}
+use Rattle.qw_emit.proofs.ScanFacts.{are_values, weight-scan_of}
+use Rattle.qw_emit.proofs.ScanValid.{valid, shaped, weight_is, code_is}
 
 module _ (statement : Statement) (limits : IsStatement statement) (m : Module) (is : IsScan (scan_of statement) m) where
   few_cells : length (scan_of statement).cells ≤ 64
@@ -22,10 +20,8 @@ module _ (statement : Statement) (limits : IsStatement statement) (m : Module) (
   pub is_shaped : SFits w64 statement.literal → IsShaped m 0
   is_shaped fits = shaped (scan_of statement) fits few_cells (are_values statement limits) m is
 
-  pub is_short : (number : ℕ) (f : Function) → slice_get m.functions.items number ≡ Some f → weight (code_of_body f.body) ≤ 2 ^ 22
-  is_short number f there =
-      let code : code_of_body f.body ≡ scan_code (scan_of statement) = (runs_only (scan_of statement) m is number f there).code in
-      omega (arith, ap weight code, weight-scan_of statement limits)
+  pub is_short : module_weight m ≤ 2 ^ 22
+  is_short = omega (arith, weight_is (scan_of statement) m is, weight-scan_of statement limits)
 
   pub is_light : (number : ℕ) → IsShaped m number → weight_of m number ≤ 2 ^ 24
   is_light number shape = omega (arith, ap weight (code_is (scan_of statement) m is number shape), weight-scan_of statement limits)

@@ -21,10 +21,11 @@ use Rattle.qw_module.specs.declared.module.Module.{Module}
 use Rattle.qw_module.specs.Execution.{Running, label, settled}
 use Rattle.qw_module.specs.Numbers.{constant}
 use Rattle.qw_module.specs.Soundness.{raise_signature}
-use Rattle.qw_module.specs.Start.{begun, body_of, sequences_of_function, locals_of_function}
+use Rattle.qw_module.specs.Start.{begun, body_of, sequences_of_function, locals_of_function, weight}
 use Rattle.qw_module.specs.Syntax.{Code, done, code_of}
 use Rattle.qw_module.specs.Typing.{Signature}
 use Rattle.qw_module.specs.Validity.{code_of_body, imported_function, imported_functions, imported_memory, imported_signatures, signature_of, functions_of, memories_of, TakesOneI32, IsOneI32, IsValidType, IsValidImport, IsValidGlobal, IsExportedOf, IsTypedFunction, IsValidFunction, IsValid, IsShaped}
+use Rattle.qw_emit.specs.Compiled.{module_weight}
 use Rattle.qw_emit.specs.Emit.{Scan, IsScan, contents_of, exported, scan_code, scan_locals}
 use Rattle.qw_emit.proofs.ScanFacts.{length-other_locals}
 use Rattle.qw_emit.proofs.ScanTyped.{AreValues, code_typed}
@@ -191,6 +192,13 @@ runs_only scan m is number f there =
       code = rw same.1 (ap (λ (c : ℕ × List ValType × Code). c.2) only.2);
       locals = rw same.1 (ap (λ (c : ℕ × List ValType × Code). c.1) only.2);
     }
+
+-- and its code is all that the module has
+pub weight_is : (scan : Scan) (m : Module) → IsScan scan m → module_weight m ≡ weight (scan_code scan)
+weight_is scan m is =
+    let only = single contents_of m.functions.items _ is.functions in
+    let code : code_of_body only.0.body ≡ scan_code scan = ap (λ (c : ℕ × List ValType × Code). c.2) only.2 in
+    rw (only.1, code) (omega arith)
 
 function_there : (o : Option Function) (P : Function → Type 0) → IsSomeAnd o P → (run : Function) × (o ≡ Some run)
 function_there None P h = absurd h

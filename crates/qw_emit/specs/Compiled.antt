@@ -1,5 +1,5 @@
 -- When a module is the compiled form of a statement: what its runs do, whatever shares the memory with them.
-use Rattle.std.specs.Prelude.{◌≡◌, ℕ, ◌+◌, ◌-◌, ◌*◌, ◌/◌, ◌^◌, ◌<◌, ◌≤◌, List, length, Some, Contains, slice_get, None}
+use Rattle.std.specs.Prelude.{◌≡◌, ℕ, ◌+◌, ◌-◌, ◌*◌, ◌/◌, ◌^◌, ◌<◌, ◌≤◌, List, length, Some, Contains, slice_get, None, sum_by}
 use Rattle.std.specs.List.{AllByRecursion}
 use Rattle.qw_types.specs.declared.schema.TheConstants.{MAX_ROWS}
 use Rattle.qw_types.specs.declared.value.Val.{Val}
@@ -42,6 +42,10 @@ beginning m number starts rows descriptor limit memory =
 abbrev pub units : Statement → List (List Val) → ℕ
 units statement rows = length rows + length (results statement rows)
 
+-- how many instructions a module has, in all functions of its own
+abbrev pub module_weight : Module → ℕ
+module_weight m = sum_by (λ (function : Function). weight (code_of_body function.body)) m.functions.items
+
 -- how many instructions a module's own function has
 abbrev pub weight_of : Module → (number : ℕ) → ℕ
 weight_of m number = weight (code_of (body_of m number))
@@ -71,15 +75,16 @@ Answers statement rows descriptor b (Raised code) =
 Answers statement rows descriptor b Trapped = ⊥
 
 -- The module is the compiled form of the statement: it is valid, and of the shape that is executed; it can be linked to a
--- memory of any size, as it asks for one of at least one page; each function of its own has at most 2^22 instructions, and
--- its `run` at most 2^24 with all that it calls, which is nothing of its own yet; and over any table, wherever its columns and
--- the first page lie, every open run behaves: its loads lie in the columns and its own areas, its stores in its own areas, it
--- doesn't trap, its requests stay within the page bound, it ends within its bound, and then answers.
+-- memory of any size, as it asks for one of at least one page; all functions of its own have at most 2^22 instructions
+-- together, and its `run` at most 2^24 with all that it calls, which is nothing of its own yet; and over any table of at most
+-- `MAX_ROWS` rows, wherever its columns lie from octet 64 on and the first page behind them, every open run behaves: its loads
+-- lie in the columns and its own areas, its stores in its own areas, it doesn't trap, its requests stay within the page bound,
+-- it ends within its bound, and then answers.
 pub record IsCompiled (statement : Statement) (m : Module) : Type 0 where
   pub valid : IsValid m
   pub shaped : (number : ℕ) × IsShaped m number
   pub links : Contains m.imports.items (import.Memory (record { min = 1; max = None }))
-  pub short : (number : ℕ) (f : Function) → slice_get m.functions.items number ≡ Some f → weight (code_of_body f.body) ≤ 2 ^ 22
+  pub short : module_weight m ≤ 2 ^ 22
   pub light : (number : ℕ) → IsShaped m number → weight_of m number ≤ 2 ^ 24
   pub behaves : (number descriptor limit : ℕ) (starts : List ℕ) (rows : List (List Val)) (memory : List ℕ) →
       IsShaped m number → IsReady statement rows starts descriptor memory →
