@@ -45,11 +45,34 @@ index_in xs x = position_or_len (λ y. y == x) xs
 abbrev pub other_columns : Statement → List ℕ
 other_columns statement = filter (λ column. not (column == statement.tested)) (used statement)
 
--- The locals: of the j-th other column the distance from the compared column's values to its own, and its value. The compared
--- column's value is in a local of its own.
+-- The locals: the descriptor's address, which is the argument; the place before the compared column's next value, and the
+-- place of its last value; the next row's address, the place of the link that it is to be put at, and the last address at
+-- which a row fits the page; the compared value; how many rows there are.
+abbrev pub descriptor_local : ℕ
+descriptor_local = 0
+
+abbrev pub place_local : ℕ
+place_local = 1
+
+abbrev pub last_place_local : ℕ
+last_place_local = 2
+
+abbrev pub next_row_local : ℕ
+next_row_local = 3
+
+abbrev pub link_local : ℕ
+link_local = 4
+
+abbrev pub last_start_local : ℕ
+last_start_local = 5
+
 abbrev pub value_local : ℕ
 value_local = 6
 
+abbrev pub count_local : ℕ
+count_local = 7
+
+-- Behind them, of the j-th other column the distance from the compared column's values to its own, and its value.
 abbrev pub distance_of : ℕ → ℕ
 distance_of j = 8 + 2 * j
 
@@ -111,19 +134,19 @@ rejects GreaterOrEqual = I64Lt Signed
 abbrev pub read_distances : (tested j : ℕ) → (others : List ℕ) → Code → Code
 read_distances tested j [] rest = rest
 read_distances tested j (k ∷ ks) rest =
-    get 0 (load_i32 (entry_offset k) (get 0 (load_i32 (entry_offset tested) (op (o.Binary I32Sub) (set (distance_of j)
+    get descriptor_local (load_i32 (entry_offset k) (get descriptor_local (load_i32 (entry_offset tested) (op (o.Binary I32Sub) (set (distance_of j)
     (read_distances tested (suc j) ks rest))))))
 
--- The values of the other columns in the row whose compared value's place is in local 1, from the j-th on.
+-- The values of the other columns in the row at the compared value's place, from the j-th on.
 abbrev pub read_values : (j : ℕ) → (others : List ℕ) → Code → Code
 read_values j [] rest = rest
 read_values j (k ∷ ks) rest =
-    get 1 (get (distance_of j) (op (o.Binary I32Add) (load_value (set (value_of_other j) (read_values (suc j) ks rest)))))
+    get place_local (get (distance_of j) (op (o.Binary I32Add) (load_value (set (value_of_other j) (read_values (suc j) ks rest)))))
 
--- The cells of the row at the address in local 3, from the i-th on.
+-- The cells of the next row, from the i-th on.
 abbrev pub write_cells : (i : ℕ) → (cells : List ℕ) → Code → Code
 write_cells i [] rest = rest
-write_cells i (local ∷ locals) rest = get 3 (get local (store_i64 (8 + 16 * i) (write_cells (suc i) locals rest)))
+write_cells i (local ∷ locals) rest = get next_row_local (get local (store_i64 (8 + 16 * i) (write_cells (suc i) locals rest)))
 
 -- What is raised after a request that was refused.
 abbrev pub raise_refused : Code
@@ -132,50 +155,47 @@ raise_refused = i32 3 (op (o.Call 0) done)
 -- A page is asked for. The next row stands where it begins, and the last address at which a row of this size fits is known.
 abbrev pub ask_page : ℕ → (refused otherwise : Code) → Code
 ask_page size refused otherwise =
-    i32 1 (op o.MemoryGrow (tee 3 (i32 refusal (op (o.Relation I32Eq) (if_else None refused otherwise
-    (get 3 (i32 page (op (o.Binary I32Mul) (tee 3 (i32 (page - size) (op (o.Binary I32Add) (set 5 done))))))))))))
+    i32 1 (op o.MemoryGrow (tee next_row_local (i32 refusal (op (o.Relation I32Eq) (if_else None refused otherwise
+    (get next_row_local (i32 page (op (o.Binary I32Mul) (tee next_row_local (i32 (page - size) (op (o.Binary I32Add) (set last_start_local done))))))))))))
 
 -- One row of the table, at the loop's start: leave after the last; else go to it, and where its value is rejected begin
 -- again; else ask for a page where the result row doesn't fit, link it, write its cells, count it, and begin again.
 abbrev pub scan_row : Scan → (ask otherwise : Code) → Code
 scan_row scan ask otherwise =
     let size = row_size (length scan.cells) in
-    get 1 (get 2 (op (o.Relation I32Eq) (br_if 1
-    (get 1 (i32 4 (op (o.Binary I32Add) (tee 1 (load_value (tee value_local (i64 (cast_unsigned w64 scan.literal) (op (o.Relation (rejects scan.comparison)) (br_if 0
-    (get 3 (get 5 (op (o.Relation (I32Gt Unsigned)) (if_else None ask otherwise
-    (get 4 (get 3 (tee 4 (store_i32 0
+    get place_local (get last_place_local (op (o.Relation I32Eq) (br_if 1
+    (get place_local (i32 4 (op (o.Binary I32Add) (tee place_local (load_value (tee value_local (i64 (cast_unsigned w64 scan.literal) (op (o.Relation (rejects scan.comparison)) (br_if 0
+    (get next_row_local (get last_start_local (op (o.Relation (I32Gt Unsigned)) (if_else None ask otherwise
+    (get link_local (get next_row_local (tee link_local (store_i32 0
     (read_values 0 scan.others (write_cells 0 scan.cells
-    (get 3 (i32 size (op (o.Binary I32Add) (set 3
-    (get 7 (i64 1 (op (o.Binary I64Add) (set 7
+    (get next_row_local (i32 size (op (o.Binary I32Add) (set next_row_local
+    (get count_local (i64 1 (op (o.Binary I64Add) (set count_local
     (br 0 done)))))))))))))))))))))))))))))))
 
 -- What follows the loop: the next free address, the last row where there is one, and the number of rows.
 abbrev pub scan_end : (none last : Code) → Code
 scan_end none last =
-    get 0 (get 3 (store_i32 0
-    (get 0 (get 7 (i64 0 (op (o.Relation I64Eq)
+    get descriptor_local (get next_row_local (store_i32 0
+    (get descriptor_local (get count_local (i64 0 (op (o.Relation I64Eq)
     (if_else (Some I32) none last
     (store_i32 12
-    (get 0 (get 7 (store_i64 16 done)))))))))))
+    (get descriptor_local (get count_local (store_i64 16 done)))))))))))
 
--- The code of `run` around its loop and the two arms of its last choice. Its locals are: the descriptor's address (the
--- argument), the place before the compared column's next value, the place of its last value, the next row's address, the
--- place of the link that it is to be put at, the last address at which a row fits the page, the compared value, how many
--- rows there are, and of each other column its distance and its value.
+-- The code of `run` around its loop and the two arms of its last choice.
 abbrev pub scan_frame : Scan → (rows none last : Code) → Code
 scan_frame scan rows none last =
-    get 0 (load_i32 (entry_offset scan.tested) (i32 (2 ^ 32 - 4) (op (o.Binary I32Add) (tee 1
-    (get 0 (load_i32 (entry_offset scan.tested + 12) (i32 4 (op (o.Binary I32Mul) (op (o.Binary I32Add) (set 2
+    get descriptor_local (load_i32 (entry_offset scan.tested) (i32 (2 ^ 32 - 4) (op (o.Binary I32Add) (tee place_local
+    (get descriptor_local (load_i32 (entry_offset scan.tested + 12) (i32 4 (op (o.Binary I32Mul) (op (o.Binary I32Add) (set last_place_local
     (read_distances scan.tested 0 scan.others
-    (get 0 (load_i32 0 (set 3
-    (get 0 (load_i32 4 (i32 (2 ^ 32 - row_size (length scan.cells)) (op (o.Binary I32Add) (set 5
-    (get 0 (i32 8 (op (o.Binary I32Add) (set 4
+    (get descriptor_local (load_i32 0 (set next_row_local
+    (get descriptor_local (load_i32 4 (i32 (2 ^ 32 - row_size (length scan.cells)) (op (o.Binary I32Add) (set last_start_local
+    (get descriptor_local (i32 8 (op (o.Binary I32Add) (set link_local
     (block None rows (scan_end none last)))))))))))))))))))))))))
 
 abbrev pub scan_code : Scan → Code
 scan_code scan =
     let ask = ask_page (row_size (length scan.cells)) raise_refused done in
-    scan_frame scan (loop None (scan_row scan ask done) done) (i32 0 done) (get 4 done)
+    scan_frame scan (loop None (scan_row scan ask done) done) (i32 0 done) (get link_local done)
 
 -- the types of the locals after the argument
 abbrev pub other_locals : List ℕ → List ValType

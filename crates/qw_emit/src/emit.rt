@@ -8,15 +8,14 @@ ghost use Rattle.qw_emit.specs.Emit as emit;
 
 mod instructions;
 mod locals;
-mod numbers;
 mod outer;
 mod plan;
 mod row;
+mod sequences;
 
 use crate::layout::row_size;
 use instructions::{get, i32_const, repeat};
 use locals::LINK;
-use numbers::ROW;
 use outer::outer_sequence;
 use plan::Plan;
 use qw_meaning::query::Query;
@@ -24,7 +23,17 @@ use qw_module::instruction::ValType;
 use qw_module::module::{Body, Export, ExportKind, FuncType, Function, Import, Limits, Module};
 use qw_types::NoMemory;
 use row::{ask_sequence, raise_sequence, row_sequence};
+use sequences::ROW;
 use std::alloc::Global;
+
+/// The index of the type of `raise` and `run`, the only one of the module: one i32, and no result.
+const TYPE_INDEX: u32 = 0;
+
+/// The index of the imported function `raise`.
+const RAISE_INDEX: u32 = 0;
+
+/// The index of the module's own function `run`, behind the imported ones.
+const RUN_INDEX: u32 = 1;
 
 /// The body of `run`, inner sequences before those that hold them.
 fn body_of(alloc: Global, plan: &Plan) -> Result<Body, NoMemory>
@@ -76,7 +85,7 @@ fn run_of(alloc: Global, plan: &Plan) -> Result<Function, NoMemory>
     ensures numbered { IfOk result (λ run. IsNumbered (sequences_of run.body)) }
 {
     Ok(Function {
-        type_index: 0,
+        type_index: TYPE_INDEX,
         locals: locals_of(alloc, plan)?,
         body: body_of(alloc, plan)?,
     })
@@ -97,11 +106,11 @@ fn scan_module(alloc: Global, query: &Query) -> Result<Module, NoMemory>
     let memory = Import::Memory(Limits { min: 1, max: None });
     let export = Export {
         name: String::from_str(alloc, "run")?,
-        kind: ExportKind::Function(1),
+        kind: ExportKind::Function(RUN_INDEX),
     };
     Ok(Module {
         types: vec![in alloc; signature]?,
-        imports: vec![in alloc; memory, Import::Raise(0)]?,
+        imports: vec![in alloc; memory, Import::Raise(TYPE_INDEX)]?,
         functions: vec![in alloc; run]?,
         memory: None,
         globals: Vec::new(alloc),
@@ -130,12 +139,15 @@ mod tests {
     use qw_meaning::query::Comparison;
     use std::test::Fail;
 
+    // No clause refuses a body that always wants memory: this test does.
     #[test]
     fn a_module_is_made(rt: HostRuntime) -> Result<(), Fail> {
         let columns = vec![in rt.alloc(); 2, 0, 2]?;
         let query = Query::new(columns, 1, Comparison::NotEqual, -5);
         let module = module_of(rt.alloc(), &query)?;
+        assert_eq!(rt; module.imports.len(), 2);
         assert_eq!(rt; module.functions.len(), 1);
+        assert_eq!(rt; module.exports.len(), 1);
         Ok(())
     }
 }

@@ -5,6 +5,20 @@ ghost use Rattle.std.specs.Int.{cast_unsigned, w64};
 
 use qw_module::instruction::{Binary, Const, Instr, Load, MemArg, Op, Relation, Store, ValType};
 
+/// The immediates of an access to four octets, which are aligned to 2^2.
+fn four_octets(offset: u32) -> MemArg
+    ensures { result ≡ record { align = 2; offset = offset } }
+{
+    MemArg { align: 2, offset }
+}
+
+/// The immediates of an access to eight octets, which are aligned to 2^3.
+fn eight_octets(offset: u32) -> MemArg
+    ensures { result ≡ record { align = 3; offset = offset } }
+{
+    MemArg { align: 3, offset }
+}
+
 pub fn get(local: u32) -> Instr
     ensures { result ≡ Instr.Op (Op.LocalGet local) }
 {
@@ -47,22 +61,23 @@ pub fn relation(operator: Relation) -> Instr
     Instr::Op(Op::Relation(operator))
 }
 
+/// A load of four octets.
 pub fn load(load: Load, offset: u32) -> Instr
     ensures { result ≡ Instr.Op (Op.Load load (record { align = 2; offset = offset })) }
 {
-    Instr::Op(Op::Load(load, MemArg { align: 2, offset }))
+    Instr::Op(Op::Load(load, four_octets(offset)))
 }
 
 pub fn store_i32(offset: u32) -> Instr
     ensures { result ≡ Instr.Op (Op.Store Store.I32 (record { align = 2; offset = offset })) }
 {
-    Instr::Op(Op::Store(Store::I32, MemArg { align: 2, offset }))
+    Instr::Op(Op::Store(Store::I32, four_octets(offset)))
 }
 
 pub fn store_i64(offset: u32) -> Instr
     ensures { result ≡ Instr.Op (Op.Store Store.I64 (record { align = 3; offset = offset })) }
 {
-    Instr::Op(Op::Store(Store::I64, MemArg { align: 3, offset }))
+    Instr::Op(Op::Store(Store::I64, eight_octets(offset)))
 }
 
 /// A block that leaves nothing.

@@ -30,12 +30,15 @@ pub const VALUE: u32 = 6;
 /// How many result rows there are.
 pub const COUNT: u32 = 7;
 
+/// The first local of the other columns.
+const FIRST_OTHER: u32 = 8;
+
 /// The local that holds the value of the other column of this number.
 pub fn value_of_other(number: u32) -> u32
     requires { number ≤ MAX_COLUMNS }
     ensures { result ≡ emit.value_of_other number }
 {
-    9 + 2 * number
+    FIRST_OTHER + 2 * number + 1
 }
 
 /// The local that holds the distance of the other column of this number.
@@ -43,5 +46,5 @@ pub fn distance_of(number: u32) -> u32
     requires { number ≤ MAX_COLUMNS }
     ensures { result ≡ emit.distance_of number }
 {
-    8 + 2 * number
+    FIRST_OTHER + 2 * number
 }

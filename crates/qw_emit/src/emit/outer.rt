@@ -19,10 +19,10 @@ use super::instructions::{
 use super::locals::{
     COUNT, DESCRIPTOR, LAST_PLACE, LAST_START, LINK, NEXT_ROW, PLACE, distance_of,
 };
-use super::numbers::{ALL_ROWS, LAST_ROW, NO_ROW};
 use super::plan::Plan;
+use super::sequences::{ALL_ROWS, LAST_ROW, NO_ROW};
 use crate::layout::{
-    COUNT_OFFSET, ENTRY_ROWS_OFFSET, FIRST_ROW_OFFSET, FREE_OFFSET, LAST_ROW_OFFSET,
+    COUNT_OFFSET, ENTRY_ROWS_OFFSET, FIRST_ROW_OFFSET, FREE_OFFSET, INTEGER_SIZE, LAST_ROW_OFFSET,
     PAGE_END_OFFSET, entry_offset, row_size,
 };
 use qw_module::instruction::{Binary, Instr, Load, Relation};
@@ -41,18 +41,18 @@ fn minus(number: u32) -> u32
 fn push_places(sequence: &mut Vec<Instr>, tested: u32) -> Result<(), NoMemory>
     requires { tested ≤ MAX_COLUMNS }
     ensures { OnOk result (Adds 7 sequence.old.items sequence.new.items (λ named rest.
-        emit.get 0 (emit.load_i32 (layout.entry_offset tested) (emit.i32 (2 ^ 32 - 4) (op (o.Binary I32Add) (emit.tee 1
-        (emit.get 0 (emit.load_i32 (layout.entry_offset tested + 12) (emit.i32 4 (op (o.Binary I32Mul) (op (o.Binary I32Add) (emit.set 2 rest)))))))))))) }
+        emit.get emit.descriptor_local (emit.load_i32 (layout.entry_offset tested) (emit.i32 (2 ^ 32 - 4) (op (o.Binary I32Add) (emit.tee emit.place_local
+        (emit.get emit.descriptor_local (emit.load_i32 (layout.entry_offset tested + 12) (emit.i32 4 (op (o.Binary I32Mul) (op (o.Binary I32Add) (emit.set emit.last_place_local rest)))))))))))) }
 {
     sequence.extend_from_slice(&[
         get(DESCRIPTOR),
         load(Load::I32, entry_offset(tested)),
-        i32_const(minus(4)),
+        i32_const(minus(INTEGER_SIZE as u32)),
         binary(Binary::I32Add),
         tee(PLACE),
         get(DESCRIPTOR),
         load(Load::I32, entry_offset(tested) + ENTRY_ROWS_OFFSET),
-        i32_const(4),
+        i32_const(INTEGER_SIZE as u32),
         binary(Binary::I32Mul),
         binary(Binary::I32Add),
         set(LAST_PLACE),
@@ -100,9 +100,9 @@ fn push_distances(sequence: &mut Vec<Instr>, tested: u32, others: &[u32]) -> Res
 fn push_rows(sequence: &mut Vec<Instr>, size: u32) -> Result<(), NoMemory>
     requires { 1 ≤ size }
     ensures { OnOk result (Adds 7 sequence.old.items sequence.new.items (λ named rest.
-        emit.get 0 (emit.load_i32 0 (emit.set 3
-        (emit.get 0 (emit.load_i32 4 (emit.i32 (2 ^ 32 - size) (op (o.Binary I32Add) (emit.set 5
-        (emit.get 0 (emit.i32 8 (op (o.Binary I32Add) (emit.set 4 (block None (named 4) rest)))))))))))))) }
+        emit.get emit.descriptor_local (emit.load_i32 0 (emit.set emit.next_row_local
+        (emit.get emit.descriptor_local (emit.load_i32 4 (emit.i32 (2 ^ 32 - size) (op (o.Binary I32Add) (emit.set emit.last_start_local
+        (emit.get emit.descriptor_local (emit.i32 8 (op (o.Binary I32Add) (emit.set emit.link_local (block None (named 4) rest)))))))))))))) }
 {
     sequence.extend_from_slice(&[
         get(DESCRIPTOR),
@@ -125,9 +125,9 @@ fn push_rows(sequence: &mut Vec<Instr>, size: u32) -> Result<(), NoMemory>
 /// Writes the next free address, the last row and the number of rows.
 fn push_end(sequence: &mut Vec<Instr>) -> Result<(), NoMemory>
     ensures { OnOk result (Adds 7 sequence.old.items sequence.new.items (λ named rest.
-        emit.get 0 (emit.get 3 (emit.store_i32 0
-        (emit.get 0 (emit.get 7 (emit.i64 0 (op (o.Relation I64Eq) (if_else (Some I32) (named 5) (named 6)
-        (emit.store_i32 12 (emit.get 0 (emit.get 7 (emit.store_i64 16 rest))))))))))))) }
+        emit.get emit.descriptor_local (emit.get emit.next_row_local (emit.store_i32 0
+        (emit.get emit.descriptor_local (emit.get emit.count_local (emit.i64 0 (op (o.Relation I64Eq) (if_else (Some I32) (named 5) (named 6)
+        (emit.store_i32 12 (emit.get emit.descriptor_local (emit.get emit.count_local (emit.store_i64 16 rest))))))))))))) }
 {
     sequence.extend_from_slice(&[
         get(DESCRIPTOR),

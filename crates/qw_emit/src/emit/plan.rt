@@ -92,12 +92,14 @@ impl Plan {
         self.cells.as_slice()
     }
 
+    /// The comparison of the value with the literal.
     pub fn comparison(&self) -> Comparison
         ensures { result ≡ self.now.comparison }
     {
         self.comparison
     }
 
+    /// What the value is compared with.
     pub fn literal(&self) -> i64
         ensures { result ≡ self.now.literal }
     {
@@ -105,6 +107,7 @@ impl Plan {
     }
 }
 
+/// The first place of a column in a list.
 fn first_place(columns: &[usize], column: usize) -> Option<usize>
     ensures { result ≡ position (λ c. c == column) columns.now }
 {

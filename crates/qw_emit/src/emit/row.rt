@@ -1,6 +1,6 @@
 //! The loop's body, and what is done where a result row does not fit the page.
 
-ghost use Rattle.std.specs.Prelude.{◌≡◌, ℕ, IfOk, OnOk, length, ◌∷◌, [], ◌≤◌, ◌<◌, None};
+ghost use Rattle.std.specs.Prelude.{◌≡◌, ℕ, IfOk, OnOk, length, ◌∷◌, [], ◌≤◌, None};
 ghost use Rattle.std.specs.Int.{cast_unsigned, w64};
 ghost use Rattle.std.specs.List.{AllByRecursion};
 ghost use Rattle.qw_types.specs.declared.schema.TheConstants.{MAX_COLUMNS};
@@ -12,26 +12,23 @@ ghost use Rattle.qw_module.specs.declared.instruction.Sign.TheVariants.{Unsigned
 ghost use Rattle.qw_module.specs.declared.instruction.Op.TheVariants as o;
 ghost use Rattle.qw_module.specs.Syntax.{Code, NamesBelow, nested, op, if_else, br, br_if};
 ghost use Rattle.qw_emit.specs.Emit as emit;
-ghost use Rattle.qw_emit.specs.Layout as layout;
 ghost use Rattle.qw_emit.specs.Sequences.{Adds};
 
+use super::RAISE_INDEX;
 use super::instructions::{
     binary, choice, get, i32_const, i64_const, load, relation, set, store_i32, store_i64, tee,
 };
 use super::locals::{
     COUNT, LAST_PLACE, LAST_START, LINK, NEXT_ROW, PLACE, VALUE, distance_of, value_of_other,
 };
-use super::numbers::{ASK, NOTHING, RAISE};
 use super::plan::Plan;
-use crate::layout::{CELL_OFFSET, CELL_SIZE, row_size};
+use super::sequences::{ASK, NOTHING, RAISE};
+use crate::layout::{CELL_OFFSET, CELL_SIZE, INTEGER_SIZE, NEXT_OFFSET, row_size};
 use qw_linear::linear::PAGE;
 use qw_meaning::query::Comparison;
-use qw_module::instruction::{Binary, Instr, Load, Op, Relation, Sign};
+use qw_module::instruction::{Binary, Instr, Load, Op, REFUSAL, Relation, Sign};
 use qw_types::NoMemory;
 use std::alloc::Global;
-
-/// What a growth that is refused gives.
-const REFUSAL: u32 = u32::MAX;
 
 /// The code that is raised after a request that was refused.
 const OUT_OF_PAGES: u32 = 3;
@@ -41,7 +38,7 @@ pub fn raise_sequence(alloc: Global) -> Result<Vec<Instr>, NoMemory>
     ensures code { IfOk result (λ v. (named : ℕ → Code) → nested named v.items ≡ emit.raise_refused) }
     ensures names { IfOk result (λ v. AllByRecursion (NamesBelow 0) v.items) }
 {
-    Ok(vec![in alloc; i32_const(OUT_OF_PAGES), Instr::Op(Op::Call(0))]?)
+    Ok(vec![in alloc; i32_const(OUT_OF_PAGES), Instr::Op(Op::Call(RAISE_INDEX))]?)
 }
 
 /// Asks for one page. The next row, of so many octets, then stands where the page begins.
@@ -84,8 +81,8 @@ fn rejecting(comparison: Comparison) -> Relation
 /// Leaves the loop after the last row, and goes to the next. Where its compared value is rejected, the loop begins again.
 fn push_test(sequence: &mut Vec<Instr>, plan: &Plan) -> Result<(), NoMemory>
     ensures { OnOk result (Adds 3 sequence.old.items sequence.new.items (λ named rest.
-        emit.get 1 (emit.get 2 (op (o.Relation I32Eq) (br_if 1
-        (emit.get 1 (emit.i32 4 (op (o.Binary I32Add) (emit.tee 1 (emit.load_value (emit.tee emit.value_local
+        emit.get emit.place_local (emit.get emit.last_place_local (op (o.Relation I32Eq) (br_if 1
+        (emit.get emit.place_local (emit.i32 4 (op (o.Binary I32Add) (emit.tee emit.place_local (emit.load_value (emit.tee emit.value_local
         (emit.i64 (cast_unsigned w64 plan.now.literal) (op (o.Relation (emit.rejects plan.now.comparison)) (br_if 0 rest)))))))))))))) }
 {
     sequence.extend_from_slice(&[
@@ -94,7 +91,7 @@ fn push_test(sequence: &mut Vec<Instr>, plan: &Plan) -> Result<(), NoMemory>
         relation(Relation::I32Eq),
         Instr::BrIf(1),
         get(PLACE),
-        i32_const(4),
+        i32_const(INTEGER_SIZE as u32),
         binary(Binary::I32Add),
         tee(PLACE),
         load(Load::I64From32(Sign::Signed), 0),
@@ -109,8 +106,8 @@ fn push_test(sequence: &mut Vec<Instr>, plan: &Plan) -> Result<(), NoMemory>
 /// Asks for a page where the next result row does not fit this one, and links the row to those before.
 fn push_room(sequence: &mut Vec<Instr>) -> Result<(), NoMemory>
     ensures { OnOk result (Adds 3 sequence.old.items sequence.new.items (λ named rest.
-        emit.get 3 (emit.get 5 (op (o.Relation (I32Gt Unsigned)) (if_else None (named 2) (named 1)
-        (emit.get 4 (emit.get 3 (emit.tee 4 (emit.store_i32 0 rest))))))))) }
+        emit.get emit.next_row_local (emit.get emit.last_start_local (op (o.Relation (I32Gt Unsigned)) (if_else None (named 2) (named 1)
+        (emit.get emit.link_local (emit.get emit.next_row_local (emit.tee emit.link_local (emit.store_i32 0 rest))))))))) }
 {
     sequence.extend_from_slice(&[
         get(NEXT_ROW),
@@ -120,7 +117,7 @@ fn push_room(sequence: &mut Vec<Instr>) -> Result<(), NoMemory>
         get(LINK),
         get(NEXT_ROW),
         tee(LINK),
-        store_i32(0),
+        store_i32(NEXT_OFFSET),
     ])?;
     Ok(())
 }
@@ -129,7 +126,7 @@ fn push_room(sequence: &mut Vec<Instr>) -> Result<(), NoMemory>
 fn push_value(sequence: &mut Vec<Instr>, number: u32) -> Result<(), NoMemory>
     requires { number ≤ MAX_COLUMNS }
     ensures { OnOk result (Adds 3 sequence.old.items sequence.new.items (λ named rest.
-        emit.get 1 (emit.get (emit.distance_of number) (op (o.Binary I32Add) (emit.load_value (emit.set (emit.value_of_other number) rest)))))) }
+        emit.get emit.place_local (emit.get (emit.distance_of number) (op (o.Binary I32Add) (emit.load_value (emit.set (emit.value_of_other number) rest)))))) }
 {
     sequence.extend_from_slice(&[
         get(PLACE),
@@ -179,8 +176,8 @@ fn push_cells(sequence: &mut Vec<Instr>, locals: &[u32]) -> Result<(), NoMemory>
 /// Goes behind the row, counts it, and begins the loop again.
 fn push_count(sequence: &mut Vec<Instr>, size: u32) -> Result<(), NoMemory>
     ensures { OnOk result (Adds 3 sequence.old.items sequence.new.items (λ named rest.
-        emit.get 3 (emit.i32 size (op (o.Binary I32Add) (emit.set 3
-        (emit.get 7 (emit.i64 1 (op (o.Binary I64Add) (emit.set 7 (br 0 rest)))))))))) }
+        emit.get emit.next_row_local (emit.i32 size (op (o.Binary I32Add) (emit.set emit.next_row_local
+        (emit.get emit.count_local (emit.i64 1 (op (o.Binary I64Add) (emit.set emit.count_local (br 0 rest)))))))))) }
 {
     sequence.extend_from_slice(&[
         get(NEXT_ROW),
