@@ -1,5 +1,5 @@
 -- What a step of the activity says of the instance.
-use Rattle.std.proofs.Common.{◌≡◌, ◌≢◌, ℕ, ◌<◌, List, ◌∷◌, length, get_or, Vec, Global, true, false, Some, slice_get, refl, sym, ap, ◌∙◌, subst}
+use Rattle.std.proofs.Common.{◌≡◌, ◌≢◌, ℕ, ◌<◌, List, ◌∷◌, length, get_or, Vec, Global, true, false, Option, None, Some, is_some, slice_get, refl, sym, ap, ◌∙◌, subst}
 use Rattle.std.proofs.lemmas.Option.{slice_get-get_or, slice_get_read, slice_get_within, get_or_from_slice_get}
 use Rattle.std.proofs.lemmas.Bool.{false≢true}
 use Rattle.qw_module.specs.declared.instruction.Instr.{Instr}
@@ -9,14 +9,15 @@ use Rattle.qw_module.specs.declared.module.Function.{Function}
 use Rattle.qw_machine.specs.declared.machine.Activity.{Activity}
 use Rattle.qw_machine.specs.declared.machine.Instance.{Instance}
 use Rattle.qw_machine.specs.declared.machine.Stepped.{Stepped}
-use Rattle.qw_machine.specs.declared.machine.Stepped.TheVariants.{Ran, Grew, Refused}
-use Rattle.qw_machine.specs.declared.machine.Stepped.TheVariants as stepped
+use Rattle.qw_machine.specs.declared.machine.Stepped.TheVariants.{Ran}
+use Rattle.qw_machine.specs.declared.machine.RunEnd.{RunEnd}
+use Rattle.qw_machine.specs.declared.machine.RunEnd.TheVariants as end
 use Rattle.qw_module.specs.Syntax.{Code, done, nested, sequence_at, IsNumbered}
 use Rattle.qw_module.specs.Execution.{Config, State, Running}
 use Rattle.qw_module.specs.Validity.{items_of, IsValid, IsValidFunction, IsTypedFunction, IsShaped, IsOneI32}
 use Rattle.qw_machine.specs.Machine.{code_at, base_of, above, under, contexts_of, Point, Rooms, state_at, config_at, IsRunning, point_of, rooms_of}
-use Rattle.qw_machine.specs.Executed.{is_over, IsStepped}
-use Rattle.qw_machine.specs.Instance.{state_after, state_of, WhileRunning, GoesWith, IsLast, Went}
+use Rattle.qw_machine.specs.Executed.{IsStepped}
+use Rattle.qw_machine.specs.Instance.{end_of, state_after, state_of, WhileRunning, GoesWith, IsLast, Went}
 use Rattle.qw_module.specs.Start.{body_of}
 use Rattle.qw_module.specs.Runs.{IsOver}
 use Rattle.qw_module.proofs.Numbered.{named}
@@ -51,62 +52,41 @@ pub body-array : (m : Module) (number : ℕ) (function : Function) (arrays : Lis
     arrays ≡ function.body.sequences.items → items_of arrays ≡ body_of m number
 body-array m number function arrays found same = rw (found) (ap items_of same)
 
--- ---- what an answer says of the run
-pub over-while : (answer : Stepped) → is_over answer ≡ true → (P : Type 0) → WhileRunning answer P
-over-while Ran over P = absurd (false≢true over)
-over-while (Grew at pages) over P = absurd (false≢true over)
-over-while (Refused pages) over P = absurd (false≢true over)
-over-while stepped.Returned over P = tt
-over-while (stepped.Raised code) over P = tt
-over-while stepped.Trapped over P = tt
+-- ---- what an end says of the run
+pub over-while : (end : Option RunEnd) → is_some end ≡ true → (P : Type 0) → WhileRunning end P
+over-while None over P = absurd (false≢true over)
+over-while (Some end) over P = tt
 
-pub running-while : (answer : Stepped) → is_over answer ≡ false → (P : Type 0) → P → WhileRunning answer P
-running-while Ran runs P p = p
-running-while (Grew at pages) runs P p = p
-running-while (Refused pages) runs P p = p
-running-while stepped.Returned runs P p = tt
-running-while (stepped.Raised code) runs P p = tt
-running-while stepped.Trapped runs P p = tt
+pub running-while : (end : Option RunEnd) → is_some end ≡ false → (P : Type 0) → P → WhileRunning end P
+running-while None runs P p = p
+running-while (Some end) runs P p = tt
 
-pub while-running : (answer : Stepped) → is_over answer ≡ false → (P : Type 0) → WhileRunning answer P → P
-while-running Ran runs P p = p
-while-running (Grew at pages) runs P p = p
-while-running (Refused pages) runs P p = p
-while-running stepped.Returned runs P p = absurd (false≢true (sym runs))
-while-running (stepped.Raised code) runs P p = absurd (false≢true (sym runs))
-while-running stepped.Trapped runs P p = absurd (false≢true (sym runs))
+while-running : (end : Option RunEnd) → is_some end ≡ false → (P : Type 0) → WhileRunning end P → P
+while-running None runs P p = p
+while-running (Some end) runs P p = absurd (false≢true (sym runs))
 
-pub state_after-running : (answer : Stepped) → is_over answer ≡ false → (s : State) → state_after answer s ≡ s
-state_after-running Ran runs s = refl
-state_after-running (Grew at pages) runs s = refl
-state_after-running (Refused pages) runs s = refl
-state_after-running stepped.Returned runs s = absurd (false≢true (sym runs))
-state_after-running (stepped.Raised code) runs s = absurd (false≢true (sym runs))
-state_after-running stepped.Trapped runs s = absurd (false≢true (sym runs))
+pub state_after-running : (end : Option RunEnd) → is_some end ≡ false → (s : State) → state_after end s ≡ s
+state_after-running None runs s = refl
+state_after-running (Some end) runs s = absurd (false≢true (sym runs))
 
--- after a step that ended the run, nothing runs
-over-is : (answer : Stepped) → is_over answer ≡ true → (s : State) → IsOver (state_after answer s) × IsLast answer (state_after answer s)
-over-is Ran over s = absurd (false≢true over)
-over-is (Grew at pages) over s = absurd (false≢true over)
-over-is (Refused pages) over s = absurd (false≢true over)
-over-is stepped.Returned over s = (tt, tt)
-over-is (stepped.Raised code) over s = (tt, refl)
-over-is stepped.Trapped over s = (tt, tt)
+-- after its end, nothing runs
+over-is : (end : Option RunEnd) → is_some end ≡ true → (s : State) → IsOver (state_after end s)
+over-is None over s = absurd (false≢true over)
+over-is (Some end.Returned) over s = tt
+over-is (Some (end.Raised code)) over s = tt
+over-is (Some end.Trapped) over s = tt
 
-pub last-over : (m : Module) (i : Instance) → is_over i.last ≡ true → IsLast i.last (state_of m i)
-last-over m i over = (over-is i.last over (state_at (body_of m i.function) i.globals.items (point_of i.activity))).1
-
-pub over-not-running : (m : Module) (i : Instance) → is_over i.last ≡ true → (c : Config) → state_of m i ≡ Running c → ⊥
+pub over-not-running : (m : Module) (i : Instance) → is_some i.ended ≡ true → (c : Config) → state_of m i ≡ Running c → ⊥
 over-not-running m i over c same =
-    subst IsOver same (over-is i.last over (state_at (body_of m i.function) i.globals.items (point_of i.activity))).0
+    subst IsOver same (over-is i.ended over (state_at (body_of m i.function) i.globals.items (point_of i.activity)))
 
 -- and before that, the instance is at a point that runs
-module _ (m : Module) (i : Instance) (runs : is_over i.last ≡ false) (fits : GoesWith m i) where
+module _ (m : Module) (i : Instance) (runs : is_some i.ended ≡ false) (fits : GoesWith m i) where
   pub running-point : IsRunning (body_of m i.function) (rooms_of i.activity) (point_of i.activity)
-  running-point = while-running i.last runs (IsRunning (body_of m i.function) (rooms_of i.activity) (point_of i.activity)) fits.running
+  running-point = while-running i.ended runs (IsRunning (body_of m i.function) (rooms_of i.activity) (point_of i.activity)) fits.running
 
   state-running : state_of m i ≡ Running (config_at (body_of m i.function) i.globals.items (point_of i.activity))
-  state-running = state_after-running i.last runs (state_at (body_of m i.function) i.globals.items (point_of i.activity))
+  state-running = state_after-running i.ended runs (state_at (body_of m i.function) i.globals.items (point_of i.activity))
       ∙ state_at-running (body_of m i.function) i.globals.items (point_of i.activity) running-point.unfinished
 
   pub last-running : IsLast Ran (state_of m i)
@@ -115,31 +95,20 @@ module _ (m : Module) (i : Instance) (runs : is_over i.last ≡ false) (fits : G
   pub not-over : IsOver (state_of m i) → ⊥
   not-over over = subst IsOver state-running over
 
-  -- a step of the activity is one of the instance, by what is told of it from then on
-  module _ (spare : ℕ) (memory after : List ℕ) (answer last : Stepped) (alike : (s : State) → state_after last s ≡ state_after answer s) (activity : Activity)
+  -- a step of the activity is one of the instance
+  module _ (spare : ℕ) (memory after : List ℕ) (answer : Stepped) (ended : Option RunEnd) (told : ended ≡ end_of answer) (activity : Activity)
       (is : IsStepped (body_of m i.function) (rooms_of i.activity) spare (point_of i.activity) memory answer (point_of activity) after) where
     abbrev then : Instance
-    then = record { globals = i.globals; function = i.function; last = last; activity = activity }
+    then = record { globals = i.globals; function = i.function; ended = ended; activity = activity }
 
     pub went-from : (c : Config) → state_of m i ≡ Running c → Went spare c memory (state_of m then) after answer
     went-from c same =
         let whole : Running (config_at (body_of m i.function) i.globals.items (point_of i.activity)) ≡ Running c = sym state-running ∙ same in
         let config : config_at (body_of m i.function) i.globals.items (point_of i.activity) ≡ c = cc whole in
-        let state = state_at (body_of m i.function) i.globals.items (point_of activity) in
-        subst (λ (x : Config). Went spare x memory (state_of m then) after answer) config
-        (subst (λ (s : State). Went spare (config_at (body_of m i.function) i.globals.items (point_of i.activity)) memory s after answer) (sym (alike state)) (is.went i.globals.items))
+        subst (λ (x : Config). Went spare x memory (state_of m then) after answer) config (rw told (is.went i.globals.items))
 
-  -- the answer is kept where the run is over, and else the one that the instance has
-  pub alike-running : (answer : Stepped) → is_over answer ≡ false → (s : State) → state_after i.last s ≡ state_after answer s
-  alike-running answer on s = state_after-running i.last runs s ∙ sym (state_after-running answer on s)
-
-  pub runs-on : (answer : Stepped) (activity : Activity) → is_over answer ≡ false → rooms_of activity ≡ rooms_of i.activity →
-      WhileRunning answer (IsRunning (body_of m i.function) (rooms_of i.activity) (point_of activity)) →
-      WhileRunning i.last (IsRunning (body_of m i.function) (rooms_of activity) (point_of activity))
-  runs-on answer activity on same running =
-      let here = while-running answer on (IsRunning (body_of m i.function) (rooms_of i.activity) (point_of activity)) running in
-      running-while i.last runs (IsRunning (body_of m i.function) (rooms_of activity) (point_of activity))
-      (subst (λ (rooms : Rooms). IsRunning (body_of m i.function) rooms (point_of activity)) (sym same) here)
+    pub goes-on : rooms_of activity ≡ rooms_of i.activity → GoesWith m then
+    goes-on same = record { shaped = fits.shaped; running = rw (told, same) is.running }
 
 -- ---- the function of a valid and shaped module
 pub function-read : (m : Module) (number : ℕ) (function : Function) → IsShaped m number → function ≡ get_or m.functions.items number function →

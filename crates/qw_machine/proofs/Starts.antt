@@ -1,5 +1,5 @@
 -- How a call of a valid and shaped module begins.
-use Rattle.std.proofs.Common.{◌≡◌, ℕ, suc, ◌-◌, ◌^◌, ◌<◌, List, [], ◌∷◌, ◌++◌, length, map, replicate, Vec, Global as Memory, Bool, true, false, Option, Some, slice_get, refl, sym, ap, ◌∙◌, subst, arith}
+use Rattle.std.proofs.Common.{◌≡◌, ℕ, suc, ◌-◌, ◌^◌, ◌<◌, List, [], ◌∷◌, ◌++◌, length, map, replicate, Vec, Global as Memory, Bool, true, false, Option, None, Some, slice_get, refl, sym, ap, ◌∙◌, subst, arith}
 use Rattle.std.specs.Option.{IsSomeAnd}
 use Rattle.qw_module.specs.declared.instruction.ValType.{ValType}
 use Rattle.qw_module.specs.declared.instruction.ValType.TheVariants.{I32, I64}
@@ -9,9 +9,8 @@ use Rattle.qw_module.specs.declared.module.Function.{Function}
 use Rattle.qw_module.specs.declared.module.FuncType.{FuncType}
 use Rattle.qw_module.specs.declared.module.Global.{Global}
 use Rattle.qw_machine.specs.declared.machine.Activity.{Activity}
-use Rattle.qw_machine.specs.declared.machine.Stepped.{Stepped}
-use Rattle.qw_machine.specs.declared.machine.Stepped.TheVariants.{Ran}
-use Rattle.qw_machine.specs.declared.machine.Stepped.TheVariants as stepped
+use Rattle.qw_machine.specs.declared.machine.RunEnd.{RunEnd}
+use Rattle.qw_machine.specs.declared.machine.RunEnd.TheVariants as end
 use Rattle.qw_module.specs.Numbers.{constant}
 use Rattle.qw_module.specs.Syntax.{Code, done, code_of, sequence_at, IsNumbered}
 use Rattle.qw_module.specs.Execution.{label, settled}
@@ -101,10 +100,10 @@ module _ (sequences : List (List Instr)) (numbered : IsNumbered sequences) where
       state_at sequences globals (first_point sequences locals) ≡ settled globals (label done 0 [] done ∷ []) (code_of sequences) [] locals
   first-state globals locals = rw (end_code, ← whole_code) refl
 
--- what is told of a call that goes on, and of one that is over at once
-abbrev pub first_answer : Bool → Stepped
-first_answer true = Ran
-first_answer false = stepped.Returned
+-- how a call has ended that goes on, and one that is over at once
+abbrev pub first_end : Bool → Option RunEnd
+first_end true = None
+first_end false = Some end.Returned
 
 -- the `run` of a valid and shaped module
 module _ (m : Module) (number : ℕ) (function : Function) (valid : IsValid m) (shaped : IsShaped m number) (found : slice_get m.functions.items number ≡ Some function)
@@ -140,18 +139,18 @@ module _ (m : Module) (number : ℕ) (function : Function) (valid : IsValid m) (
       state_at (body_of m number) globals (first_point (body_of m number) (argument ∷ replicate (length function.locals.items) 0)) ≡ begun m number argument
   begun-is globals are = first-state (body_of m number) body-numbered globals (argument ∷ replicate (length function.locals.items) 0) ∙ rw (found, are) refl
 
-  pub started-state : (rooms : Rooms) (globals : Vec ℕ Memory) (activity : Activity) (answer : Stepped) (runs : Bool) → answer ≡ first_answer runs →
+  pub started-state : (rooms : Rooms) (globals : Vec ℕ Memory) (activity : Activity) (ended : Option RunEnd) (runs : Bool) → ended ≡ first_end runs →
       globals.items ≡ map (λ (global : Global). constant global.init) m.globals.items →
       IsLeft (body_of m number) rooms (first_point (body_of m number) (argument ∷ replicate (length function.locals.items) 0)) runs (point_of activity) →
-      state_of m (record { globals = globals; function = number; last = answer; activity = activity }) ≡ begun m number argument
-  started-state rooms globals activity answer true told are left = rw told (sym (left.1 globals.items) ∙ begun-is globals.items are)
-  started-state rooms globals activity answer false told are left = rw told (sym (left globals.items) ∙ begun-is globals.items are)
+      state_of m (record { globals = globals; function = number; ended = ended; activity = activity }) ≡ begun m number argument
+  started-state rooms globals activity ended true told are left = rw told (sym (left.1 globals.items) ∙ begun-is globals.items are)
+  started-state rooms globals activity ended false told are left = rw told (sym (left globals.items) ∙ begun-is globals.items are)
 
-  pub started-goes : (rooms : Rooms) (globals : Vec ℕ Memory) (activity : Activity) (answer : Stepped) (runs : Bool) → answer ≡ first_answer runs → rooms_of activity ≡ rooms →
+  pub started-goes : (rooms : Rooms) (globals : Vec ℕ Memory) (activity : Activity) (ended : Option RunEnd) (runs : Bool) → ended ≡ first_end runs → rooms_of activity ≡ rooms →
       IsLeft (body_of m number) rooms (first_point (body_of m number) (argument ∷ replicate (length function.locals.items) 0)) runs (point_of activity) →
-      GoesWith m (record { globals = globals; function = number; last = answer; activity = activity })
-  started-goes rooms globals activity answer true told same left = rw told (record {
+      GoesWith m (record { globals = globals; function = number; ended = ended; activity = activity })
+  started-goes rooms globals activity ended true told same left = rw told (record {
     shaped = shaped;
     running = subst (λ (r : Rooms). IsRunning (body_of m number) r (point_of activity)) (sym same) left.0;
   })
-  started-goes rooms globals activity answer false told same left = rw told (record { shaped = shaped; running = tt })
+  started-goes rooms globals activity ended false told same left = rw told (record { shaped = shaped; running = tt })

@@ -6,7 +6,8 @@ ghost use Rattle.qw_module.specs.Numbers.{constant, truth};
 ghost use Rattle.qw_module.specs.Syntax.{IsNumbered, sequence_at};
 ghost use Rattle.qw_linear.specs.Memory.{page};
 ghost use Rattle.qw_machine.specs.Machine.{CanJump, IsJump, IsPoint, entered, first_point, instructions_below, whole_room, point_of, rooms_of, under};
-ghost use Rattle.qw_machine.specs.Executed.{IsExecuted, IsLeft, IsStepped, is_over};
+ghost use Rattle.qw_machine.specs.Executed.{IsExecuted, IsLeft, IsStepped};
+ghost use Rattle.qw_machine.specs.Instance.{end_of};
 ghost use Rattle.qw_module.specs.Validity.{IsShaped, IsValid, items_of};
 
 use crate::operators::{operate, value_of};
@@ -36,15 +37,25 @@ pub enum Stepped {
 }
 
 impl Stepped {
-    /// Whether the run has ended: no step follows.
-    pub(crate) fn is_over(self) -> bool
-        ensures { result ≡ is_over self }
+    /// How the run has ended, if no step follows.
+    fn end(self) -> Option<RunEnd>
+        ensures { result ≡ end_of self }
     {
-        matches!(
-            self,
-            Stepped::Returned | Stepped::Raised(_) | Stepped::Trapped
-        )
+        match self {
+            Stepped::Ran | Stepped::Grew { .. } | Stepped::Refused { .. } => None,
+            Stepped::Returned => Some(RunEnd::Returned),
+            Stepped::Raised(code) => Some(RunEnd::Raised(code)),
+            Stepped::Trapped => Some(RunEnd::Trapped),
+        }
     }
+}
+
+/// How a run has ended.
+#[derive(Clone, Copy, Debug, PartialEq, Eq)]
+pub(crate) enum RunEnd {
+    Returned,
+    Raised(u32),
+    Trapped,
 }
 
 /// Why a module isn't called.
@@ -236,7 +247,7 @@ impl Activity {
         ensures reserved { memory.new.reserved ≡ memory.old.reserved }
     {
         let stepped = self.execute(sequences, memory, spare);
-        if stepped.is_over() {
+        if stepped.end().is_some() {
             return stepped;
         }
         if !self.leave_finished(sequences) {
@@ -252,8 +263,8 @@ pub struct Instance {
     globals: Vec<u64>,
     /// The number of the module's own function that is `run`.
     function: usize,
-    /// What the last step came to. It is `Ran` as long as the run goes on.
-    last: Stepped,
+    /// `None` as long as the run goes on.
+    ended: Option<RunEnd>,
     activity: Activity,
 }
 
@@ -294,23 +305,26 @@ impl Instance {
         Ok(Instance {
             globals,
             function: number,
-            last: if runs {
-                Stepped::Ran
+            ended: if runs {
+                None
             } else {
-                Stepped::Returned
+                Some(RunEnd::Returned)
             },
             activity,
         })
     }
 
-    /// What the last step came to. It is `Ran` as long as `run` goes on, also before the first step.
+    /// How the run has ended: what its last step came to, or `Returned` where `run` has no instructions. It is
+    /// `Ran` as long as the run goes on, also where a step was a request.
     pub fn last(&self) -> Stepped
         ensures { (m : Module) → GoesWith m self.now → IsLast result (state_of m self.now) }
     {
-        if self.last.is_over() {
-            return self.last;
+        match self.ended {
+            None => Stepped::Ran,
+            Some(RunEnd::Returned) => Stepped::Returned,
+            Some(RunEnd::Raised(code)) => Stepped::Raised(code),
+            Some(RunEnd::Trapped) => Stepped::Trapped,
         }
-        Stepped::Ran
     }
 
     /// Executes one instruction, and leaves what it finishes. A request is granted exactly where it is for at most `spare`
@@ -325,15 +339,12 @@ impl Instance {
         ensures reserved { memory.new.reserved ≡ memory.old.reserved }
         ensures goes_with { GoesWith valid.now self.new }
     {
-        if self.last.is_over() {
-            return self.last;
+        if self.ended.is_some() {
+            return self.last();
         }
         let function = &valid.module().functions[self.function];
         let stepped = self.activity.step(&function.body.sequences, memory, spare);
-        if !stepped.is_over() {
-            return stepped;
-        }
-        self.last = stepped;
+        self.ended = stepped.end();
         stepped
     }
 }

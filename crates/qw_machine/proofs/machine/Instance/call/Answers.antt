@@ -1,7 +1,7 @@
 use Rattle.std.proofs.Common.{◌≡◌, ◌∙◌, sym, ap}
 use Rattle.qw_machine.specs.Machine.{rooms_of}
 use Rattle.qw_machine.proofs.Instances.{function-read, body-array}
-use Rattle.qw_machine.proofs.Starts.{first_answer, started-point, started-state, started-goes}
+use Rattle.qw_machine.proofs.Starts.{first_end, started-point, started-state, started-goes}
 use Rattle.qw_machine.proofs.machine.Instance.call.Goals as goal
 use Rattle.qw_machine.proofs.machine.Instance.call.Goals.{then-runs, else-runs}
 
@@ -19,8 +19,8 @@ returns-clause-begun c =
     let found = function-read m c.args.number _ c.requires.shaped c.index-function.ensures in
     let body = body-array m c.args.number _ _ found c.as_slice-sequences.ensures.value in
     let left = rw (c.in_ok-activity.ensures.point, body, c.deref-2.ensures.value) at c.leave_finished-runs.ensures.left in
-    let told : c.if-runs.result ≡ first_answer c.leave_finished-runs.result =
-    elim c.if-runs.branch [ then-runs w ↦ w.result-is ∙ sym (ap first_answer w.if-runs.true) | else-runs w ↦ w.result-is ∙ sym (ap first_answer w.if-runs.false) ] in
+    let told : c.if-runs.result ≡ first_end c.leave_finished-runs.result =
+    elim c.if-runs.branch [ then-runs w ↦ w.result-is ∙ sym (ap first_end w.if-runs.true) | else-runs w ↦ w.result-is ∙ sym (ap first_end w.if-runs.false) ] in
     started-state m c.args.number _ c.requires.valid c.requires.shaped found c.args.argument c.ranges.argument.fits (rooms_of c.in_ok-activity.activity)
     c.in_ok-globals.globals c.leave_finished-runs.new.self c.if-runs.result c.leave_finished-runs.result told (rw c.deref.ensures.value at c.in_ok-globals.ensures) left
 
@@ -30,7 +30,7 @@ returns-clause-goes_with c =
     let found = function-read m c.args.number _ c.requires.shaped c.index-function.ensures in
     let body = body-array m c.args.number _ _ found c.as_slice-sequences.ensures.value in
     let left = rw (c.in_ok-activity.ensures.point, body, c.deref-2.ensures.value) at c.leave_finished-runs.ensures.left in
-    let told : c.if-runs.result ≡ first_answer c.leave_finished-runs.result =
-    elim c.if-runs.branch [ then-runs w ↦ w.result-is ∙ sym (ap first_answer w.if-runs.true) | else-runs w ↦ w.result-is ∙ sym (ap first_answer w.if-runs.false) ] in
+    let told : c.if-runs.result ≡ first_end c.leave_finished-runs.result =
+    elim c.if-runs.branch [ then-runs w ↦ w.result-is ∙ sym (ap first_end w.if-runs.true) | else-runs w ↦ w.result-is ∙ sym (ap first_end w.if-runs.false) ] in
     started-goes m c.args.number _ c.requires.valid c.requires.shaped found c.args.argument c.ranges.argument.fits (rooms_of c.in_ok-activity.activity)
     c.in_ok-globals.globals c.leave_finished-runs.new.self c.if-runs.result c.leave_finished-runs.result told c.leave_finished-runs.ensures.rooms left
