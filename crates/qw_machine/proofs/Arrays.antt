@@ -10,7 +10,7 @@ use Rattle.qw_machine.specs.declared.machine.Stepped.TheVariants as stepped
 use Rattle.qw_module.specs.Execution.{Config, State, Running, Returned}
 use Rattle.qw_module.specs.Step.{Next}
 use Rattle.qw_machine.specs.Machine.{Point, Rooms, IsPoint, IsRunning, state_at, config_at}
-use Rattle.qw_machine.specs.Executed.{is_over, LeadsTo, IsExecuted, IsLeft, IsStepped}
+use Rattle.qw_machine.specs.Executed.{is_over, WentOn, IsExecuted, IsLeft, IsStepped}
 use Rattle.qw_machine.specs.Instance.{end_of, Went}
 use Rattle.qw_module.specs.Validity.{items_of}
 use Rattle.qw_machine.proofs.Points.{code_at-end, left, left-point, left-state}
@@ -91,7 +91,7 @@ left-last arrays rooms p array is read ended none globals =
     rw (no_labels p.labels none, code_at-end (items_of arrays) p.sequence p.place end) refl
 
 -- a step that goes on leads to what its state is
-went-on : (spare : ℕ) (c running : Config) (memory after : List ℕ) (s t : State) (answer : Stepped) → LeadsTo spare c memory s after answer →
+went-on : (spare : ℕ) (c running : Config) (memory after : List ℕ) (s t : State) (answer : Stepped) → WentOn spare c memory s after answer →
     s ≡ t → t ≡ Running running → Went spare c memory t after answer
 went-on spare c running memory after s t answer leads same is = record {
   event = leads.event;

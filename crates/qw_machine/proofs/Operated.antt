@@ -16,13 +16,13 @@ use Rattle.qw_module.specs.Step.{OpWant, Stuck', Leaves, Reads, Writes, Requests
 use Rattle.qw_module.specs.Typing.{Signature, Scope, OpTyped, typed-local_get, typed-local_set, typed-local_tee, typed-const, typed-binary, typed-relation, typed-load, typed-store, typed-grow, typed-call, Typed, typed-op}
 use Rattle.qw_module.specs.Soundness.{AreOf, AreLinked, scope_of}
 use Rattle.qw_machine.specs.Machine.{code_at, Point, contexts_of, state_at, config_at, Rooms, IsPoint}
-use Rattle.qw_machine.specs.Executed.{IsExecuted, IsReady, IsDone}
+use Rattle.qw_machine.specs.Executed.{IsExecuted, CanOperate, IsDone}
 use Rattle.qw_module.proofs.Sound.{AreOf-length, OpWantTyped, op_wants-typed, linked_is}
 use Rattle.qw_module.proofs.TypedOperands.{HasFor, has_for}
 use Rattle.qw_machine.proofs.Points.{state_at-split, config_at-split, code_at-instruction}
 
 -- what an instruction has among its own operands, it has among all
-ready : (operator : Op) (own below values : List ℕ) → HasFor operator own values → IsReady operator (own ++ below) values
+ready : (operator : Op) (own below values : List ℕ) → HasFor operator own values → CanOperate operator (own ++ below) values
 ready (LocalGet x) own below values has = has
 ready (LocalSet x) own below values has = rw (has.2) (omega arith, has.3)
 ready (LocalTee x) own below values has = rw (has.2) (omega arith, has.3)
@@ -97,7 +97,7 @@ module _ (sequences : List (List Instr)) (rooms : Rooms) (spare : ℕ) (p : Poin
   has : HasFor operator is.own p.locals
   has = has_for is.functions is.locals operator is.before parts.0 parts.1 is.linked is.own p.locals is.own_are is.locals_are
 
-  pub operator-ready : IsReady operator p.operands p.locals
+  pub operator-ready : CanOperate operator p.operands p.locals
   operator-ready = rw (is.operands_are) (ready operator is.own is.below p.locals has)
 
   -- the point after it

@@ -8,19 +8,19 @@ use Rattle.qw_module.specs.declared.module.ExportKind.TheVariants as kind
 use Rattle.qw_module.specs.Validity.{imported_functions, HaveOtherNames, IsShaped}
 use Rattle.std.specs.List.{AllPairs}
 use Rattle.std.specs.String.{string_bytes}
-use Rattle.qw_machine.specs.Shape.{ImportsMemory, ImportsRaise, IsNoRun, IsRun}
+use Rattle.qw_machine.specs.Shape.{ImportsMemory, ImportsRaise, ExportsNoRun, ExportsRun}
 
-pub no_run-more : (m : Module) (exports : List Export) (index : ℕ) (export : Export) → ((k : ℕ) (d : Export) → k < index → IsNoRun m (get_or exports k d)) →
-    index < length exports → export ≡ get_or exports index export → IsNoRun m export → (k : ℕ) (d : Export) → k < index + 1 → IsNoRun m (get_or exports k d)
+pub no_run-more : (m : Module) (exports : List Export) (index : ℕ) (export : Export) → ((k : ℕ) (d : Export) → k < index → ExportsNoRun m (get_or exports k d)) →
+    index < length exports → export ≡ get_or exports index export → ExportsNoRun m export → (k : ℕ) (d : Export) → k < index + 1 → ExportsNoRun m (get_or exports k d)
 no_run-more m exports index export before inside read none k d below = ⊎_elim
     (λ less. before k d less)
     (λ at. let same : k ≡ index = omega arith in
-    rw same (subst (IsNoRun m) (get_or_read exports index export inside read d) none))
+    rw same (subst (ExportsNoRun m) (get_or_read exports index export inside read d) none))
     (cases_lt k index)
 
 -- the shape, by its parts
-pub shape-found : (m : Module) (found : Option ℕ) → ImportsMemory m.imports.items → ImportsRaise m → IfNone found (All (IsNoRun m) m.exports.items) →
-    IfSome found (λ number. Any (λ (export : Export). IsRun m export number) m.exports.items) →
+pub shape-found : (m : Module) (found : Option ℕ) → ImportsMemory m.imports.items → ImportsRaise m → IfNone found (All (ExportsNoRun m) m.exports.items) →
+    IfSome found (λ number. Any (λ (export : Export). ExportsRun m export number) m.exports.items) →
     MatchOption found ((number : ℕ) → IsShaped m number → ⊥) (IsShaped m)
 shape-found m None memory raise none some = λ number shaped.
     let export : Export = shaped.exported.0 in

@@ -17,18 +17,18 @@ use Rattle.qw_machine.specs.Instance.{end_of, state_after, WhileRunning, IsAnswe
 
 -- There are the operands that an operator takes, values of their types where it reads them by these, an address, a number of
 -- pages or a code below 2^32 where it takes one, and the local that it names.
-abbrev pub IsReady : Op → List ℕ → List ℕ → Type 0
-IsReady (LocalGet x) operands locals = x < length locals
-IsReady (LocalSet x) operands locals = (0 < length operands) × (x < length locals)
-IsReady (LocalTee x) operands locals = (0 < length operands) × (x < length locals)
-IsReady (o.Const n) operands locals = Unit {0}
-IsReady (o.Binary b) operands locals = (1 < length operands) × (slice_index operands 0 < values_of (type_of_binary b))
-IsReady (o.Relation r) operands locals =
+abbrev pub CanOperate : Op → List ℕ → List ℕ → Type 0
+CanOperate (LocalGet x) operands locals = x < length locals
+CanOperate (LocalSet x) operands locals = (0 < length operands) × (x < length locals)
+CanOperate (LocalTee x) operands locals = (0 < length operands) × (x < length locals)
+CanOperate (o.Const n) operands locals = Unit {0}
+CanOperate (o.Binary b) operands locals = (1 < length operands) × (slice_index operands 0 < values_of (type_of_binary b))
+CanOperate (o.Relation r) operands locals =
     (1 < length operands) × (slice_index operands 0 < values_of (type_of_relation r)) × (slice_index operands 1 < values_of (type_of_relation r))
-IsReady (o.Load l arg) operands locals = (0 < length operands) × (slice_index operands 0 < 2 ^ 32)
-IsReady (o.Store s arg) operands locals = (1 < length operands) × (slice_index operands 1 < 2 ^ 32)
-IsReady o.MemoryGrow operands locals = (0 < length operands) × (slice_index operands 0 < 2 ^ 32)
-IsReady (o.Call index) operands locals = (0 < length operands) × (slice_index operands 0 < 2 ^ 32)
+CanOperate (o.Load l arg) operands locals = (0 < length operands) × (slice_index operands 0 < 2 ^ 32)
+CanOperate (o.Store s arg) operands locals = (1 < length operands) × (slice_index operands 1 < 2 ^ 32)
+CanOperate o.MemoryGrow operands locals = (0 < length operands) × (slice_index operands 0 < 2 ^ 32)
+CanOperate (o.Call index) operands locals = (0 < length operands) × (slice_index operands 0 < 2 ^ 32)
 
 -- What an operator wanted was done, where so many pages may be had: it went on, with these operands, locals and memory after
 -- it; or a request was granted or refused, and it went on; or an access lay outside the memory and nothing was written; or a
@@ -60,7 +60,7 @@ is_over answer = is_some (end_of answer)
 
 -- The step of a configuration, where so many pages may be had, leads to a state, and its event is answered as that of
 -- a step that goes on.
-pub record LeadsTo (spare : ℕ) (c : Config) (before : List ℕ) (state : State) (after : List ℕ) (answer : Stepped) : Type 0 where
+pub record WentOn (spare : ℕ) (c : Config) (before : List ℕ) (state : State) (after : List ℕ) (answer : Stepped) : Type 0 where
   pub event : Event
   pub made : next (λ pages. nat_le pages spare) c before ≡ Some (record { event = event; state = state; memory = after })
   pub answered : (running : Config) → IsAnswer answer before event (Running running)
@@ -70,7 +70,7 @@ abbrev pub IsExecuted : List (List Instr) → Rooms → (spare : ℕ) → (p : P
 IsExecuted sequences rooms spare p memory answer q after =
     MatchBool (is_over answer)
     ((globals : List ℕ) → Went spare (config_at sequences globals p) memory (state_after (end_of answer) (state_at sequences globals q)) after answer)
-    (IsPoint sequences rooms q × ((globals : List ℕ) → LeadsTo spare (config_at sequences globals p) memory (state_at sequences globals q) after answer))
+    (IsPoint sequences rooms q × ((globals : List ℕ) → WentOn spare (config_at sequences globals p) memory (state_at sequences globals q) after answer))
 
 -- Finished labels were left: the point q runs on, or `run` was left.
 abbrev pub IsLeft : List (List Instr) → Rooms → (p : Point) → (runs : Bool) → (q : Point) → Type 0

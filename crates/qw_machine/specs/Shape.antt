@@ -20,10 +20,10 @@ pub record ImportsRaise (m : Module) : Type 0 where
   pub each : All (IsOneI32 m) (imported_functions m)
 
 -- this exports the module's own function of a number as `run`
-pub record IsRun (m : Module) (export : Export) (number : ℕ) : Type 0 where
+pub record ExportsRun (m : Module) (export : Export) (number : ℕ) : Type 0 where
   pub named : string_bytes export.name ≡ codes "run"
   pub exported : export.kind ≡ kind.Function (length (imported_functions m) + number)
   pub takes : IsSomeAnd (slice_get m.functions.items number) (λ (function : Function). IsOneI32 m function.type_index)
 
-abbrev pub IsNoRun : Module → Export → Type 0
-IsNoRun m export = (number : ℕ) → IsRun m export number → ⊥
+abbrev pub ExportsNoRun : Module → Export → Type 0
+ExportsNoRun m export = (number : ℕ) → ExportsRun m export number → ⊥

@@ -260,6 +260,7 @@ impl Activity {
 /// An instance of a module whose `run` was called. Which module it goes with is the caller's to know.
 #[derive(Drop)]
 pub struct Instance {
+    /// The values of the module's globals (4.2.9). A configuration has them, though no instruction reads one yet.
     globals: Vec<u64>,
     /// The number of the module's own function that is `run`.
     function: usize,
@@ -274,8 +275,11 @@ impl Instance {
     ghost use Rattle.qw_module.specs.Runs.{IsOver};
     ghost use Rattle.qw_module.specs.Execution.{Config, Running};
 
-    /// Calls the `run` of a module with an argument. The errors are that the module hasn't the shape that is
-    /// executed, and want of memory.
+    /// Calls the `run` of a module with an argument.
+    ///
+    /// # Errors
+    ///
+    /// `NotShaped` exactly where the module hasn't the shape that is executed, and `NoMemory` for want of memory.
     pub fn new(alloc: Global, valid: &ValidModule, argument: u32) -> Result<Self, InstanceFault>
         ensures begun { (number : ℕ) → IsShaped valid.now number → IfOk result (λ instance. state_of valid.now instance ≡ begun valid.now number argument) }
         ensures goes_with { IfOk result (GoesWith valid.now) }
@@ -285,10 +289,7 @@ impl Instance {
         let Some(number) = shaped_run(module) else {
             return Err(InstanceFault::NotShaped);
         };
-        match Instance::call(alloc, module, number, argument) {
-            Ok(instance) => Ok(instance),
-            Err(NoMemory) => Err(InstanceFault::NoMemory),
-        }
+        Instance::call(alloc, module, number, argument).map_err(|_| InstanceFault::NoMemory)
     }
 
     fn call(alloc: Global, module: &Module, number: usize, argument: u32) -> Result<Self, NoMemory>

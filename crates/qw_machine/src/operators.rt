@@ -5,15 +5,15 @@ ghost use Rattle.qw_module.specs.Numbers.{values_of, constant, binary, type_of_b
 ghost use Rattle.qw_linear.specs.Memory.{page, number_at, with_number};
 ghost use Rattle.qw_module.specs.Step.{op_wants};
 ghost use Rattle.qw_module.specs.Execution.{effective};
-ghost use Rattle.qw_machine.specs.Executed.{IsReady, IsDone};
+ghost use Rattle.qw_machine.specs.Executed.{CanOperate, IsDone};
 
 use crate::machine::Stepped;
 use crate::stack::Stack;
 use qw_linear::linear::Linear;
-use qw_module::instruction::{Binary, Const, Load, MemArg, Op, Relation, Sign, Store};
+use qw_module::instruction::{Binary, Const, Load, MemArg, Op, REFUSAL, Relation, Sign, Store};
 
-/// What a growth that is refused gives: -1 (WebAssembly Core Specification 1.0, 4.4.4, `memory.grow`).
-const REFUSAL: u64 = 0xFFFF_FFFF;
+/// How many values an i32 has: its arithmetic is modulo this (WebAssembly Core Specification 1.0, 4.3.2).
+const I32_VALUES: u64 = 1 << 32;
 
 pub(crate) fn value_of(number: Const) -> u64
     ensures { result ≡ constant number }
@@ -29,9 +29,9 @@ fn apply(operator: Binary, x: u64, y: u64) -> u64
     ensures { result ≡ binary operator x y }
 {
     match operator {
-        Binary::I32Add => x.wrapping_add(y) % 0x1_0000_0000,
-        Binary::I32Sub => x.wrapping_sub(y) % 0x1_0000_0000,
-        Binary::I32Mul => x.wrapping_mul(y) % 0x1_0000_0000,
+        Binary::I32Add => x.wrapping_add(y) % I32_VALUES,
+        Binary::I32Sub => x.wrapping_sub(y) % I32_VALUES,
+        Binary::I32Mul => x.wrapping_mul(y) % I32_VALUES,
         Binary::I64Add => x.wrapping_add(y),
     }
 }
@@ -108,7 +108,7 @@ pub(crate) fn operate(
     memory: &mut Linear,
     spare: u32,
 ) -> Stepped
-    requires ready { IsReady op operands.old.values locals.old }
+    requires ready { CanOperate op operands.old.values locals.old }
     requires room { length operands.old.values < operands.old.room }
     requires pages { length memory.old.octets + spare * page ≤ memory.old.reserved * page }
     ensures done { IsDone (op_wants op operands.old.values locals.old) locals.old memory.old.octets spare result operands.new.values locals.new memory.new.octets }
@@ -143,7 +143,7 @@ pub(crate) fn operate(
 }
 
 fn operate_load(load: Load, arg: MemArg, operands: &mut Stack<u64>, memory: &Linear) -> Stepped
-    requires ready { IsReady (Op.Load load arg) operands.old.values [] }
+    requires ready { CanOperate (Op.Load load arg) operands.old.values [] }
     requires room { length operands.old.values < operands.old.room }
     ensures done { (locals : List ℕ) (spare : ℕ) → IsDone (op_wants (Op.Load load arg) operands.old.values locals) locals memory.now.octets spare result operands.new.values locals memory.now.octets }
     ensures room { operands.new.room ≡ operands.old.room }
@@ -162,7 +162,7 @@ fn operate_store(
     operands: &mut Stack<u64>,
     memory: &mut Linear,
 ) -> Stepped
-    requires ready { IsReady (Op.Store store arg) operands.old.values [] }
+    requires ready { CanOperate (Op.Store store arg) operands.old.values [] }
     requires room { length operands.old.values < operands.old.room }
     ensures done { (locals : List ℕ) (spare : ℕ) → IsDone (op_wants (Op.Store store arg) operands.old.values locals) locals memory.old.octets spare result operands.new.values locals memory.new.octets }
     ensures room { operands.new.room ≡ operands.old.room }
@@ -177,9 +177,10 @@ fn operate_store(
 }
 
 /// A request for pages (4.4.4, `memory.grow`).
+// Requests are rare: their code stays out of the dispatch of the other operators.
 #[inline(never)]
 fn operate_grow(operands: &mut Stack<u64>, memory: &mut Linear, spare: u32) -> Stepped
-    requires ready { IsReady Op.MemoryGrow operands.old.values [] }
+    requires ready { CanOperate Op.MemoryGrow operands.old.values [] }
     requires room { length operands.old.values < operands.old.room }
     requires pages { length memory.old.octets + spare * page ≤ memory.old.reserved * page }
     ensures done { (locals : List ℕ) → IsDone (op_wants Op.MemoryGrow operands.old.values locals) locals memory.old.octets spare result operands.new.values locals memory.new.octets }
@@ -188,7 +189,7 @@ fn operate_grow(operands: &mut Stack<u64>, memory: &mut Linear, spare: u32) -> S
 {
     let pages = operands.pop() as u32;
     if pages > spare {
-        operands.push(REFUSAL);
+        operands.push(u64::from(REFUSAL));
         return Stepped::Refused { pages };
     }
     let at = memory.size();

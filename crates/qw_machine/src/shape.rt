@@ -1,9 +1,9 @@
 //! Whether a module has the shape that is executed: it imports the memory and `raise`, and exports a
-//! function of its own as `run`; both functions take one i32 and leave nothing.
+//! function of its own as `run`; every function that it imports, and `run`, takes one i32 and leaves nothing.
 
 ghost use Rattle.std.specs.Prelude.{◌≡◌, ◌↔◌, ℕ, ◌+◌, length, IsTrue, MatchOption, IfNone, IfSome, All, Any, Contains};
 ghost use Rattle.qw_module.specs.Validity.{imported_function, imported_functions, IsOneI32, IsShaped, TakesOneI32};
-ghost use Rattle.qw_machine.specs.Shape.{ImportsMemory, ImportsRaise, IsNoRun, IsRun};
+ghost use Rattle.qw_machine.specs.Shape.{ImportsMemory, ImportsRaise, ExportsNoRun, ExportsRun};
 
 use crate::imports::imported_functions;
 use qw_module::instruction::ValType;
@@ -75,7 +75,7 @@ fn imports_raise(module: &Module) -> bool
 /// module's own.
 fn run_number(module: &Module, imported: usize, export: &Export) -> Option<usize>
     requires { imported ≡ length (imported_functions «module».now) }
-    ensures { MatchOption result (IsNoRun «module».now export.now) (IsRun «module».now export.now) }
+    ensures { MatchOption result (ExportsNoRun «module».now export.now) (ExportsRun «module».now export.now) }
 {
     let ExportKind::Function(index) = export.kind else {
         return None;
@@ -93,8 +93,8 @@ fn run_number(module: &Module, imported: usize, export: &Export) -> Option<usize
 
 /// The number of the module's own function that an export gives as `run`.
 fn exported_run(module: &Module) -> Option<usize>
-    ensures none { IfNone result (All (IsNoRun «module».now) «module».now.exports.items) }
-    ensures some { IfSome result (λ number. Any (λ export. IsRun «module».now export number) «module».now.exports.items) }
+    ensures none { IfNone result (All (ExportsNoRun «module».now) «module».now.exports.items) }
+    ensures some { IfSome result (λ number. Any (λ export. ExportsRun «module».now export number) «module».now.exports.items) }
 {
     let imported = imported_functions(&module.imports);
     for export in &module.exports {

@@ -70,6 +70,7 @@ impl ValidModule {
     }
 }
 
+/// The greatest number of pages that a memory's limits may name (3.2.4).
 const MOST_PAGES: u32 = 65536;
 
 fn is_memory(limits: Limits) -> bool
@@ -312,8 +313,11 @@ fn check(alloc: alloc::Global, module: &Module) -> Result<(), ValidFault>
     check_functions(alloc, module)
 }
 
-/// The module as a valid one. Otherwise it is dropped, and the fault names a part that isn't valid,
-/// unless there was no memory left.
+/// The module as a valid one. Otherwise it is dropped.
+///
+/// # Errors
+///
+/// The fault names a part that isn't valid, which need not be the first, or says that there was no memory left.
 pub fn validate(alloc: alloc::Global, module: Module) -> Result<ValidModule, ValidFault>
     ensures value { IfOk result (λ valid. valid ≡ «module») }
     ensures valid { OnOk result (IsValid «module») }
