@@ -118,7 +118,9 @@ fn sums_in_a_loop(rt: HostRuntime) -> Result<(), Fail> {
     let mut instance = Instance::new(rt.alloc(), &valid, 64)?;
     let (stepped, steps) = last_step(&mut instance, &valid, &mut memory);
     assert_eq!(rt; stepped, Stepped::Returned);
-    assert_eq!(rt; steps, 12_000_003);
+    // A turn is the eleven instructions of the loop's sequence and `loop`, which each branch to it begins again;
+    // the three after the loop come once.
+    assert_eq!(rt; steps, 1_000_000 * 12 + 3);
     assert_eq!(rt; memory.load64(80), Some(500_000_500_000));
     Ok(())
 }
