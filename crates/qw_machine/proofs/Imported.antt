@@ -59,10 +59,6 @@ signature-at m index type ty found there =
     slice_get-map (signature_in m) (imported_functions m) index ∙ ap (option_map (signature_in m)) found
     ∙ ap (λ (o : Option FuncType). let empty : Signature = record { params = []; results = [] } in Some (option_map_or signature_of o empty)) there
 
-pub no_signature-at : (m : Module) (index : ℕ) → slice_get (imported_functions m) index ≡ None → slice_get (imported_signatures m) index ≡ None
-no_signature-at m index none =
-    slice_get-map (signature_in m) (imported_functions m) index ∙ ap (option_map (signature_in m)) none
-
 one_signature : (m : Module) (type : ℕ) → IsOneI32 m type → signature_in m type ≡ raise_signature
 one_signature m type one = by_type (slice_get m.types.items type) one where
   by_type : (found : Option FuncType) → IsSomeAnd found TakesOneI32 →

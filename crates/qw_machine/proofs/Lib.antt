@@ -7,7 +7,6 @@ pub mod Controlled
 pub mod Arrays
 pub mod Instances
 pub mod Imported
-pub mod Arguments
 pub mod ShapeFacts
 pub mod Starts
 pub mod Checked

@@ -62,8 +62,3 @@ invalid_from_decided {A} r m function type found decided refused valid =
     let here : body_checks m function type (nat_lt 0 (length (memories_of m))) ≡ false =
     subst (λ (x : Result A Refusal). Decides x (body_checks m function type (nat_lt 0 (length (memories_of m))))) refused decided in
     false≢true (sym here ∙ checked_function m function type (of_is_some_and (slice_get m.types.items function.type_index) (IsTypedFunction m function) type found valid))
-
--- a function whose type isn't there, or whose body isn't numbered, is not valid
-pub valid_has_type : (m : Module) (function : Function) → IsValidFunction m function →
-    (type : FuncType) × (slice_get m.types.items function.type_index ≡ Some type) × IsTypedFunction m function type
-valid_has_type m function valid = has_value (slice_get m.types.items function.type_index) (IsTypedFunction m function) valid

@@ -1,7 +1,7 @@
 //! Whether a body is typed: its sequences are gone through from the first instruction on, and the types of
 //! the operands are kept (WebAssembly Core Specification 1.0, appendix "Validation Algorithm").
 
-ghost use Rattle.std.specs.Prelude.{◌≡◌, ℕ, List, [], ◌∷◌, ◌++◌, ◌<◌, ◌^◌, ◌≤◌, ◌↔◌};
+ghost use Rattle.std.specs.Prelude.{◌≡◌, List, [], ◌∷◌, ◌++◌, ◌<◌, ◌^◌, ◌≤◌, ◌↔◌};
 ghost use Rattle.std.specs.Prelude.{length, reverse, drop, nat_le, IsTrue, ◌&&◌, All, OnOk, Some, slice_get};
 ghost use Rattle.std.specs.Option.{option_and_then};
 ghost use Rattle.qw_module.specs.declared.instruction.ValType.{ValType};
@@ -97,8 +97,8 @@ impl Operands {
     pub(crate) fn pop_arguments(&mut self, types: &[ValType]) -> Result<(), Refusal>
         ensures { Finds result (all_popped (reverse types.now) self.old) (λ _. self.new) }
     {
-        for place in (0..types.len()).rev() {
-            self.pop(types[place])?;
+        for ty in types.iter().rev() {
+            self.pop(*ty)?;
         }
         Ok(())
     }

@@ -10,5 +10,5 @@ pub mod laws;
 pub mod machine;
 mod operators;
 mod shape;
-pub mod stack;
+mod stack;
 pub mod valid;

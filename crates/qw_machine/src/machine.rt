@@ -1,7 +1,7 @@
 //! The machine: executes an instance's `run` instruction by instruction (WebAssembly Core Specification
 //! 1.0, 4.4), as the step relation of `specs/Execution` says.
 
-ghost use Rattle.std.specs.Prelude.{◌≡◌, ℕ, List, ◌∷◌, ◌++◌, ◌+◌, ◌-◌, ◌*◌, ◌<◌, ◌≤◌, ◌^◌, ◌↔◌, map, length, replicate, take, drop, IfOk, IfSome};
+ghost use Rattle.std.specs.Prelude.{◌≡◌, ℕ, ◌∷◌, ◌++◌, ◌+◌, ◌-◌, ◌*◌, ◌<◌, ◌≤◌, ◌^◌, ◌↔◌, map, length, replicate, take, IfOk, IfSome};
 ghost use Rattle.qw_module.specs.Numbers.{constant, truth};
 ghost use Rattle.qw_module.specs.Syntax.{IsNumbered, sequence_at};
 ghost use Rattle.qw_linear.specs.Memory.{page};
@@ -69,23 +69,23 @@ pub enum InstanceFault {
 
 /// A label that the instance is in (4.2.12).
 #[derive(Clone, Copy, Debug, PartialEq, Eq)]
-pub struct Entry {
+pub(crate) struct Entry {
     /// How many operands lie below the label's own.
-    pub base: usize,
+    pub(crate) base: usize,
     /// Whether a branch to the label takes an operand.
-    pub takes: bool,
+    pub(crate) takes: bool,
     /// The number of the sequence that the label stands in.
-    pub sequence: usize,
+    pub(crate) sequence: usize,
     /// The place there that a branch goes to: a loop's own, or the one after the block.
-    pub target: usize,
+    pub(crate) target: usize,
     /// The place there after the label's end.
-    pub after: usize,
+    pub(crate) after: usize,
 }
 
 /// Where the execution of a numbered body is (4.2.12): the labels that it is in, the sequence that runs
 /// and the place in it, the operands of all labels, and the locals. All room is reserved at first.
 #[derive(Drop)]
-pub struct Activity {
+pub(crate) struct Activity {
     labels: Stack<Entry>,
     sequence: usize,
     place: usize,
@@ -176,47 +176,38 @@ impl Activity {
         match sequence[self.place] {
             Instr::Op(op) => {
                 self.place = after;
-                operate(
+                return operate(
                     op,
                     &mut self.operands,
                     self.locals.as_mut_slice(),
                     memory,
                     spare,
-                )
+                );
             }
-            Instr::Block { result, body } => {
-                self.enter(body, result.is_some(), after);
-                Stepped::Ran
-            }
-            Instr::Loop { body, .. } => {
-                self.enter(body, false, self.place);
-                Stepped::Ran
-            }
+            Instr::Block { result, body } => self.enter(body, result.is_some(), after),
+            Instr::Loop { body, .. } => self.enter(body, false, self.place),
             Instr::If {
                 result,
                 then_body,
                 else_body,
             } => {
-                if self.operands.pop() != 0 {
-                    self.enter(then_body, result.is_some(), after);
-                    return Stepped::Ran;
-                }
-                self.enter(else_body, result.is_some(), after);
-                Stepped::Ran
+                let body = if self.operands.pop() != 0 {
+                    then_body
+                } else {
+                    else_body
+                };
+                self.enter(body, result.is_some(), after);
             }
-            Instr::Br(index) => {
-                self.branch(index as usize);
-                Stepped::Ran
-            }
+            Instr::Br(index) => self.branch(index as usize),
             Instr::BrIf(index) => {
                 if self.operands.pop() != 0 {
                     self.branch(index as usize);
-                    return Stepped::Ran;
+                } else {
+                    self.place = after;
                 }
-                self.place = after;
-                Stepped::Ran
             }
         }
+        Stepped::Ran
     }
 
     /// Leaves the labels whose sequences are finished (4.4.6). Answers whether the run goes on: `run` wasn't left.

@@ -1,6 +1,6 @@
 //! What the machine does at an instruction that holds no other. Values are numbers without a type.
 
-ghost use Rattle.std.specs.Prelude.{◌≡◌, ℕ, List, [], ◌+◌, ◌*◌, ◌%◌, ◌^◌, ◌<◌, ◌≤◌, length, Option, IsSome, IfSome, OnSome, IfNone, ◌↔◌};
+ghost use Rattle.std.specs.Prelude.{◌≡◌, ℕ, List, [], ◌+◌, ◌*◌, ◌^◌, ◌<◌, ◌≤◌, length, IsSome, IfSome, OnSome, IfNone, ◌↔◌};
 ghost use Rattle.qw_module.specs.Numbers.{values_of, constant, binary, type_of_binary, relation, type_of_relation, extended, load_width, loaded_value, store_width};
 ghost use Rattle.qw_linear.specs.Memory.{page, number_at, with_number};
 ghost use Rattle.qw_module.specs.Step.{op_wants};

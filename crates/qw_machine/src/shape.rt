@@ -1,7 +1,7 @@
 //! Whether a module has the shape that is executed: it imports the memory and `raise`, and exports a
 //! function of its own as `run`; every function that it imports, and `run`, takes one i32 and leaves nothing.
 
-ghost use Rattle.std.specs.Prelude.{◌≡◌, ◌↔◌, ℕ, ◌+◌, length, IsTrue, MatchOption, IfNone, IfSome, All, Any, Contains};
+ghost use Rattle.std.specs.Prelude.{◌≡◌, ◌↔◌, ℕ, length, IsTrue, MatchOption, IfNone, IfSome, All, Any, Contains};
 ghost use Rattle.qw_module.specs.Validity.{imported_function, imported_functions, IsOneI32, IsShaped, TakesOneI32};
 ghost use Rattle.qw_machine.specs.Shape.{ImportsMemory, ImportsRaise, ExportsNoRun, ExportsRun};
 

@@ -1,5 +1,4 @@
-ghost use Rattle.std.specs.Prelude.{◌≡◌, ℕ, ◌+◌, ◌-◌, ◌<◌, ◌≤◌, List, [], ◌∷◌, length, drop, IfOk};
-ghost use Rattle.qw_machine.specs.Stacked.{Stacked};
+ghost use Rattle.std.specs.Prelude.{◌≡◌, ◌-◌, ◌<◌, [], ◌∷◌, length, drop, IfOk};
 
 use qw_types::NoMemory;
 use std::alloc::Global;
@@ -7,7 +6,7 @@ use std::marker::Model;
 
 /// A stack with a room that is reserved once, so that a push takes no memory.
 #[derive(Drop)]
-pub struct Stack<T> {
+pub(crate) struct Stack<T> {
     items: Vec<T>,
 }
 
@@ -22,7 +21,7 @@ impl<T> Model for Stack<T> {
 
 impl<T: Drop> Stack<T> {
     /// An empty stack with room for so many values. The error is want of memory.
-    pub fn with_room(alloc: Global, room: usize) -> Result<Self, NoMemory>
+    pub(crate) fn with_room(alloc: Global, room: usize) -> Result<Self, NoMemory>
         ensures { IfOk result (λ stack. stack ≡ record { values = []; room = room }) }
     {
         Ok(Stack {
@@ -30,20 +29,20 @@ impl<T: Drop> Stack<T> {
         })
     }
 
-    pub fn len(&self) -> usize
+    pub(crate) fn len(&self) -> usize
         ensures { result ≡ length self.now.values }
     {
         self.items.len()
     }
 
-    pub fn push(&mut self, value: T)
+    pub(crate) fn push(&mut self, value: T)
         requires { length self.old.values < self.old.room }
         ensures { self.new ≡ record { values = value ∷ self.old.values; room = self.old.room } }
     {
         self.items.push_reserved(value);
     }
 
-    pub fn pop(&mut self) -> T
+    pub(crate) fn pop(&mut self) -> T
         requires { 0 < length self.old.values }
         ensures popped { self.old.values ≡ result ∷ self.new.values }
         ensures room { self.new.room ≡ self.old.room }
@@ -52,7 +51,7 @@ impl<T: Drop> Stack<T> {
     }
 
     /// Keeps the values that were pushed first, so many of them.
-    pub fn truncate(&mut self, kept: usize)
+    pub(crate) fn truncate(&mut self, kept: usize)
         ensures { self.new ≡ record { values = drop (length self.old.values - kept) self.old.values; room = self.old.room } }
     {
         self.items.truncate(kept);

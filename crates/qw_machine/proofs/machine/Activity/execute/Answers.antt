@@ -6,6 +6,7 @@ use Rattle.qw_machine.proofs.Controlled.{operand-room, executed-block, executed-
 use Rattle.qw_machine.specs.Machine.{rooms_of, point_of}
 use Rattle.qw_module.specs.Validity.{items_of}
 use Rattle.qw_machine.proofs.machine.Activity.execute.Goals as goal
+use Rattle.qw_machine.proofs.machine.Activity.execute.Goals.{then-pop-ne0, else-pop-ne0}
 
 pub overflow_add-after : goal.overflow_add-after
 overflow_add-after c =
@@ -49,21 +50,20 @@ pop-requires c =
     c.requires.point.room.numbered c.index-sequences-self.is c.as_slice-sequence.ensures.value c.requires.unfinished c.in-If.is in
     if-operand (items_of c.args.sequences.now) (rooms_of c.args.self.now) c.args.spare c.requires.numbered (point_of c.args.self.now) c.requires.point c.requires.unfinished c.in-If.result c.in-If.then_body c.in-If.else_body found
 
-pub returns-then-pop-ne0-clause-executed : goal.returns-then-pop-ne0-clause-executed
-returns-then-pop-ne0-clause-executed c =
+pub returns-after-pop-ne0-clause-executed : goal.returns-after-pop-ne0-clause-executed
+returns-after-pop-ne0-clause-executed c =
     let found = instruction-array c.args.sequences.now c.args.self.now.sequence c.args.self.now.place c.index-sequences-self.result c.as_slice-sequence.result.now _ _
     c.requires.point.room.numbered c.index-sequences-self.is c.as_slice-sequence.ensures.value c.requires.unfinished c.in-If.is in
-    executed-if (items_of c.args.sequences.now) (rooms_of c.args.self.now) c.args.spare c.requires.numbered (point_of c.args.self.now) c.requires.point c.requires.unfinished
-    c.in-If.result c.in-If.then_body c.in-If.else_body found c.pop.result c.pop.new.self.values (point_of c.enter-then-pop-ne0.new.self) c.args.memory.now.octets c.pop.ensures.popped c.if-pop-ne0.true
-    (rw (← c.is_some-then-pop-ne0.ensures) c.enter-then-pop-ne0.ensures.point)
-
-pub returns-else-pop-ne0-clause-executed : goal.returns-else-pop-ne0-clause-executed
-returns-else-pop-ne0-clause-executed c =
-    let found = instruction-array c.args.sequences.now c.args.self.now.sequence c.args.self.now.place c.index-sequences-self.result c.as_slice-sequence.result.now _ _
-    c.requires.point.room.numbered c.index-sequences-self.is c.as_slice-sequence.ensures.value c.requires.unfinished c.in-If.is in
-    executed-else (items_of c.args.sequences.now) (rooms_of c.args.self.now) c.args.spare c.requires.numbered (point_of c.args.self.now) c.requires.point c.requires.unfinished
-    c.in-If.result c.in-If.then_body c.in-If.else_body found c.pop.new.self.values (point_of c.enter-in-If.new.self) c.args.memory.now.octets
-    (c.pop.ensures.popped ∙ ap (λ (n : ℕ). n ∷ c.pop.new.self.values) c.if-pop-ne0.false) (rw (← c.is_some-in-If.ensures) c.enter-in-If.ensures.point)
+    elim c.if-pop-ne0.branch [
+      then-pop-ne0 w ↦
+          executed-if (items_of c.args.sequences.now) (rooms_of c.args.self.now) c.args.spare c.requires.numbered (point_of c.args.self.now) c.requires.point c.requires.unfinished
+          c.in-If.result c.in-If.then_body c.in-If.else_body found c.pop.result c.pop.new.self.values (point_of c.enter-in-If.new.self) c.args.memory.now.octets c.pop.ensures.popped w.if-pop-ne0.true
+          (rw (← c.is_some-in-If.ensures, ← w.body-is) c.enter-in-If.ensures.point)
+    | else-pop-ne0 w ↦
+          executed-else (items_of c.args.sequences.now) (rooms_of c.args.self.now) c.args.spare c.requires.numbered (point_of c.args.self.now) c.requires.point c.requires.unfinished
+          c.in-If.result c.in-If.then_body c.in-If.else_body found c.pop.new.self.values (point_of c.enter-in-If.new.self) c.args.memory.now.octets
+          (c.pop.ensures.popped ∙ ap (λ (n : ℕ). n ∷ c.pop.new.self.values) w.if-pop-ne0.false) (rw (← c.is_some-in-If.ensures, ← w.body-is) c.enter-in-If.ensures.point)
+    ]
 
 pub branch-self-requires-clause-there : goal.branch-self-requires-clause-there
 branch-self-requires-clause-there c =
