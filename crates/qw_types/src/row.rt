@@ -19,22 +19,17 @@ impl Model for Row {
 }
 
 impl Row {
+    /// Takes the values as they are: that each is of its column's type is the caller's to keep.
     pub fn new(values: Vec<Val>) -> Self
         ensures { result ≡ values.items }
     {
         Row { values }
     }
 
+    /// The values, the first column's first.
     pub fn values(&self) -> &[Val]
         ensures { result.now ≡ self.now }
     {
         self.values.as_slice()
-    }
-
-    /// Gives the values back.
-    pub fn into_values(self) -> Vec<Val>
-        ensures { result.items ≡ self }
-    {
-        self.values
     }
 }

@@ -1,4 +1,4 @@
-ghost use Rattle.std.specs.Prelude.{◌≡◌, length};
+ghost use Rattle.std.specs.Prelude.{◌≡◌};
 ghost use Rattle.qw_types.specs.Schema.{AreColumns, AreTables};
 
 use crate::text::Text;
@@ -19,6 +19,7 @@ pub const MAX_ROWS: usize = 1_000_000;
 pub struct Column {
     /// The name as it is kept: a regular identifier in upper case.
     pub name: Text,
+    /// The declared data type.
     pub ty: Ty,
     /// Whether the column is declared NOT NULL.
     pub not_null: bool,
@@ -29,10 +30,11 @@ pub struct Column {
 pub struct Table {
     /// The name as it is kept: a regular identifier in upper case.
     pub name: Text,
+    /// The declared columns, in order.
     pub columns: Columns,
 }
 
-/// The columns of a table, in order: from 1 to 64, no two of one name.
+/// The columns of a table, in order: from 1 to [`MAX_COLUMNS`], no two of one name.
 #[derive(Debug, Drop)]
 pub struct Columns {
     columns: Vec<Column>,
@@ -52,6 +54,8 @@ impl Model for Columns {
 }
 
 impl Columns {
+    /// Takes the columns as they are. That they keep the limits ([`MAX_COLUMNS`]) and that their names
+    /// differ is not tested here: the caller knows it.
     pub fn new(columns: Vec<Column>) -> Self
         requires { AreColumns columns.items }
         ensures { result ≡ columns.items }
@@ -59,6 +63,7 @@ impl Columns {
         Columns { columns }
     }
 
+    /// The columns, in the order of their declaration.
     pub fn as_slice(&self) -> &[Column]
         ensures same { result.now ≡ self.now }
         ensures limits { AreColumns self.now }
@@ -67,7 +72,7 @@ impl Columns {
     }
 }
 
-/// The tables of a schema, in order: from 1 to 32, no two of one name.
+/// The tables of a schema, in order: from 1 to [`MAX_TABLES`], no two of one name.
 #[derive(Debug, Drop)]
 pub struct Schema {
     tables: Vec<Table>,
@@ -87,6 +92,8 @@ impl Model for Schema {
 }
 
 impl Schema {
+    /// Takes the tables as they are. That they keep the limits ([`MAX_TABLES`]) and that their names
+    /// differ is not tested here: the caller knows it.
     pub fn new(tables: Vec<Table>) -> Self
         requires { AreTables tables.items }
         ensures { result ≡ tables.items }
@@ -94,6 +101,7 @@ impl Schema {
         Schema { tables }
     }
 
+    /// The tables, in the order of their declaration.
     pub fn as_slice(&self) -> &[Table]
         ensures same { result.now ≡ self.now }
         ensures limits { AreTables self.now }

@@ -19,22 +19,17 @@ impl Model for Text {
 }
 
 impl Text {
+    /// Takes the string as it is: any text is one.
     pub fn new(text: String) -> Self
         ensures { result ≡ string_bytes text }
     {
         Text { text }
     }
 
+    /// The text as it was taken.
     pub fn as_str(&self) -> &str
         ensures { result.now ≡ self.now }
     {
         self.text.as_str()
-    }
-
-    /// Gives the string back.
-    pub fn into_string(self) -> String
-        ensures { string_bytes result ≡ self }
-    {
-        self.text
     }
 }
