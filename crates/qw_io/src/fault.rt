@@ -1,4 +1,5 @@
 ghost use Rattle.std.specs.Prelude.{◌≡◌, ◌↔◌, ◌≤◌, Contains, IfErr, IsErr, OnErr, OnOk};
+ghost use Rattle.std.specs.IoError.{error_kind};
 ghost use Rattle.qw_io.specs.Faults.{IsCounted};
 
 use std::io;
@@ -19,10 +20,12 @@ pub enum IoFault {
 /// A count of faults, which stays at its last value once it is there.
 #[derive(Clone, Copy, Debug)]
 pub struct FaultCount {
+    /// How many faults were counted, at most 2^64 - 1.
     pub count: u64,
 }
 
 impl FaultCount {
+    /// No fault yet.
     pub const ZERO: FaultCount = FaultCount { count: 0 };
 
     /// Counts one fault, and answers it.
@@ -40,6 +43,7 @@ impl FaultCount {
         ensures never_falls { self.old.count ≤ self.new.count }
         ensures failed { result ≡ IoFault.Failed → IsCounted self.old.count self.new.count }
         ensures no_memory { result ≡ IoFault.NoMemory → self.new.count ≡ self.old.count }
+        ensures memory { result ≡ IoFault.NoMemory ↔ error_kind error.now ≡ ErrorKind.OutOfMemory }
     {
         if error.kind() == ErrorKind::OutOfMemory {
             return IoFault::NoMemory;
@@ -53,10 +57,12 @@ impl FaultCount {
 pub struct FaultPlan {
     failing: Vec<u64>,
     next_call: u64,
+    /// What was counted so far.
     pub faults: FaultCount,
 }
 
 impl FaultPlan {
+    /// The numbers of the calls that are to fail, in any order. No call was made yet.
     pub fn new(failing: Vec<u64>) -> Self
         ensures { result.faults.count ≡ 0 }
     {
@@ -67,7 +73,11 @@ impl FaultPlan {
         }
     }
 
-    /// Begins the next call, which fails where it is listed.
+    /// Begins the next call.
+    ///
+    /// # Errors
+    ///
+    /// [`IoFault::Failed`], exactly where the call is listed.
     pub fn begin_call(&mut self) -> Result<(), IoFault>
         ensures ok { OnOk result (self.new.faults.count ≡ self.old.faults.count) }
         ensures only_failed { IfErr result (λ fault. fault ≡ IoFault.Failed) }

@@ -16,6 +16,7 @@ pub struct FileShelf<'a, R: Files> {
 }
 
 impl<'a, R: Files> FileShelf<'a, R> {
+    /// All files that the system lets the program open, with no fault counted yet.
     pub fn new(runtime: &'a R) -> Self
         ensures { ⟦<FileShelf<'a, R> as Shelf>⟧.faults result ≡ 0 }
     {

@@ -47,9 +47,9 @@ impl Sink for MemorySink {
     fn put(&mut self, piece: &[u8]) -> Result<usize, IoFault> {
         self.plan.begin_call()?;
         let count = piece.len().min(self.greatest);
-        match self.taken.extend_from_slice(&piece[..count]) {
-            Ok(()) => Ok(count),
-            Err(_) => Err(IoFault::NoMemory),
-        }
+        self.taken
+            .extend_from_slice(&piece[..count])
+            .map_err(|_| IoFault::NoMemory)?;
+        Ok(count)
     }
 }

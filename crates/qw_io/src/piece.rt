@@ -5,7 +5,9 @@ ghost use Rattle.qw_io.specs.Memory.{bytes_of};
 /// A file of a shelf in memory.
 #[derive(Debug, Drop)]
 pub struct NamedFile {
+    /// The name that it is fetched by.
     pub name: String,
+    /// All its octets.
     pub bytes: Vec<u8>,
 }
 

@@ -27,13 +27,6 @@ impl PlainSink {
     {
         self.taken.as_slice()
     }
-
-    /// Gives the bytes taken.
-    pub fn into_bytes(self) -> Vec<u8>
-        ensures { ⟦<PlainSink as Sink>⟧.taken self ≡ Some result.items }
-    {
-        self.taken
-    }
 }
 
 impl Sink for PlainSink {
@@ -44,9 +37,9 @@ impl Sink for PlainSink {
     ghost faults = { λ _. 0 };
 
     fn put(&mut self, piece: &[u8]) -> Result<usize, IoFault> {
-        match self.taken.extend_from_slice(piece) {
-            Ok(()) => Ok(piece.len()),
-            Err(_) => Err(IoFault::NoMemory),
-        }
+        self.taken
+            .extend_from_slice(piece)
+            .map_err(|_| IoFault::NoMemory)?;
+        Ok(piece.len())
     }
 }

@@ -18,6 +18,11 @@ pub trait Shelf {
     /// Reads octets of the file `name` from place `at` into the front of `into`, and answers how many.
     /// Of what stands behind them in `into` nothing is said, nor of `into` after an `Err`.
     /// `Ok(0)` at an `into` that isn't empty is the end of the file.
+    ///
+    /// # Errors
+    ///
+    /// [`IoFault::Failed`] where the file can't be found or read, and [`IoFault::NoMemory`] where the call
+    /// finds no memory. A later call may succeed.
     fn fetch(&mut self, name: &str, at: u64, into: &mut [u8]) -> Result<usize, IoFault>
         ensures never_falls { faults self.old ≤ faults self.new }
         ensures failed_is_counted { IsErrOf result IoFault.Failed →

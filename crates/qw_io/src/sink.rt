@@ -17,6 +17,11 @@ pub trait Sink {
 
     /// Takes octets from the front of `piece`, and answers how many: of an empty piece none, of any
     /// other at least one.
+    ///
+    /// # Errors
+    ///
+    /// [`IoFault::Failed`] where the outside takes nothing, and [`IoFault::NoMemory`] where the call finds no
+    /// memory. In both cases no octet was taken, and a later call may succeed.
     fn put(&mut self, piece: &[u8]) -> Result<usize, IoFault>
         ensures never_falls { faults self.old ≤ faults self.new }
         ensures failed_is_counted { IsErrOf result IoFault.Failed →
