@@ -49,11 +49,6 @@ pub number_at-same : (xs ys : List ℕ) (at width : ℕ) →
     ((k : ℕ) → at ≤ k → k < at + width → get_or xs k 0 ≡ get_or ys k 0) → number_at xs at width ≡ number_at ys at width
 number_at-same xs ys at width same = number_at-moved xs ys at at width (λ k h. same (at + k) (omega arith) (omega arith))
 
--- a number in what is left from a place on
-pub number_at-drop : (octets : List ℕ) (from at width : ℕ) → number_at (drop from octets) at width ≡ number_at octets (from + at) width
-number_at-drop octets from at width = number_at-moved (drop from octets) octets at (from + at) width
-    (λ k h. let e : from + (at + k) ≡ from + at + k = omega arith in get_or-drop from octets (at + k) 0 ∙ ap (λ (i : ℕ). get_or octets i 0) e)
-
 -- a number that was put is read, as far as it fits
 pub number_at-with_number : (octets : List ℕ) (at width number : ℕ) → at + width ≤ length octets →
     number_at (with_number octets at width number) at width ≡ number % 2 ^ (8 * width)
@@ -147,20 +142,6 @@ byte_at-higher (suc k) number =
 bytes_low_first-higher : (from width number : ℕ) → bytes_low_first from width (number / 256) ≡ bytes_low_first (suc from) width number
 bytes_low_first-higher from zero number = refl
 bytes_low_first-higher from (suc width) number = ap₂ (λ (x : ℕ) (xs : List ℕ). x ∷ xs) (byte_at-higher from number) (bytes_low_first-higher (suc from) width number)
-
--- the octets that are put are those of the number, the lowest first
-pub with_number-within : (octets : List ℕ) (at width number k : ℕ) → at + width ≤ length octets → k < width →
-    get_or (with_number octets at width number) (at + k) 0 ≡ byte_at k number
-unfolding with_number
-with_number-within octets at zero number k room h = absurd (omega arith)
-with_number-within octets at (suc width) number zero room h =
-    let more : List ℕ = set octets at (number % 256) in
-    rw add-zero (with_number-below more (at + 1) width (number / 256) at (omega arith) ∙ get_or-set_same octets at (number % 256) 0 (omega arith))
-with_number-within octets at (suc width) number (suc k) room h =
-    let more : List ℕ = set octets at (number % 256) in
-    let next : at + suc k ≡ at + 1 + k = omega arith in
-    rw next (with_number-within more (at + 1) width (number / 256) k (omega (arith, length-set octets at (number % 256))) (omega arith)
-    ∙ byte_at-higher k number)
 
 -- so putting a number is putting its octets
 pub with_number-octets : (octets : List ℕ) (at width number : ℕ) → at + width ≤ length octets →

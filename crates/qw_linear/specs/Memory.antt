@@ -3,7 +3,7 @@
 use Rattle.std.specs.Prelude.{ℕ, Bool, zero, suc, ◌+◌, ◌*◌, ◌/◌, ◌%◌, ◌<◌, nat_le, if◌then◌else◌, List, ◌++◌, length, replicate, All, Option, Some, None, slice_index, slice_set}
 
 -- how many octets a page has, and how many pages a memory has at most (4.2.8 and 3.2.4; one page fewer than there, so that
--- a memory's size is a number of 32 bits)
+-- a memory's size in octets is a number of 32 bits)
 abbrev pub page : ℕ
 page = 65536
 

@@ -3,9 +3,10 @@
 //!
 //! - [`linear::Linear`]: the memory. Only `new` takes memory of the system; it reserves all that `grow`
 //!   may ask for.
+//! - `specs/Linear`: its octets and its reservation, and what is so of every memory.
 //! - `specs/Memory`: the number at a place, the memory with a number put at a place, a memory that grew.
-//! - `proofs/MemoryFacts`: the laws of numbers in memory; `AccessFacts`: of loads and stores; `WriteFacts`:
-//!   of one store after another; `CopyFacts`: of copied octets; `GrowthFacts`: of growth.
+//! - `proofs/MemoryFacts`: the laws of numbers in memory; `AccessFacts`: of loads and stores;
+//!   `GrowthFacts`: of growth.
 //! - `proofs/StoreFacts`: the octets that the processor reads and writes stand for these numbers.
 #![tactic(auto)]
 

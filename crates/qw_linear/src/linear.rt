@@ -9,11 +9,13 @@ use std::marker::Model;
 /// Octets in a page (WebAssembly Core Specification 1.0, 4.2.8).
 pub const PAGE: usize = 65_536;
 
-/// The greatest number of pages of a memory here, so that every address and every size fits an i32.
+/// The greatest number of pages of a memory here: one below the standard's 65,536 (3.2.4), so that a
+/// memory has fewer than 2^32 octets, and its size in octets fits an i32 as each address does.
 pub const MAX_PAGES: u32 = 65_535;
 
 /// A linear memory (4.2.8). Contracts see its octets, and how many pages it may grow to. Addresses
-/// count octets from 0, and numbers are little endian. No call but `new` takes memory.
+/// count octets from 0, and numbers are little endian. No call but `new` takes memory. A load answers
+/// `None`, and a store or a growth too, where it can't be done, and then nothing has changed.
 #[derive(Drop)]
 pub struct Linear {
     octets: Vec<u8>,
@@ -21,20 +23,22 @@ pub struct Linear {
 }
 
 impl Model for Linear {
-    ghost use Rattle.std.specs.Prelude.{◌≡◌, ◌*◌, ◌≤◌, length, vec_capacity};
-    ghost use Rattle.qw_linear.specs.Linear.{Octets};
-    ghost use Rattle.qw_linear.specs.Memory.{page, most_pages, pages_of};
+    ghost use Rattle.qw_linear.specs.Linear.{Octets, IsHeld};
 
     ghost Value = { Octets };
 
     ghost view = { λ m. record { octets = m.octets.items; reserved = m.reserved } };
 
-    ghost invariant = { λ m. record { whole : length m.octets.items ≡ pages_of m.octets.items * page; within : pages_of m.octets.items ≤ m.reserved; limit : m.reserved ≤ most_pages; room : m.reserved * page ≤ vec_capacity m.octets } };
+    ghost invariant = { λ m. IsHeld m.octets m.reserved };
 }
 
 impl Linear {
-    /// A memory of no pages, which may grow to so many. They take neither time nor memory before they
-    /// are used. The error is want of memory.
+    /// A memory of no pages, which may grow to so many, at most [`MAX_PAGES`]. They take neither time nor
+    /// memory before they are used.
+    ///
+    /// # Errors
+    ///
+    /// Want of memory, where the system reserves no room for so many pages.
     pub fn new(alloc: Global, reserved: u32) -> Result<Self, NoMemory>
         requires { reserved ≤ MAX_PAGES }
         ensures { IfOk result (λ memory. memory ≡ record { octets = []; reserved = reserved }) }
@@ -43,7 +47,7 @@ impl Linear {
         Ok(Linear { octets, reserved })
     }
 
-    /// The size in pages.
+    /// The size in pages (4.4.4, `memory.size`).
     pub fn size(&self) -> u32
         ensures pages { length self.now.octets ≡ result * page }
         ensures whole { IsLinear self.now }
@@ -58,7 +62,7 @@ impl Linear {
         self.reserved
     }
 
-    /// Grows the memory by so many pages, whose octets are 0. Answers the size before in pages, or
+    /// Grows the memory by so many pages, whose octets are 0 (4.4.4, `memory.grow`). Answers the size before in pages, or
     /// `None`, exactly where more than the reserved ones would be needed.
     pub fn grow(&mut self, pages: u32) -> Option<u32>
         ensures granted { IsSome result ↔ (length self.old.octets + pages * page ≤ self.old.reserved * page) }
@@ -145,7 +149,7 @@ impl Linear {
         self.put(at, number.to_le_bytes())
     }
 
-    /// Copies the octets to the place, or nothing where they wouldn't all lie in the memory.
+    /// Copies the octets to the place, or nothing, exactly where they wouldn't all lie in the memory.
     pub fn copy_in(&mut self, at: u64, bytes: &[u8]) -> Option<()>
         ensures inside { IsSome result ↔ (at + length bytes.now ≤ length self.old.octets) }
         ensures copied { OnSome result (self.new ≡ record { octets = take at self.old.octets ++ bytes.now ++ drop (at + length bytes.now) self.old.octets; reserved = self.old.reserved }) }
