@@ -1,10 +1,10 @@
 -- Numbered bodies: the nested sequence that a number names is its flat one, with the numbers in it named likewise.
-use Rattle.std.proofs.Common.{◌≡◌, ℕ, zero, suc, ◌+◌, ◌-◌, ◌<◌, ◌≤◌, List, [], ◌∷◌, length, drop, refl, sym, ap, ap₂, subst, ◌∙◌, ⊎_elim, arith, Some, slice_get}
+use Rattle.std.proofs.Common.{◌≡◌, ℕ, zero, suc, ◌<◌, List, [], ◌∷◌, length, refl, sym, ap, ap₂, subst, ◌∙◌, ⊎_elim, arith}
 use Rattle.std.proofs.lemmas.Bool.{eq-eqb, ne_eqb, cases_eq}
 use Rattle.std.specs.List.{AllByRecursion}
 use Rattle.qw_module.specs.declared.instruction.Instr.{Instr}
 use Rattle.qw_module.specs.declared.instruction.Instr.TheVariants as i
-use Rattle.qw_module.specs.Syntax.{Code, op, block, loop, br, br_if, nested, sequence_at, named_below, code_of, NamesBelow, IsNumbered}
+use Rattle.qw_module.specs.Syntax.{Code, op, block, loop, br, br_if, nested, sequence_at, named_below, NamesBelow, IsNumbered}
 pub use Rattle.qw_module.specs.Syntax.{named}
 
 -- the highest of the numbers below a bound names its own sequence
@@ -50,17 +50,3 @@ pub named-at : (sequences : List (List Instr)) → IsNumbered sequences → (num
 named-at sequences numbered number h = named_below-any sequences number (length sequences) h
     ∙ nested-same number (named_below sequences number) (named sequences) (sequence_at sequences number) (numbered.lower number h)
     (λ k less. named_below-any sequences k number less ∙ sym (named_below-any sequences k (length sequences) (omega arith)))
-
--- and the whole stands for its last sequence
-pub code_of-last : (sequences : List (List Instr)) → IsNumbered sequences →
-    code_of sequences ≡ nested (named sequences) (sequence_at sequences (length sequences - 1))
-code_of-last sequences numbered = named-at sequences numbered (length sequences - 1) (let some : 1 ≤ length sequences = numbered.some in omega arith)
-
--- what is left of a sequence from a place on begins with the instruction there
-pub drop-instruction : (sequence : List Instr) (place : ℕ) (instruction : Instr) → slice_get sequence place ≡ Some instruction →
-    drop place sequence ≡ instruction ∷ drop (place + 1) sequence
-drop-instruction [] place instruction e = absurd (cc)
-drop-instruction (first ∷ rest) zero instruction e = ap (λ (head : Instr). head ∷ rest) (cc)
-drop-instruction (first ∷ rest) (suc place) instruction e =
-    let next : suc place + 1 ≡ suc (place + 1) = omega arith in
-    rw next (drop-instruction rest place instruction e)

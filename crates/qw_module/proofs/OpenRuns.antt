@@ -1,11 +1,11 @@
--- Steps that are counted, exactly or at most, and what they say of every open run.
+-- At most so many steps, and what they say of every open run.
 use Rattle.std.proofs.Common.{◌≡◌, ℕ, zero, suc, ◌+◌, ◌-◌, ◌*◌, ◌≤◌, true, inl, inr, nat_le, List, length, Option, Some, None, Bool, refl, sym, ◌∙◌, subst, ⊎_elim, arith}
 use Rattle.std.proofs.lemmas.Bool.{cases_Bool, le-leb, leb-true, and_from, false≢true}
 use Rattle.qw_module.specs.Execution.{Config, State, Running, Returned, Raised, Trapped, Event, Silent, Loads, Stores, Grows, Raises, Traps}
 use Rattle.qw_linear.specs.Memory.{page, most_pages, pages_of}
 use Rattle.qw_module.specs.Step.{Want, wants, answered, Next, next, Agrees}
 use Rattle.qw_module.specs.Map.{World, Others, IsFine, IsAllowed, AsksWithin, IsAnswered, grants}
-use Rattle.qw_module.specs.Runs.{Moment, moment_after, OpenStep, OpenRun, begins, goes_on, IsOver, Behaves, OnStep, OnRunning, Steps, Within}
+use Rattle.qw_module.specs.Runs.{Moment, moment_after, OpenStep, OpenRun, begins, goes_on, IsOver, Behaves, OnStep, OnRunning, Within}
 use Rattle.qw_module.proofs.Outcomes.{Outcome, went, read, read_outside, put, put_outside, was_granted, was_refused, raised, outcome}
 use Rattle.qw_module.proofs.Steps.{next-rule, rule_from_next}
 
@@ -21,26 +21,6 @@ module _ (pages : ℕ) where
       OnStep pages w before P made → OnStep pages w before Q made
   OnStep-more P Q w before None weaker h = h
   OnStep-more P Q w before (Some t) weaker h = (h.0, weaker _ h.1)
-
-  pub Steps-more : (P Q : Moment → Type 0) → ((b : Moment) → P b → Q b) → (n : ℕ) (a : Moment) → Steps pages P n a → Steps pages Q n a
-  Steps-more P Q weaker zero a h = weaker a h
-  Steps-more P Q weaker (suc n) a h = OnRunning-more _ _ a.state
-      (λ c steps before others. OnStep-more (Steps pages P n) (Steps pages Q n) a.world before (next (grants a.world) c before) (Steps-more P Q weaker n) (steps before others)) h
-
-  -- one part after another
-  pub Steps-then : (P Q : Moment → Type 0) (n : ℕ) → ((b : Moment) → P b → Steps pages Q n b) → (m k : ℕ) → m + n ≡ k → (a : Moment) →
-      Steps pages P m a → Steps pages Q k a
-  Steps-then P Q n following zero k e a h = let same : n ≡ k = omega arith in subst (λ (i : ℕ). Steps pages Q i a) same (following a h)
-  Steps-then P Q n following (suc m) zero e a h = absurd (omega arith)
-  Steps-then P Q n following (suc m) (suc k) e a h = OnRunning-more _ _ a.state
-      (λ c steps before others. OnStep-more (Steps pages P m) (Steps pages Q k) a.world before (next (grants a.world) c before)
-      (Steps-then P Q n following m k (omega arith)) (steps before others)) h
-
-  -- exactly n steps are at most n
-  pub Within-from_steps : (Q : Moment → Type 0) (n : ℕ) (a : Moment) → Steps pages Q n a → Within pages Q n a
-  Within-from_steps Q zero a h = h
-  Within-from_steps Q (suc n) a h = inr (OnRunning-more _ _ a.state
-      (λ c steps before others. OnStep-more (Steps pages Q n) (Within pages Q n) a.world before (next (grants a.world) c before) (Within-from_steps Q n) (steps before others)) h)
 
   -- Q at once is Q within any number of steps
   pub Within-now : (Q : Moment → Type 0) (n : ℕ) (a : Moment) → Q a → Within pages Q n a
@@ -60,13 +40,6 @@ module _ (pages : ℕ) where
   -- a greater number of steps
   pub Within-more : (Q : Moment → Type 0) (m k : ℕ) → m ≤ k → (a : Moment) → Within pages Q m a → Within pages Q k a
   Within-more Q m k le a h = Within-then Q Q 0 (λ j b low q. Within-now Q j b q) m k (omega arith) a h
-
-  -- a loop, where each turn of at most `each` steps leaves one turn less
-  pub Within-loop : (I : ℕ → Moment → Type 0) (Q : Moment → Type 0) (each last : ℕ) → ((k : ℕ) (b : Moment) → I (suc k) b → Within pages (I k) each b) →
-      ((b : Moment) → I 0 b → Within pages Q last b) → (k n : ℕ) → k * each + last ≤ n → (a : Moment) → I k a → Within pages Q n a
-  Within-loop I Q each last turn end zero n le a h = Within-more Q last n (omega arith) a (end a h)
-  Within-loop I Q each last turn end (suc k) n le a h =
-      Within-then (I k) Q (k * each + last) (λ j b low rest. Within-loop I Q each last turn end k j low b rest) each n (omega arith) a (turn k a h)
 
 -- where a step was made, it is the one that is computed
 step-made : (pages : ℕ) (Q : Moment → Type 0) (w : World) (before : List ℕ) (made : Option Next) (event : Event) (state : State) (after : List ℕ) →

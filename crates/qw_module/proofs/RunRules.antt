@@ -8,16 +8,12 @@ use Rattle.qw_module.specs.Step.{Want, Stuck, Goes, Asks, Puts, AsksPages, Signa
 use Rattle.qw_module.specs.Map.{Area, World, Others, SameIn, lies_in_one, IsFine, GoesOn, grants}
 use Rattle.qw_module.specs.Runs.{Moment, Within}
 use Rattle.qw_linear.proofs.MemoryFacts.{number_at-moved}
-use Rattle.qw_module.proofs.OpenRuns.{Within-now, Within-then, Within-more, room-granted}
+use Rattle.qw_module.proofs.OpenRuns.{Within-now, Within-more, room-granted}
 
 -- k more than n
 abbrev pub more : ℕ → ℕ → ℕ
 more zero n = n
 more (suc k) n = suc (more k n)
-
-pub more-is : (k n : ℕ) → more k n ≡ k + n
-more-is zero n = omega arith
-more-is (suc k) n = omega (arith, more-is k n)
 
 -- From a state, over any memory of which M holds, at most n steps lead to Q, and the pages held and asked for stay within `pages`.
 pub record Reaches (pages : ℕ) (Q : Moment → Type 0) (w : World) (M : List ℕ → Type 0) (n : ℕ) (s : State) : Type 0 where
@@ -67,11 +63,6 @@ module _ (pages : ℕ) (Q : Moment → Type 0) (w : World) where
   pub reached : {M : List ℕ → Type 0} {s : State} → (n : ℕ) → ((memory : List ℕ) → M memory → Q (record { world = w; state = s; memory = memory })) →
       Reaches pages Q w M n s
   reached {M} {s} n there = record { steps = λ memory h. Within-now pages Q n _ (there memory h) }
-
-  -- one part after another
-  pub Reaches-then : {M : List ℕ → Type 0} {s : State} → (P : Moment → Type 0) (m n k : ℕ) → m + n ≤ k → Reaches pages P w M m s →
-      ((i : ℕ) (b : Moment) → n ≤ i → P b → Within pages Q i b) → Reaches pages Q w M k s
-  Reaches-then {M} {s} P m n k le reaches following = record { steps = λ memory h. Within-then pages P Q n following m k le _ (reaches.steps memory h) }
 
   -- a step that asks nothing of memory
   goes : (M : List ℕ → Type 0) → IsKept w M → (n : ℕ) (c : Config) (s : State) → wants c ≡ Goes s → Reaches pages Q w M n s →

@@ -1,4 +1,5 @@
--- Execution as a relation, one rule an instruction (WebAssembly Core Specification 1.0, 4.4).
+-- Execution as a relation (WebAssembly Core Specification 1.0, 4.4). Operators of one group share a rule. An instruction that
+-- may go two ways has two: a load, a store, memory.grow, if and br_if.
 use Rattle.std.specs.Prelude.{◌≡◌, ◌≢◌, ℕ, zero, suc, ◌+◌, ◌-◌, ◌^◌, ◌<◌, ◌≤◌, nat_le, true, false, if◌then◌else◌, Bool, List, [], ◌∷◌, ◌++◌, length, take, Option, Some, None, slice_get, slice_set}
 use Rattle.qw_module.specs.declared.instruction.ValType.{ValType}
 use Rattle.qw_module.specs.declared.instruction.Op.TheVariants.{LocalGet, LocalSet, LocalTee}
@@ -112,7 +113,7 @@ pub data Step : Config → List ℕ → Event → State → List ℕ → Type 0 
       c.operands ≡ y ∷ x ∷ operands → Step c m Silent (goes_on c rest (binary b x y ∷ operands) c.locals) m
   relop : (c : Config) (m : List ℕ) (r : Relation) (y x : ℕ) (operands : List ℕ) (rest : Code) → c.code ≡ op (o.Relation r) rest →
       c.operands ≡ y ∷ x ∷ operands → Step c m Silent (goes_on c rest (relation r x y ∷ operands) c.locals) m
-  -- 4.4.4
+  -- 4.4.4; outside the memory an access traps
   load : (c : Config) (m : List ℕ) (l : Load) (arg : MemArg) (address : ℕ) (operands : List ℕ) (rest : Code) →
       c.code ≡ op (o.Load l arg) rest → c.operands ≡ address ∷ operands →
       effective address arg + load_width l ≤ length m →
@@ -129,12 +130,16 @@ pub data Step : Config → List ℕ → Event → State → List ℕ → Type 0 
   store_outside : (c : Config) (m : List ℕ) (s : Store) (arg : MemArg) (address v : ℕ) (operands : List ℕ) (rest : Code) →
       c.code ≡ op (o.Store s arg) rest → c.operands ≡ v ∷ address ∷ operands →
       length m < effective address arg + store_width s → Step c m Traps Trapped m
+  -- 4.4.4 (memory.grow) and 4.5.3 ("Growing memories"): a growth may be refused even where it could be granted. In the standard
+  -- one past the memory's own greatest number of pages fails too (4.2.8). There is none here: the memory is a list of octets,
+  -- compiled modules are linked to a memory without one, and no growth passes 65,535 pages.
   grow_granted : (c : Config) (m : List ℕ) (pages : ℕ) (operands : List ℕ) (rest : Code) → c.code ≡ op o.MemoryGrow rest →
       c.operands ≡ pages ∷ operands → pages_of m + pages ≤ most_pages →
       Step c m (Grows pages true) (goes_on c rest (pages_of m ∷ operands) c.locals) (grown_by pages m)
   grow_refused : (c : Config) (m : List ℕ) (pages : ℕ) (operands : List ℕ) (rest : Code) → c.code ≡ op o.MemoryGrow rest →
       c.operands ≡ pages ∷ operands → Step c m (Grows pages false) (goes_on c rest (refusal ∷ operands) c.locals) m
-  -- 4.4.7; the imported function `raise` takes a code and ends the instance
+  -- 4.4.7; the imported function `raise` takes a code and ends the instance. A call of any index raises here: typing keeps
+  -- the index to the imported functions. In the standard's terms it is a trap of the host function, told apart by its code.
   raise : (c : Config) (m : List ℕ) (index code : ℕ) (operands : List ℕ) (rest : Code) → c.code ≡ op (o.Call index) rest →
       c.operands ≡ code ∷ operands → Step c m (Raises code) (Raised code) m
   -- 4.4.5; a branch to a loop begins the loop again

@@ -59,12 +59,6 @@ OnRunning Returned P = ⊥
 OnRunning (Raised code) P = ⊥
 OnRunning Trapped P = ⊥
 
--- Exactly n steps follow, each allowed whatever others do before it, and then Q holds.
-abbrev pub Steps : (pages : ℕ) → (Moment → Type 0) → ℕ → Moment → Type 0
-Steps pages Q zero a = Q a
-Steps pages Q (suc n) a = OnRunning a.state (λ c. (before : List ℕ) → Others a.world a.memory before →
-    OnStep pages a.world before (Steps pages Q n) (next (grants a.world) c before))
-
 -- At most n steps follow, each allowed whatever others do before it, and then Q holds.
 abbrev pub Within : (pages : ℕ) → (Moment → Type 0) → ℕ → Moment → Type 0
 Within pages Q zero a = Q a

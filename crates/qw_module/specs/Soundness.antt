@@ -20,7 +20,7 @@ abbrev pub scope_of : List Signature → List ValType → List (List ValType) �
 scope_of functions locals labels = record { functions = functions; locals = locals; labels = labels }
 
 -- The type of the function `raise`, which every imported function is: it takes one i32. An import is only ever linked to a
--- function of its own type (4.5.1, 4.5.4).
+-- function of its own type (4.5.1; 4.5.2, "Import Matching"; 4.5.4).
 abbrev pub raise_signature : Signature
 raise_signature = record { params = I32 ∷ []; results = [] }
 

@@ -8,8 +8,9 @@ use Rattle.qw_module.specs.Map.{Area, World, Others, IsFine, grants, world_after
 use Rattle.qw_linear.specs.Memory.{page, most_pages, AreOctets}
 use Rattle.qw_module.specs.Runs.{Moment, OpenStep, OpenRun}
 
--- How an instance ended: it returned, it raised an exception's code, a request for so many pages beside those held was past
--- its limit and the instance raised 3, it ran as many instructions as its limit says, or it trapped.
+-- How an instance ended: it returned, it raised an exception's code, it raised 3 after a refused request, it ran as many
+-- instructions as its limit says, or it trapped. `Pages` says how many pages it holds at its end, how many more it asked for in
+-- its last request that was refused, and its limit; later requests may have been granted.
 pub data End : Type 0 where
   Done : End
   Exception : (code : ℕ) → End
@@ -31,12 +32,12 @@ pub record Shared : Type 0 where
   pub memory : List ℕ
   pub instances : List Instance
 
--- the end after a refused request; a raise of 3 without one counts as a trap
+-- the end at a raise of 3, with the last request that was refused; where none was, it counts as a trap
 abbrev pub end_of_refusal : Option ℕ → World → Option End
 end_of_refusal None w = Some Trap
 end_of_refusal (Some asked) w = Some (Pages w.held asked w.limit)
 
--- the end at a code that was raised: 1 and 2 are exceptions, 3 tells that the last request was refused,
+-- the end at a code that was raised: 1 and 2 are exceptions, 3 tells that a request was refused,
 -- and any other code counts as a trap
 abbrev pub end_of_raise : ℕ → World → Option End
 end_of_raise code w =
@@ -109,11 +110,12 @@ pub record IsWhole (i : Instance) : Type 0 where
   pub within : i.ran ≤ i.most_steps
   pub end_is : i.end ≡ end_at i.state i.world i.ran i.most_steps
 
--- one area ends before the other begins, or where it begins
+-- One area ends before the other begins, or where it begins. This is stricter than having no octet in common: an empty area
+-- inside another isn't apart from it.
 abbrev pub AreApart : Area → Area → Type 0
 AreApart a b = (a.start + a.size ≤ b.start) ⊎ (b.start + b.size ≤ a.start)
 
--- each of these areas has none in common with any of those
+-- each of these areas is apart from each of those
 abbrev pub AllApart : List Area → List Area → Type 0
 AllApart areas others = AllByRecursion (λ a. AllByRecursion (AreApart a) others) areas
 

@@ -51,7 +51,7 @@ pub data OpTyped : List Signature → List ValType → Op → List ValType → L
       OpTyped functions locals (o.Binary b) (type_of_binary b ∷ type_of_binary b ∷ types) (type_of_binary b ∷ types)
   typed-relation : (functions : List Signature) (locals types : List ValType) (r : Relation) →
       OpTyped functions locals (o.Relation r) (type_of_relation r ∷ type_of_relation r ∷ types) (I32 ∷ types)
-  -- 3.3.4; the alignment is at most the access's octets
+  -- 3.3.4; the alignment is at most the access's octets. Alignment and offset are any natural numbers here, and u32 in the code.
   typed-load : (functions : List Signature) (locals types : List ValType) (l : Load) (arg : MemArg) → 2 ^ arg.align ≤ load_width l →
       OpTyped functions locals (o.Load l arg) (I32 ∷ types) (type_of_load l ∷ types)
   typed-store : (functions : List Signature) (locals types : List ValType) (s : Store) (arg : MemArg) → 2 ^ arg.align ≤ store_width s →

@@ -1,5 +1,5 @@
 -- When a module is valid (WebAssembly Core Specification 1.0, 3.2 and 3.4).
-use Rattle.std.specs.Prelude.{◌≡◌, ◌≢◌, ℕ, ◌+◌, ◌<◌, ◌≤◌, Bool, true, false, ◌||◌, IsTrue, List, [], ◌∷◌, ◌++◌, length, map, codes, All, Contains, Option, Some, None, IfSome, IsSomeAnd, slice_get}
+use Rattle.std.specs.Prelude.{◌≡◌, ◌≢◌, ℕ, ◌+◌, ◌^◌, ◌<◌, ◌≤◌, Bool, true, false, ◌||◌, IsTrue, List, [], ◌∷◌, ◌++◌, length, map, codes, All, Contains, Option, Some, None, IfSome, IsSomeAnd, slice_get}
 use Rattle.std.specs.List.{filter_map, AllPairs}
 use Rattle.std.specs.Option.{option_to_list, option_map_or}
 use Rattle.std.specs.String.{string_bytes}
@@ -56,9 +56,13 @@ memories_of m = filter_map imported_memory m.imports.items ++ option_to_list m.m
 abbrev pub IsValidType : FuncType → Type 0
 IsValidType type = length type.results.items ≤ 1
 
+-- how many pages a memory may have by its limits (3.2.4); how many one has here at most is `most_pages`
+abbrev pub page_limit : ℕ
+page_limit = 2 ^ 16
+
 -- a memory has at most 2^16 pages, and no greatest number of them below the least (3.2.1 and 3.2.4)
 abbrev pub IsValidMemory : Limits → Type 0
-IsValidMemory limits = (limits.min ≤ 65536) × IfSome limits.max (λ greatest. (greatest ≤ 65536) × (limits.min ≤ greatest))
+IsValidMemory limits = (limits.min ≤ page_limit) × IfSome limits.max (λ greatest. (greatest ≤ page_limit) × (limits.min ≤ greatest))
 
 -- an imported memory is within the limits of one, and an imported function has a type of the module (3.4.9)
 abbrev pub IsValidImport : Module → Import → Type 0

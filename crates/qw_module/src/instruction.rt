@@ -60,10 +60,12 @@ pub enum Store {
 }
 
 /// The immediates of an access: the alignment hint as an exponent of 2, and the offset that is added
-/// to the address operand (2.4.4, `memarg`).
+/// to the address operand (2.4.4, `memarg`). In the definitions both are any natural numbers.
 #[derive(Clone, Copy, Debug, PartialEq, Eq)]
 pub struct MemArg {
+    /// The exponent: an access of 2^`align` octets is expected to be aligned. It changes no result.
     pub align: u32,
+    /// Octets that are added to the address, without wrapping.
     pub offset: u32,
 }
 
@@ -109,5 +111,6 @@ pub enum Instr {
     },
     /// A branch to the label of this index, counted from the innermost, 0.
     Br(u32),
+    /// The same, where the operand is not 0.
     BrIf(u32),
 }

@@ -6,7 +6,7 @@ ghost use Rattle.qw_module.specs.Execution.{Config, Event, State, Step, pages_ga
 ghost use Rattle.qw_module.specs.Step.{Next, next, Agrees, AnswerAlike};
 ghost use Rattle.qw_module.specs.Soundness.{IsTyped, IsTypedState};
 
-/// The rules of execution, one for each instruction, and the step that is computed say the same.
+/// The rules of execution and the step that is computed say the same, where each growth is granted as `grants` answers.
 pub fn step_is_computed()
     ensures by_rule { (grants : ℕ → Bool) (c : Config) (m : List ℕ) (e : Event) (s : State) (after : List ℕ) →
         Step c m e s after → Agrees grants e → next grants c m ≡ Some (record { event = e; state = s; memory = after }) }
@@ -20,8 +20,8 @@ pub fn step_is_deterministic()
         Step c m e s after → Step c m f t other → AnswerAlike e f → (e ≡ f) × (s ≡ t) × (after ≡ other) }
 {}
 
-/// Type soundness: a typed configuration makes a step, to a typed state. Whatever the configuration, octets stay octets, and
-/// the memory is longer by the pages that were granted.
+/// Type soundness: a typed configuration makes a step, and over a memory that holds octets each step leads to a typed state.
+/// Whatever the configuration, octets stay octets, and the memory is longer by the pages that were granted.
 pub fn typed_configurations_go_on()
     ensures progress { (grants : ℕ → Bool) (c : Config) (m : List ℕ) → IsTyped c → IsSome (next grants c m) }
     ensures preservation { (grants : ℕ → Bool) (c : Config) (m : List ℕ) (n : Next) →

@@ -3,14 +3,18 @@ use crate::instruction::{Const, Instr, ValType};
 /// The type of a function (WebAssembly Core Specification 1.0, 2.3.3).
 #[derive(Debug, Drop)]
 pub struct FuncType {
+    /// The types of the parameters, the first one first. They are the function's first locals.
     pub params: Vec<ValType>,
+    /// The types of the results; a valid module's functions have at most one.
     pub results: Vec<ValType>,
 }
 
 /// The least number of pages, and the greatest where there is one (2.3.4).
 #[derive(Clone, Copy, Debug, PartialEq, Eq)]
 pub struct Limits {
+    /// The least number of pages.
     pub min: u32,
+    /// The greatest number of pages, where it is declared.
     pub max: Option<u32>,
 }
 
@@ -27,6 +31,7 @@ pub enum Import {
 /// the last sequence is the outermost, and no sequence is reached from itself.
 #[derive(Debug, Drop)]
 pub struct Body {
+    /// The sequences, each at its number.
     pub sequences: Vec<Vec<Instr>>,
 }
 
@@ -37,14 +42,18 @@ pub struct Function {
     pub type_index: u32,
     /// The types of its locals after its parameters.
     pub locals: Vec<ValType>,
+    /// Its code.
     pub body: Body,
 }
 
 /// A global (2.5.6). Its expression is one constant.
 #[derive(Clone, Copy, Debug, PartialEq, Eq)]
 pub struct Global {
+    /// The type of its value.
     pub ty: ValType,
+    /// Whether it may be set.
     pub mutable: bool,
+    /// The value that it begins with.
     pub init: Const,
 }
 
@@ -59,18 +68,25 @@ pub enum ExportKind {
 /// An export (2.5.10).
 #[derive(Debug, Drop)]
 pub struct Export {
+    /// The name that it is exported by; a valid module's exports have different names.
     pub name: String,
+    /// What is exported.
     pub kind: ExportKind,
 }
 
 /// A module (2.5). The index of a function counts the imported ones first.
 #[derive(Debug, Drop)]
 pub struct Module {
+    /// The types of functions, which the others name by their indices.
     pub types: Vec<FuncType>,
+    /// What is imported, in order.
     pub imports: Vec<Import>,
+    /// The functions of its own, in order.
     pub functions: Vec<Function>,
     /// The memory of its own, where it has one.
     pub memory: Option<Limits>,
+    /// The globals, in order.
     pub globals: Vec<Global>,
+    /// What is exported.
     pub exports: Vec<Export>,
 }
