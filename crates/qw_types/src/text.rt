@@ -19,7 +19,7 @@ impl Model for Text {
 }
 
 impl Text {
-    /// Takes the string as it is: any text is one.
+    /// Takes the string as it is; every string is a text.
     pub fn new(text: String) -> Self
         ensures { result ≡ string_bytes text }
     {
