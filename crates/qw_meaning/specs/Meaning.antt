@@ -47,7 +47,8 @@ selected statement row = filter_map (λ column. slice_get row column) statement.
 abbrev pub results : Statement → List (List Val) → List (List Val)
 results statement rows = map (selected statement) (filter (λ row. is_true (condition statement row)) rows)
 
--- the exceptions that a statement may raise: numeric value out of range, 22003, and division by zero, 22012 (22.1)
+-- The exceptions that a statement may raise: numeric value out of range, 22003, and division by zero, 22012 (22.1). Today's
+-- statements raise none: these, and `Raises` below, are the places where exceptions go.
 pub data Exception : Type 0 where
   OutOfRange : Exception
   DivisionByZero : Exception

@@ -1,6 +1,5 @@
-ghost use Rattle.std.specs.Prelude.{◌≡◌, length};
-ghost use Rattle.std.specs.List.{AllByRecursion};
-ghost use Rattle.qw_meaning.specs.Statement.{Statement, IsStatement};
+ghost use Rattle.std.specs.Prelude.{◌≡◌};
+ghost use Rattle.qw_meaning.specs.Statement.{IsStatement};
 
 use std::marker::Model;
 
@@ -77,12 +76,14 @@ impl Query {
         self.tested
     }
 
+    /// How the compared column's value, on the left, compares with the literal.
     pub fn comparison(&self) -> Comparison
         ensures { result ≡ self.now.comparison }
     {
         self.comparison
     }
 
+    /// The literal, at scale 0.
     pub fn literal(&self) -> i64
         ensures { result ≡ self.now.literal }
     {
