@@ -41,6 +41,13 @@ module _ (pages : ℕ) where
   pub Within-more : (Q : Moment → Type 0) (m k : ℕ) → m ≤ k → (a : Moment) → Within pages Q m a → Within pages Q k a
   Within-more Q m k le a h = Within-then Q Q 0 (λ j b low q. Within-now Q j b q) m k (omega arith) a h
 
+  -- a loop, where each turn of at most `each` steps leaves one turn less
+  pub Within-loop : (I : ℕ → Moment → Type 0) (Q : Moment → Type 0) (each last : ℕ) → ((k : ℕ) (b : Moment) → I (suc k) b → Within pages (I k) each b) →
+      ((b : Moment) → I 0 b → Within pages Q last b) → (k n : ℕ) → k * each + last ≤ n → (a : Moment) → I k a → Within pages Q n a
+  Within-loop I Q each last turn end zero n le a h = Within-more Q last n (omega arith) a (end a h)
+  Within-loop I Q each last turn end (suc k) n le a h =
+      Within-then (I k) Q (k * each + last) (λ j b low rest. Within-loop I Q each last turn end k j low b rest) each n (omega arith) a (turn k a h)
+
 -- where a step was made, it is the one that is computed
 step-made : (pages : ℕ) (Q : Moment → Type 0) (w : World) (before : List ℕ) (made : Option Next) (event : Event) (state : State) (after : List ℕ) →
     made ≡ Some (record { event = event; state = state; memory = after }) → OnStep pages w before Q made →
