@@ -185,12 +185,16 @@ module _ (width : ℕ) (rows : List (List Val)) (memory : Octets) (seat : Seat) 
 
   pub start : IsStart width rows (task_of seat ∷ []) (record { memory = memory.octets; instances = instance_of seat ∷ [] })
   start = record {
-    octets = first.octets;
-    many = refl;
-    starting = starting_first;
-    narrow = narrow_first;
-    places = place_first;
-    room = omega (arith, first.size, few, one_page, some_pages, pages);
+    begins = record {
+      octets = first.octets;
+      many = refl;
+      starting = starting_first;
+      narrow = narrow_first;
+      places = place_first;
+      room = omega (arith, first.size, few, one_page, some_pages, pages);
+    };
+    table = first.columns;
+    size = first.size;
   }
 
   pub bench : GoesWith seat.valid seat.instance → seat.limits.pages ≤ vec_capacity seat.granted →
@@ -199,7 +203,7 @@ module _ (width : ℕ) (rows : List (List Val)) (memory : Octets) (seat : Seat) 
       let unasked : length seat.granted.items ≡ 0 = ap length nothing in
       record {
         table = rows;
-        serving = start-serving width rows (task_of seat ∷ []) (record { memory = memory.octets; instances = instance_of seat ∷ [] }) start;
+        serving = start-serving width rows (task_of seat ∷ []) (record { memory = memory.octets; instances = instance_of seat ∷ [] }) start.begins;
         fitting = All-cons (λ (s : Seat). GoesWith s.valid s.instance) seat [] fits (All-nil (λ (s : Seat). GoesWith s.valid s.instance));
         grants = All-cons HasGrants seat [] (record { counted = omega (arith, unasked, one_page); held = omega (arith, one_page, some_pages); room = room }) (All-nil HasGrants);
         room = omega (arith, first.size, reserved, one_page, some_pages);

@@ -54,9 +54,9 @@ first_is b seat is = ap (λ (seats : List Seat). slice_get (map instance_of seat
 
 few_at_start : (width : ℕ) (rows : List (List Val)) (t : Task) (start : Shared) → IsStart width rows (t ∷ []) start → length rows ≤ MAX_ROWS
 few_at_start width rows t start began =
-    let many : length start.instances ≡ 1 = began.many in
+    let many : length start.instances ≡ 1 = began.begins.many in
     let i = there start.instances 0 (omega arith) in
-    (began.starting 0 t i.0 refl i.1).ready.few
+    (began.begins.starting 0 t i.0 refl i.1).ready.few
 
 abbrev pub task_for : (width : ℕ) → List (List Val) → Statement → Module → Task
 task_for width rows statement program = first_task width (length rows) (record { statement = statement; program = program }) DEFAULT_LIMITS
@@ -77,7 +77,7 @@ served width rows statement program b start given compiled tasks starts turned =
     let t = task_for width rows statement program in
     let began : IsStart width rows (t ∷ []) start = subst (λ (tasks : List Task). IsStart width rows tasks start) tasks starts in
     let serving : AreServing rows (t ∷ []) (shared_of b) =
-    subst (λ (s : Shared). AreServing rows (t ∷ []) s) (sym turned) (turns-serving rows (t ∷ []) start given (start-serving width rows (t ∷ []) start began)) in
+    subst (λ (s : Shared). AreServing rows (t ∷ []) s) (sym turned) (turns-serving rows (t ∷ []) start given (start-serving width rows (t ∷ []) start began.begins)) in
     let one = one_mapped task_of b.seats t tasks in
     let serves : Serves rows b.memory.octets t (instance_of one.0) = serving.serving 0 t (instance_of one.0) refl (first_is b one.0 one.1) in
     record {

@@ -24,7 +24,7 @@ use Rattle.qw_meaning.specs.Statement.{Statement}
 use Rattle.qw_emit.specs.Columns.{HoldsColumn, StandsAt, column_pages, column_start, integer_at, value_of}
 use Rattle.qw_emit.specs.Layout.{cell_types, column_areas, column_starts, used}
 use Rattle.qw_emit.specs.Compiled.{Answers, bound, page_bound}
-use Rattle.qw_top.specs.Bench.{AreServing, EachTask, IsAt, IsStart, IsStarting, Serves, Task}
+use Rattle.qw_top.specs.Bench.{AreServing, AreStarting, EachTask, IsAt, IsStarting, Serves, Task}
 use Rattle.qw_machine.specs.Instance.{IsNoRequest}
 use Rattle.qw_top.specs.Seats.{CanBeTold, IsTold}
 use Rattle.qw_top.proofs.ColumnLemmas.{within_pages}
@@ -228,7 +228,7 @@ record IsFirst (width : ℕ) (rows : List (List Val)) (memory : List ℕ) (k : �
   place : t.descriptor ≡ (column_pages width (length rows) + k) * page
   narrow : AllByRecursion (λ column. column < width) (used t.statement)
 
-first_of : (width : ℕ) (rows : List (List Val)) (tasks : List Task) (s : Shared) → IsStart width rows tasks s → (k : ℕ) (i : Instance) → slice_get s.instances k ≡ Some i →
+first_of : (width : ℕ) (rows : List (List Val)) (tasks : List Task) (s : Shared) → AreStarting width rows tasks s → (k : ℕ) (i : Instance) → slice_get s.instances k ≡ Some i →
     IsFirst width rows s.memory k i
 first_of width rows tasks s start k i found =
     let within : k < length tasks = omega (arith, slice_get_within s.instances k i found, start.many) in
@@ -255,7 +255,7 @@ columns-before width rows d [] behind narrow = tt
 columns-before width rows d (column ∷ columns) behind (one, narrow) =
     (inr (omega (arith, within_pages width rows column one, behind)), columns-before width rows d columns behind narrow)
 
-start-separate : (width : ℕ) (rows : List (List Val)) (tasks : List Task) (s : Shared) → IsStart width rows tasks s → AreSeparate s
+start-separate : (width : ℕ) (rows : List (List Val)) (tasks : List Task) (s : Shared) → AreStarting width rows tasks s → AreSeparate s
 start-separate width rows tasks s start = record {
   octets = start.octets;
   inside = λ k i found. let f = first_of width rows tasks s start k i found in
@@ -288,7 +288,7 @@ start-separate width rows tasks s start = record {
   room = start.room;
 }
 
-pub start-serving : (width : ℕ) (rows : List (List Val)) (tasks : List Task) (s : Shared) → IsStart width rows tasks s → AreServing rows tasks s
+pub start-serving : (width : ℕ) (rows : List (List Val)) (tasks : List Task) (s : Shared) → AreStarting width rows tasks s → AreServing rows tasks s
 start-serving width rows tasks s start = record {
   safe = record {
     separate = start-separate width rows tasks s start;

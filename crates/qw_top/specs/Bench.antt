@@ -13,7 +13,7 @@ use Rattle.qw_module.specs.Validity.{IsShaped}
 use Rattle.qw_module.specs.Start.{begun}
 use Rattle.qw_meaning.specs.Statement.{Statement}
 use Rattle.qw_meaning.specs.Meaning.{Rows, outcome}
-use Rattle.qw_emit.specs.Columns.{HoldsColumn, column_start, column_pages}
+use Rattle.qw_emit.specs.Columns.{Holds, HoldsColumn, column_start, column_pages}
 use Rattle.qw_emit.specs.Layout.{used, column_starts, column_areas, cell_types, first_world, rows_at}
 use Rattle.qw_emit.specs.Compiled.{IsReady, Answers, bound, page_bound, IsCompiled}
 
@@ -52,15 +52,22 @@ pub record IsStarting (rows : List (List Val)) (memory : List ℕ) (t : Task) (i
 abbrev pub EachTask : (Task → Instance → Type 0) → List Task → Shared → Type 0
 EachTask R tasks s = (k : ℕ) (t : Task) (i : Instance) → slice_get tasks k ≡ Some t → slice_get s.instances k ≡ Some i → R t i
 
--- The start over a table of so many columns: the columns take the first pages, and the statements use no others; the first
--- pages of the instances follow in order, and there is room for all pages that they may hold.
-pub record IsStart (width : ℕ) (rows : List (List Val)) (tasks : List Task) (s : Shared) : Type 0 where
+-- Instances are about to begin their tasks over a table of so many columns: the statements use no other columns; the first
+-- pages of the instances follow the pages of the columns in order; and there is room for all pages that they may hold.
+pub record AreStarting (width : ℕ) (rows : List (List Val)) (tasks : List Task) (s : Shared) : Type 0 where
   pub octets : AreOctets s.memory
   pub many : length s.instances ≡ length tasks
   pub starting : EachTask (IsStarting rows s.memory) tasks s
   pub narrow : (k : ℕ) (t : Task) → slice_get tasks k ≡ Some t → AllByRecursion (λ column. column < width) (used t.statement)
   pub places : (k : ℕ) (t : Task) → slice_get tasks k ≡ Some t → t.descriptor ≡ (column_pages width (length rows) + k) * page
   pub room : length s.memory + may_ask s.instances * page ≤ most_pages * page
+
+-- The start over a table of so many columns: they are all there and take the first pages, and the first pages of the
+-- instances, which are about to begin, are the rest of the memory.
+pub record IsStart (width : ℕ) (rows : List (List Val)) (tasks : List Task) (s : Shared) : Type 0 where
+  pub begins : AreStarting width rows tasks s
+  pub table : Holds width s.memory rows
+  pub size : length s.memory ≡ (column_pages width (length rows) + length tasks) * page
 
 -- An instance serves its task: the columns that it uses hold the table, the instance has its first page and what it was
 -- granted, and it behaves from where it is on.

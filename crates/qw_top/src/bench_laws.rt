@@ -1,15 +1,15 @@
 //! What holds of compiled statements that share one memory, for every list of turns. No function here computes
 //! anything.
 
-ghost use Rattle.std.specs.Prelude.{◌≡◌, ℕ, List};
+ghost use Rattle.std.specs.Prelude.{ℕ, List};
 ghost use Rattle.qw_types.specs.declared.value.Val.{Val};
 ghost use Rattle.qw_module.specs.Turns.{Shared, turns};
 ghost use Rattle.qw_module.specs.Validity.{IsShaped};
-ghost use Rattle.qw_top.specs.Bench.{AreServing, EachTask, IsAt, IsStart, Task};
+ghost use Rattle.qw_top.specs.Bench.{AreServing, AreStarting, EachTask, IsAt, Task};
 
 /// From their start on, whatever turns they are given, instances serve their tasks.
 pub fn turns_serve()
-    ensures start { (width : ℕ) (rows : List (List Val)) (tasks : List Task) (s : Shared) → IsStart width rows tasks s → AreServing rows tasks s }
+    ensures start { (width : ℕ) (rows : List (List Val)) (tasks : List Task) (s : Shared) → AreStarting width rows tasks s → AreServing rows tasks s }
     ensures turns { (rows : List (List Val)) (tasks : List Task) (s : Shared) (ts : List (ℕ × ℕ)) →
         AreServing rows tasks s → AreServing rows tasks (turns ts s) }
 {}
