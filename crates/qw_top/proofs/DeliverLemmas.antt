@@ -19,7 +19,7 @@ use Rattle.qw_top.specs.declared.stop.Refusal.TheVariants.{Words, Schema, TableF
 use Rattle.qw_top.specs.declared.stop.Stop.{Stop}
 use Rattle.qw_top.specs.declared.stop.Stop.TheVariants.{Refused, Unread, NoMemory as NoMemoryLeft}
 use Rattle.qw_top.specs.Counts.{CountsWrite, write_fault_of}
-use Rattle.qw_top.specs.Delivered.{Asks, HasRun, IsLine, Leaves, Notes, Reports, ShowsEnd, status_of}
+use Rattle.qw_top.specs.Delivered.{Asks, HasRun, IsLine, Leaves, LeavesBench, Notes, Reports, ShowsEnd, status_of}
 use Rattle.qw_top.specs.Noted.{NotesLine, NotesStop}
 use Rattle.qw_emit.specs.Layout.{used}
 use Rattle.qw_top.specs.Loading.{Contents}
@@ -280,6 +280,18 @@ written_left files words b report status _ old new r writes = absurd writes
 
 pub delivered_left : (files : Files) (words : List (List ℕ)) (b : Standing) (result : Status) (old new : Option (List ℕ)) → Delivered files words b result old new → Leaves files words result (Some b) old new
 delivered_left files words b result old new d = written_left files words b d.report d.status result old new d.reports d.writes
+
+-- however the writing of a report ended, a front of it was taken
+written_front : (status result : Status) (old new : Option (List ℕ)) (report : List ℕ) → Writes status result old new report → TookFront old new report
+written_front status Done old new report (is, took) = TookFront-whole old new report took
+written_front status PageLimitMet old new report (is, took) = TookFront-whole old new report took
+written_front status WriteFailed old new report front = front
+written_front status NoMemory old new report front = front
+written_front status _ old new report writes = absurd writes
+
+pub delivered_front : (files : Files) (words : List (List ℕ)) (b : Standing) (result : Status) (old new : Option (List ℕ)) → Delivered files words b result old new →
+    LeavesBench files words (Some b) (λ status report. TookFront old new report)
+delivered_front files words b result old new d = (b, d.report, d.status, refl, d.reports, written_front d.status result old new d.report d.writes)
 
 cut_left : (files : Files) (words : List (List ℕ)) (b : Standing) (report : List ℕ) (status result : Status) (old new : Option (List ℕ)) → Reports files words b report status → TookFront old new report → (result ≡ WriteFailed) ⊎ (result ≡ NoMemory) → Leaves files words result (Some b) old new
 cut_left files words b report status result old new r front (inl is) = subst (λ (s : Status). Leaves files words s (Some b) old new) (sym is) (inr (b, report, status, refl, r, front))

@@ -9,7 +9,8 @@ ghost use Rattle.qw_meaning.specs.Statement.{Statement};
 ghost use Rattle.qw_emit.specs.Compiled.{page_bound};
 ghost use Rattle.qw_top.specs.declared.bench.TheConstants.{DEFAULT_LIMITS};
 ghost use Rattle.qw_top.specs.declared.status.Status.{Status};
-ghost use Rattle.qw_top.specs.Delivered.{Leaves, Notes};
+ghost use Rattle.qw_top.specs.Delivered.{Leaves, LeavesBench, Notes};
+ghost use Rattle.qw_top.specs.Output.{TookFront};
 ghost use Rattle.qw_top.specs.Top.{AreNames, Explains, HasQuery, IsFault, IsSettled, Names};
 
 use crate::bench::Bench;
@@ -22,13 +23,15 @@ use std::alloc::Global;
 mod finish;
 mod reading;
 
-/// How many instructions an instance runs before the next one has its turn.
+/// How many instructions an instance runs before the next one has its turn: so many that the cost of a turn
+/// doesn't count, and so few that instances alternate.
 pub const QUANTUM: u64 = 10_000;
 
 /// Runs what the words of a command line ask for, and writes its report to `out`. The words come without
 /// the program's own name. `notes` gets a line where a file couldn't be read or memory is wanted.
 ///
-/// `kept` holds the bench afterwards wherever its turns were made, and nothing else.
+/// `kept` holds the bench afterwards where the report was written, and where `out` counted a fault; else, at
+/// `WriteFailed` and `NoMemory`, the bench or nothing; and at any other status nothing.
 pub fn qwasm<F: Shelf, O: Sink, E: Sink>(
     alloc: Global,
     words: &[String],
@@ -48,7 +51,11 @@ pub fn qwasm<F: Shelf, O: Sink, E: Sink>(
         → F.files files.old ≡ Some told → AreNames (map string_bytes words.now) names → HasQuery (Some told) names table rows statement
         → page_bound statement rows ≤ DEFAULT_LIMITS.pages → (result ≡ Status.Done) ⊎ IsFault result }
     ensures left { Leaves (F.files files.old) (map string_bytes words.now) result kept.new (O.taken out.old) (O.taken out.new) }
+    ensures kept_at_fault { O.faults out.new ≢ O.faults out.old
+        → LeavesBench (F.files files.old) (map string_bytes words.now) kept.new
+        (λ status report. TookFront (O.taken out.old) (O.taken out.new) report) }
     ensures noted { Notes (F.files files.old) (map string_bytes words.now) result (E.taken notes.old) (E.taken notes.new) }
+    ensures silent_at_fault { O.faults out.new ≢ O.faults out.old → E.taken notes.new ≡ E.taken notes.old }
     ensures read_fault { result ≡ Status.ReadFailed → IsCounted (F.faults files.old) (F.faults files.new) }
     ensures no_read_fault { result ≢ Status.ReadFailed → result ≢ Status.WriteFailed → result ≢ Status.NoMemory
         → F.faults files.new ≡ F.faults files.old }

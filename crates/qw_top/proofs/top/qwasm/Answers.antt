@@ -1,10 +1,15 @@
-use Rattle.qw_top.proofs.DeliverLemmas.{delivered, delivered_explained, delivered_left, delivered_noted, delivered_reads, enough_explained, exactly_explained, runs_explained, stopped_explained, stopped_noted, want_noted, wanted_left}
+use Rattle.qw_top.specs.declared.status.Status.TheVariants.{NoMemory}
+use Rattle.qw_top.proofs.DeliverLemmas.{delivered, delivered_explained, delivered_front, delivered_left, delivered_noted, delivered_reads, enough_explained, exactly_explained, runs_explained, stopped_explained, stopped_noted, want_noted, wanted_left}
 use Rattle.qw_top.proofs.top.qwasm.Goals as goal
 
 pub returns-in-NoMemory-clause-left : goal.returns-in-NoMemory-clause-left
 returns-in-NoMemory-clause-left g c =
     let d = delivered _ _ _ _ _ _ _ c.in-Ok.ensures.asked c.in-NoMemory.ensures.writes in
     wanted_left _ _ _ _ _ _ _ _ d c.note_want_of_memory.ensures.noted
+
+pub returns-in-NoMemory-clause-kept_at_fault : goal.returns-in-NoMemory-clause-kept_at_fault
+returns-in-NoMemory-clause-kept_at_fault g c changed =
+    delivered_front _ _ _ NoMemory _ _ (delivered _ _ _ _ NoMemory _ _ c.in-Ok.ensures.asked c.in-NoMemory.ensures.writes)
 
 pub returns-in-NoMemory-clause-noted : goal.returns-in-NoMemory-clause-noted
 returns-in-NoMemory-clause-noted g c = want_noted _ _ _ _ _ c.note_want_of_memory.ensures.noted
@@ -28,6 +33,10 @@ returns-in-Ok-clause-enough g c =
 pub returns-in-Ok-clause-left : goal.returns-in-Ok-clause-left
 returns-in-Ok-clause-left g c =
     delivered_left _ _ _ _ _ _ (delivered _ _ _ _ _ _ _ c.in-Ok.ensures.asked c.deliver-status.ensures.writes)
+
+pub returns-in-Ok-clause-kept_at_fault : goal.returns-in-Ok-clause-kept_at_fault
+returns-in-Ok-clause-kept_at_fault g c changed =
+    delivered_front _ _ _ _ _ _ (delivered _ _ _ _ _ _ _ c.in-Ok.ensures.asked c.deliver-status.ensures.writes)
 
 pub returns-in-Ok-clause-noted : goal.returns-in-Ok-clause-noted
 returns-in-Ok-clause-noted g c =
