@@ -10,8 +10,8 @@ use Rattle.qw_linear.specs.Memory.{AreOctets, grown_by, number_at, page, with_nu
 use Rattle.qw_linear.proofs.MemoryFacts.{AreOctets-with_number, length-with_number, number_at-apart, number_at-same, number_at-with_number, with_number-above, with_number-below}
 use Rattle.qw_linear.proofs.GrowthFacts.{AreOctets-grown_by, grown_by-above, grown_by-below, length-grown_by}
 use Rattle.qw_emit.specs.Columns.{Holds, column_pages}
-use Rattle.qw_emit.specs.Layout.{IsFresh, entry_offset}
-use Rattle.qw_top.specs.FirstPage.{IsBlank, IsFirstMemory, SameBelow, used_starts}
+use Rattle.qw_emit.specs.Layout.{IsFresh, column_starts, entry_offset}
+use Rattle.qw_top.specs.FirstPage.{IsBlank, IsFirstMemory, SameBelow}
 use Rattle.qw_top.proofs.ColumnLemmas.{Holds-kept}
 
 -- zeros are the number 0
@@ -166,7 +166,7 @@ blank-grown pages memory k lt = grown_by-above pages memory (length memory + k) 
 pub first-memory : (statement : Statement) (width : ℕ) (rows : List (List Val)) (before after : List ℕ) → Holds width before rows → AreOctets before
     → length before ≡ column_pages width (length rows) * page → SameBelow (grown_by 1 before) after (column_pages width (length rows) * page)
     → length after ≡ length (grown_by 1 before) → (AreOctets (grown_by 1 before) → AreOctets after)
-    → IsFresh after (column_pages width (length rows) * page) (used_starts statement (length rows)) (length rows) → IsFirstMemory statement width rows after
+    → IsFresh after (column_pages width (length rows) * page) (column_starts statement (length rows)) (length rows) → IsFirstMemory statement width rows after
 first-memory statement width rows before after holds are len same long still fresh = record {
   octets = still (AreOctets-grown_by 1 before are);
   size = omega (arith, length-grown_by 1 before);

@@ -53,9 +53,6 @@ pub record IsRounding (quantum : ℕ) (s : Shared) (k : ℕ) (now : Shared) : Ty
   pub falls : unended_below s k ≢ [] → steps_left now.instances < steps_left s.instances
   pub less : steps_left now.instances ≤ steps_left s.instances
 
-pub rounding-none : (quantum : ℕ) (s : Shared) → IsRounding quantum s 0 s
-rounding-none quantum s = record { state = refl; rest = λ j low. refl; many = refl; falls = λ some. absurd (some refl); less = omega arith }
-
 -- the end of the next instance is what it was
 end-kept : (quantum : ℕ) (s : Shared) (k : ℕ) (now : Shared) → IsRounding quantum s k now → end_in s k ≡ end_in now k
 end-kept quantum s k now so_far = ap (option_and_then (λ (i : Instance). i.end)) (sym (so_far.rest k (omega arith)))
@@ -131,9 +128,6 @@ pub record HasRounded (quantum : ℕ) (s now : Shared) : Type 0 where
   pub before : List (ℕ × ℕ)
   pub state : now ≡ turns before s
   pub goes_on : (rest : List (ℕ × ℕ)) → AreRounds quantum rest now → AreRounds quantum (before ++ rest) s
-
-pub rounded-none : (quantum : ℕ) (s : Shared) → HasRounded quantum s s
-rounded-none quantum s = record { before = []; state = refl; goes_on = λ rest h. h }
 
 pub rounded-more : (quantum : ℕ) (s now new : Shared) → HasRounded quantum s now → new ≡ turns (round quantum now) now → HasRounded quantum s new
 rounded-more quantum s now new so_far is = record {

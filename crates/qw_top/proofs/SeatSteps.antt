@@ -150,12 +150,6 @@ may-step before m0 k budget now memory has within room =
     let most : now.limits.steps ≡ before.limits.steps = ap (λ (seat : Seat). seat.limits.steps) has.seated in
     omega arith
 
--- the memory has room for what it may still ask for
-pub has-room : (before : Seat) (m0 : Octets) (k : ℕ) (now : Seat) (memory : Octets) → HasRun before m0 k now memory →
-    length m0.octets + (before.limits.pages - before.held) * page ≤ m0.reserved * page →
-    length memory.octets + (now.limits.pages - now.held) * page ≤ memory.reserved * page
-has-room before m0 k now memory has room = omega (arith, has.asks, has.reserved, room)
-
 module _ (before : Seat) (m0 : Octets) (k : ℕ) (now : Seat) (memory : Octets) (has : HasRun before m0 k now memory)
     (below : now.ran + k < now.limits.steps) (tells : IsTold (counting before 0) m0.octets) (i : Instance) (after : Octets) (answer : Stepped)
     (led : (c : Config) → state_in now ≡ Running c →

@@ -89,8 +89,8 @@ Leaves files words ReadFailed kept old new = LeavesNothing kept old new
 abbrev pub IsLine : Files → (words : List (List ℕ)) → List ℕ → Type 0
 IsLine files words line = (line ≡ want_of_memory_line) ⊎ ((name : List ℕ) × IsNamed files words name × (line ≡ read_fault_line name))
 
--- What a run notes, by its status: which file couldn't be read, or a front of the line that memory is wanted; where a line
--- couldn't be written, a front of one; and else nothing.
+-- What a run notes, by its status: at ReadFailed the line of a name that a run may read; at NoMemory and WriteFailed a front of
+-- a line that a run may note; and else nothing.
 abbrev pub Notes : Files → (words : List (List ℕ)) → Status → (old new : Option (List ℕ)) → Type 0
 Notes files words ReadFailed old new = (name : List ℕ) × IsNamed files words name × (new ≡ with_text old (read_fault_line name))
 Notes files words NoMemory old new = (line : List ℕ) × IsLine files words line × TookFront old new line

@@ -1,10 +1,10 @@
 -- The first page of an instance, and the memory that it begins in.
-use Rattle.std.specs.Prelude.{◌≡◌, ℕ, ◌+◌, ◌*◌, ◌<◌, List, length, map, slice_index}
+use Rattle.std.specs.Prelude.{◌≡◌, ℕ, ◌+◌, ◌*◌, ◌<◌, List, length, slice_index}
 use Rattle.qw_types.specs.declared.value.Val.{Val}
 use Rattle.qw_linear.specs.Memory.{page, AreOctets}
 use Rattle.qw_meaning.specs.Statement.{Statement}
-use Rattle.qw_emit.specs.Columns.{Holds, column_pages, column_start}
-use Rattle.qw_emit.specs.Layout.{IsFresh, used}
+use Rattle.qw_emit.specs.Columns.{Holds, column_pages}
+use Rattle.qw_emit.specs.Layout.{IsFresh, column_starts}
 
 -- the page at an address is zeros
 abbrev pub IsBlank : List ℕ → ℕ → Type 0
@@ -14,14 +14,10 @@ IsBlank memory address = (k : ℕ) → k < page → slice_index memory (address 
 abbrev pub SameBelow : List ℕ → List ℕ → ℕ → Type 0
 SameBelow before after address = (k : ℕ) → k < address → slice_index after k ≡ slice_index before k
 
--- where the columns that a statement uses stand, in a table of so many rows
-abbrev pub used_starts : Statement → (rows : ℕ) → List ℕ
-used_starts statement rows = map (column_start rows) (used statement)
-
 -- the memory of a table and one instance before its first step: the pages of the columns, and the instance's first page, which
 -- tells of the columns that its statement uses
 pub record IsFirstMemory (statement : Statement) (width : ℕ) (rows : List (List Val)) (memory : List ℕ) : Type 0 where
   pub octets : AreOctets memory
   pub size : length memory ≡ (column_pages width (length rows) + 1) * page
   pub columns : Holds width memory rows
-  pub fresh : IsFresh memory (column_pages width (length rows) * page) (used_starts statement (length rows)) (length rows)
+  pub fresh : IsFresh memory (column_pages width (length rows) * page) (column_starts statement (length rows)) (length rows)

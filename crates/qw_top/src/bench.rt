@@ -27,7 +27,8 @@ pub struct Limits {
     pub steps: u64,
 }
 
-/// The limits where none are given.
+/// The limits where none are given. That of instructions is larger than the bound of any compiled module
+/// over `MAX_ROWS` rows, which is below 2^45.
 pub const DEFAULT_LIMITS: Limits = Limits {
     pages: 128,
     steps: 999_999_999_999_999_999,
@@ -69,6 +70,7 @@ impl Model for Job {
 impl Job {
     ghost use Rattle.qw_emit.specs.Compiled.{IsCompiled};
 
+    /// The statement, with a module that is its compiled form.
     pub fn new(query: Query, valid: ValidModule) -> Self
         requires { IsCompiled query valid }
         ensures { result ≡ record { statement = query; program = valid } }
@@ -198,7 +200,7 @@ impl Seat {
         self.held += pages;
     }
 
-    /// The end where the last request was past the limit.
+    /// The end at the last refused request, which was past the limit.
     fn past_limit(&self) -> Ended
         requires { IsSome self.now.refused }
         ensures { IfSome self.now.refused (λ asked. result ≡ Ended.Pages self.now.held asked self.now.limits.pages) }
@@ -237,7 +239,12 @@ impl Bench {
     ghost use Rattle.qw_top.specs.Bench.{end_in, ran_in};
 
     /// A bench with one instance of the job over a table, which has the columns that the job's statement
-    /// uses. Its error is want of memory.
+    /// uses. All columns of the table stand in its memory, in the first pages, and the instance's first
+    /// page is the one behind them.
+    ///
+    /// # Errors
+    ///
+    /// [`NoMemory`] where the bench does not fit memory, and nowhere else.
     pub fn new(alloc: Global, loaded: &Loaded, job: Job, limits: Limits) -> Result<Self, NoMemory>
         requires columns { AllByRecursion (λ column. column < loaded.now.width) (used job.statement) }
         requires pages { (1 ≤ limits.pages) × (limits.pages ≤ MAX_INSTANCE_PAGES) }
@@ -370,6 +377,7 @@ impl Bench {
         &self.seats[i].query
     }
 
+    /// The memory that the instances share.
     pub fn memory(&self) -> &Linear
         ensures memory { result.now.octets ≡ (shared_of self.now).memory }
         ensures kept { IsBench self.now }

@@ -36,6 +36,7 @@ pub fn begin_page(memory: &mut Linear, descriptor: u32, starts: &[u32], rows: u3
     }
 }
 
+/// Stores a number of four octets.
 fn put(memory: &mut Linear, address: u32, number: u32)
     requires { address + 4 ≤ length memory.old.octets }
     ensures stored { memory.new.octets ≡ with_number memory.old.octets address 4 number }

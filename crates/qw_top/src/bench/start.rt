@@ -21,6 +21,10 @@ use std::alloc::Global;
 
 /// The memory of the columns and of the first page of an instance of the statement, which may hold so
 /// many pages.
+///
+/// # Errors
+///
+/// [`NoMemory`] where that does not fit memory, and nowhere else.
 pub(super) fn first_memory(
     alloc: Global,
     loaded: &Loaded,
@@ -49,6 +53,10 @@ pub(super) fn first_memory(
 
 /// An instance of a module of the shape that is executed, whose `run` has the address of its descriptor
 /// as its argument.
+///
+/// # Errors
+///
+/// [`NoMemory`] where it does not fit memory, and nowhere else.
 pub(super) fn first_instance(
     alloc: Global,
     valid: &ValidModule,

@@ -6,7 +6,6 @@ ghost use Rattle.std.specs.String.{string_bytes};
 ghost use Rattle.qw_io.specs.Faults.{IsCounted};
 ghost use Rattle.qw_types.specs.declared.schema.Table.{Table};
 ghost use Rattle.qw_types.specs.declared.value.Val.{Val};
-ghost use Rattle.qw_meaning.specs.Statement.{Statement};
 ghost use Rattle.qw_module.specs.Turns.{Done};
 ghost use Rattle.qw_emit.specs.Compiled.{IsCompiled};
 ghost use Rattle.qw_emit.specs.Layout.{used};
@@ -42,6 +41,10 @@ pub struct Turned {
 }
 
 /// Reads the words and the files, and runs the query over the table.
+///
+/// # Errors
+///
+/// A refusal of the words or of a file, the name of a file that couldn't be read, or want of memory.
 pub fn run<'a, F: Shelf>(
     alloc: Global,
     words: &'a [String],
