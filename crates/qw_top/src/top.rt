@@ -16,12 +16,14 @@ ghost use Rattle.qw_top.specs.Top.{AreNames, Explains, HasQuery, IsFault, IsSett
 use crate::bench::Bench;
 use crate::notes::{note_stop, note_want_of_memory};
 use crate::status::Status;
-use finish::{deliver, run};
 use qw_io::{Shelf, Sink};
+use report::deliver;
+use run::run;
 use std::alloc::Global;
 
-mod finish;
 mod reading;
+mod report;
+mod run;
 
 /// How many instructions an instance runs before the next one has its turn: so many that the cost of a turn
 /// doesn't count, and so few that instances alternate.

@@ -1,5 +1,5 @@
 use Rattle.qw_top.proofs.DeliverLemmas.{Ran-one, no_steps}
-use Rattle.qw_top.proofs.top.finish.report_of.Goals as goal
+use Rattle.qw_top.proofs.top.report.report_of.Goals as goal
 
 pub one_table-requires : goal.one_table-requires
 one_table-requires c = Ran-one _ _ c.requires

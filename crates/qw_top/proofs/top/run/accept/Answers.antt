@@ -3,7 +3,7 @@ use Rattle.std.proofs.lemmas.Grind.{common_steps}
 use Rattle.std.specs.String.{string_bytes}
 use Rattle.qw_top.specs.Top.{AreNames, names_of}
 use Rattle.qw_top.proofs.DeliverLemmas.{IfErr-Stops}
-use Rattle.qw_top.proofs.top.finish.accept.Goals as goal
+use Rattle.qw_top.proofs.top.run.accept.Goals as goal
 
 pub returns-clause-stops : goal.returns-clause-stops
 returns-clause-stops g c =

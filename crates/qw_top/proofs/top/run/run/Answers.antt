@@ -1,5 +1,5 @@
 use Rattle.qw_top.proofs.DeliverLemmas.{asked_within, has_asked}
-use Rattle.qw_top.proofs.top.finish.run.Goals as goal
+use Rattle.qw_top.proofs.top.run.run.Goals as goal
 
 pub finished-requires : goal.finished-requires
 finished-requires g c = asked_within _ _ _ c.in_ok-schema.field-0.loaded _ c.in_ok-schema.ensures.asks

@@ -1,5 +1,5 @@
 use Rattle.qw_top.proofs.ReportLemmas.{rows_in-header, statement_of}
-use Rattle.qw_top.proofs.top.finish.rows_report.Goals as goal
+use Rattle.qw_top.proofs.top.report.rows_report.Goals as goal
 
 pub report_text-requires : goal.report_text-requires
 report_text-requires c =

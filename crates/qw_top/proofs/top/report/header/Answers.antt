@@ -1,7 +1,7 @@
 use Rattle.std.proofs.Common.{◌<◌, refl, length}
 use Rattle.std.specs.List.{AllByRecursion}
 use Rattle.qw_top.proofs.ReportLemmas.{header-more}
-use Rattle.qw_top.proofs.top.finish.header.Goals as goal
+use Rattle.qw_top.proofs.top.report.header.Goals as goal
 
 pub loop-column-preserved : goal.loop-column-preserved
 loop-column-preserved c =

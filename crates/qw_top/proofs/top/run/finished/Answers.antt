@@ -2,7 +2,7 @@ use Rattle.std.proofs.Common.{[], ◌∷◌, ◌∙◌, ap, length}
 use Rattle.qw_top.specs.Seats.{first_task}
 use Rattle.qw_top.specs.declared.bench.TheConstants.{DEFAULT_LIMITS}
 use Rattle.qw_top.proofs.RunLemmas.{HasRun-from}
-use Rattle.qw_top.proofs.top.finish.finished.Goals as goal
+use Rattle.qw_top.proofs.top.run.finished.Goals as goal
 
 pub new-requires-clause-columns : goal.new-requires-clause-columns
 new-requires-clause-columns c = rw c.in_ok-job.ensures.query c.requires

@@ -1,6 +1,6 @@
 use Rattle.std.proofs.Common.{◌∙◌}
 use Rattle.qw_top.proofs.DeliverLemmas.{TookFront-none, report_status, written_as, written_fault}
-use Rattle.qw_top.proofs.top.finish.deliver.Goals as goal
+use Rattle.qw_top.proofs.top.report.deliver.Goals as goal
 
 pub returns-in_default-clause-writes : goal.returns-in_default-clause-writes
 returns-in_default-clause-writes g c ran report shows = TookFront-none _ report

@@ -1,0 +1,93 @@
+//! From the words of a run to the bench that was turned to its end.
+
+ghost use Rattle.std.specs.Prelude.{◌≡◌, ◌<◌, [], ◌∷◌, map, length, IfOk, IfErr};
+ghost use Rattle.std.specs.List.{AllByRecursion};
+ghost use Rattle.std.specs.String.{string_bytes};
+ghost use Rattle.qw_types.specs.declared.schema.Table.{Table};
+ghost use Rattle.qw_emit.specs.Compiled.{IsCompiled};
+ghost use Rattle.qw_emit.specs.Layout.{used};
+ghost use Rattle.qw_top.specs.Delivered.{Asks, HasRun};
+ghost use Rattle.qw_top.specs.Stages.{CountsStop, HasAsked, Stops};
+ghost use Rattle.qw_top.specs.Top.{IsOneTable};
+
+use super::QUANTUM;
+use super::reading::{Prepared, prepare};
+use crate::bench::{Bench, DEFAULT_LIMITS, Job};
+use crate::loading::Loaded;
+use crate::stop::{Refusal, Stop};
+use crate::words::run_words;
+use qw_emit::emit::module_of;
+use qw_io::Shelf;
+use qw_machine::valid::validate;
+use qw_meaning::query::Query;
+use qw_types::{NoMemory, Schema};
+use std::alloc::Global;
+
+/// The schema of a run, and the bench that was turned to its end.
+#[derive(Drop)]
+pub struct Turned {
+    pub schema: Schema,
+    pub bench: Bench,
+}
+
+/// Reads the words and the files, and runs the query over the table.
+///
+/// # Errors
+///
+/// A refusal of the words or of a file, the name of a file that couldn't be read, or want of memory.
+pub fn run<'a, F: Shelf>(
+    alloc: Global,
+    words: &'a [String],
+    files: &mut F,
+) -> Result<Turned, Stop<'a>>
+    ensures asked { IfOk result (λ run.
+        HasAsked (F.files files.old) (map string_bytes words.now) run.schema run.bench) }
+    ensures stops { IfErr result (λ stop. Stops (F.files files.old) (map string_bytes words.now) stop) }
+    ensures counts { CountsStop result (F.faults files.old) (F.faults files.new) }
+{
+    let Prepared {
+        schema,
+        loaded,
+        query,
+    } = accept(alloc, words, files)?;
+    let bench = finished(alloc, &loaded, query)?;
+    Ok(Turned { schema, bench })
+}
+
+/// Reads the words, and the files that they name.
+fn accept<'a, F: Shelf>(
+    alloc: Global,
+    words: &'a [String],
+    files: &mut F,
+) -> Result<Prepared, Stop<'a>>
+    ensures asks { IfOk result (λ run. (table : Table) × (run.schema ≡ table ∷ [])
+        × (run.loaded.width ≡ length table.columns)
+        × Asks (F.files files.old) (map string_bytes words.now) table run.loaded.rows run.query) }
+    ensures one_table { IfOk result (λ run. IsOneTable run.schema) }
+    ensures stops { IfErr result (λ stop. Stops (F.files files.old) (map string_bytes words.now) stop) }
+    ensures counts { CountsStop result (F.faults files.old) (F.faults files.new) }
+{
+    let names = run_words(words).ok_or(Stop::Refused(Refusal::Words))?;
+    prepare(alloc, &names, files)
+}
+
+/// The bench of a query over a loaded table, after the turns that end it.
+fn finished(alloc: Global, loaded: &Loaded, query: Query) -> Result<Bench, NoMemory>
+    requires { AllByRecursion (λ column. column < loaded.now.width) (used query) }
+    ensures { IfOk result (λ bench. HasRun loaded.now.width loaded.now.rows query bench) }
+{
+    let job = compiled(alloc, query)?;
+    let mut bench = Bench::new(alloc, loaded, job, DEFAULT_LIMITS)?;
+    bench.run_all(QUANTUM);
+    Ok(bench)
+}
+
+/// The statement with its module. A compiled module is valid, so it is refused for want of memory alone.
+fn compiled(alloc: Global, query: Query) -> Result<Job, NoMemory>
+    ensures query { IfOk result (λ job. job.statement ≡ query) }
+    ensures compiled { IfOk result (λ job. IsCompiled query job.program) }
+{
+    let module = module_of(alloc, &query)?;
+    let valid = validate(alloc, module).map_err(|_| NoMemory)?;
+    Ok(Job::new(query, valid))
+}
