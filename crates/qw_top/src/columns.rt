@@ -6,19 +6,11 @@ ghost use Rattle.qw_emit.specs.Columns.{Holds, HoldsColumn, column_pages, column
 ghost use Rattle.qw_top.specs.FirstPage.{SameBelow};
 
 use crate::loading::Loaded;
+use qw_emit::layout::{COLUMN_ALIGNMENT, COLUMNS_START, INTEGER_SIZE};
 use qw_linear::linear::{Linear, PAGE};
 use qw_types::NoMemory;
 use qw_types::schema::{MAX_COLUMNS, MAX_ROWS};
 use std::alloc::Global;
-
-/// Where the columns begin. The octets before belong to nobody.
-pub const COLUMNS_START: usize = 64;
-
-/// The octets of a value of an INTEGER column.
-pub const INTEGER_SIZE: usize = 4;
-
-/// Every column begins at a multiple of this.
-pub const COLUMN_ALIGNMENT: usize = 8;
 
 /// The pages of the columns of the widest and longest table.
 pub const MAX_COLUMN_PAGES: u32 = 3_907;
