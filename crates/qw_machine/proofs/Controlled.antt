@@ -56,10 +56,7 @@ results-short (Some t) = omega arith
 
 module _ (sequences : List (List Instr)) (rooms : Rooms) (spare : ℕ) (numbered : IsNumbered sequences) (p : Point) (is : IsPoint sequences rooms p)
     (inside : p.place < length (sequence_at sequences p.sequence)) where
-  -- there is room for a label, and for the operands
-  pub label-room : length p.labels < rooms.labels
-  label-room = omega (arith, is.room.labels)
-
+  -- there is room for the operands
   pub operand-room : length p.operands < rooms.operands
   operand-room = omega (arith, ap length is.operands_are, length-append is.own is.below, is.fits, is.room.operands, inside)
 

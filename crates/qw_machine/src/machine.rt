@@ -297,11 +297,7 @@ impl Instance {
         Ok(Instance {
             globals,
             function: number,
-            ended: if runs {
-                None
-            } else {
-                Some(RunEnd::Returned)
-            },
+            ended: if runs { None } else { Some(RunEnd::Returned) },
             activity,
         })
     }

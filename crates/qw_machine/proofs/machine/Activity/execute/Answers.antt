@@ -55,11 +55,11 @@ returns-after-pop-ne0-clause-executed c =
     let found = instruction-array c.args.sequences.now c.args.self.now.sequence c.args.self.now.place c.index-sequences-self.result c.as_slice-sequence.result.now _ _
     c.requires.point.room.numbered c.index-sequences-self.is c.as_slice-sequence.ensures.value c.requires.unfinished c.in-If.is in
     elim c.if-pop-ne0.branch [
-      then-pop-ne0 w ↦
+      | then-pop-ne0 w ↦
           executed-if (items_of c.args.sequences.now) (rooms_of c.args.self.now) c.args.spare c.requires.numbered (point_of c.args.self.now) c.requires.point c.requires.unfinished
           c.in-If.result c.in-If.then_body c.in-If.else_body found c.pop.result c.pop.new.self.values (point_of c.enter-in-If.new.self) c.args.memory.now.octets c.pop.ensures.popped w.if-pop-ne0.true
           (rw (← c.is_some-in-If.ensures, ← w.body-is) c.enter-in-If.ensures.point)
-    | else-pop-ne0 w ↦
+      | else-pop-ne0 w ↦
           executed-else (items_of c.args.sequences.now) (rooms_of c.args.self.now) c.args.spare c.requires.numbered (point_of c.args.self.now) c.requires.point c.requires.unfinished
           c.in-If.result c.in-If.then_body c.in-If.else_body found c.pop.new.self.values (point_of c.enter-in-If.new.self) c.args.memory.now.octets
           (c.pop.ensures.popped ∙ ap (λ (n : ℕ). n ∷ c.pop.new.self.values) w.if-pop-ne0.false) (rw (← c.is_some-in-If.ensures, ← w.body-is) c.enter-in-If.ensures.point)
