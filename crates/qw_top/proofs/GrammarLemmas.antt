@@ -13,6 +13,7 @@ use Rattle.qw_meaning.specs.declared.query.Comparison.TheVariants.{Equal, NotEqu
 use Rattle.qw_top.specs.declared.token.Kind.{Kind}
 use Rattle.qw_top.specs.declared.token.Kind.TheVariants.{Word, DelimitedIdentifier, CharacterString, Number, Symbol}
 use Rattle.qw_top.specs.Token.{Lexeme}
+use Rattle.qw_top.specs.Digits.{are_digits}
 use Rattle.qw_top.specs.Grammar.{folded, reserved, IsReserved, Place, key_word, regular, symbol, unsigned, Fills, comparison_symbol, signed_literal, signed}
 use Rattle.qw_top.specs.Reading.{◌>>=◌, is_word, is_reserved, key_word_at, symbol_at, regular_at, literal_of, unsigned_at, negated, literal_at, comparison_of, comparison_at, is_end}
 
@@ -110,9 +111,8 @@ unsigned_takes (t ∷ ts) rest z e =
     let octets = t.octets in
     let n = digits_value 10 octets in
     let a = bind_some (literal_of octets) (λ bound. Some (bound, ts)) (z, rest) e in
-    let g = guard_some ((ltb 0 (length octets) && list_all is_ascii_digit octets) && ltb n (10 ^ 18)) (pos n) a.0 a.1 in
-    let tests = and_parts (ltb 0 (length octets) && list_all is_ascii_digit octets) (ltb n (10 ^ 18)) g.0 in
-    let digits = and_parts (ltb 0 (length octets)) (list_all is_ascii_digit octets) tests.0 in
+    let g = guard_some (are_digits octets && ltb n (10 ^ 18)) (pos n) a.0 a.1 in
+    let tests = and_parts (are_digits octets) (ltb n (10 ^ 18)) g.0 in
     let both : (a.0, ts) ≡ (z, rest) = (let got : Some (a.0, ts) ≡ Some (z, rest) = a.2 in cc) in
     let number : a.0 ≡ z = ap (λ (x : ℤ × List Lexeme). x.0) both in
     let left : ts ≡ rest = ap (λ (x : ℤ × List Lexeme). x.1) both in (
@@ -120,14 +120,14 @@ unsigned_takes (t ∷ ts) rest z e =
       record {
         token = t;
         parts = ap (λ (x : List Lexeme). t ∷ x) left;
-        fills = (ltb-true 0 (length octets) digits.0, digits.1, refl);
+        fills = (tests.0, refl);
       },
       (sym (g.1 ∙ number), ltb-true n (10 ^ 18) tests.1),
     )
 
 unsigned_again : (t : Lexeme) (rest : List Lexeme) (n : ℕ) → Fills (unsigned n) t → n < 10 ^ 18 → unsigned_at (t ∷ rest) ≡ Some (pos n, rest)
 unfolding unsigned_at
-unsigned_again t rest n h lt = rw (lt-ltb 0 (length t.octets) h.0, h.1, h.2, lt-ltb n (10 ^ 18) lt) refl
+unsigned_again t rest n h lt = rw (h.0, h.1, lt-ltb n (10 ^ 18) lt) refl
 
 -- ---- one place
 
@@ -202,7 +202,7 @@ pub other_than : (octets : List ℕ) (P : Lexeme → Type 0) (ts rest : List Lex
 other_than octets P ts rest one h = ap (symbol_at octets) one.parts ∙ not_symbol octets one.token rest (h one.token one.fills)
 
 no_digit : (n : ℕ) (t : Lexeme) → Fills (unsigned n) t → t.octets ≡ codes "-" → ⊥
-no_digit n t fills e = false≢true (subst (λ x. list_all is_ascii_digit x ≡ true) e fills.1)
+no_digit n t fills e = false≢true (subst (λ x. are_digits x ≡ true) e fills.0)
 
 -- ---- a literal with its sign
 

@@ -2,6 +2,7 @@ pub mod OutputLemmas
 pub mod WholeFileLemmas
 pub mod ColumnLemmas
 pub mod LoadingLaws
+pub mod DigitLemmas
 pub mod NumberLemmas
 pub mod ReaderLemmas
 pub mod RecordLemmas

@@ -12,8 +12,10 @@ use Rattle.std.proofs.lemmas.Slice.Eq.{bytes_eq-Decides}
 use Rattle.std.proofs.lemmas.Str.{IsUtf8-from_ascii}
 use Rattle.std.proofs.lemmas.Str.Ascii.{lowercase-uppercase, IsAscii-nil, IsAscii-cons}
 use Rattle.std.proofs.lemmas.Str.Parse.{IsNumeralModel, numerals_by_value, parse_signed_digits}
+use Rattle.qw_top.specs.Digits.{are_digits}
 use Rattle.qw_top.specs.Grammar.{folded}
 use Rattle.qw_top.specs.Reading.{literal_of}
+use Rattle.qw_top.proofs.DigitLemmas.{all_digits, own, some_digit}
 
 -- ---- names
 
@@ -38,29 +40,13 @@ same_name name other r h =
 
 -- ---- numbers
 
-digits_are_ascii : (bs : List ℕ) → list_all is_ascii_digit bs ≡ true → IsAscii bs
-digits_are_ascii [] e = IsAscii-nil
-digits_are_ascii (b ∷ bs) e =
-    let parts = and_parts (is_ascii_digit b) (list_all is_ascii_digit bs) e in
-    IsAscii-cons b bs (digit_is_ascii b parts.0) (digits_are_ascii bs parts.1)
-  where
-    digit_is_ascii : (b : ℕ) → is_ascii_digit b ≡ true → b < 128
-    digit_is_ascii b e = grind (arith, nat_tests)
-
-pub digits_are_utf8 : (bs : List ℕ) → list_all is_ascii_digit bs ≡ true → IsUtf8 bs
-digits_are_utf8 bs e = IsUtf8-from_ascii bs (digits_are_ascii bs e)
-
-own : IsNumeralModel (λ ds. list_all is_ascii_digit ds ≡ true) (digits_value 10)
-own = numerals_by_value (λ ds. list_all is_ascii_digit ds ≡ true) (search rules)
-
-literal-none : (bs : List ℕ) → list_all is_ascii_digit bs ≡ true → (((0 < length bs) × (digits_value 10 bs < 2 ^ 63)) → ⊥) → literal_of bs ≡ None
-literal-none [] all h = refl
-literal-none (b ∷ bs) all h =
-    elim (cases_lt (digits_value 10 (b ∷ bs)) (10 ^ 18)) [
-      | inl lt ↦ absurd (h (omega arith, omega arith))
-      | inr le ↦ rw (lt-ltb 0 (length (b ∷ bs)) (omega arith), all, le-ltb (digits_value 10 (b ∷ bs)) (10 ^ 18) le) refl
+literal-none : (bs : List ℕ) → are_digits bs ≡ true → (((0 < length bs) × (digits_value 10 bs < 2 ^ 63)) → ⊥) → literal_of bs ≡ None
+literal-none bs digits h =
+    elim (cases_lt (digits_value 10 bs) (10 ^ 18)) [
+      | inl lt ↦ absurd (h (some_digit bs digits, omega arith))
+      | inr le ↦ rw (digits, le-ltb (digits_value 10 bs) (10 ^ 18) le) refl
     ]
 
-pub no_literal : {E : Type 0} (bs : List ℕ) (r : Result ℤ E) (e : E) → list_all is_ascii_digit bs ≡ true → ParsesSigned w64 10 bs r → r ≡ Err e → None ≡ literal_of bs
-no_literal bs (Ok v) e all h is = absurd cc
-no_literal bs (Err d) e all h is = sym (literal-none bs all (parse_signed_digits own w64 bs (Err d) h all))
+pub no_literal : {E : Type 0} (bs : List ℕ) (r : Result ℤ E) (e : E) → are_digits bs ≡ true → ParsesSigned w64 10 bs r → r ≡ Err e → None ≡ literal_of bs
+no_literal bs (Ok v) e digits h is = absurd cc
+no_literal bs (Err d) e digits h is = sym (literal-none bs digits (parse_signed_digits own w64 bs (Err d) h (all_digits bs digits)))

@@ -80,21 +80,6 @@ statement_within columns names places name tested comparison literal are some fe
       tested = omega (arith, place_below columns name tested (sym is), are.few);
     }
 
-only_table : (table found : Table) (name : List ℕ) → table_of (table ∷ []) name ≡ Some found → found ≡ table
-only_table table found name e =
-    elim (cases_Bool (bytes_eq name table.name)) [
-      | inl same ↦ (let here : Some table ≡ Some found = rw same at e in cc)
-      | inr differs ↦ absurd (let none : None ≡ Some found = rw differs at e in cc)
-    ]
-
--- a statement over one table names columns of it
-pub Means-within : (table : Table) (selection : Selection) (statement : Statement) → Means (table ∷ []) selection statement → AllByRecursion (λ column. column < length table.columns) (statement.tested ∷ statement.columns)
-Means-within table selection statement m =
-    let is = only_table table m.table selection.source.table m.table_is in
-    let tested = subst (λ (t : Table). place_of t.columns selection.source.tested ≡ Some statement.tested) is m.tested_is in
-    let columns = subst (λ (t : Table). map (place_of t.columns) selection.columns ≡ map Some statement.columns) is m.columns_are in
-    (place_below table.columns selection.source.tested statement.tested tested, places_within table.columns selection.columns statement.columns (length table.columns) (omega arith) columns)
-
 -- ---- one meaning
 
 pub Means-unique : (schema : List Table) (selection : Selection) (statement other : Statement) → Means schema selection statement → Means schema selection other → statement ≡ other

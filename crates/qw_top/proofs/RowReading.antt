@@ -10,7 +10,9 @@ use Rattle.qw_types.specs.declared.value.Val.{Val}
 use Rattle.qw_module.specs.Map.{Area, lies_in, lies_in_one}
 use Rattle.qw_linear.specs.Memory.{loaded, number_at}
 use Rattle.qw_module.specs.Turns.{LiesWithin}
+use Rattle.qw_module.proofs.Areas.{all-weaker}
 use Rattle.qw_emit.specs.Layout.{before, cell_at, cells_at, row_at, row_size, rows_at, rows_from}
+use Rattle.qw_emit.proofs.Areas as emitted
 
 -- a value and others that are both there
 record AreParts {T : Type 0} (first : Option T) (rest : Option (List T)) (all : List T) : Type 0 where
@@ -27,15 +29,8 @@ parts_of (Some x) (Some xs) all h = record { one = x; others = xs; first_is = re
 
 -- what lies in one of the areas lies in the memory that they lie in
 pub lies-within : (own : List Area) (octets at width : ℕ) → AllByRecursion (LiesWithin octets) own → IsTrue (lies_in_one own at width) → at + width ≤ octets
-lies-within [] octets at width inside lies = absurd (false≢true lies)
-lies-within (area ∷ own) octets at width (here, rest) lies = ⊎_elim
-    (λ is. let end : at + width ≤ area.start + area.size = leb-true _ _ (second (nat_le area.start at) (nat_le (at + width) (area.start + area.size)) is) in omega arith)
-    (λ is_not. lies-within own octets at width rest (rw is_not at lies))
-    (cases_Bool (lies_in at width area))
-  where
-    second : (a b : Bool) → (a && b) ≡ true → IsTrue b
-    second true b h = h
-    second false b h = absurd (false≢true h)
+lies-within own octets at width inside lies =
+    (emitted.lies-within own 0 octets (all-weaker (LiesWithin octets) (λ area. (0 ≤ area.start) × (area.start + area.size ≤ octets)) (λ area h. (omega arith, h)) own inside) at width lies).1
 
 -- ---- the cells of a row
 -- after k cells: those that are read, and those that are left
@@ -63,10 +58,6 @@ next-cell memory types cells k values d within read =
     parts_of (cell_at memory (cells + 16 * k) (get_or types k d)) (cells_at memory (cells + 16 * (k + 1)) (drop (k + 1) types)) read.rest
     (subst (λ (at : ℕ). before (cell_at memory (cells + 16 * k) (get_or types k d)) (cells_at memory at (drop (k + 1) types)) ≡ Some read.rest) place all)
 
-pub cell-there : (memory : List ℕ) (types : List Ty) (cells k : ℕ) (values : List Val) (d : Ty) → k < length types → AreCells memory types cells k values →
-    IsSome (cell_at memory (cells + 16 * k) (get_or types k d))
-cell-there memory types cells k values d within read = rw (next-cell memory types cells k values d within read).first_is refl
-
 pub cells-more : (memory : List ℕ) (types : List Ty) (cells k : ℕ) (values : List Val) (value : Val) (d : Ty) → k < length types →
     cell_at memory (cells + 16 * k) (get_or types k d) ≡ Some value → AreCells memory types cells k values → AreCells memory types cells (k + 1) (values ++ value ∷ [])
 cells-more memory types cells k values value d within is read =
@@ -78,13 +69,6 @@ cells-more memory types cells k values value d within is read =
       left = next.rest_is;
       all = read.all ∙ ap (λ (vs : List Val). Some (values ++ vs)) rest ∙ ap Some (sym (append_assoc values (value ∷ []) next.others));
     }
-
-pub cells-all : (memory : List ℕ) (types : List Ty) (cells k : ℕ) (values : List Val) → k ≡ length types → AreCells memory types cells k values →
-    cells_at memory cells types ≡ Some values
-cells-all memory types cells k values all read =
-    let none : drop k types ≡ [] = drop_all k types (omega (arith, all)) in
-    let empty : read.rest ≡ [] = sym (same_Some [] read.rest (subst (λ (tys : List Ty). cells_at memory (cells + 16 * k) tys ≡ Some read.rest) none read.left)) in
-    read.all ∙ ap (λ (vs : List Val). Some (values ++ vs)) empty ∙ ap Some (append-nil values)
 
 -- ---- rows
 -- a row that is there lies in an own area, and has its cells

@@ -8,6 +8,7 @@ use Rattle.std.specs.Str.Parse.{digits_value}
 use Rattle.qw_meaning.specs.declared.query.Comparison.{Comparison}
 use Rattle.qw_meaning.specs.declared.query.Comparison.TheVariants.{Equal, NotEqual, Less, LessOrEqual, Greater, GreaterOrEqual}
 use Rattle.qw_top.specs.declared.token.Kind.TheVariants.{Word}
+use Rattle.qw_top.specs.Digits.{are_digits}
 use Rattle.qw_top.specs.Token.{Lexeme, AreTokens}
 
 -- with each ASCII letter in upper case
@@ -43,7 +44,7 @@ abbrev pub Fills : Place → Lexeme → Type 0
 Fills (key_word word) t = folded t.octets ≡ word
 Fills (regular name) t = (t.kind ≡ Word) × (folded t.octets ≡ name) × (IsReserved name → ⊥)
 Fills (symbol octets) t = t.octets ≡ octets
-Fills (unsigned n) t = (0 < length t.octets) × IsTrue (list_all is_ascii_digit t.octets) × (digits_value 10 t.octets ≡ n)
+Fills (unsigned n) t = IsTrue (are_digits t.octets) × (digits_value 10 t.octets ≡ n)
 
 -- The text is one statement of the form, with a `;` at its end or none.
 pub record IsStatement (form : List Place) (text : List ℕ) : Type 0 where

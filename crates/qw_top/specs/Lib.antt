@@ -10,6 +10,8 @@ pub mod Stop
 pub mod Words
 pub mod Loading
 pub mod Sink
+pub mod Octets
+pub mod Digits
 pub mod Token
 pub mod Scan
 pub mod Grammar

@@ -1,8 +1,9 @@
 -- What a table file stands for: records of comma-separated values, the first of which names the columns.
-use Rattle.std.specs.Prelude.{◌≡◌, ◌≢◌, ◌⊎◌, ◌≤◌, ◌<◌, ◌+◌, ◌-◌, ◌*◌, ◌^◌, ℕ, zero, suc, ℤ, pos, neg_ℤ, List, [], ◌∷◌, ◌++◌, length, map, take, drop, true, Some, All}
+use Rattle.std.specs.Prelude.{◌≡◌, ◌≢◌, ◌⊎◌, ◌≤◌, ◌<◌, ◌+◌, ◌-◌, ◌*◌, ◌^◌, ℕ, zero, suc, ℤ, pos, neg_ℤ, List, [], ◌∷◌, ◌++◌, length, map, take, drop, true, IsTrue, Some, All}
 use Rattle.std.specs.Borrow.{Bor}
 use Rattle.std.specs.Char.{IsAsciiDigit, to_ascii_lowercase}
 use Rattle.std.specs.List.{AllByRecursion}
+use Rattle.std.specs.Str.Parse.{digits_value}
 use Rattle.csv.specs.Reading.{AreRecords, Reached, Ready, default_config, source_of, strip_bom}
 use Rattle.csv.specs.declared.parser.State.{State}
 use Rattle.csv.specs.declared.parser.State.TheVariants.{StartRecord}
@@ -16,34 +17,19 @@ use Rattle.qw_types.specs.declared.value.Ty.{Ty}
 use Rattle.qw_types.specs.declared.value.Ty.TheVariants.{Integer}
 use Rattle.qw_types.specs.declared.value.Val.{Val}
 use Rattle.qw_types.specs.declared.value.Val.TheVariants.{Num}
+use Rattle.qw_top.specs.Digits.{are_digits}
+use Rattle.qw_top.specs.Octets.{minus, plus}
 use Rattle.qw_top.specs.declared.loading.FieldFault.{FieldFault}
 use Rattle.qw_top.specs.declared.loading.FieldFault.TheVariants.{NotNumber, TooLarge}
 use Rattle.qw_top.specs.declared.loading.LoadFault.{LoadFault}
 use Rattle.qw_top.specs.declared.loading.LoadFault.TheVariants as fault
 
--- the number that decimal digits show
-abbrev pub number_of : List ℕ → ℕ
-number_of [] = 0
-number_of (digit ∷ digits) = (digit - 48) * 10 ^ length digits + number_of digits
-
--- one digit or more (ISO/IEC 9075:1992, 5.3 "unsigned integer")
-pub record AreDigits (digits : List ℕ) : Type 0 where
-  pub some : 0 < length digits
-  pub all : All IsAsciiDigit digits
-
--- the signs
-abbrev pub plus : ℕ
-plus = 43
-
-abbrev pub minus : ℕ
-minus = 45
-
 -- the text shows the number: digits, with a sign before them or none (ISO/IEC 9075:1992, 5.3 "signed numeric literal")
 abbrev pub ShowsNumber : List ℕ → ℤ → Type 0
-ShowsNumber text n = (digits : List ℕ) × AreDigits digits
-    × (((text ≡ digits) × (n ≡ pos (number_of digits)))
-    ⊎ ((text ≡ plus ∷ digits) × (n ≡ pos (number_of digits)))
-    ⊎ ((text ≡ minus ∷ digits) × (n ≡ neg_ℤ (pos (number_of digits)))))
+ShowsNumber text n = (digits : List ℕ) × IsTrue (are_digits digits)
+    × (((text ≡ digits) × (n ≡ pos (digits_value 10 digits)))
+    ⊎ ((text ≡ plus ∷ digits) × (n ≡ pos (digits_value 10 digits)))
+    ⊎ ((text ≡ minus ∷ digits) × (n ≡ neg_ℤ (pos (digits_value 10 digits)))))
 
 -- a field stands for a value of a type
 abbrev pub IsFieldOf : Ty → List ℕ → Val → Type 0

@@ -7,6 +7,7 @@ use Rattle.std.specs.Str.{bytes_eq}
 use Rattle.std.specs.Str.Parse.{digits_value}
 use Rattle.qw_top.specs.declared.token.Kind.{Kind}
 use Rattle.qw_top.specs.declared.token.Kind.TheVariants.{Word}
+use Rattle.qw_top.specs.Digits.{are_digits}
 use Rattle.qw_top.specs.Token.{Lexeme}
 use Rattle.qw_top.specs.Grammar.{folded, reserved, Source, Selection}
 use Rattle.qw_top.specs.declared.parse.form.Item.{Item}
@@ -47,7 +48,7 @@ regular_at (t ∷ ts) = if is_word t.kind && not (is_reserved (folded t.octets))
 -- the number that digits are, if it fits
 abbrev pub literal_of : List ℕ → Option ℤ
 literal_of octets =
-    if (nat_lt 0 (length octets) && list_all is_ascii_digit octets) && nat_lt (digits_value 10 octets) (10 ^ 18)
+    if are_digits octets && nat_lt (digits_value 10 octets) (10 ^ 18)
     then Some (pos (digits_value 10 octets))
     else None
 

@@ -3,6 +3,7 @@ use Rattle.std.specs.Prelude.{◌≡◌, ◌≢◌, ℕ, ◌+◌, ◌<◌, ◌�
 use Rattle.std.specs.List.{AllByRecursion, list_any}
 use Rattle.std.specs.Str.{IsUtf8, bytes_eq}
 use Rattle.std.specs.Char.{is_ascii_alphabetic, is_ascii_digit}
+use Rattle.qw_top.specs.Octets.{carriage_return, double_quote, equals_sign, greater_than, less_than, line_feed, minus, period, single_quote, space, tab, underscore}
 use Rattle.qw_top.specs.declared.token.Kind.{Kind}
 use Rattle.qw_top.specs.declared.token.Kind.TheVariants.{Word, DelimitedIdentifier, CharacterString, Number, Symbol}
 use Rattle.qw_top.specs.declared.token.Token.{Token}
@@ -24,7 +25,7 @@ lexemes ts = map lexeme ts
 
 -- space, tab, line feed or carriage return
 abbrev pub is_separator : ℕ → Bool
-is_separator b = ((b == 32) || (b == 9)) || ((b == 10) || (b == 13))
+is_separator b = ((b == space) || (b == tab)) || ((b == line_feed) || (b == carriage_return))
 
 -- what is left behind the longest front whose octets all pass the test
 abbrev pub after_run : (ℕ → Bool) → List ℕ → List ℕ
@@ -39,7 +40,7 @@ after_mark text = if bytes_eq (take 3 text) (0xEF ∷ 0xBB ∷ 0xBF ∷ []) then
 
 -- an octet of a word behind its first: a letter, a digit or `_`
 abbrev pub is_word_octet : ℕ → Bool
-is_word_octet b = (is_ascii_alphabetic b || is_ascii_digit b) || (b == 95)
+is_word_octet b = (is_ascii_alphabetic b || is_ascii_digit b) || (b == underscore)
 
 -- a letter, and then letters, digits and `_`
 abbrev pub IsWord : List ℕ → Type 0
@@ -57,16 +58,16 @@ quoted quote value = quote ∷ (doubled quote value ++ quote ∷ [])
 
 -- an octet of a number: a digit or a point
 abbrev pub is_number_octet : ℕ → Bool
-is_number_octet b = is_ascii_digit b || (b == 46)
+is_number_octet b = is_ascii_digit b || (b == period)
 
 -- a letter, a digit, `_` or a point
 abbrev pub is_word_octet_or_point : ℕ → Bool
-is_word_octet_or_point b = is_word_octet b || (b == 46)
+is_word_octet_or_point b = is_word_octet b || (b == period)
 
 -- digits with at most one point before, among or after them
 pub record IsNumber (octets : List ℕ) : Type 0 where
   pub digits_and_point : All (λ b. IsTrue (is_number_octet b)) octets
-  pub one_point : count_by (λ b. b == 46) octets ≤ 1
+  pub one_point : count_by (λ b. b == period) octets ≤ 1
   pub some_digit : 0 < count_by is_ascii_digit octets
 
 -- one of `( ) , . ; * + - / = < >`
@@ -75,7 +76,7 @@ is_single_symbol b = list_any (λ c. c == b) (codes "(),.;*+-/=<>")
 
 -- `<>`, `<=` or `>=`
 abbrev pub is_double_symbol : ℕ → ℕ → Bool
-is_double_symbol b c = ((b == 60) && ((c == 61) || (c == 62))) || ((b == 62) && (c == 61))
+is_double_symbol b c = ((b == less_than) && ((c == equals_sign) || (c == greater_than))) || ((b == greater_than) && (c == equals_sign))
 
 -- a symbol of one or of two octets
 abbrev pub IsSymbol : List ℕ → Type 0
@@ -87,8 +88,8 @@ IsSymbol (b ∷ c ∷ d ∷ rest) = ⊥
 -- the octets have the form of the kind; the name of a delimited identifier isn't empty
 abbrev pub HasForm : Kind → List ℕ → Type 0
 HasForm Word octets = IsWord octets
-HasForm DelimitedIdentifier octets = (name : List ℕ) × (0 < length name) × (octets ≡ quoted 34 name)
-HasForm CharacterString octets = (value : List ℕ) × (octets ≡ quoted 39 value)
+HasForm DelimitedIdentifier octets = (name : List ℕ) × (0 < length name) × (octets ≡ quoted double_quote name)
+HasForm CharacterString octets = (value : List ℕ) × (octets ≡ quoted single_quote value)
 HasForm Number octets = IsNumber octets
 HasForm Symbol octets = IsSymbol octets
 
@@ -98,14 +99,14 @@ HasForm Symbol octets = IsSymbol octets
 -- comments, which aren't read: no token begins there.
 abbrev pub symbol_goes_on : List ℕ → ℕ → Bool
 symbol_goes_on [] c = false
-symbol_goes_on (b ∷ []) c = (is_double_symbol b c || ((b == 46) && is_ascii_digit c)) || ((b == 45) && (c == 45))
+symbol_goes_on (b ∷ []) c = (is_double_symbol b c || ((b == period) && is_ascii_digit c)) || ((b == minus) && (c == minus))
 symbol_goes_on (b ∷ d ∷ bs) c = false
 
 -- Whether a token can't end before this octet. Letters and `_` are no part of a number, and yet none ends before them.
 abbrev pub goes_on : Kind → List ℕ → ℕ → Bool
 goes_on Word octets c = is_word_octet c
-goes_on DelimitedIdentifier octets c = c == 34
-goes_on CharacterString octets c = c == 39
+goes_on DelimitedIdentifier octets c = c == double_quote
+goes_on CharacterString octets c = c == single_quote
 goes_on Number octets c = is_word_octet_or_point c
 goes_on Symbol octets c = symbol_goes_on octets c
 

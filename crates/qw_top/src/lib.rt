@@ -6,6 +6,7 @@ pub mod bench_laws;
 pub mod columns;
 #[cfg(test)]
 mod comparison_tests;
+mod digits;
 pub mod files;
 pub mod first_page;
 pub mod loading;

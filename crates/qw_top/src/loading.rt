@@ -1,4 +1,4 @@
-//! A table's file, read into its rows.
+//! A table's file (RFC 4180), read into its rows.
 
 ghost use Rattle.std.specs.Prelude.{◌≡◌, ◌≢◌, ◌≤◌, ◌<◌, ◌+◌, ◌↔◌, ℕ, ℤ, List, [], ◌∷◌, ◌++◌, length, map, slice_index_or, IsTrue, Some, IfOk, IfErr, OnOk, MatchResult};
 ghost use Rattle.std.specs.Bool.{MatchBool};
@@ -14,8 +14,9 @@ ghost use Rattle.qw_types.specs.declared.value.Val.TheVariants.{Num};
 ghost use Rattle.qw_types.specs.declared.value.Ty.TheVariants.{Integer};
 ghost use Rattle.qw_emit.specs.Columns.{value_of};
 ghost use Rattle.qw_top.specs.declared.loading.LoadFault.{LoadFault};
-ghost use Rattle.qw_top.specs.Loading.{AreDigits, AreIntegers, AreLoaded, Contents, HasRead, IsFieldFault, IsFieldOf, IsFirstFault, IsHeader, IsRecordFault, IsRecordOf, Loads};
+ghost use Rattle.qw_top.specs.Loading.{AreIntegers, AreLoaded, Contents, HasRead, IsFieldFault, IsFieldOf, IsFirstFault, IsHeader, IsRecordFault, IsRecordOf, Loads};
 
+use crate::digits::are_digits;
 use csv::{ByteRecord, Reader, ReaderBuilder};
 use qw_types::schema::MAX_ROWS;
 use qw_types::{Column, Table};
@@ -123,8 +124,9 @@ impl Loaded {
 
 /// Loads the file of a table. A byte order mark at its start and empty lines are passed over.
 ///
-/// An error is the first fault from the start of the file; want of memory may come instead of any
-/// answer.
+/// # Errors
+///
+/// The first fault from the start of the file. Want of memory may come instead of any answer.
 pub fn load(alloc: Global, table: &Table, bytes: &[u8]) -> Result<Loaded, LoadFault>
     requires { AreIntegers table.now.columns }
     ensures rows { IfOk result (λ loaded. Loads table.now bytes.now loaded.rows) }
@@ -156,7 +158,7 @@ pub fn one_first_fault()
         → IsFirstFault table bytes a → IsFirstFault table bytes b → a ≡ b }
 {}
 
-// Works through a reference, so that no return leaves a reader behind.
+/// Loads what a reader gives. It works through a reference, so that no return leaves a reader behind.
 fn load_from(alloc: Global, table: &Table, reader: &mut Reader<&[u8]>) -> Result<Loaded, LoadFault>
     requires { AreIntegers table.now.columns }
     ensures rows { IfOk result (λ loaded. (bytes : List ℕ) → HasRead reader.old (strip_bom bytes) []
@@ -172,7 +174,7 @@ fn load_from(alloc: Global, table: &Table, reader: &mut Reader<&[u8]>) -> Result
     rows_after_header(alloc, table, reader, &mut row)
 }
 
-// The rows of the data records.
+/// The rows of the data records.
 fn rows_after_header(
     alloc: Global,
     table: &Table,
@@ -204,8 +206,8 @@ fn rows_after_header(
     Ok(Loaded { width, len, values })
 }
 
-// Reads the next record, if there is one. No clause of `csv` tells a read's error over bytes in
-// memory from want of memory.
+/// Reads the next record, if there is one. No clause of `csv` tells a read's error over bytes in
+/// memory from want of memory.
 fn next_record(reader: &mut Reader<&[u8]>, row: &mut ByteRecord) -> Result<bool, LoadFault>
     ensures read { IfOk result (λ found. (text : List ℕ) (records : List (List (List ℕ)))
         → HasRead reader.old text records
@@ -219,7 +221,7 @@ fn next_record(reader: &mut Reader<&[u8]>, row: &mut ByteRecord) -> Result<bool,
     }
 }
 
-// Whether a record names the columns.
+/// Whether a record names the columns.
 fn is_header(columns: &[Column], row: &ByteRecord) -> bool
     ensures { IsTrue result ↔ IsHeader columns.now (fields_of row.now) }
 {
@@ -234,13 +236,14 @@ fn is_header(columns: &[Column], row: &ByteRecord) -> bool
     true
 }
 
+/// Whether a text is the name of the column, the case of ASCII letters aside.
 fn is_name(text: &[u8], column: &Column) -> bool
     ensures { IsTrue result ↔ (map to_ascii_lowercase text.now ≡ map to_ascii_lowercase column.now.name) }
 {
     text.eq_ignore_ascii_case(column.name.as_str().as_bytes())
 }
 
-// Pushes the values of the data record with this number.
+/// Pushes the values of the data record with this number.
 fn push_row(
     values: &mut Vec<i32>,
     columns: &[Column],
@@ -271,6 +274,7 @@ fn push_row(
     Ok(())
 }
 
+/// The field at a place, counted from 0.
 fn field(row: &ByteRecord, place: usize) -> &[u8]
     requires { place < length (fields_of row.now) }
     ensures { result.now ≡ slice_index_or (fields_of row.now) place [] }
@@ -278,7 +282,7 @@ fn field(row: &ByteRecord, place: usize) -> &[u8]
     row.get(place).unwrap()
 }
 
-// The value of a field of an INTEGER column.
+/// The value of a field of an INTEGER column.
 fn integer_of(field: &[u8]) -> Result<i32, FieldFault>
     ensures { MatchResult result (λ n. IsFieldOf Integer field.now (Num n))
         (IsFieldFault Integer field.now) }
@@ -292,7 +296,7 @@ fn integer_of(field: &[u8]) -> Result<i32, FieldFault>
     }
 }
 
-// The field without the sign before its digits, if it has one.
+/// The field without the sign before its digits, if it has one.
 fn without_sign(field: &[u8]) -> &[u8]
     ensures { result.now ≡ without_leading_sign field.now }
 {
@@ -300,12 +304,6 @@ fn without_sign(field: &[u8]) -> &[u8]
         [b'+' | b'-', digits @ ..] => digits,
         _ => field,
     }
-}
-
-fn are_digits(text: &[u8]) -> bool
-    ensures { IsTrue result ↔ AreDigits text.now }
-{
-    !text.is_empty() && text.iter().all(|octet| octet.is_ascii_digit())
 }
 
 #[cfg(test)]

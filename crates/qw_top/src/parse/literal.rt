@@ -1,20 +1,14 @@
 //! Literals of digits.
 
-ghost use Rattle.std.specs.Prelude.{◌≡◌, true};
-ghost use Rattle.std.specs.List.{list_all};
-ghost use Rattle.std.specs.Char.{is_ascii_digit};
+ghost use Rattle.std.specs.Prelude.{◌≡◌, IsTrue};
+ghost use Rattle.qw_top.specs.Digits.{are_digits};
 ghost use Rattle.qw_top.specs.Reading.{literal_of};
 
+use crate::digits::are_digits;
 use std::str;
 
 /// The greatest literal.
 const MAX_LITERAL: i64 = 999_999_999_999_999_999;
-
-fn are_digits(octets: &[u8]) -> bool
-    ensures { result ≡ list_all is_ascii_digit octets.now }
-{
-    octets.iter().all(u8::is_ascii_digit)
-}
 
 /// The number that the octets are, if they are digits and it fits.
 pub(crate) fn literal_of(octets: &[u8]) -> Option<i64>
@@ -31,7 +25,7 @@ pub(crate) fn literal_of(octets: &[u8]) -> Option<i64>
 
 /// The number that the digits are, if there is one and it fits.
 fn value_of(digits: &str) -> Option<i64>
-    requires { list_all is_ascii_digit digits.now ≡ true }
+    requires { IsTrue (are_digits digits.now) }
     ensures { result ≡ literal_of digits.now }
 {
     let Ok(value) = digits.parse::<i64>() else {

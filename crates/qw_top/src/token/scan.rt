@@ -1,7 +1,7 @@
 //! The token at the front of a text.
 
-ghost use Rattle.std.specs.Prelude.{◌≡◌, ◌↔◌, IsTrue, List, MatchOption, ℕ, option_map};
-ghost use Rattle.qw_top.specs.Scan.{kind_at, after_quote, after_symbol, IsAfter};
+ghost use Rattle.std.specs.Prelude.{◌≡◌, ◌↔◌, Bool, IsTrue, List, MatchOption, ℕ, option_map};
+ghost use Rattle.qw_top.specs.Scan.{Tells, kind_at, after_quote, after_symbol, IsAfter};
 ghost use Rattle.qw_top.specs.Token.{Lexeme, lexeme, is_separator, after_run, after_mark, is_word_octet, is_word_octet_or_point, is_single_symbol, is_double_symbol, IsNumber, Begins};
 
 use super::{Kind, Token};
@@ -13,6 +13,7 @@ pub(crate) fn after_mark(text: &[u8]) -> &[u8]
     text.strip_prefix(b"\xEF\xBB\xBF").unwrap_or(text)
 }
 
+/// Whether the octet is a space, a tab, a line feed or a carriage return.
 fn is_separator(octet: u8) -> bool
     ensures { result ≡ is_separator octet }
 {
@@ -23,9 +24,17 @@ fn is_separator(octet: u8) -> bool
 pub(crate) fn after_separators(text: &[u8]) -> &[u8]
     ensures { result.now ≡ after_run is_separator text.now }
 {
+    after_run(text, is_separator)
+}
+
+/// The text behind the longest front whose octets all pass the test.
+fn after_run<F: Fn(u8) -> bool>(text: &[u8], passes: F) -> &[u8]
+    requires { F.IsAlwaysCallable passes }
+    ensures { (test : ℕ → Bool) → Tells (F.post passes) test → result.now ≡ after_run test text.now }
+{
     let mut rest = text;
     while let [first, after @ ..] = rest {
-        if !is_separator(*first) {
+        if !passes(*first) {
             break;
         }
         rest = after;
@@ -71,6 +80,7 @@ fn kind_at(text: &[u8]) -> Kind
     }
 }
 
+/// Whether the octet is a letter, a digit or `_`.
 fn is_word_octet(octet: u8) -> bool
     ensures { result ≡ is_word_octet octet }
 {
@@ -81,28 +91,14 @@ fn is_word_octet(octet: u8) -> bool
 fn after_word(text: &[u8]) -> &[u8]
     ensures { result.now ≡ after_run is_word_octet text.now }
 {
-    let mut rest = text;
-    while let [first, after @ ..] = rest {
-        if !is_word_octet(*first) {
-            break;
-        }
-        rest = after;
-    }
-    rest
+    after_run(text, is_word_octet)
 }
 
 /// The text behind the letters, digits, `_` and points at its front.
 fn after_word_and_points(text: &[u8]) -> &[u8]
     ensures { result.now ≡ after_run is_word_octet_or_point text.now }
 {
-    let mut rest = text;
-    while let [first, after @ ..] = rest {
-        if !is_word_octet(*first) && *first != b'.' {
-            break;
-        }
-        rest = after;
-    }
-    rest
+    after_run(text, |octet| is_word_octet(octet) || octet == b'.')
 }
 
 /// Whether the octets are digits with at most one point.
@@ -120,6 +116,7 @@ fn is_number(octets: &[u8]) -> bool
     points <= 1 && 0 < digits
 }
 
+/// The text behind the number at its front, if the letters, digits, `_` and points there are one.
 fn after_number(text: &[u8]) -> Option<&[u8]>
     ensures { IsAfter Kind.Number text.now (option_map (λ x. x.now) result) }
 {
@@ -146,6 +143,7 @@ fn after_quote(quote: u8, text: &[u8]) -> Option<&[u8]>
     }
 }
 
+/// The text behind the delimited identifier at its front, if it is closed and its name isn't empty.
 fn after_delimited(text: &[u8]) -> Option<&[u8]>
     requires { kind_at text.now ≡ Kind.DelimitedIdentifier }
     ensures { IsAfter Kind.DelimitedIdentifier text.now (option_map (λ x. x.now) result) }
@@ -158,6 +156,7 @@ fn after_delimited(text: &[u8]) -> Option<&[u8]>
     }
 }
 
+/// The text behind the string at its front, if it is closed.
 fn after_string(text: &[u8]) -> Option<&[u8]>
     requires { kind_at text.now ≡ Kind.CharacterString }
     ensures { IsAfter Kind.CharacterString text.now (option_map (λ x. x.now) result) }
@@ -165,6 +164,7 @@ fn after_string(text: &[u8]) -> Option<&[u8]>
     after_quote(b'\'', &text[1..])
 }
 
+/// Whether the octet is a symbol.
 fn is_single_symbol(octet: u8) -> bool
     ensures { result ≡ is_single_symbol octet }
 {
@@ -174,12 +174,14 @@ fn is_single_symbol(octet: u8) -> bool
     )
 }
 
+/// Whether the two octets are one symbol.
 fn is_double_symbol(first: u8, second: u8) -> bool
     ensures { result ≡ is_double_symbol first second }
 {
     matches!((first, second), (b'<', b'=' | b'>') | (b'>', b'='))
 }
 
+/// The text behind the symbol at its front, if there is one. `--` begins none.
 fn after_symbol(text: &[u8]) -> Option<&[u8]>
     ensures { option_map (λ x. x.now) result ≡ after_symbol text.now }
 {

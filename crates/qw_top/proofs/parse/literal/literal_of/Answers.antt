@@ -1,5 +1,5 @@
 use Rattle.std.proofs.Common.{sym, ◌∙◌}
-use Rattle.qw_top.proofs.ParseLemmas.{digits_are_utf8}
+use Rattle.qw_top.proofs.DigitLemmas.{digits_are_utf8}
 use Rattle.qw_top.proofs.parse.literal.literal_of.Goals as goal
 
 pub value_of-requires : goal.value_of-requires
