@@ -1,9 +1,9 @@
 -- A number's text, as `parse` reads it.
-use Rattle.std.proofs.Common.{◌≡◌, ◌<◌, ℕ, ℤ, pos, neg_ℤ, List, [], ◌∷◌, false, true, refl, ap, inl, inr, arith, rules, w32}
-use Rattle.std.specs.Prelude.{zero, suc, Ok, Err, Result, MatchResult, ◌==◌, slice_index, FitsSigned, All}
+use Rattle.std.proofs.Common.{◌≡◌, ℕ, ℤ, List, [], ◌∷◌, false, true, refl, ap, inl, inr, arith, w32}
+use Rattle.std.specs.Prelude.{Ok, Err, Result, MatchResult, ◌==◌, slice_index, FitsSigned}
 use Rattle.std.specs.Result.{result_or}
 use Rattle.std.specs.Str.{IsAscii, IsUtf8}
-use Rattle.std.specs.Str.Parse.{ParsesSigned, digits_value, signed_digits_value, without_leading_sign}
+use Rattle.std.specs.Str.Parse.{ParsesSigned, signed_digits_value, without_leading_sign}
 use Rattle.std.proofs.lemmas.Bool.{cases_Bool, eqb-true, false≢true, ne_eqb}
 use Rattle.std.proofs.lemmas.Int.{ints}
 use Rattle.std.proofs.lemmas.Str.{IsUtf8-from_ascii}
@@ -13,7 +13,7 @@ use Rattle.qw_types.specs.Value.{IsOfType}
 use Rattle.qw_types.specs.declared.value.Ty.TheVariants.{Integer}
 use Rattle.qw_types.specs.declared.value.Val.TheVariants.{Num}
 use Rattle.qw_top.specs.declared.loading.FieldFault.{FieldFault}
-use Rattle.qw_top.specs.declared.loading.FieldFault.TheVariants.{NotNumber, TooLarge}
+use Rattle.qw_top.specs.declared.loading.FieldFault.TheVariants.{TooLarge}
 use Rattle.qw_top.specs.Digits.{are_digits}
 use Rattle.qw_top.specs.Loading.{IsFieldFault, IsFieldOf, ShowsNumber}
 use Rattle.qw_top.proofs.DigitLemmas.{all_digits, digits_are_ascii, own, some_digit}

@@ -2,8 +2,8 @@
 -- 7.3 "table expression", 7.4 "from clause", 7.6 "where clause", 7.9 "query specification", 8.2 "comparison predicate",
 -- 11.3 "table definition", 11.4 "column definition").
 use Rattle.std.specs.Prelude.{◌≡◌, ℕ, ℤ, pos, neg_ℤ, Bool, if◌then◌else◌, IsTrue, List, [], ◌∷◌, ◌++◌, ◌⊎◌, map, length, ◌<◌, ◌^◌, codes, Contains}
-use Rattle.std.specs.List.{AllZip, list_all}
-use Rattle.std.specs.Char.{is_ascii_digit, to_ascii_uppercase}
+use Rattle.std.specs.List.{AllZip}
+use Rattle.std.specs.Char.{to_ascii_uppercase}
 use Rattle.std.specs.Str.Parse.{digits_value}
 use Rattle.qw_meaning.specs.declared.query.Comparison.{Comparison}
 use Rattle.qw_meaning.specs.declared.query.Comparison.TheVariants.{Equal, NotEqual, Less, LessOrEqual, Greater, GreaterOrEqual}
