@@ -63,7 +63,7 @@ pub fn place(loaded: &Loaded, memory: &mut Linear)
     }
 }
 
-// Writes one column, and changes nothing below it.
+/// Writes one column, and changes nothing below it.
 fn place_column(loaded: &Loaded, memory: &mut Linear, column: usize)
     requires column { column < loaded.now.width }
     requires room { column_start (length loaded.now.rows) column + integer_size * length loaded.now.rows ≤ length memory.old.octets }

@@ -1,3 +1,5 @@
+//! Whole files, read piece by piece within a limit.
+
 ghost use Rattle.std.specs.Prelude.{◌≡◌, ◌+◌, ◌<◌, ◌≤◌, IfOk, IsErrOf, OnOk, length};
 ghost use Rattle.std.specs.String.{string_bytes};
 ghost use Rattle.qw_io.specs.Files.{OfFile};
@@ -42,7 +44,11 @@ impl From<IoFault> for ReadFault {
     }
 }
 
-/// The file of a table in a folder.
+/// The name of the file of a table in a folder: `FOLDER/TABLE.csv`, with the table's name in lower case.
+///
+/// # Errors
+///
+/// Want of memory.
 pub fn table_file_name(alloc: Global, folder: &str, table: &str) -> Result<String, AllocError>
     ensures { IfOk result (λ name. string_bytes name ≡ table_file_of folder.now table.now) }
 {
@@ -54,6 +60,10 @@ pub fn table_file_name(alloc: Global, folder: &str, table: &str) -> Result<Strin
 }
 
 /// Reads a whole file of at most `limit` octets. Of a longer one at most `limit + 1` octets are read.
+///
+/// # Errors
+///
+/// `TooLong` where the file has more octets, `Failed` where the shelf counted a fault, and `NoMemory`.
 pub fn read_whole<F: Shelf>(
     alloc: Global,
     files: &mut F,

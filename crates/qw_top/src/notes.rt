@@ -1,6 +1,6 @@
 //! The lines that say what went wrong. They are written piece by piece, without taking memory.
 
-ghost use Rattle.std.specs.Prelude.{◌≡◌, ◌≢◌, ◌≤◌, OnOk, OnErr};
+ghost use Rattle.std.specs.Prelude.{◌≡◌, ◌≢◌, OnOk, OnErr};
 ghost use Rattle.qw_io.specs.Faults.{IsCounted};
 ghost use Rattle.qw_top.specs.declared.status.Status.{Status};
 ghost use Rattle.qw_top.specs.Counts.{CountsWrite};
@@ -45,6 +45,7 @@ fn note_read_fault<E: Sink>(notes: &mut E, name: &str) -> Status
     end_of_write(write_read_fault(notes, name), Status::ReadFailed)
 }
 
+/// Writes the line on a file that couldn't be read.
 fn write_read_fault<E: Sink>(notes: &mut E, name: &str) -> Result<(), IoFault>
     ensures whole { OnOk result (E.taken notes.new ≡ with_text (E.taken notes.old) (read_fault_line name.now)) }
     ensures front { OnErr result (TookFront (E.taken notes.old) (E.taken notes.new) (read_fault_line name.now)) }

@@ -1,3 +1,5 @@
+//! Whole texts, written piece by piece.
+
 ghost use Rattle.std.specs.Prelude.{◌≡◌, ◌≤◌, IfErr, OnOk, OnErr};
 ghost use Rattle.qw_top.specs.Counts.{CountsWrite, write_fault_of};
 ghost use Rattle.qw_top.specs.Output.{TookFront, with_text};
@@ -5,8 +7,11 @@ ghost use Rattle.qw_top.specs.Output.{TookFront, with_text};
 use crate::status::Status;
 use qw_io::{IoFault, Sink};
 
-/// Writes the whole text, going on behind each piece that the sink took. At a fault a front of the text
-/// was taken.
+/// Writes the whole text, going on behind each piece that the sink took.
+///
+/// # Errors
+///
+/// The sink's fault. A front of the text was taken then.
 pub fn write_whole<O: Sink>(out: &mut O, text: &[u8]) -> Result<(), IoFault>
     ensures whole { OnOk result (O.taken out.new ≡ with_text (O.taken out.old) text.now) }
     ensures front { OnErr result (TookFront (O.taken out.old) (O.taken out.new) text.now) }

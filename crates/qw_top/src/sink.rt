@@ -9,21 +9,24 @@ use csv::{ByteRecord, Writer, WriterBuilder};
 use qw_types::{NoMemory, Row, Text, Val};
 use std::alloc::{AllocError, Global};
 
-/// The kind of a result's column.
+/// The kind of a result's column. Nothing is printed by it yet: every scale is 0, and every value is printed as a
+/// whole number.
 #[derive(Clone, Copy, Debug, PartialEq, Eq)]
 pub enum Kind {
-    /// Numbers, with their scale: how many digits stand after the point.
+    /// Numbers, with their scale: how many digits stand after the point. Today it is 0.
     Number(u8),
 }
 
 /// A column of a result.
 #[derive(Debug, Drop)]
 pub struct Head {
+    /// The name in the header.
     pub name: Text,
+    /// The kind of its values.
     pub kind: Kind,
 }
 
-/// A query's part of the report: `QUERY k ROWS r`, and the rows under their header.
+/// A query's part of the report: `QUERY k ROWS r`, and the rows under their header. Queries are numbered from 1.
 pub fn report_text(
     alloc: Global,
     number: u32,
@@ -68,7 +71,7 @@ pub fn rows_text(alloc: Global, header: &[Head], rows: &[Row]) -> Result<Vec<u8>
     }
 }
 
-// Works through a reference, so that no return leaves a writer behind.
+/// Writes the rows under their header. It works through a reference, so that no return leaves a writer behind.
 fn write_rows(
     alloc: Global,
     writer: &mut Writer<Vec<u8>>,
@@ -88,7 +91,7 @@ fn write_rows(
     Ok(())
 }
 
-// Makes a line of the names of the columns.
+/// Makes a line of the names of the columns.
 fn set_names(line: &mut ByteRecord, header: &[Head]) -> Result<(), AllocError>
     ensures { OnOk result (fields_of line.new ≡ map (λ h. h.name) header.now) }
 {
@@ -99,7 +102,7 @@ fn set_names(line: &mut ByteRecord, header: &[Head]) -> Result<(), AllocError>
     Ok(())
 }
 
-// Makes a line of the values of a row.
+/// Makes a line of the values of a row.
 fn set_values(alloc: Global, line: &mut ByteRecord, values: &[Val]) -> Result<(), AllocError>
     ensures { OnOk result (fields_of line.new ≡ map printed values.now) }
 {
@@ -111,6 +114,7 @@ fn set_values(alloc: Global, line: &mut ByteRecord, values: &[Val]) -> Result<()
     Ok(())
 }
 
+/// The text of a value.
 fn value_text(alloc: Global, value: Val) -> Result<String, AllocError>
     ensures { IfOk result (λ text. string_bytes text ≡ printed value) }
 {
@@ -119,6 +123,7 @@ fn value_text(alloc: Global, value: Val) -> Result<String, AllocError>
     }
 }
 
+/// Writes a line of fields.
 fn write_line(writer: &mut Writer<Vec<u8>>, line: &ByteRecord) -> Result<(), NoMemory>
     ensures { OnOk result ((text : List ℕ) → HasWritten writer.old text
         → HasWritten writer.new (text ++ line_of (fields_of line.now))) }

@@ -1,4 +1,4 @@
-//! Why a run stopped before it had a bench.
+//! Refusals, unread files and want of memory, as a run stops at them.
 
 ghost use Rattle.std.specs.Prelude.{◌≡◌};
 ghost use Rattle.qw_top.specs.Stop.{octets_of, refusal_status};
@@ -9,9 +9,13 @@ use qw_types::NoMemory;
 /// What a run refuses.
 #[derive(Clone, Copy, Debug, PartialEq, Eq)]
 pub enum Refusal {
+    /// The words of the command line.
     Words,
+    /// The schema file.
     Schema,
+    /// A table's file.
     TableFile,
+    /// The queries file.
     Queries,
 }
 
@@ -29,14 +33,17 @@ impl Refusal {
     }
 }
 
-/// The name of a file: a word of the command line, or a name that was made from one.
+/// The name of a file.
 #[derive(Debug, Drop)]
 pub enum FileName<'a> {
+    /// A word of the command line.
     Given(&'a str),
+    /// A name that was made from such a word.
     Made(String),
 }
 
 impl FileName<'_> {
+    /// The name as it was given or made.
     pub fn as_str(&self) -> &str
         ensures { result.now ≡ octets_of self.now }
     {

@@ -16,15 +16,20 @@ use thiserror::Error;
 pub enum Kind {
     /// A regular identifier or a key word.
     Word,
+    /// A name between double quotes.
     DelimitedIdentifier,
+    /// A text between single quotes.
     CharacterString,
+    /// Digits, with at most one point.
     Number,
+    /// A special character, or two that are one symbol, as `<=`.
     Symbol,
 }
 
 /// A token of a text that it borrows from.
 #[derive(Clone, Copy, Debug)]
 pub struct Token<'a> {
+    /// What the token is.
     pub kind: Kind,
     /// The token as it stands in the text, with the quotes of a delimited identifier or a string.
     pub octets: &'a [u8],

@@ -1,12 +1,17 @@
-ghost use Rattle.std.specs.Prelude.{◌≡◌, ◌≢◌, ◌↔◌, ℕ, List, IfNone, IfSome, IsTrue, codes, map};
+//! The words of the command line.
+
+ghost use Rattle.std.specs.Prelude.{◌≡◌, ◌↔◌, ℕ, List, IfNone, IfSome, IsTrue, codes, map};
 ghost use Rattle.std.specs.String.{string_bytes};
 ghost use Rattle.qw_top.specs.Words.{IsRun, IsValue};
 
-/// The words of `run`: the schema file, the folder of the table files and the queries file.
+/// The words behind `run`.
 #[derive(Clone, Copy, Debug)]
 pub struct RunWords<'a> {
+    /// The name of the schema file.
     pub schema: &'a str,
+    /// The folder of the table files.
     pub folder: &'a str,
+    /// The name of the queries file.
     pub queries: &'a str,
 }
 
@@ -37,12 +42,14 @@ pub fn run_words(words: &[String]) -> Option<RunWords<'_>>
     }
 }
 
+/// Whether the word is `run`.
 fn is_run(word: &str) -> bool
     ensures { IsTrue result ↔ (word.now ≡ codes "run") }
 {
     word == "run"
 }
 
+/// Whether the word is no option: it doesn't begin with `-`.
 fn is_value(word: &str) -> bool
     ensures { IsTrue result ↔ IsValue word.now }
 {

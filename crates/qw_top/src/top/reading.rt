@@ -1,12 +1,12 @@
-//! What the files of a run hold.
+//! From the words of a run to the contents of its files.
 
-ghost use Rattle.std.specs.Prelude.{◌≡◌, ◌≤◌, List, [], ◌∷◌, IfOk, IfErr, length};
+ghost use Rattle.std.specs.Prelude.{◌≡◌, ◌≤◌, [], ◌∷◌, IfOk, IfErr, length};
 ghost use Rattle.qw_types.specs.declared.schema.Table.{Table};
 ghost use Rattle.qw_top.specs.Loading.{AreIntegers};
 ghost use Rattle.qw_top.specs.FileNames.{table_file_of};
 ghost use Rattle.qw_top.specs.Stages.{CountsStop, FilesStop, StopsAs};
 ghost use Rattle.qw_top.specs.Stop.{octets_of};
-ghost use Rattle.qw_top.specs.Top.{AreColumnsOf, HasQuery, IsFile, IsNoQuery, IsNoSchema, IsNoTable, IsOneTable, IsTooLong, QueryIs, SchemaIs, TableIs, names_of};
+ghost use Rattle.qw_top.specs.Top.{HasQuery, IsFile, IsNoQuery, IsNoSchema, IsNoTable, IsOneTable, IsTooLong, QueryIs, SchemaIs, TableIs, names_of};
 
 use crate::files::{MAX_TABLE_FILE, MAX_TEXT_FILE, ReadFault, read_whole, table_file_name};
 use crate::loading::{LoadFault, Loaded, load};
@@ -21,8 +21,11 @@ use std::alloc::Global;
 /// What the files of a run hold.
 #[derive(Debug, Drop)]
 pub struct Prepared {
+    /// The one table that is declared.
     pub schema: Schema,
+    /// Its rows.
     pub loaded: Loaded,
+    /// The query over it.
     pub query: Query,
 }
 
