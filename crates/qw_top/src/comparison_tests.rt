@@ -1,21 +1,13 @@
 // Compiled statements beside the plain program, whatever turns they are given, and the octets that a run leaves.
 
-ghost use Rattle.std.specs.Prelude.{◌≡◌, [], ◌∷◌, IfOk};
-
-use crate::bench::{Bench, DEFAULT_LIMITS, Ended, Job};
-use crate::loading::load;
-use crate::loading::tests::narrow;
+use crate::bench::{Bench, DEFAULT_LIMITS, Ended};
 use crate::results::received;
-use qw_emit::emit::module_of;
-use qw_io::{MemoryShelf, NamedFile};
-use qw_machine::valid::validate;
+use crate::test_tables::{asking, bench_of, narrow};
 use qw_meaning::plain::plain_rows;
 use qw_meaning::query::{Comparison, Query};
 use qw_types::{NoMemory, Row, Val};
 use std::alloc::{AllocError, Global};
 use std::test::Fail;
-
-const SCHEMA: &[u8] = b"CREATE TABLE T (A INTEGER NOT NULL)";
 
 const STORED: [i32; 3] = [4, 1, 7];
 
@@ -47,13 +39,6 @@ fn next_random(state: u32) -> u32 {
     state.wrapping_mul(1_664_525).wrapping_add(1_013_904_223)
 }
 
-fn file(alloc: Global, name: &str, bytes: &[u8]) -> Result<NamedFile, AllocError> {
-    Ok(NamedFile {
-        name: String::from_str(alloc, name)?,
-        bytes: Vec::from_slice(alloc, bytes)?,
-    })
-}
-
 fn symbol_of(comparison: Comparison) -> &'static str {
     match comparison {
         Comparison::Equal => "=",
@@ -65,15 +50,6 @@ fn symbol_of(comparison: Comparison) -> &'static str {
     }
 }
 
-// The statement that selects the one column where it compares so with the literal.
-fn asking(alloc: Global, comparison: Comparison, literal: i64) -> Result<Query, AllocError>
-    ensures columns { IfOk result (λ query. query.columns ≡ 0 ∷ []) }
-    ensures tested { IfOk result (λ query. query.tested ≡ 0) }
-{
-    let columns = vec![in alloc; 0]?;
-    Ok(Query::new(columns, 0, comparison, literal))
-}
-
 // The octets of a table file of one column A with these values.
 fn table_file(alloc: Global, values: &[i32]) -> Result<String, AllocError> {
     let mut table = String::from_str(alloc, "A\n")?;
@@ -83,35 +59,16 @@ fn table_file(alloc: Global, values: &[i32]) -> Result<String, AllocError> {
     Ok(table)
 }
 
-// The files of a table T of one column A with these values, and of the query of those that compare so with the literal.
-fn shelf(
-    alloc: Global,
-    values: &[i32],
-    comparison: Comparison,
-    literal: i64,
-) -> Result<MemoryShelf, AllocError> {
-    let table = table_file(alloc, values)?;
+// The text of the query of the values that compare so with the literal.
+fn query_text(alloc: Global, comparison: Comparison, literal: i64) -> Result<String, AllocError> {
     let symbol = symbol_of(comparison);
-    let query = format!(in alloc; "SELECT A FROM T WHERE A {symbol} {literal}")?;
-    let files = vec![in alloc;
-        file(alloc, "s", SCHEMA)?,
-        file(alloc, "d/t.csv", table.as_bytes())?,
-        file(alloc, "q", query.as_bytes())?,
-    ]?;
-    Ok(MemoryShelf::new(files, 4_096, Vec::new(alloc)))
+    format!(in alloc; "SELECT A FROM T WHERE A {symbol} {literal}")
 }
 
 // A bench of the stored table and its query, before its first turn.
 fn stored_bench(alloc: Global) -> Result<Bench, Fail> {
-    let bytes = table_file(alloc, &STORED)?;
-    let loaded = load(alloc, &narrow(alloc)?, bytes.as_bytes())?;
-    if loaded.width() == 0 {
-        return Err("no column".into());
-    }
-    let query = asking(alloc, Comparison::Greater, 5)?;
-    let valid = validate(alloc, module_of(alloc, &query)?)?;
-    let job = Job::new(query, valid);
-    Ok(Bench::new(alloc, &loaded, job, DEFAULT_LIMITS)?)
+    let file = table_file(alloc, &STORED)?;
+    bench_of(alloc, &narrow(alloc)?, file.as_bytes(), DEFAULT_LIMITS)
 }
 
 // Gives turns of 1 to 100 instructions until the end, and answers the generator's state then.

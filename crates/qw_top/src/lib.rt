@@ -43,7 +43,7 @@ pub mod sink;
 pub mod status;
 pub(crate) mod stop;
 #[cfg(test)]
-mod tests;
+mod test_tables;
 pub mod token;
 pub mod top;
 pub(crate) mod words;

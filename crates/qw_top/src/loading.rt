@@ -307,4 +307,4 @@ fn without_sign(field: &[u8]) -> &[u8]
 }
 
 #[cfg(test)]
-pub mod tests;
+mod tests;

@@ -37,3 +37,6 @@ pub fn end_of_write(written: Result<(), IoFault>, status: Status) -> Status
         Err(IoFault::NoMemory) => Status::NoMemory,
     }
 }
+
+#[cfg(test)]
+mod tests;

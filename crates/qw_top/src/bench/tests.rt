@@ -1,14 +1,9 @@
 // Instances at their limit of pages: what fits the first page, and the row after that.
-ghost use Rattle.std.specs.Prelude.{◌≡◌, [], ◌∷◌, IfOk};
 
-use super::{Bench, Ended, Job, Limits};
-use crate::loading::load;
-use crate::loading::tests::wide;
+use super::{Bench, Ended, Limits};
 use crate::results::received;
-use qw_emit::emit::module_of;
-use qw_machine::valid::validate;
-use qw_meaning::query::{Comparison, Query};
-use std::alloc::{AllocError, Global};
+use crate::test_tables::{bench_of, file_of, wide};
+use std::alloc::Global;
 use std::test::Fail;
 
 const ONE_PAGE: Limits = Limits {
@@ -16,35 +11,10 @@ const ONE_PAGE: Limits = Limits {
     steps: 1_000_000,
 };
 
-// SELECT A FROM T WHERE A > 5
-fn above_five(alloc: Global) -> Result<Query, AllocError>
-    ensures columns { IfOk result (λ query. query.columns ≡ 0 ∷ []) }
-    ensures tested { IfOk result (λ query. query.tested ≡ 0) }
-{
-    let columns = vec![in alloc; 0]?;
-    Ok(Query::new(columns, 0, Comparison::Greater, 5))
-}
-
-// The file of a table of two columns and so many rows of 7.
-fn sevens(alloc: Global, rows: usize) -> Result<Vec<u8>, AllocError> {
-    let mut bytes = Vec::from_slice(alloc, b"A,B\n")?;
-    for _ in 0..rows {
-        bytes.extend_from_slice(b"7,7\n")?;
-    }
-    Ok(bytes)
-}
-
 // A bench whose instance may hold one page, over so many rows of 7, after the turns that end it.
 fn turned(alloc: Global, rows: usize) -> Result<Bench, Fail> {
-    let bytes = sevens(alloc, rows)?;
-    let loaded = load(alloc, &wide(alloc)?, bytes.as_slice())?;
-    if loaded.width() == 0 {
-        return Err("no column".into());
-    }
-    let query = above_five(alloc)?;
-    let valid = validate(alloc, module_of(alloc, &query)?)?;
-    let job = Job::new(query, valid);
-    let mut bench = Bench::new(alloc, &loaded, job, ONE_PAGE)?;
+    let file = file_of(alloc, b"A,B\n", b"7,7\n", rows)?;
+    let mut bench = bench_of(alloc, &wide(alloc)?, file.as_slice(), ONE_PAGE)?;
     bench.run_all(1_000);
     Ok(bench)
 }

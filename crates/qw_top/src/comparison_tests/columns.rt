@@ -1,13 +1,16 @@
 // Columns of all kinds of values and literals: what `qwasm` prints of each, beside the plain program's rows.
 
-use super::{asking, next_random, plain_numbers, shelf};
+use super::{next_random, plain_numbers, query_text, table_file};
 use crate::status::Status;
+use crate::test_tables::{WORDS, asking, shelf, words};
 use crate::top::qwasm;
 use qw_io::MemorySink;
 use qw_meaning::query::Comparison;
 use qw_types::NoMemory;
 use std::alloc::{AllocError, Global};
 use std::test::Fail;
+
+const SCHEMA: &[u8] = b"CREATE TABLE T (A INTEGER NOT NULL)";
 
 // The least value of a column, the one after it, and the two greatest.
 const BOUNDS: &[i32] = &[-2_147_483_648, -2_147_483_647, 2_147_483_646, 2_147_483_647];
@@ -124,13 +127,12 @@ fn printed(
     comparison: Comparison,
     literal: i64,
 ) -> Result<(Status, MemorySink), AllocError> {
-    let mut files = shelf(alloc, column, comparison, literal)?;
+    let table = table_file(alloc, column)?;
+    let query = query_text(alloc, comparison, literal)?;
+    let mut files = shelf(alloc, SCHEMA, table.as_bytes(), query.as_bytes())?;
     let mut out = MemorySink::new(alloc, 4_096, Vec::new(alloc));
     let mut notes = MemorySink::new(alloc, 1, Vec::new(alloc));
-    let mut words = Vec::new(alloc);
-    for word in ["run", "s", "d", "q"] {
-        words.push(String::from_str(alloc, word)?)?;
-    }
+    let words = words(alloc, &WORDS)?;
     let mut kept = None;
     let status = qwasm(
         alloc,

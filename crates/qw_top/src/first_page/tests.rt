@@ -2,8 +2,8 @@
 
 use super::begin_page;
 use crate::columns::{column_starts, pages_needed, place};
-use crate::loading::tests::wide;
 use crate::loading::{Loaded, load};
+use crate::test_tables::wide;
 use qw_linear::linear::{Linear, PAGE};
 use qw_types::NoMemory;
 use std::alloc::Global;

@@ -1,55 +1,11 @@
 // Files at the edges of what can be loaded. That `load` doesn't answer want of memory is what no
 // clause says.
-ghost use Rattle.std.specs.Prelude.{◌≡◌, IfOk, true};
-ghost use Rattle.qw_types.specs.declared.value.Ty.TheVariants.{Integer};
-ghost use Rattle.qw_top.specs.Loading.{AreIntegers};
 
 use super::{FieldFault, LoadFault, Loaded, load};
+use crate::test_tables::{narrow, sevens, wide};
 use qw_types::schema::MAX_ROWS;
-use qw_types::{Column, Columns, Table, Text, Ty};
-use std::alloc::{AllocError, Global};
+use std::alloc::Global;
 use std::test::Fail;
-
-fn integer(alloc: Global, name: &str) -> Result<Column, AllocError>
-    ensures { IfOk result (λ c. (c.name ≡ name.now) × (c.ty ≡ Integer) × (c.not_null ≡ true)) }
-{
-    Ok(Column {
-        name: Text::new(String::from_str(alloc, name)?),
-        ty: Ty::Integer,
-        not_null: true,
-    })
-}
-
-// CREATE TABLE T ( A INTEGER NOT NULL )
-pub fn narrow(alloc: Global) -> Result<Table, AllocError>
-    ensures { IfOk result (λ t. AreIntegers t.columns) }
-{
-    let columns = vec![in alloc; integer(alloc, "A")?]?;
-    Ok(Table {
-        name: Text::new(String::from_str(alloc, "T")?),
-        columns: Columns::new(columns),
-    })
-}
-
-// CREATE TABLE T ( A INTEGER NOT NULL , B INTEGER NOT NULL )
-pub fn wide(alloc: Global) -> Result<Table, AllocError>
-    ensures { IfOk result (λ t. AreIntegers t.columns) }
-{
-    let columns = vec![in alloc; integer(alloc, "A")?, integer(alloc, "B")?]?;
-    Ok(Table {
-        name: Text::new(String::from_str(alloc, "T")?),
-        columns: Columns::new(columns),
-    })
-}
-
-// The file of a table of so many rows, each 7.
-fn sevens(alloc: Global, rows: usize) -> Result<Vec<u8>, AllocError> {
-    let mut bytes = Vec::from_slice(alloc, b"A\n")?;
-    for _ in 0..rows {
-        bytes.extend_from_slice(b"7\n")?;
-    }
-    Ok(bytes)
-}
 
 // The values, row by row.
 fn values(alloc: Global, loaded: &Loaded) -> Result<Vec<i32>, Fail> {

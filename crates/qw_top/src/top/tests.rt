@@ -1,9 +1,10 @@
 // Whole runs over files in memory. That memory suffices for them is what no clause says.
 
 use super::qwasm;
-use crate::bench::{Bench, Ended};
+use crate::bench::Bench;
 use crate::status::Status;
-use qw_io::{MemoryShelf, MemorySink, NamedFile};
+use crate::test_tables::{WORDS, shelf, words};
+use qw_io::{IoFault, MemoryShelf, MemorySink, Sink};
 use std::alloc::{AllocError, Global};
 use std::test::Fail;
 
@@ -199,41 +200,12 @@ const RUNS: [(&[u8], &[u8], &[u8], Status, &[u8]); 27] = [
     ),
 ];
 
-fn file(alloc: Global, name: &str, bytes: &[u8]) -> Result<NamedFile, AllocError> {
-    Ok(NamedFile {
-        name: String::from_str(alloc, name)?,
-        bytes: Vec::from_slice(alloc, bytes)?,
-    })
-}
-
-fn shelf(
-    alloc: Global,
-    schema: &[u8],
-    table: &[u8],
-    query: &[u8],
-) -> Result<MemoryShelf, AllocError> {
-    let files = vec![in alloc;
-        file(alloc, "s", schema)?,
-        file(alloc, "d/t.csv", table)?,
-        file(alloc, "q", query)?,
-    ]?;
-    Ok(MemoryShelf::new(files, 7, Vec::new(alloc)))
-}
-
-fn words(alloc: Global, texts: &[&str]) -> Result<Vec<String>, AllocError> {
-    let mut words = Vec::new(alloc);
-    for text in texts {
-        words.push(String::from_str(alloc, text)?)?;
-    }
-    Ok(words)
-}
-
 // What a run over these files came to: its end, and the bench.
-fn run(
+fn run<O: Sink>(
     alloc: Global,
     files: &mut MemoryShelf,
     texts: &[&str],
-    out: &mut MemorySink,
+    out: &mut O,
     notes: &mut MemorySink,
 ) -> Result<(Status, Option<Bench>), AllocError> {
     let words = words(alloc, texts)?;
@@ -252,8 +224,7 @@ fn report_of(
     let mut files = shelf(alloc, schema, table, query)?;
     let mut out = MemorySink::new(alloc, 4_096, Vec::new(alloc));
     let mut notes = MemorySink::new(alloc, 1, Vec::new(alloc));
-    let texts = ["run", "s", "d", "q"];
-    let (status, kept) = run(alloc, &mut files, &texts, &mut out, &mut notes)?;
+    let (status, kept) = run(alloc, &mut files, &WORDS, &mut out, &mut notes)?;
     if !notes.bytes().is_empty() {
         return Err("noted".into());
     }
@@ -271,80 +242,83 @@ fn files_and_their_reports(rt: HostRuntime) -> Result<(), Fail> {
     Ok(())
 }
 
-// The words, the call of the report's sink that fails, the one of the notes' sink, the end, and what was written to
-// both. Both sinks take an octet a call.
-const FAULTS: [(&[&str], u64, u64, Status, &[u8], &[u8]); 9] = [
-    (&["run", "s"], 99, 99, Status::WordsRefused, b"", b""),
+// The number of a call that isn't reached.
+const NEVER: u64 = 99;
+
+// The words, the call of the report's sink that fails, the one of the notes' sink, the end, what was written to both,
+// and whether a bench is kept. Both sinks take an octet a call.
+const FAULTS: [(&[&str], u64, u64, Status, &[u8], &[u8], bool); 9] = [
+    (
+        &["run", "s"],
+        NEVER,
+        NEVER,
+        Status::WordsRefused,
+        b"",
+        b"",
+        false,
+    ),
     (
         &["run", "s", "d", "-q"],
-        99,
+        NEVER,
         0,
         Status::WordsRefused,
         b"",
         b"",
+        false,
     ),
     (
         &["run", "S", "d", "q"],
-        99,
-        99,
+        NEVER,
+        NEVER,
         Status::ReadFailed,
         b"",
         b"read fault: S\n",
+        false,
     ),
     (
         &["run", "s", "e", "q"],
-        99,
-        99,
+        NEVER,
+        NEVER,
         Status::ReadFailed,
         b"",
         b"read fault: e/t.csv\n",
+        false,
     ),
     (
         &["run", "s", "d", "Q"],
-        99,
-        99,
+        NEVER,
+        NEVER,
         Status::ReadFailed,
         b"",
         b"read fault: Q\n",
+        false,
     ),
     (
         &["run", "s", "d", "Q"],
-        99,
+        NEVER,
         0,
         Status::WriteFailed,
         b"",
         b"",
+        false,
     ),
     (
         &["run", "s", "e", "q"],
-        99,
+        NEVER,
         4,
         Status::WriteFailed,
         b"",
         b"read",
+        false,
     ),
-    (
-        &["run", "s", "d", "q"],
-        0,
-        99,
-        Status::WriteFailed,
-        b"",
-        b"",
-    ),
-    (
-        &["run", "s", "d", "q"],
-        1,
-        99,
-        Status::WriteFailed,
-        b"Q",
-        b"",
-    ),
+    (&WORDS, 0, NEVER, Status::WriteFailed, b"", b"", true),
+    (&WORDS, 1, NEVER, Status::WriteFailed, b"Q", b"", true),
 ];
 
 #[test]
 fn words_and_faults(rt: HostRuntime) -> Result<(), Fail> {
     let alloc = rt.alloc();
-    for (texts, failing, failing_note, end, report, noted) in FAULTS {
+    for (texts, failing, failing_note, end, report, noted, keeps) in FAULTS {
         let mut files = shelf(alloc, SCHEMA, TABLE, QUERY)?;
         let mut out = MemorySink::new(alloc, 1, vec![in alloc; failing]?);
         let mut notes = MemorySink::new(alloc, 1, vec![in alloc; failing_note]?);
@@ -352,7 +326,36 @@ fn words_and_faults(rt: HostRuntime) -> Result<(), Fail> {
         assert_eq!(rt; status, end);
         assert_eq!(rt; out.bytes(), report);
         assert_eq!(rt; notes.bytes(), noted);
-        assert_eq!(rt; kept.is_some(), failing < 99);
+        assert_eq!(rt; kept.is_some(), keeps);
     }
+    Ok(())
+}
+
+// A sink whose calls want memory.
+#[derive(Drop)]
+struct FullSink;
+
+impl Sink for FullSink {
+    ghost use Rattle.std.specs.Prelude.{Some, []};
+
+    ghost taken = { λ _. Some [] };
+
+    ghost faults = { λ _. 0 };
+
+    fn put(&mut self, _piece: &[u8]) -> Result<usize, IoFault> {
+        Err(IoFault::NoMemory)
+    }
+}
+
+#[test]
+fn want_of_memory_is_noted(rt: HostRuntime) -> Result<(), Fail> {
+    let alloc = rt.alloc();
+    let mut files = shelf(alloc, SCHEMA, TABLE, QUERY)?;
+    let mut notes = MemorySink::new(alloc, 1, Vec::new(alloc));
+    let (status, kept) = run(alloc, &mut files, &WORDS, &mut FullSink, &mut notes)?;
+    assert_eq!(rt; status, Status::NoMemory);
+    assert_eq!(rt; status.code(), 9);
+    assert_eq!(rt; notes.bytes(), b"want of memory\n".as_slice());
+    assert!(rt; kept.is_some());
     Ok(())
 }

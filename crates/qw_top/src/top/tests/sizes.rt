@@ -3,23 +3,15 @@
 use super::{QUERY, SCHEMA, report_of};
 use crate::bench::Ended;
 use crate::status::Status;
+use crate::test_tables::sevens;
 use std::alloc::{AllocError, Global};
 use std::test::Fail;
-
-// A table of so many rows, each 7.
-fn sevens(alloc: Global, rows: u32) -> Result<Vec<u8>, AllocError> {
-    let mut bytes = Vec::from_slice(alloc, b"A\n")?;
-    for _ in 0..rows {
-        bytes.extend_from_slice(b"7\n")?;
-    }
-    Ok(bytes)
-}
 
 // The first number of rows that don't fit the first page is one of these.
 #[test]
 fn rows_of_a_first_and_a_second_page(rt: HostRuntime) -> Result<(), Fail> {
     let alloc = rt.alloc();
-    let cases: [(u32, &[u8], u32); 2] = [
+    let cases: [(usize, &[u8], u32); 2] = [
         (2_727, b"QUERY 1 ROWS 2727\n", 1),
         (2_728, b"QUERY 1 ROWS 2728\n", 2),
     ];

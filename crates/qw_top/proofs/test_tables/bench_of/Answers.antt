@@ -3,7 +3,7 @@ use Rattle.std.specs.List.{AllByRecursion}
 use Rattle.qw_emit.specs.Layout.{used}
 use Rattle.qw_top.specs.Bench.{CompiledQuery}
 use Rattle.qw_top.proofs.ColumnLemmas.{used-first}
-use Rattle.qw_top.proofs.comparison_tests.stored_bench.Goals as goal
+use Rattle.qw_top.proofs.test_tables.bench_of.Goals as goal
 
 pub new-requires-clause-columns : goal.new-requires-clause-columns
 new-requires-clause-columns c =
