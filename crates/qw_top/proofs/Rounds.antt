@@ -12,7 +12,7 @@ use Rattle.qw_module.proofs.TurnFacts.{slice_get-set_same}
 use Rattle.qw_module.proofs.TurnSteps.{limits-turns, turn-others, turns-many, turns-whole, unended-runs}
 use Rattle.qw_top.specs.declared.bench.Ended.{Ended}
 use Rattle.qw_top.specs.declared.bench.Seat.{Seat}
-use Rattle.qw_top.specs.Bench.{AreRounds, AreServing, Task, end_in, ran_in, round, steps_left, unended_below}
+use Rattle.qw_top.specs.Bench.{AreRounds, end_in, ran_in, round, steps_left, unended_below}
 use Rattle.qw_top.specs.Bench as rounds
 use Rattle.qw_top.proofs.SeatSteps.{is_some-end_of}
 use Rattle.qw_top.proofs.Serving.{each-whole, there}

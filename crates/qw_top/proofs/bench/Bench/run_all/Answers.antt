@@ -1,7 +1,6 @@
 use Rattle.std.proofs.Common.{[], sym, ◌∙◌}
 use Rattle.std.proofs.lemmas.List.{append-nil}
 use Rattle.qw_top.specs.Bench as rounds
-use Rattle.qw_top.specs.Bench.{AreRounds}
 use Rattle.qw_top.specs.Seats.{shared_of}
 use Rattle.qw_top.proofs.Rounds.{all-ended, no-round, rounded-more, some-round}
 use Rattle.qw_top.proofs.bench.Bench.run_all.Goals as goal
