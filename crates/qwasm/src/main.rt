@@ -2,8 +2,12 @@
 //! module, and reports their rows on standard output. It ends with the status of the run.
 #![tactic(auto)]
 
+ghost use Rattle.std.specs.Prelude.{◌≡◌, ◌↔◌, ◌⊎◌};
+ghost use Rattle.std.specs.IoError.{error_kind};
+
 use qw_io::{FileShelf, StdSink};
 use qw_top::{Status, qwasm};
+use std::io::ErrorKind;
 use std::process::ExitCode;
 use std::rt::Env;
 use std::{env, io};
@@ -19,8 +23,11 @@ fn words<R: Env + AllocGlobal>(rt: &R) -> io::Result<Vec<String>> {
 }
 
 /// The status where the words could not be had.
-fn status_of(error: &io::Error) -> Status {
-    if error.kind() == io::ErrorKind::OutOfMemory {
+fn status_of(error: &io::Error) -> Status
+    ensures memory { result ≡ Status.NoMemory ↔ error_kind error.now ≡ ErrorKind.OutOfMemory }
+    ensures refused { (result ≡ Status.NoMemory) ⊎ (result ≡ Status.WordsRefused) }
+{
+    if error.kind() == ErrorKind::OutOfMemory {
         Status::NoMemory
     } else {
         Status::WordsRefused
