@@ -1,6 +1,6 @@
 //! The lines that say what went wrong. They are written piece by piece, without taking memory.
 
-ghost use Rattle.std.specs.Prelude.{◌≡◌, ◌≢◌, OnOk, OnErr};
+ghost use Rattle.std.specs.Prelude.{◌≡◌, ◌≢◌, IsErrOf, IsTrue, OnOk, OnErr};
 ghost use Rattle.qw_io.specs.Faults.{IsCounted};
 ghost use Rattle.qw_top.specs.declared.status.Status.{Status};
 ghost use Rattle.qw_top.specs.Counts.{CountsWrite};
@@ -17,6 +17,8 @@ use qw_io::{IoFault, Sink};
 /// what kept the line from being written, if that comes.
 pub fn note_stop<E: Sink>(notes: &mut E, stop: &Stop<'_>) -> Status
     ensures noted { NotesStop stop.now result (E.taken notes.old) (E.taken notes.new) }
+    ensures whole { (IsTrue E.takes_memory → ⊥) → result ≡ Status.NoMemory
+        → E.taken notes.new ≡ with_text (E.taken notes.old) want_of_memory_line }
     ensures fault { result ≡ Status.WriteFailed → IsCounted (E.faults notes.old) (E.faults notes.new) }
     ensures no_fault { result ≢ Status.WriteFailed → E.faults notes.new ≡ E.faults notes.old }
 {
@@ -30,6 +32,8 @@ pub fn note_stop<E: Sink>(notes: &mut E, stop: &Stop<'_>) -> Status
 /// Notes that there was no memory left, and answers how the run ends.
 pub fn note_want_of_memory<E: Sink>(notes: &mut E) -> Status
     ensures noted { NotesLine want_of_memory_line Status.NoMemory result (E.taken notes.old) (E.taken notes.new) }
+    ensures whole { (IsTrue E.takes_memory → ⊥) → result ≡ Status.NoMemory
+        → E.taken notes.new ≡ with_text (E.taken notes.old) want_of_memory_line }
     ensures fault { result ≡ Status.WriteFailed → IsCounted (E.faults notes.old) (E.faults notes.new) }
     ensures no_fault { result ≢ Status.WriteFailed → E.faults notes.new ≡ E.faults notes.old }
 {
@@ -39,6 +43,7 @@ pub fn note_want_of_memory<E: Sink>(notes: &mut E) -> Status
 /// Notes that the file of this name couldn't be read, and answers how the run ends.
 fn note_read_fault<E: Sink>(notes: &mut E, name: &str) -> Status
     ensures noted { NotesLine (read_fault_line name.now) Status.ReadFailed result (E.taken notes.old) (E.taken notes.new) }
+    ensures memory_is_taken { result ≡ Status.NoMemory → IsTrue E.takes_memory }
     ensures fault { result ≡ Status.WriteFailed → IsCounted (E.faults notes.old) (E.faults notes.new) }
     ensures no_fault { result ≢ Status.WriteFailed → E.faults notes.new ≡ E.faults notes.old }
 {
@@ -50,6 +55,7 @@ fn write_read_fault<E: Sink>(notes: &mut E, name: &str) -> Result<(), IoFault>
     ensures whole { OnOk result (E.taken notes.new ≡ with_text (E.taken notes.old) (read_fault_line name.now)) }
     ensures front { OnErr result (TookFront (E.taken notes.old) (E.taken notes.new) (read_fault_line name.now)) }
     ensures counts { CountsWrite result (E.faults notes.old) (E.faults notes.new) }
+    ensures memory_is_taken { IsErrOf result IoFault.NoMemory → IsTrue E.takes_memory }
 {
     write_whole(notes, b"read fault: ")?;
     write_whole(notes, name.as_bytes())?;

@@ -1,6 +1,6 @@
 //! Whole texts, written piece by piece.
 
-ghost use Rattle.std.specs.Prelude.{◌≡◌, ◌≤◌, IfErr, OnOk, OnErr};
+ghost use Rattle.std.specs.Prelude.{◌≡◌, ◌≤◌, IfErr, IsErrOf, IsTrue, OnOk, OnErr};
 ghost use Rattle.qw_top.specs.Counts.{CountsWrite, write_fault_of};
 ghost use Rattle.qw_top.specs.Output.{TookFront, with_text};
 
@@ -16,6 +16,7 @@ pub fn write_whole<O: Sink>(out: &mut O, text: &[u8]) -> Result<(), IoFault>
     ensures whole { OnOk result (O.taken out.new ≡ with_text (O.taken out.old) text.now) }
     ensures front { OnErr result (TookFront (O.taken out.old) (O.taken out.new) text.now) }
     ensures counts { CountsWrite result (O.faults out.old) (O.faults out.new) }
+    ensures memory_is_taken { IsErrOf result IoFault.NoMemory → IsTrue O.takes_memory }
     ensures never_falls { O.faults out.old ≤ O.faults out.new }
 {
     let mut written = 0;

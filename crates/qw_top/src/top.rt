@@ -1,6 +1,6 @@
 //! A run, from the words of the command line on.
 
-ghost use Rattle.std.specs.Prelude.{◌≡◌, ◌≢◌, ◌≤◌, ◌⊎◌, ℕ, List, map, Option, Some};
+ghost use Rattle.std.specs.Prelude.{◌≡◌, ◌≢◌, ◌≤◌, ◌⊎◌, ℕ, List, map, IsTrue, Option, Some};
 ghost use Rattle.std.specs.String.{string_bytes};
 ghost use Rattle.qw_io.specs.Faults.{IsCounted};
 ghost use Rattle.qw_types.specs.declared.schema.Table.{Table};
@@ -10,7 +10,8 @@ ghost use Rattle.qw_emit.specs.Compiled.{page_bound};
 ghost use Rattle.qw_top.specs.declared.bench.TheConstants.{DEFAULT_LIMITS};
 ghost use Rattle.qw_top.specs.declared.status.Status.{Status};
 ghost use Rattle.qw_top.specs.Delivered.{Leaves, LeavesBench, Notes};
-ghost use Rattle.qw_top.specs.Output.{TookFront};
+ghost use Rattle.qw_top.specs.Notes.{want_of_memory_line};
+ghost use Rattle.qw_top.specs.Output.{TookFront, with_text};
 ghost use Rattle.qw_top.specs.Top.{AreNames, Explains, HasQuery, IsFault, IsSettled, Names};
 
 use crate::bench::Bench;
@@ -57,6 +58,8 @@ pub fn qwasm<F: Shelf, O: Sink, E: Sink>(
         → LeavesBench (F.files files.old) (map string_bytes words.now) kept.new
         (λ status report. TookFront (O.taken out.old) (O.taken out.new) report) }
     ensures noted { Notes (F.files files.old) (map string_bytes words.now) result (E.taken notes.old) (E.taken notes.new) }
+    ensures noted_whole { (IsTrue E.takes_memory → ⊥) → result ≡ Status.NoMemory
+        → E.taken notes.new ≡ with_text (E.taken notes.old) want_of_memory_line }
     ensures silent_at_fault { O.faults out.new ≢ O.faults out.old → E.taken notes.new ≡ E.taken notes.old }
     ensures read_fault { result ≡ Status.ReadFailed → IsCounted (F.faults files.old) (F.faults files.new) }
     ensures no_read_fault { result ≢ Status.ReadFailed → result ≢ Status.WriteFailed → result ≢ Status.NoMemory
