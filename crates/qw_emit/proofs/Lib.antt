@@ -6,8 +6,6 @@ pub mod ScanTyped
 pub mod ScanFacts
 pub mod ScanValid
 pub mod ScanStatic
-pub mod Areas
-pub mod Chains
 pub mod ScanMemory
 pub mod ScanSteps
 pub mod ScanLocals
@@ -20,4 +18,3 @@ pub mod Comparisons
 pub mod ScanResult
 pub mod ScanWeight
 pub mod ScanCompiled
-pub mod ResultLemmas

@@ -8,7 +8,7 @@ use Rattle.std.proofs.lemmas.Option.{none-some, same_Some, slice_get_within, sli
 use Rattle.qw_types.specs.declared.schema.TheConstants.{MAX_COLUMNS}
 use Rattle.qw_meaning.specs.Statement.{Statement, IsStatement}
 use Rattle.qw_emit.specs.Emit.{scan_of, index_in, other_columns}
-use Rattle.qw_emit.specs.Layout.{is_used, used}
+use Rattle.qw_map.specs.Layout.{is_used, used}
 
 -- whether a number is in a list
 abbrev pub is_among : ℕ → List ℕ → Bool

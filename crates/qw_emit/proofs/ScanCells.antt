@@ -5,13 +5,13 @@ use Rattle.std.specs.Int.{cast_signed}
 use Rattle.qw_types.specs.declared.value.Val.{Val}
 use Rattle.qw_linear.specs.Memory.{page, number_at}
 use Rattle.qw_module.specs.Syntax.{Code}
-use Rattle.qw_module.specs.Map.{World, lies_in_one}
-use Rattle.qw_module.specs.Runs.{Moment}
-use Rattle.qw_module.proofs.RunRules.{Reaches, Reaches-more, IsKept, go, load, store}
+use Rattle.qw_map.specs.Map.{World, lies_in_one}
+use Rattle.qw_map.specs.Runs.{Moment}
+use Rattle.qw_map.proofs.RunRules.{Reaches, Reaches-more, IsKept, go, load, store}
 use Rattle.qw_emit.specs.Emit.{Scan, read_values, write_cells}
-use Rattle.qw_emit.specs.Layout.{is_integer}
-use Rattle.qw_emit.proofs.Areas.{lies-before}
-use Rattle.qw_emit.proofs.Chains.{onto}
+use Rattle.qw_map.specs.Layout.{is_integer}
+use Rattle.qw_map.proofs.AccessLemmas.{lies-before}
+use Rattle.qw_map.proofs.Chains.{onto}
 use Rattle.qw_emit.proofs.ScanMemory.{Setting, Lies, Keeps, Writing, Writing-cell, Writing-kept}
 use Rattle.qw_emit.proofs.ScanSteps.{locals_of, standing, in_loop, to_value, value_set, to_cell}
 use Rattle.qw_emit.proofs.ScanLocals.{distance_there, value_put, is_value}

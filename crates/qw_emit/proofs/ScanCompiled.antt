@@ -6,17 +6,17 @@ use Rattle.std.proofs.lemmas.Option.{slice_get-get_or}
 use Rattle.qw_types.specs.declared.value.Ty.TheVariants.{Integer}
 use Rattle.qw_types.specs.declared.value.Val.{Val}
 use Rattle.qw_linear.specs.Memory.{page, pages_of, number_at}
-use Rattle.qw_module.specs.Execution.{State, Running, Returned, Raised, Trapped}
-use Rattle.qw_module.specs.Runs.{Moment, IsOver, Behaves}
+use Rattle.qw_module.specs.Execution.{State, Running, Returned, Raised, Trapped, IsOver}
+use Rattle.qw_map.specs.Runs.{Moment, Behaves}
 use Rattle.qw_module.specs.Start.{weight}
 use Rattle.qw_module.specs.declared.module.Module.{Module}
-use Rattle.qw_module.proofs.OpenRuns.{Within-now, Within-then, behaves_within}
+use Rattle.qw_map.proofs.OpenRuns.{Within-now, Within-then, behaves_within}
 use Rattle.qw_meaning.specs.Statement.{Statement, IsStatement}
 use Rattle.qw_meaning.specs.Meaning.{results}
 use Rattle.qw_emit.specs.Emit.{Scan, IsScan, scan_of, scan_code, local_of}
-use Rattle.qw_emit.specs.Layout.{row_size, entry_offset, first_world}
+use Rattle.qw_map.specs.Layout.{row_size, entry_offset, first_world}
 use Rattle.qw_emit.specs.Compiled.{IsReady, units, page_bound, Answers, IsCompiled}
-use Rattle.qw_emit.proofs.Chains.{Chain, integers}
+use Rattle.qw_map.proofs.Chains.{Chain, integers}
 use Rattle.qw_emit.proofs.PlanLemmas.{length-used}
 use Rattle.qw_emit.proofs.ScanStatic.{is_valid, is_shaped, is_short, is_light}
 use Rattle.qw_emit.proofs.ScanValid.{links, begun_is, code_is}

@@ -7,11 +7,11 @@ use Rattle.qw_types.specs.declared.value.Val.{Val}
 use Rattle.qw_linear.specs.Memory.{page, number_at, with_number, grown_by}
 use Rattle.qw_linear.proofs.MemoryFacts.{length-with_number, number_at-with_number, number_at-apart}
 use Rattle.qw_linear.proofs.GrowthFacts.{length-grown_by, number_at-grown_by, number_at-grown_by-new}
-use Rattle.qw_module.specs.Map.{Area, World, Others, SameIn, lies_in_one}
-use Rattle.qw_module.proofs.RunRules.{IsKept}
-use Rattle.qw_emit.specs.Layout.{is_integer, row_size, cells_at}
-use Rattle.qw_emit.proofs.Areas.{lies-first, lies-before, lies-after, number-kept}
-use Rattle.qw_emit.proofs.Chains.{onto, Chain, OfChain, Chain-link, Chain-same, Chain-higher, integers, value_of_bits, Cells, Cells-from, Cells-same, Cells-row}
+use Rattle.qw_map.specs.Map.{Area, World, Others, SameIn, lies_in_one}
+use Rattle.qw_map.proofs.RunRules.{IsKept}
+use Rattle.qw_map.specs.Layout.{is_integer, row_size, cells_at}
+use Rattle.qw_map.proofs.AccessLemmas.{lies-first, lies-before, lies-after, number-kept}
+use Rattle.qw_map.proofs.Chains.{onto, Chain, OfChain, Chain-link, Chain-same, Chain-higher, integers, value_of_bits, Cells, Cells-from, Cells-same, Cells-row}
 
 -- What stays as it is through a run: the types of a result row, the areas of the columns, the descriptor's address, and the
 -- memory as the run found it, whose columns lie before the descriptor.

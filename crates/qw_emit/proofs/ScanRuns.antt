@@ -6,12 +6,12 @@ use Rattle.std.proofs.lemmas.List.{length-map}
 use Rattle.qw_types.specs.declared.value.Val.{Val}
 use Rattle.qw_linear.specs.Memory.{page, most_pages}
 use Rattle.qw_module.specs.Execution.{refusal}
-use Rattle.qw_module.specs.Map.{World}
-use Rattle.qw_module.specs.Runs.{Moment}
-use Rattle.qw_module.proofs.RunRules.{more, Reaches, Reaches-more, Reaches-weaker, IsKept, with_granted, with_refused, reached, go, load, store, grow, raise}
+use Rattle.qw_map.specs.Map.{World}
+use Rattle.qw_map.specs.Runs.{Moment}
+use Rattle.qw_map.proofs.RunRules.{more, Reaches, Reaches-more, Reaches-weaker, IsKept, with_granted, with_refused, reached, go, load, store, grow, raise}
 use Rattle.qw_emit.specs.Emit.{Scan, store_i32}
-use Rattle.qw_emit.proofs.Areas.{lies-before}
-use Rattle.qw_emit.proofs.Chains.{onto, length-onto, integers, length-integers, value_of_bits}
+use Rattle.qw_map.proofs.AccessLemmas.{lies-before}
+use Rattle.qw_map.proofs.Chains.{onto, length-onto, integers, length-integers, value_of_bits}
 use Rattle.qw_emit.proofs.ScanMemory.{Setting, size_of, Lies, Scanned, Writing, Scanned-linked, Scanned-kept, Writing-row, Writing-kept, with_page, Lies-grown, Scanned-grown}
 use Rattle.qw_emit.proofs.ScanSteps.{locals_of, size, running, in_loop, counts, writes, reads, tests, at_loop, to_load, passed_over, fits, requests, granted, refused, counted}
 use Rattle.qw_emit.proofs.ScanTable.{Table, CellsOf, start_at, word_of, bits_of, Distances, Values-none}

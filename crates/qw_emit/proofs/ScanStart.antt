@@ -4,13 +4,13 @@ use Rattle.std.specs.Prelude.{slice_get}
 use Rattle.qw_types.specs.declared.value.Val.{Val}
 use Rattle.qw_linear.specs.Memory.{page, number_at}
 use Rattle.qw_module.specs.Syntax.{Code}
-use Rattle.qw_module.specs.Map.{Area, World, lies_in_one}
-use Rattle.qw_module.specs.Runs.{Moment}
-use Rattle.qw_module.proofs.RunRules.{more, Reaches, Reaches-more, Reaches-weaker, IsKept, go, load}
+use Rattle.qw_map.specs.Map.{Area, World, lies_in_one}
+use Rattle.qw_map.specs.Runs.{Moment}
+use Rattle.qw_map.proofs.RunRules.{more, Reaches, Reaches-more, Reaches-weaker, IsKept, go, load}
 use Rattle.qw_emit.specs.Emit.{Scan, read_distances, scan_code}
-use Rattle.qw_emit.specs.Layout.{entry_offset}
-use Rattle.qw_emit.proofs.Areas.{lies-first, lies-after, number-kept}
-use Rattle.qw_emit.proofs.Chains.{integers}
+use Rattle.qw_map.specs.Layout.{entry_offset}
+use Rattle.qw_map.proofs.AccessLemmas.{lies-first, lies-after, number-kept}
+use Rattle.qw_map.proofs.Chains.{integers}
 use Rattle.qw_emit.proofs.ScanMemory.{Setting, size_of, Lies, Scanned, Scanned-kept}
 use Rattle.qw_emit.proofs.ScanSteps.{locals_of, running, standing, in_call, begins_rows, to_first, to_second, distance_set, to_values, to_rows, to_others, to_free, to_page_end, to_loop}
 use Rattle.qw_emit.proofs.ScanLocals.{distance_put, is_distance}

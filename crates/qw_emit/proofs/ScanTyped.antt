@@ -14,7 +14,7 @@ use Rattle.qw_module.specs.Typing.{Signature, Scope, OpTyped, typed-local_get, t
 use Rattle.qw_meaning.specs.declared.query.Comparison.{Comparison}
 use Rattle.qw_meaning.specs.declared.query.Comparison.TheVariants.{Equal, NotEqual, Less, LessOrEqual, Greater, GreaterOrEqual}
 use Rattle.qw_emit.specs.Emit.{Scan, rejects, read_distances, read_values, write_cells, raise_refused, ask_page, scan_row, scan_end, scan_code, other_locals, scan_locals, i32, get}
-use Rattle.qw_emit.specs.Layout.{row_size}
+use Rattle.qw_map.specs.Layout.{row_size}
 
 -- the scope of `run`
 abbrev pub at_call : Scan → Scope

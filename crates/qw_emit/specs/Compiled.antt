@@ -8,14 +8,14 @@ use Rattle.qw_module.specs.declared.module.Function.{Function}
 use Rattle.qw_module.specs.declared.module.Import.TheVariants as import
 use Rattle.qw_module.specs.declared.module.Module.{Module}
 use Rattle.qw_module.specs.Execution.{State, Running, Returned, Raised, Trapped}
-use Rattle.qw_module.specs.Runs.{Moment, Behaves}
+use Rattle.qw_map.specs.Runs.{Moment, Behaves}
 use Rattle.qw_module.specs.Syntax.{code_of}
 use Rattle.qw_module.specs.Validity.{IsValid, IsShaped, code_of_body}
 use Rattle.qw_module.specs.Start.{weight, begun, body_of}
 use Rattle.qw_meaning.specs.Statement.{Statement}
 use Rattle.qw_meaning.specs.Meaning.{Rows, outcome, results}
-use Rattle.qw_emit.specs.Columns.{HoldsColumn}
-use Rattle.qw_emit.specs.Layout.{used, cell_types, row_size, IsFresh, first_world, rows_at}
+use Rattle.qw_map.specs.Columns.{HoldsColumn}
+use Rattle.qw_map.specs.Layout.{used, cell_types, row_size, IsFresh, first_world, rows_at}
 
 -- The memory is ready for a run over a table's rows, which have the columns that the statement uses: from these addresses on,
 -- but not in the first 64 octets, it holds those columns, and behind them the instance's first page as it begins.

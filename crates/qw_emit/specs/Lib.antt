@@ -1,5 +1,3 @@
-pub mod Columns
-pub mod Layout
 pub mod Emit
 pub mod Plan
 pub mod Sequences

@@ -13,7 +13,7 @@ mod plan;
 mod row;
 mod sequences;
 
-use crate::layout::row_size;
+use qw_map::layout::row_size;
 use instructions::{get, i32_const, repeat};
 use locals::LINK;
 use outer::outer_sequence;
@@ -131,23 +131,4 @@ pub fn module_of(alloc: Global, query: &Query) -> Result<Module, NoMemory>
 {
     let module = scan_module(alloc, query)?;
     Ok(module)
-}
-
-#[cfg(test)]
-mod tests {
-    use super::*;
-    use qw_meaning::query::Comparison;
-    use std::test::Fail;
-
-    // No clause refuses a body that always wants memory: this test does.
-    #[test]
-    fn a_module_is_made(rt: HostRuntime) -> Result<(), Fail> {
-        let columns = vec![in rt.alloc(); 2, 0, 2]?;
-        let query = Query::new(columns, 1, Comparison::NotEqual, -5);
-        let module = module_of(rt.alloc(), &query)?;
-        assert_eq!(rt; module.imports.len(), 2);
-        assert_eq!(rt; module.functions.len(), 1);
-        assert_eq!(rt; module.exports.len(), 1);
-        Ok(())
-    }
 }

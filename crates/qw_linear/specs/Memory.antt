@@ -1,6 +1,6 @@
 -- A memory is its octets; numbers in it are little endian (WebAssembly Core Specification 1.0, 4.2.8 and
 -- 4.3.1, "Storage").
-use Rattle.std.specs.Prelude.{ℕ, Bool, zero, suc, ◌+◌, ◌*◌, ◌/◌, ◌%◌, ◌<◌, nat_le, if◌then◌else◌, List, ◌++◌, length, replicate, All, Option, Some, None, slice_index, slice_set}
+use Rattle.std.specs.Prelude.{◌≡◌, ℕ, Bool, zero, suc, ◌+◌, ◌*◌, ◌/◌, ◌%◌, ◌<◌, nat_le, if◌then◌else◌, List, ◌++◌, length, replicate, All, Option, Some, None, slice_index, slice_set}
 
 -- how many octets a page has, and how many pages a memory has at most (4.2.8 and 3.2.4; one page fewer than there, so that
 -- a memory's size in octets is a number of 32 bits)
@@ -43,3 +43,7 @@ pages_of octets = length octets / page
 -- each number is an octet
 abbrev pub AreOctets : List ℕ → Type 0
 AreOctets octets = All (λ octet. octet < 256) octets
+
+-- the octets below an address are the same in two memories
+abbrev pub SameBelow : List ℕ → List ℕ → ℕ → Type 0
+SameBelow before after address = (k : ℕ) → k < address → slice_index after k ≡ slice_index before k

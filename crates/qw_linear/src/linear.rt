@@ -223,6 +223,3 @@ fn put_bytes(octets: &mut [u8], at: usize, bytes: &[u8])
 {
     octets[at..at + bytes.len()].copy_from_slice(bytes);
 }
-
-#[cfg(test)]
-mod tests;

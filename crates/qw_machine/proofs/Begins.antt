@@ -10,8 +10,8 @@ use Rattle.qw_module.specs.Soundness.{scope_of, IsTypedState}
 use Rattle.qw_module.specs.Validity.{code_of_body, imported_signatures, TakesOneI32, IsOneI32, IsTypedFunction, IsValidFunction, IsValid, IsShaped}
 use Rattle.qw_module.specs.Start.{begun, sequences_of_function, locals_of_function}
 use Rattle.qw_module.proofs.TypedOperands.{start-typed}
-use Rattle.qw_machine.proofs.ValidFunctions.{has_value, of_is_some_and}
-use Rattle.qw_machine.proofs.Imported.{linked_imports}
+use Rattle.qw_valid.proofs.ValidFunctions.{has_value, of_is_some_and}
+use Rattle.qw_valid.proofs.Imported.{linked_imports}
 use Rattle.qw_machine.proofs.Starts.{zeros-are}
 use Rattle.qw_module.specs.Syntax.{done, code_of}
 use Rattle.qw_module.specs.Execution.{label, settled}

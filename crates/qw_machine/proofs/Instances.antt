@@ -13,16 +13,15 @@ use Rattle.qw_machine.specs.declared.machine.Stepped.TheVariants.{Ran}
 use Rattle.qw_machine.specs.declared.machine.RunEnd.{RunEnd}
 use Rattle.qw_machine.specs.declared.machine.RunEnd.TheVariants as end
 use Rattle.qw_module.specs.Syntax.{Code, done, nested, sequence_at, IsNumbered}
-use Rattle.qw_module.specs.Execution.{Config, State, Running}
+use Rattle.qw_module.specs.Execution.{Config, State, Running, IsOver}
 use Rattle.qw_module.specs.Validity.{items_of, IsValid, IsValidFunction, IsTypedFunction, IsShaped, IsOneI32}
 use Rattle.qw_machine.specs.Machine.{code_at, base_of, above, under, contexts_of, Point, state_at, config_at, IsRunning, point_of, rooms_of}
 use Rattle.qw_machine.specs.Executed.{IsStepped}
 use Rattle.qw_machine.specs.Instance.{end_of, state_after, state_of, WhileRunning, GoesWith, IsLast, Went}
 use Rattle.qw_module.specs.Start.{body_of}
-use Rattle.qw_module.specs.Runs.{IsOver}
 use Rattle.qw_module.proofs.Numbered.{named}
 use Rattle.qw_machine.proofs.Points.{code_at-instruction}
-use Rattle.qw_machine.proofs.ValidFunctions.{has_value}
+use Rattle.qw_valid.proofs.ValidFunctions.{has_value}
 use Rattle.qw_module.proofs.Sound.{settled-unfinished}
 
 nested-more : (name : ℕ → Code) (instruction : Instr) (rest : List Instr) → nested name (instruction ∷ rest) ≢ done

@@ -6,12 +6,6 @@ pub mod Operated
 pub mod Controlled
 pub mod Arrays
 pub mod Instances
-pub mod Imported
 pub mod ShapeFacts
 pub mod Starts
-pub mod Checked
-pub mod CheckedBodies
-pub mod Numbering
-pub mod Names
-pub mod ValidFunctions
 pub mod Begins

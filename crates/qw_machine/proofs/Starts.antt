@@ -22,9 +22,9 @@ use Rattle.qw_machine.specs.Executed.{IsLeft}
 use Rattle.qw_machine.specs.Instance.{state_of, GoesWith}
 use Rattle.qw_module.specs.Start.{body_of, begun}
 use Rattle.qw_machine.proofs.Points.{code_at-first, code_at-end}
-use Rattle.qw_machine.proofs.Imported.{linked_imports}
+use Rattle.qw_valid.proofs.Imported.{linked_imports}
 use Rattle.qw_machine.proofs.Instances.{typed-function}
-use Rattle.qw_machine.proofs.ValidFunctions.{has_value}
+use Rattle.qw_valid.proofs.ValidFunctions.{has_value}
 
 -- zeros are values of any types
 pub zeros-are : (types : List ValType) → AreOf (replicate (length types) 0) types

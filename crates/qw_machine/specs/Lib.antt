@@ -1,8 +1,4 @@
 pub mod Stacked
-pub mod Checking
-pub mod Refusals
-pub mod Checkers
-pub mod ValidFaults
 pub mod Machine
 pub mod Instance
 pub mod Executed

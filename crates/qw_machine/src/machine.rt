@@ -13,7 +13,7 @@ ghost use Rattle.qw_module.specs.Validity.{IsShaped, IsValid, items_of};
 use crate::operators::{operate, value_of};
 use crate::shape::shaped_run;
 use crate::stack::Stack;
-use crate::valid::ValidModule;
+use qw_valid::valid::ValidModule;
 use qw_linear::linear::Linear;
 use qw_module::instruction::{Instr, ValType};
 use qw_module::module::{self, Module};
@@ -263,8 +263,7 @@ pub struct Instance {
 impl Instance {
     ghost use Rattle.qw_machine.specs.Instance.{GoesWith, IsLast, Went, state_of};
     ghost use Rattle.qw_module.specs.Start.{begun};
-    ghost use Rattle.qw_module.specs.Runs.{IsOver};
-    ghost use Rattle.qw_module.specs.Execution.{Config, Running};
+    ghost use Rattle.qw_module.specs.Execution.{IsOver, Config, Running};
 
     /// Calls the `run` of a module with an argument.
     ///
@@ -374,6 +373,3 @@ fn unwind(operands: &mut Stack<u64>, base: usize, takes: bool)
     operands.truncate(base);
     operands.push(taken);
 }
-
-#[cfg(test)]
-mod tests;

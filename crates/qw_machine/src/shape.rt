@@ -5,7 +5,7 @@ ghost use Rattle.std.specs.Prelude.{◌≡◌, ◌↔◌, ℕ, length, IsTrue, M
 ghost use Rattle.qw_module.specs.Validity.{imported_function, imported_functions, IsOneI32, IsShaped, TakesOneI32};
 ghost use Rattle.qw_machine.specs.Shape.{ImportsMemory, ImportsRaise, ExportsNoRun, ExportsRun};
 
-use crate::imports::imported_functions;
+use qw_valid::imports::imported_functions;
 use qw_module::instruction::ValType;
 use qw_module::module::{Export, ExportKind, FuncType, Import, Module};
 

@@ -3,10 +3,3 @@ pub mod Steps
 pub mod Outcomes
 pub mod Sound
 pub mod TypedOperands
-pub mod Areas
-pub mod OpenRuns
-pub mod RunRules
-pub mod TurnFacts
-pub mod TurnSteps
-pub mod Separate
-pub mod NoTrap

@@ -38,6 +38,13 @@ pub data State : Type 0 where
   Raised : (code : ℕ) → State
   Trapped : State
 
+-- an instance has ended where it doesn't run
+abbrev pub IsOver : State → Type 0
+IsOver (Running c) = ⊥
+IsOver Returned = Unit {0}
+IsOver (Raised code) = Unit {0}
+IsOver Trapped = Unit {0}
+
 -- What a step does outside the instance: an access, a growth, which is granted or refused, or a call of the imported
 -- function `raise` (4.4.7, "Host Functions").
 pub data Event : Type 0 where

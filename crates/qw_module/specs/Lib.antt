@@ -5,7 +5,4 @@ pub mod Step
 pub mod Typing
 pub mod Soundness
 pub mod Validity
-pub mod Map
-pub mod Runs
 pub mod Start
-pub mod Turns

@@ -4,17 +4,12 @@
 //! - [`instruction::Instr`]: an instruction of a numbered body; [`instruction::Op`]: one that holds no other.
 //! - [`module::Module`]: a module, with its [`module::Function`]s and their [`module::Body`]s.
 //! - [`laws`]: the rules and the computed step agree, a step is unique, typed configurations go on.
-//! - [`turn_laws`]: what holds of instances that share one memory, for every list of turns.
 //! - `specs/Syntax`: the nested code that a numbered body stands for; `Numbers`: the values and operators.
 //! - `specs/Typing`: the typing rules; `Validity`: valid modules, and the shape of those that are executed.
 //! - `specs/Execution`: the rules of execution; `Step`: the step as a function; `Start`: how a call begins.
 //! - `specs/Soundness`: typed configurations.
-//! - `specs/Map`: areas of the memory, and what an instance and others may do there.
-//! - `specs/Runs`: open runs, and how an instance behaves in all of them.
-//! - `specs/Turns`: several instances over one memory, their turns and their ends.
 #![tactic(auto)]
 
 pub mod instruction;
 pub mod laws;
 pub mod module;
-pub mod turn_laws;

@@ -8,10 +8,10 @@ use Rattle.qw_io.specs.declared.fault.IoFault.{IoFault}
 use Rattle.qw_io.specs.declared.fault.IoFault.TheVariants.{Failed, NoMemory as NoMemoryToWrite}
 use Rattle.qw_types.specs.declared.schema.Table.{Table}
 use Rattle.qw_types.specs.declared.value.Val.{Val}
-use Rattle.qw_module.specs.Turns.{End, Done as EndedDone, Exception, Pages, Steps, Trap}
+use Rattle.qw_map.specs.Turns.{End, Done as EndedDone, Exception, Pages, Steps, Trap}
 use Rattle.qw_meaning.specs.Statement.{Statement}
 use Rattle.qw_emit.specs.Compiled.{page_bound}
-use Rattle.qw_top.specs.declared.bench.TheConstants.{DEFAULT_LIMITS}
+use Rattle.qw_bench.specs.declared.bench.TheConstants.{DEFAULT_LIMITS}
 use Rattle.qw_top.specs.declared.status.Status.{Status}
 use Rattle.qw_top.specs.declared.status.Status.TheVariants.{Done, WordsRefused, SchemaRefused, TableFileRefused, QueriesRefused, ReadFailed, WriteFailed, PageLimitMet, NoMemory}
 use Rattle.qw_top.specs.declared.stop.Refusal.{Refusal}
@@ -21,12 +21,12 @@ use Rattle.qw_top.specs.declared.stop.Stop.TheVariants.{Refused, Unread, NoMemor
 use Rattle.qw_top.specs.Counts.{CountsWrite, write_fault_of}
 use Rattle.qw_top.specs.Delivered.{Asks, HasRun, IsLine, Leaves, LeavesBench, Notes, Reports, ShowsEnd, status_of}
 use Rattle.qw_top.specs.Noted.{NotesLine, NotesStop}
-use Rattle.qw_emit.specs.Layout.{used}
-use Rattle.qw_top.specs.Loading.{Contents}
+use Rattle.qw_map.specs.Layout.{used}
+use Rattle.qw_csv.specs.Loading.{Contents}
 use Rattle.qw_top.specs.Notes.{read_fault_line, want_of_memory_line}
 use Rattle.qw_top.specs.Output.{TookFront, with_text}
-use Rattle.qw_top.specs.Bench.{end_in}
-use Rattle.qw_top.specs.Seats.{Standing, shared_of}
+use Rattle.qw_bench.specs.Bench.{end_in}
+use Rattle.qw_bench.specs.Seats.{Standing, shared_of}
 use Rattle.qw_top.specs.Stages.{FilesStop, HasAsked, IsReport, Ran, Stops, Writes}
 use Rattle.qw_top.specs.Stop.{octets_of, refusal_status}
 use Rattle.qw_top.specs.Top.{AreNames, Explains, Files, FilesExplain, HasQuery, IsFault, IsOneTable, IsSettled, Names}

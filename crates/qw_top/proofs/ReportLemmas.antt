@@ -12,15 +12,15 @@ use Rattle.qw_types.specs.declared.value.Ty.{Ty}
 use Rattle.qw_types.specs.declared.value.Ty.TheVariants.{Integer}
 use Rattle.qw_types.specs.declared.value.Val.{Val}
 use Rattle.qw_linear.specs.Memory.{number_at}
-use Rattle.qw_module.specs.Map.{Area, lies_in_one}
+use Rattle.qw_map.specs.Map.{Area, lies_in_one}
 use Rattle.qw_meaning.specs.Statement.{Statement}
-use Rattle.qw_emit.specs.Layout.{before, cell_at, cell_types, cells_at, row_at, row_size, rows_at, rows_from}
-use Rattle.qw_top.specs.declared.bench.Seat.{Seat}
-use Rattle.qw_top.specs.declared.sink.Head.{Head}
-use Rattle.qw_top.specs.declared.sink.Kind.TheVariants.{Number}
-use Rattle.qw_top.specs.Bench.{Task}
-use Rattle.qw_top.specs.Seats.{Standing, rows_in, task_of, tasks_of, world_of}
-use Rattle.qw_top.specs.Sink.{AreRowsOf}
+use Rattle.qw_map.specs.Layout.{before, cell_at, cell_types, cells_at, row_at, row_size, rows_at, rows_from}
+use Rattle.qw_bench.specs.declared.bench.Seat.{Seat}
+use Rattle.qw_sink.specs.declared.sink.Head.{Head}
+use Rattle.qw_sink.specs.declared.sink.Kind.TheVariants.{Number}
+use Rattle.qw_bench.specs.Bench.{Task}
+use Rattle.qw_bench.specs.Seats.{Standing, rows_in, task_of, tasks_of, world_of}
+use Rattle.qw_sink.specs.Sink.{AreRowsOf}
 use Rattle.qw_top.specs.Top.{AreColumnsOf, head_of, header_of, kind_of}
 
 -- ---- the widths of rows

@@ -9,20 +9,20 @@ use Rattle.qw_types.specs.declared.schema.Table.{Table}
 use Rattle.qw_types.specs.declared.value.Val.{Val}
 use Rattle.qw_module.specs.declared.module.Module.{Module}
 use Rattle.qw_module.specs.Validity.{IsShaped}
-use Rattle.qw_module.specs.Turns.{Done, EachInstance, End, Exception, Pages, Shared, Steps, Trap, turns}
+use Rattle.qw_map.specs.Turns.{Done, EachInstance, End, Exception, Pages, Shared, Steps, Trap, turns}
 use Rattle.qw_meaning.specs.Statement.{Statement}
 use Rattle.qw_meaning.specs.Meaning.{condition, is_true, results, selected}
 use Rattle.qw_emit.specs.Compiled.{IsCompiled, bound, page_bound, units, weight_of}
-use Rattle.qw_emit.specs.Layout.{cell_types, rows_at}
-use Rattle.qw_top.specs.declared.bench.Seat.{Seat}
-use Rattle.qw_top.specs.declared.bench.TheConstants.{DEFAULT_LIMITS}
+use Rattle.qw_map.specs.Layout.{cell_types, rows_at}
+use Rattle.qw_bench.specs.declared.bench.Seat.{Seat}
+use Rattle.qw_bench.specs.declared.bench.TheConstants.{DEFAULT_LIMITS}
 use Rattle.qw_top.specs.declared.top.TheConstants.{QUANTUM}
-use Rattle.qw_top.specs.Bench.{AreRounds, AreServing, end_in, IsAt, IsStart, Serves, Task}
+use Rattle.qw_bench.specs.Bench.{AreRounds, AreServing, end_in, IsAt, IsStart, Serves, Task}
 use Rattle.qw_top.specs.Delivered.{HasRun, ShowsEnd}
-use Rattle.qw_top.specs.Seats.{Standing, first_task, instance_of, rows_in, shared_of, task_of, tasks_of, world_of}
-use Rattle.qw_top.specs.Sink.{report_of_pages, report_of_rows}
+use Rattle.qw_bench.specs.Seats.{Standing, first_task, instance_of, rows_in, shared_of, task_of, tasks_of, world_of}
+use Rattle.qw_sink.specs.Sink.{report_of_pages, report_of_rows}
 use Rattle.qw_top.specs.Top.{header_of}
-use Rattle.qw_top.proofs.Serving.{served-at, start-serving, there, turns-serving}
+use Rattle.qw_bench.proofs.Serving.{served-at, start-serving, there, turns-serving}
 
 -- a run of few instructions over few rows ends before the limit where none is given
 few_instructions : (weight units : ℕ) → weight ≤ 2 ^ 24 → 1 + units ≤ 2000001 → weight * (1 + units) ≤ 999999999999999999

@@ -11,7 +11,7 @@ use Rattle.qw_types.specs.declared.schema.TheConstants.{MAX_COLUMNS}
 use Rattle.qw_types.specs.declared.schema.Table.{Table}
 use Rattle.qw_types.specs.declared.value.Val.{Val}
 use Rattle.qw_meaning.specs.Statement.{Statement}
-use Rattle.qw_emit.specs.Layout.{is_used, used}
+use Rattle.qw_map.specs.Layout.{is_used, used}
 use Rattle.qw_top.specs.declared.files.TheConstants.{MAX_TABLE_FILE, MAX_TEXT_FILE}
 use Rattle.qw_top.specs.declared.status.Status.{Status}
 use Rattle.qw_top.specs.declared.status.Status.TheVariants.{Done, PageLimitMet, WordsRefused, SchemaRefused, TableFileRefused, QueriesRefused, ReadFailed, WriteFailed, NoMemory as NoMemoryLeft}
@@ -20,13 +20,13 @@ use Rattle.qw_top.specs.declared.stop.Refusal.TheVariants.{TableFile, Queries}
 use Rattle.qw_top.specs.declared.stop.Stop.{Stop}
 use Rattle.qw_top.specs.declared.stop.Stop.TheVariants.{Refused, Unread, NoMemory}
 use Rattle.qw_top.specs.FileNames.{table_file_of}
-use Rattle.qw_top.specs.Parse.{ReadsQuery, ReadsSchema, integer_column, place_of, table_of}
-use Rattle.qw_top.specs.Loading.{AreIntegers, Contents, Loads}
+use Rattle.qw_parse.specs.Parse.{ReadsQuery, ReadsSchema, integer_column, place_of, table_of}
+use Rattle.qw_csv.specs.Loading.{AreIntegers, Contents, Loads}
 use Rattle.qw_top.specs.Stages.{FilesStop, StopsAs}
 use Rattle.qw_top.specs.Stop.{refusal_status}
 use Rattle.qw_top.specs.Top.{AreColumnsOf, AreNames, Explains, Files, FilesExplain, HasQuery, HasRows, IsFault, IsFile, IsFileOf, IsNoQuery, IsNoSchema, IsNoTable, IsOneTable, IsSettled, IsTooLong, Names, QueryIs, SchemaIs, TableIs}
-use Rattle.qw_top.proofs.LoadingLaws.{same_loads, loads_or_fails}
-use Rattle.qw_top.proofs.ReadLemmas.{ReadsQuery-unique, ReadsSchema-unique}
+use Rattle.qw_csv.proofs.LoadingLaws.{same_loads, loads_or_fails}
+use Rattle.qw_parse.proofs.ReadLemmas.{ReadsQuery-unique, ReadsSchema-unique}
 
 -- a stage that stopped for a reason of its own, or at a file that a run may read, is explained
 pub StopsAs-explained : (files : Files) (names : Names) (refusal : Refusal) (reason : Type 0) (name : List ℕ) (stop : Stop) → (reason → FilesExplain files names (refusal_status refusal)) → IsFileOf files names name → StopsAs refusal reason name stop → FilesStop files names stop

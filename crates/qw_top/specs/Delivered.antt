@@ -3,19 +3,19 @@ use Rattle.std.specs.Prelude.{◌≡◌, ◌⊎◌, ℕ, List, [], ◌∷◌, le
 use Rattle.qw_types.specs.declared.schema.Table.{Table}
 use Rattle.qw_types.specs.declared.value.Val.{Val}
 use Rattle.qw_module.specs.declared.module.Module.{Module}
-use Rattle.qw_module.specs.Turns.{End, Done as EndedDone, Pages, Shared, turns}
+use Rattle.qw_map.specs.Turns.{End, Done as EndedDone, Pages, Shared, turns}
 use Rattle.qw_meaning.specs.Statement.{Statement}
 use Rattle.qw_meaning.specs.Meaning.{Rows, outcome}
 use Rattle.qw_emit.specs.Compiled.{IsCompiled}
-use Rattle.qw_top.specs.declared.bench.TheConstants.{DEFAULT_LIMITS}
+use Rattle.qw_bench.specs.declared.bench.TheConstants.{DEFAULT_LIMITS}
 use Rattle.qw_top.specs.declared.status.Status.{Status}
 use Rattle.qw_top.specs.declared.status.Status.TheVariants.{Done, WordsRefused, SchemaRefused, TableFileRefused, QueriesRefused, ReadFailed, WriteFailed, PageLimitMet, NoMemory}
 use Rattle.qw_top.specs.declared.top.TheConstants.{QUANTUM}
-use Rattle.qw_top.specs.Bench.{AreRounds, IsStart, end_in}
+use Rattle.qw_bench.specs.Bench.{AreRounds, IsStart, end_in}
 use Rattle.qw_top.specs.Notes.{read_fault_line, want_of_memory_line}
 use Rattle.qw_top.specs.Output.{TookFront, with_text}
-use Rattle.qw_top.specs.Seats.{Standing, first_task, rows_in, shared_of, tasks_of}
-use Rattle.qw_top.specs.Sink.{report_of_rows, report_of_pages}
+use Rattle.qw_bench.specs.Seats.{Standing, first_task, rows_in, shared_of, tasks_of}
+use Rattle.qw_sink.specs.Sink.{report_of_rows, report_of_pages}
 use Rattle.qw_top.specs.Top.{AreNames, Files, HasQuery, Names, IsNamed, header_of}
 
 -- The words name files that declare this one table, hold these rows and ask for this statement.

@@ -1,6 +1,3 @@
-pub mod FirstPage
-pub mod Bench
-pub mod Seats
 pub mod Counts
 pub mod FileNames
 pub mod Output
@@ -8,16 +5,6 @@ pub mod WholeFiles
 pub mod Status
 pub mod Stop
 pub mod Words
-pub mod Loading
-pub mod Sink
-pub mod Octets
-pub mod Digits
-pub mod Token
-pub mod Scan
-pub mod Grammar
-pub mod Parse
-pub mod Views
-pub mod Reading
 pub mod Top
 pub mod Delivered
 pub mod Notes

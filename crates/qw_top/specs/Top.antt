@@ -9,19 +9,19 @@ use Rattle.qw_types.specs.declared.value.Ty.{Ty}
 use Rattle.qw_types.specs.declared.value.Ty.TheVariants.{Integer}
 use Rattle.qw_types.specs.declared.value.Val.{Val}
 use Rattle.qw_top.specs.declared.files.TheConstants.{MAX_TABLE_FILE, MAX_TEXT_FILE}
-use Rattle.qw_top.specs.declared.loading.LoadFault.{LoadFault}
+use Rattle.qw_csv.specs.declared.loading.LoadFault.{LoadFault}
 use Rattle.qw_meaning.specs.Statement.{Statement}
-use Rattle.qw_top.specs.declared.sink.Head.{Head}
-use Rattle.qw_top.specs.declared.sink.Kind.{Kind}
-use Rattle.qw_top.specs.declared.sink.Kind.TheVariants.{Number}
+use Rattle.qw_sink.specs.declared.sink.Head.{Head}
+use Rattle.qw_sink.specs.declared.sink.Kind.{Kind}
+use Rattle.qw_sink.specs.declared.sink.Kind.TheVariants.{Number}
 use Rattle.qw_top.specs.declared.status.Status.{Status}
 use Rattle.qw_top.specs.declared.status.Status.TheVariants.{Done, WordsRefused, SchemaRefused, TableFileRefused, QueriesRefused, ReadFailed, WriteFailed, PageLimitMet, NoMemory}
 use Rattle.qw_top.specs.declared.words.RunWords.{RunWords}
 use Rattle.qw_top.specs.FileNames.{table_file_of}
 use Rattle.qw_emit.specs.Compiled.{page_bound}
-use Rattle.qw_top.specs.Loading.{IsFirstFault, AreIntegers, Loads}
-use Rattle.qw_top.specs.declared.bench.TheConstants.{DEFAULT_LIMITS}
-use Rattle.qw_top.specs.Parse.{ReadsQuery, ReadsSchema}
+use Rattle.qw_csv.specs.Loading.{IsFirstFault, AreIntegers, Loads}
+use Rattle.qw_bench.specs.declared.bench.TheConstants.{DEFAULT_LIMITS}
+use Rattle.qw_parse.specs.Parse.{ReadsQuery, ReadsSchema}
 use Rattle.qw_top.specs.Words.{IsRun}
 
 -- The octets of each file by its name, where they are told. What is said of files below holds of the told

@@ -1,6 +1,6 @@
 -- The words of the command line.
 use Rattle.std.specs.Prelude.{◌≡◌, ◌≢◌, ℕ, List, [], ◌∷◌, Some, codes, slice_get}
-use Rattle.qw_top.specs.Octets.{minus}
+use Rattle.qw_types.specs.Octets.{minus}
 
 -- a word that is no option: it doesn't begin with `-`
 abbrev pub IsValue : List ℕ → Type 0

@@ -144,6 +144,3 @@ fn read_more<F: Shelf>(
         .map_err(|_| ReadFault::NoMemory)?;
     Ok(count)
 }
-
-#[cfg(test)]
-mod tests;

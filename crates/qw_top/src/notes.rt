@@ -61,6 +61,3 @@ fn write_read_fault<E: Sink>(notes: &mut E, name: &str) -> Result<(), IoFault>
     write_whole(notes, name.as_bytes())?;
     write_whole(notes, b"\n")
 }
-
-#[cfg(test)]
-mod tests;

@@ -38,6 +38,3 @@ pub fn end_of_write(written: Result<(), IoFault>, status: Status) -> Status
         Err(IoFault::NoMemory) => Status::NoMemory,
     }
 }
-
-#[cfg(test)]
-mod tests;

@@ -7,14 +7,14 @@ ghost use Rattle.qw_types.specs.declared.schema.Table.{Table};
 ghost use Rattle.qw_types.specs.declared.value.Val.{Val};
 ghost use Rattle.qw_meaning.specs.Statement.{Statement};
 ghost use Rattle.qw_emit.specs.Compiled.{page_bound};
-ghost use Rattle.qw_top.specs.declared.bench.TheConstants.{DEFAULT_LIMITS};
+ghost use Rattle.qw_bench.specs.declared.bench.TheConstants.{DEFAULT_LIMITS};
 ghost use Rattle.qw_top.specs.declared.status.Status.{Status};
 ghost use Rattle.qw_top.specs.Delivered.{Leaves, LeavesBench, Notes};
 ghost use Rattle.qw_top.specs.Notes.{want_of_memory_line};
 ghost use Rattle.qw_top.specs.Output.{TookFront, with_text};
 ghost use Rattle.qw_top.specs.Top.{AreNames, Explains, HasQuery, IsFault, IsSettled, Names};
 
-use crate::bench::Bench;
+use qw_bench::bench::Bench;
 use crate::notes::{note_stop, note_want_of_memory};
 use crate::status::Status;
 use qw_io::{Shelf, Sink};
@@ -106,6 +106,3 @@ pub fn one_content()
         → HasQuery (Some told) names other_table other_rows other_statement
         → (table ≡ other_table) × (rows ≡ other_rows) × (statement ≡ other_statement) }
 {}
-
-#[cfg(test)]
-mod tests;

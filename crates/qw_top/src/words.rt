@@ -55,6 +55,3 @@ fn is_value(word: &str) -> bool
 {
     word.as_bytes().first() != Some(&b'-')
 }
-
-#[cfg(test)]
-mod tests;

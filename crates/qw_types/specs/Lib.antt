@@ -1,2 +1,4 @@
 pub mod Value
 pub mod Schema
+pub mod Digits
+pub mod Octets

@@ -1,5 +1,6 @@
 -- Which values a type has.
-use Rattle.std.specs.Prelude.{pos, negsuc, ◌≤ℤ◌}
+use Rattle.std.specs.Prelude.{ℕ, pos, negsuc, ◌≤ℤ◌, List, Option, slice_get}
+use Rattle.std.specs.Option.{option_and_then}
 use Rattle.qw_types.specs.declared.value.Ty.{Ty}
 use Rattle.qw_types.specs.declared.value.Ty.TheVariants.{Integer}
 use Rattle.qw_types.specs.declared.value.Val.{Val}
@@ -9,3 +10,7 @@ use Rattle.qw_types.specs.declared.value.Val.TheVariants.{Num}
 -- precision to the implementation).
 abbrev pub IsOfType : Ty → Val → Type 0
 IsOfType Integer (Num number) = (negsuc 2147483647 ≤ℤ number) × (number ≤ℤ pos 2147483647)
+
+-- the value of a column in a row, both counted from 0
+abbrev pub value_of : List (List Val) → ℕ → ℕ → Option Val
+value_of rows row column = option_and_then (λ values. slice_get values column) (slice_get rows row)

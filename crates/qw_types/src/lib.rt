@@ -1,5 +1,6 @@
 //! The values, rows and schemas that every other crate speaks of.
 //!
+//! - [`digits`]: whether octets are digits.
 //! - [`value::Ty`] and [`value::Val`]: a column's type, and a value of a row.
 //! - [`text::Text`]: a text, which contracts see as its octets.
 //! - [`row::Row`]: the values of one row, which contracts see as a list.
@@ -8,6 +9,7 @@
 //! The limits on counts and the rule that names differ are kept by the types.
 #![tactic(auto)]
 
+pub mod digits;
 pub mod memory;
 pub mod row;
 pub mod schema;

@@ -9,7 +9,7 @@ ghost use Rattle.qw_module.specs.declared.instruction.ValType.TheVariants.{I32};
 ghost use Rattle.qw_module.specs.declared.instruction.Op.TheVariants as o;
 ghost use Rattle.qw_module.specs.Syntax.{Code, NamesBelow, nested, op, block, if_else};
 ghost use Rattle.qw_emit.specs.Emit as emit;
-ghost use Rattle.qw_emit.specs.Layout as layout;
+ghost use Rattle.qw_map.specs.Layout as layout;
 ghost use Rattle.qw_emit.specs.Sequences.{Adds};
 
 use super::instructions::{
@@ -21,7 +21,7 @@ use super::locals::{
 };
 use super::plan::Plan;
 use super::sequences::{ALL_ROWS, LAST_ROW, NO_ROW};
-use crate::layout::{
+use qw_map::layout::{
     COUNT_OFFSET, ENTRY_ROWS_OFFSET, FIRST_ROW_OFFSET, FREE_OFFSET, INTEGER_SIZE, LAST_ROW_OFFSET,
     PAGE_END_OFFSET, entry_offset, row_size,
 };

@@ -23,7 +23,7 @@ use super::locals::{
 };
 use super::plan::Plan;
 use super::sequences::{ASK, NOTHING, RAISE};
-use crate::layout::{CELL_OFFSET, CELL_SIZE, INTEGER_SIZE, NEXT_OFFSET, row_size};
+use qw_map::layout::{CELL_OFFSET, CELL_SIZE, INTEGER_SIZE, NEXT_OFFSET, row_size};
 use qw_linear::linear::PAGE;
 use qw_meaning::query::Comparison;
 use qw_module::instruction::{Binary, Instr, Load, Op, REFUSAL, Relation, Sign};

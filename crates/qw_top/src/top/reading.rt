@@ -2,15 +2,15 @@
 
 ghost use Rattle.std.specs.Prelude.{◌≡◌, ◌≤◌, [], ◌∷◌, IfOk, IfErr, length};
 ghost use Rattle.qw_types.specs.declared.schema.Table.{Table};
-ghost use Rattle.qw_top.specs.Loading.{AreIntegers};
+ghost use Rattle.qw_csv.specs.Loading.{AreIntegers};
 ghost use Rattle.qw_top.specs.FileNames.{table_file_of};
 ghost use Rattle.qw_top.specs.Stages.{CountsStop, FilesStop, StopsAs};
 ghost use Rattle.qw_top.specs.Stop.{octets_of};
 ghost use Rattle.qw_top.specs.Top.{HasQuery, IsFile, IsNoQuery, IsNoSchema, IsNoTable, IsOneTable, IsTooLong, QueryIs, SchemaIs, TableIs, names_of};
 
 use crate::files::{MAX_TABLE_FILE, MAX_TEXT_FILE, ReadFault, read_whole, table_file_name};
-use crate::loading::{LoadFault, Loaded, load};
-use crate::parse::{ParseFault, query_of, schema_of};
+use qw_csv::loading::{LoadFault, Loaded, load};
+use qw_parse::parse::{ParseFault, query_of, schema_of};
 use crate::stop::{FileName, Refusal, Stop};
 use crate::words::RunWords;
 use qw_io::Shelf;

@@ -3,20 +3,20 @@
 ghost use Rattle.std.specs.Prelude.{◌≡◌, ◌≢◌, ℕ, List, slice_get, Some, IfOk, IfSome, IsSomeAnd};
 ghost use Rattle.qw_io.specs.Faults.{IsCounted};
 ghost use Rattle.qw_types.specs.declared.value.Val.{Val};
-ghost use Rattle.qw_module.specs.Turns.{Done};
-ghost use Rattle.qw_top.specs.Bench.{end_in};
+ghost use Rattle.qw_map.specs.Turns.{Done};
+ghost use Rattle.qw_bench.specs.Bench.{end_in};
 ghost use Rattle.qw_top.specs.Delivered.{ShowsEnd, status_of};
-ghost use Rattle.qw_top.specs.Seats.{rows_in, shared_of, tasks_of};
-ghost use Rattle.qw_top.specs.Sink.{report_of_rows};
+ghost use Rattle.qw_bench.specs.Seats.{rows_in, shared_of, tasks_of};
+ghost use Rattle.qw_sink.specs.Sink.{report_of_rows};
 ghost use Rattle.qw_top.specs.Stages.{IsReport, Ran, Writes};
 ghost use Rattle.qw_top.specs.Top.{AreColumnsOf, head_of, header_of};
 
 use super::reading::one_table;
 use super::run::Turned;
-use crate::bench::{Bench, Ended};
+use qw_bench::bench::{Bench, Ended};
 use crate::output::{end_of_write, write_whole};
-use crate::results::received;
-use crate::sink::{Head, Kind, pages_text, report_text};
+use qw_sink::results::received;
+use qw_sink::sink::{Head, Kind, pages_text, report_text};
 use crate::status::Status;
 use qw_io::Sink;
 use qw_meaning::query::Query;

@@ -1,6 +1,6 @@
 use Rattle.std.proofs.Common.{[], ◌∷◌, ◌∙◌, ap, length}
-use Rattle.qw_top.specs.Seats.{first_task}
-use Rattle.qw_top.specs.declared.bench.TheConstants.{DEFAULT_LIMITS}
+use Rattle.qw_bench.specs.Seats.{first_task}
+use Rattle.qw_bench.specs.declared.bench.TheConstants.{DEFAULT_LIMITS}
 use Rattle.qw_top.proofs.RunLemmas.{HasRun-from}
 use Rattle.qw_top.proofs.top.run.finished.Goals as goal
 

@@ -1,0 +1,132 @@
+-- The forms of the two texts (ISO/IEC 9075:1992, 5.2 "token", 5.3 "literal", 6.1 "data type", 6.4 "column reference",
+-- 7.3 "table expression", 7.4 "from clause", 7.6 "where clause", 7.9 "query specification", 8.2 "comparison predicate",
+-- 11.3 "table definition", 11.4 "column definition").
+use Rattle.std.specs.Prelude.{◌≡◌, ℕ, ℤ, pos, neg_ℤ, Bool, if◌then◌else◌, IsTrue, List, [], ◌∷◌, ◌++◌, ◌⊎◌, map, length, ◌<◌, ◌^◌, codes, Contains}
+use Rattle.std.specs.List.{AllZip}
+use Rattle.std.specs.Char.{to_ascii_uppercase}
+use Rattle.std.specs.Str.Parse.{digits_value}
+use Rattle.qw_meaning.specs.declared.query.Comparison.{Comparison}
+use Rattle.qw_meaning.specs.declared.query.Comparison.TheVariants.{Equal, NotEqual, Less, LessOrEqual, Greater, GreaterOrEqual}
+use Rattle.qw_token.specs.declared.token.Kind.TheVariants.{Word}
+use Rattle.qw_types.specs.Digits.{are_digits}
+use Rattle.qw_token.specs.Token.{Lexeme, AreTokens}
+
+-- with each ASCII letter in upper case
+abbrev pub folded : List ℕ → List ℕ
+folded octets = map to_ascii_uppercase octets
+
+-- the words that are no regular identifiers
+abbrev pub reserved : List (List ℕ)
+reserved =
+    codes "ALL" ∷ codes "AND" ∷ codes "AS" ∷ codes "ASC" ∷ codes "AVG" ∷ codes "BETWEEN" ∷ codes "BY" ∷ codes "CASE" ∷
+    codes "COALESCE" ∷ codes "COUNT" ∷ codes "CREATE" ∷ codes "CROSS" ∷ codes "DATE" ∷ codes "DEC" ∷ codes "DECIMAL" ∷
+    codes "DESC" ∷ codes "DISTINCT" ∷ codes "ELSE" ∷ codes "END" ∷ codes "EXCEPT" ∷ codes "EXISTS" ∷ codes "EXTRACT" ∷
+    codes "FALSE" ∷ codes "FROM" ∷ codes "FULL" ∷ codes "GROUP" ∷ codes "HAVING" ∷ codes "IN" ∷ codes "INNER" ∷
+    codes "INT" ∷ codes "INTEGER" ∷ codes "INTERSECT" ∷ codes "INTERVAL" ∷ codes "IS" ∷ codes "JOIN" ∷ codes "LEFT" ∷
+    codes "LIKE" ∷ codes "MAX" ∷ codes "MIN" ∷ codes "NATURAL" ∷ codes "NOT" ∷ codes "NULL" ∷ codes "NULLIF" ∷
+    codes "NUMERIC" ∷ codes "ON" ∷ codes "OR" ∷ codes "ORDER" ∷ codes "OUTER" ∷ codes "RIGHT" ∷ codes "SELECT" ∷
+    codes "SUM" ∷ codes "TABLE" ∷ codes "THEN" ∷ codes "TRUE" ∷ codes "UNION" ∷ codes "UNKNOWN" ∷ codes "USING" ∷
+    codes "VARCHAR" ∷ codes "WHEN" ∷ codes "WHERE" ∷ []
+
+-- one of the reserved words
+abbrev pub IsReserved : List ℕ → Type 0
+IsReserved name = Contains reserved name
+
+-- what stands at a place of a form: a key word, a regular identifier of this name, a symbol, an unsigned integer
+pub data Place : Type 0 where
+  key_word : List ℕ → Place
+  regular : List ℕ → Place
+  symbol : List ℕ → Place
+  unsigned : ℕ → Place
+
+-- the token fills the place
+abbrev pub Fills : Place → Lexeme → Type 0
+Fills (key_word word) t = folded t.octets ≡ word
+Fills (regular name) t = (t.kind ≡ Word) × (folded t.octets ≡ name) × (IsReserved name → ⊥)
+Fills (symbol octets) t = t.octets ≡ octets
+Fills (unsigned n) t = IsTrue (are_digits t.octets) × (digits_value 10 t.octets ≡ n)
+
+-- The text is one statement of the form, with a `;` at its end or none.
+pub record IsStatement (form : List Place) (text : List ℕ) : Type 0 where
+  pub tokens : List Lexeme
+  pub are_tokens : AreTokens text tokens
+  pub follows : AllZip Fills form tokens ⊎ AllZip Fills (form ++ symbol (codes ";") ∷ []) tokens
+
+-- each of the forms behind a comma
+abbrev pub behind_commas : List (List Place) → List Place
+behind_commas [] = []
+behind_commas (form ∷ forms) = symbol (codes ",") ∷ (form ++ behind_commas forms)
+
+-- the forms, with a comma between each two
+abbrev pub separated : List (List Place) → List Place
+separated [] = []
+separated (form ∷ forms) = form ++ behind_commas forms
+
+-- ---- the schema
+
+-- column INTEGER NOT NULL
+abbrev pub column_definition : List ℕ → List Place
+column_definition column = regular column ∷ key_word (codes "INTEGER") ∷ key_word (codes "NOT") ∷ key_word (codes "NULL") ∷ []
+
+-- CREATE TABLE table ( column INTEGER NOT NULL {, column INTEGER NOT NULL} )
+abbrev pub create_table : List ℕ → List (List ℕ) → List Place
+create_table table columns =
+    key_word (codes "CREATE") ∷ key_word (codes "TABLE") ∷ regular table ∷ symbol (codes "(") ∷
+    (separated (map column_definition columns) ++ symbol (codes ")") ∷ [])
+
+-- ---- the query
+
+-- the names and the literal behind FROM
+pub record Source : Type 0 where
+  pub table : List ℕ
+  pub tested : List ℕ
+  pub comparison : Comparison
+  pub literal : ℤ
+
+-- what a query names: the columns that it selects, and what stands behind FROM
+pub record Selection : Type 0 where
+  pub columns : List (List ℕ)
+  pub source : Source
+
+-- a column in a select list
+abbrev pub column_reference : List ℕ → List Place
+column_reference column = regular column ∷ []
+
+-- the symbol of a comparison
+abbrev pub comparison_symbol : Comparison → List ℕ
+comparison_symbol Equal = codes "="
+comparison_symbol NotEqual = codes "<>"
+comparison_symbol Less = codes "<"
+comparison_symbol LessOrEqual = codes "<="
+comparison_symbol Greater = codes ">"
+comparison_symbol GreaterOrEqual = codes ">="
+
+-- an unsigned integer, behind a `-` or not
+abbrev pub signed_literal : Bool → ℕ → List Place
+signed_literal negative magnitude =
+    if negative then symbol (codes "-") ∷ unsigned magnitude ∷ [] else unsigned magnitude ∷ []
+
+-- the number that it stands for
+abbrev pub signed : Bool → ℕ → ℤ
+signed negative magnitude = if negative then neg_ℤ (pos magnitude) else pos magnitude
+
+-- FROM table WHERE tested comparison literal
+abbrev pub table_expression : Source → Bool → ℕ → List Place
+table_expression source negative magnitude =
+    key_word (codes "FROM") ∷ regular source.table ∷ key_word (codes "WHERE") ∷ regular source.tested ∷
+    symbol (comparison_symbol source.comparison) ∷ signed_literal negative magnitude
+
+-- SELECT column {, column} FROM table WHERE tested comparison literal
+abbrev pub query_specification : Selection → Bool → ℕ → List Place
+query_specification selection negative magnitude =
+    key_word (codes "SELECT") ∷
+    (separated (map column_reference selection.columns) ++ table_expression selection.source negative magnitude)
+
+-- The text selects so; its literal is below 10^18 without its sign.
+pub record Selects (text : List ℕ) (selection : Selection) : Type 0 where
+  pub negative : Bool
+  pub magnitude : ℕ
+  pub statement : IsStatement (query_specification selection negative magnitude) text
+  pub some : 0 < length selection.columns
+  pub literal_is : selection.source.literal ≡ signed negative magnitude
+  pub fits : magnitude < 10 ^ 18

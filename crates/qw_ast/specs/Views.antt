@@ -1,0 +1,23 @@
+-- What is read, with its names in upper case and without where it lies in memory.
+use Rattle.std.specs.Prelude.{ℕ, List, map}
+use Rattle.std.specs.Borrow.{Bor}
+use Rattle.qw_ast.specs.declared.tree.TableDefinition.{TableDefinition}
+use Rattle.qw_ast.specs.declared.tree.TableExpression.{TableExpression}
+use Rattle.qw_ast.specs.declared.tree.QuerySpecification.{QuerySpecification}
+use Rattle.qw_ast.specs.Grammar.{folded, Source, Selection}
+
+-- each name in upper case
+abbrev pub names_of : List (Bor (List ℕ)) → List (List ℕ)
+names_of names = map (λ name. folded name.now) names
+
+-- the names of the table and of its columns
+abbrev pub definition : TableDefinition → List ℕ × List (List ℕ)
+definition d = (folded d.table.now, names_of d.columns.items)
+
+-- what stands behind a select list
+abbrev pub source : TableExpression → Source
+source e = record { table = folded e.table.now; tested = folded e.tested.now; comparison = e.comparison; literal = e.literal }
+
+-- what a query names
+abbrev pub selection : QuerySpecification → Selection
+selection q = record { columns = names_of q.columns.items; source = source q.source }

@@ -1,0 +1,75 @@
+//! What a bench begins with: the memory of a table and of one instance, and the instance.
+
+ghost use Rattle.std.specs.Prelude.{◌≡◌, ◌+◌, ◌≤◌, ℕ, length, IfOk};
+ghost use Rattle.qw_map.specs.Columns.{column_pages};
+ghost use Rattle.qw_machine.specs.Instance.{GoesWith, state_of};
+ghost use Rattle.qw_module.specs.Start.{begun};
+ghost use Rattle.qw_module.specs.Validity.{IsShaped};
+ghost use Rattle.qw_bench.specs.FirstPage.{IsFirstMemory};
+
+use crate::bench::MAX_INSTANCE_PAGES;
+use qw_columns::columns::{column_starts, pages_needed, place};
+use crate::first_page::begin_page;
+use qw_csv::loading::Loaded;
+use qw_map::layout::used_columns;
+use qw_linear::linear::{Linear, PAGE};
+use qw_machine::machine::{Instance, InstanceFault};
+use qw_valid::valid::ValidModule;
+use qw_meaning::query::Query;
+use qw_types::NoMemory;
+use std::alloc::Global;
+
+/// The memory of the columns and of the first page of an instance of the statement, which may hold so
+/// many pages.
+///
+/// # Errors
+///
+/// [`NoMemory`] where that does not fit memory, and nowhere else.
+pub(super) fn first_memory(
+    alloc: Global,
+    loaded: &Loaded,
+    query: &Query,
+    pages: u32,
+) -> Result<Linear, NoMemory>
+    requires { (1 ≤ pages) × (pages ≤ MAX_INSTANCE_PAGES) }
+    ensures first { IfOk result (λ memory. IsFirstMemory query.now loaded.now.width loaded.now.rows memory.octets) }
+    ensures reserved { IfOk result (λ memory. memory.reserved ≡ column_pages loaded.now.width (length loaded.now.rows) + pages) }
+{
+    let columns = used_columns(alloc, query)?;
+    let starts = column_starts(alloc, loaded.len(), columns.as_slice())?;
+    let column_pages = pages_needed(loaded);
+    let mut memory = Linear::new(alloc, column_pages + pages)?;
+    place(loaded, &mut memory);
+    memory.grow(1).unwrap();
+    let descriptor = PAGE as u32 * column_pages;
+    begin_page(
+        &mut memory,
+        descriptor,
+        starts.as_slice(),
+        loaded.len() as u32,
+    );
+    Ok(memory)
+}
+
+/// An instance of a module of the shape that is executed, whose `run` has the address of its descriptor
+/// as its argument.
+///
+/// # Errors
+///
+/// [`NoMemory`] where it does not fit memory, and nowhere else.
+pub(super) fn first_instance(
+    alloc: Global,
+    valid: &ValidModule,
+    descriptor: u32,
+) -> Result<Instance, NoMemory>
+    requires { (number : ℕ) × IsShaped valid.now number }
+    ensures begun { (number : ℕ) → IsShaped valid.now number
+        → IfOk result (λ instance. state_of valid.now instance ≡ begun valid.now number descriptor) }
+    ensures goes_with { IfOk result (GoesWith valid.now) }
+{
+    match Instance::new(alloc, valid, descriptor) {
+        Ok(instance) => Ok(instance),
+        Err(InstanceFault::NoMemory) => Err(NoMemory),
+        Err(InstanceFault::NotShaped) => unreachable!(),
+    }
+}

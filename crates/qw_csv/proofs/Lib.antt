@@ -1,0 +1,5 @@
+pub mod LoadingLaws
+pub mod NumberLemmas
+pub mod ReaderLemmas
+pub mod RecordLemmas
+pub mod RowLemmas

@@ -1,0 +1,148 @@
+-- What a table file stands for: records of comma-separated values, the first of which names the columns.
+use Rattle.std.specs.Prelude.{◌≡◌, ◌≢◌, ◌⊎◌, ◌≤◌, ◌+◌, ◌*◌, ℕ, zero, suc, ℤ, pos, neg_ℤ, List, [], ◌∷◌, ◌++◌, length, map, take, drop, true, IsTrue, Some, All}
+use Rattle.std.specs.Borrow.{Bor}
+use Rattle.std.specs.Char.{to_ascii_lowercase}
+use Rattle.std.specs.List.{AllByRecursion}
+use Rattle.std.specs.Str.Parse.{digits_value}
+use Rattle.csv.specs.Reading.{AreRecords, Reached, Ready, default_config, source_of, strip_bom}
+use Rattle.csv.specs.declared.parser.State.{State}
+use Rattle.csv.specs.declared.parser.State.TheVariants.{StartRecord}
+use Rattle.csv.specs.declared.reader.Reader.{Reader}
+use Rattle.csv.specs.declared.reader.Trim.TheVariants as trim
+use Rattle.qw_types.specs.Value.{IsOfType}
+use Rattle.qw_types.specs.declared.schema.Column.{Column}
+use Rattle.qw_types.specs.declared.schema.Table.{Table}
+use Rattle.qw_types.specs.declared.schema.TheConstants.{MAX_COLUMNS, MAX_ROWS}
+use Rattle.qw_types.specs.declared.value.Ty.{Ty}
+use Rattle.qw_types.specs.declared.value.Ty.TheVariants.{Integer}
+use Rattle.qw_types.specs.declared.value.Val.{Val}
+use Rattle.qw_types.specs.declared.value.Val.TheVariants.{Num}
+use Rattle.qw_types.specs.Digits.{are_digits}
+use Rattle.qw_types.specs.Octets.{minus, plus}
+use Rattle.qw_csv.specs.declared.loading.FieldFault.{FieldFault}
+use Rattle.qw_csv.specs.declared.loading.FieldFault.TheVariants.{NotNumber, TooLarge}
+use Rattle.qw_csv.specs.declared.loading.LoadFault.{LoadFault}
+use Rattle.qw_csv.specs.declared.loading.LoadFault.TheVariants as fault
+
+-- the text shows the number: digits, with a sign before them or none (ISO/IEC 9075:1992, 5.3 "signed numeric literal")
+abbrev pub ShowsNumber : List ℕ → ℤ → Type 0
+ShowsNumber text n = (digits : List ℕ) × IsTrue (are_digits digits)
+    × (((text ≡ digits) × (n ≡ pos (digits_value 10 digits)))
+    ⊎ ((text ≡ plus ∷ digits) × (n ≡ pos (digits_value 10 digits)))
+    ⊎ ((text ≡ minus ∷ digits) × (n ≡ neg_ℤ (pos (digits_value 10 digits)))))
+
+-- a field stands for a value of a type
+abbrev pub IsFieldOf : Ty → List ℕ → Val → Type 0
+IsFieldOf Integer field (Num n) = ShowsNumber field n × IsOfType Integer (Num n)
+
+-- why a field stands for no value of a type: it shows no number, or one that is out of the type's range
+abbrev pub IsFieldFault : Ty → List ℕ → FieldFault → Type 0
+IsFieldFault Integer field NotNumber = (n : ℤ) → ShowsNumber field n → ⊥
+IsFieldFault Integer field TooLarge = (n : ℤ) × ShowsNumber field n × (IsOfType Integer (Num n) → ⊥)
+
+-- a record stands for a row: it has a field for each column, which stands for the value there
+abbrev pub IsRecordOf : List Column → List (List ℕ) → List Val → Type 0
+IsRecordOf [] [] [] = Unit {0}
+IsRecordOf (column ∷ columns) (field ∷ fields) (value ∷ values) = IsFieldOf column.ty field value × IsRecordOf columns fields values
+IsRecordOf _ _ _ = ⊥
+
+-- records stand for rows, one for one
+abbrev pub AreRecordsOf : List Column → List (List (List ℕ)) → List (List Val) → Type 0
+AreRecordsOf columns [] [] = Unit {0}
+AreRecordsOf columns (record' ∷ records) (row ∷ rows) = IsRecordOf columns record' row × AreRecordsOf columns records rows
+AreRecordsOf columns _ _ = ⊥
+
+-- a record names the columns in their order, the case of ASCII letters aside
+abbrev pub IsHeader : List Column → List (List ℕ) → Type 0
+IsHeader columns fields = map (λ field. map to_ascii_lowercase field) fields ≡ map (λ (c : Column). map to_ascii_lowercase c.name) columns
+
+-- the first records of a file (RFC 4180): commas part their fields, which may stand between double quotes. One byte order
+-- mark at the start of the file is passed over, and so are empty lines
+abbrev pub AreFirstRecords : List ℕ → List (List (List ℕ)) → Type 0
+AreFirstRecords bytes records = (state : State) × (rest : List ℕ) × Reached default_config StartRecord (strip_bom bytes) records state rest
+
+-- all records of a file
+abbrev pub AreAllRecords : List ℕ → List (List (List ℕ)) → Type 0
+AreAllRecords bytes records = AreRecords default_config StartRecord (strip_bom bytes) records
+
+-- the file of a table stands for these rows
+pub record Loads (table : Table) (bytes : List ℕ) (rows : List (List Val)) : Type 0 where
+  pub header : List (List ℕ)
+  pub records : List (List (List ℕ))
+  pub all : AreAllRecords bytes (header ∷ records)
+  pub named : IsHeader table.columns header
+  pub few : length rows ≤ MAX_ROWS
+  pub each : AreRecordsOf table.columns records rows
+
+-- the file begins with the header and records for these rows, and then comes this record
+pub record Follows (table : Table) (bytes : List ℕ) (rows : List (List Val)) (next : List (List ℕ)) : Type 0 where
+  pub header : List (List ℕ)
+  pub records : List (List (List ℕ))
+  pub first : AreFirstRecords bytes (header ∷ (records ++ next ∷ []))
+  pub named : IsHeader table.columns header
+  pub each : AreRecordsOf table.columns records rows
+
+-- the first field that is at fault, by its column's place counted from 0: those before it stand for values
+abbrev pub IsFirstFieldFault : List Column → List (List ℕ) → ℕ → FieldFault → Type 0
+IsFirstFieldFault (column ∷ columns) (field ∷ fields) zero why = IsFieldFault column.ty field why
+IsFirstFieldFault (column ∷ columns) (field ∷ fields) (suc place) why =
+    (value : Val) × IsFieldOf column.ty field value × IsFirstFieldFault columns fields place why
+IsFirstFieldFault _ _ place why = ⊥
+
+-- what is wrong with the data record of this number, counted from 1
+abbrev pub IsRecordFault : List Column → ℕ → List (List ℕ) → LoadFault → Type 0
+IsRecordFault columns number fields fault.TooManyRows = number ≡ MAX_ROWS + 1
+IsRecordFault columns number fields (fault.FieldCount row) = (number ≤ MAX_ROWS) × (row ≡ number) × (length fields ≢ length columns)
+IsRecordFault columns number fields (fault.Field row place why) =
+    (number ≤ MAX_ROWS) × (row ≡ number) × (length fields ≡ length columns) × IsFirstFieldFault columns fields place why
+IsRecordFault columns number fields fault.BadHeader = ⊥
+IsRecordFault columns number fields fault.NoMemory = ⊥
+
+-- the first fault of the file of a table, read from its start; what comes after the record at fault plays no part
+abbrev pub IsFirstFault : Table → List ℕ → LoadFault → Type 0
+IsFirstFault table bytes fault.BadHeader = AreAllRecords bytes []
+    ⊎ ((header : List (List ℕ)) × AreFirstRecords bytes (header ∷ []) × (IsHeader table.columns header → ⊥))
+IsFirstFault table bytes why = (rows : List (List Val)) × (next : List (List ℕ))
+    × Follows table bytes rows next × IsRecordFault table.columns (length rows + 1) next why
+
+-- each column is an INTEGER that can't be null
+abbrev pub AreIntegers : List Column → Type 0
+AreIntegers columns = AllByRecursion (λ (column : Column). (column.ty ≡ Integer) × (column.not_null ≡ true)) columns
+
+-- what a loaded table holds: how many columns it has, and its rows
+pub record Contents : Type 0 where
+  pub width : ℕ
+  pub rows : List (List Val)
+
+-- a row of so many INTEGERs
+abbrev pub IsIntegerRow : ℕ → List Val → Type 0
+IsIntegerRow width row = (length row ≡ width) × AllByRecursion (IsOfType Integer) row
+
+-- the limits of a loaded table, whose rows have a value for each column
+pub record AreLoaded (contents : Contents) : Type 0 where
+  pub some : 1 ≤ contents.width
+  pub narrow : contents.width ≤ MAX_COLUMNS
+  pub few : length contents.rows ≤ MAX_ROWS
+  pub typed : AllByRecursion (IsIntegerRow contents.width) contents.rows
+
+-- so many rows, of so many numbers each, that stand one after another
+unfoldable pub rows_of : (count width : ℕ) → List ℤ → List (List Val)
+rows_of zero width numbers = []
+rows_of (suc count) width numbers = map Num (take width numbers) ∷ rows_of count width (drop width numbers)
+
+-- numbers that stand for so many rows of so many columns
+pub record AreKept (count width : ℕ) (numbers : List ℤ) : Type 0 where
+  pub some : 1 ≤ width
+  pub narrow : width ≤ MAX_COLUMNS
+  pub few : count ≤ MAX_ROWS
+  pub full : length numbers ≡ count * width
+  pub typed : All (λ n. IsOfType Integer (Num n)) numbers
+
+-- a reader that has given these records of a text, and goes on after them
+pub record HasRead (reader : Reader (Bor (List ℕ))) (text : List ℕ) (records : List (List (List ℕ))) : Type 0 where
+  pub ready : Ready reader
+  pub untrimmed : reader.trim ≡ trim.None
+  pub config : reader.config ≡ default_config
+  pub rest : List ℕ
+  pub source : source_of (λ (s : Bor (List ℕ)). Some s.now) reader ≡ Some rest
+  pub reached : Reached default_config StartRecord text records reader.state rest

@@ -1,0 +1,5 @@
+pub mod Columns
+pub mod Layout
+pub mod Map
+pub mod Runs
+pub mod Turns

@@ -1,0 +1,59 @@
+-- Open runs: an instance's steps over a memory that others change between them.
+use Rattle.std.specs.Prelude.{◌≡◌, ℕ, zero, suc, ◌<◌, ◌≤◌, ◌⊎◌, List, Option, Some, None}
+use Rattle.qw_module.specs.Execution.{Config, State, Running, Returned, Raised, Trapped, Event, Step}
+use Rattle.qw_module.specs.Step.{Next, next}
+use Rattle.qw_map.specs.Map.{World, Others, IsFine, IsAllowed, AsksWithin, IsAnswered, grants, world_after}
+
+-- an instance between two steps: what it has, its state, and the memory
+pub record Moment : Type 0 where
+  pub world : World
+  pub state : State
+  pub memory : List ℕ
+
+-- the moment after a step from a memory, with this event
+abbrev pub moment_after : World → List ℕ → Event → State → List ℕ → Moment
+moment_after world before event state after = record { world = world_after world before event; state = state; memory = after }
+
+-- One step of an open run: others change the memory, and the instance makes a step over it.
+pub record OpenStep (a : Moment) (c : Config) (before : List ℕ) (event : Event) (state : State) (after : List ℕ) : Type 0 where
+  pub running : a.state ≡ Running c
+  pub others : Others a.world a.memory before
+  pub step : Step c before event state after
+  pub answered : IsAnswered a.world event
+
+-- an open run of so many steps from one moment to another
+pub data OpenRun : ℕ → Moment → Moment → Type 0 where
+  begins : (a : Moment) → OpenRun zero a a
+  goes_on : (k : ℕ) (a b : Moment) (c : Config) (before : List ℕ) (event : Event) (state : State) (after : List ℕ) →
+      OpenRun k a b → OpenStep b c before event state after → OpenRun (suc k) a (moment_after b.world before event state after)
+
+-- The instance behaves from here on: in every open run, while it runs it can make a step, each step that it can make
+-- is fine, each request stays within `pages` pages, and fewer than `most` instructions have run; where it has ended, at most
+-- so many have, and P holds.
+pub record Behaves (most pages : ℕ) (P : Moment → Type 0) (a : Moment) : Type 0 where
+  pub goes_on : (k : ℕ) (b : Moment) (c : Config) (before : List ℕ) → OpenRun k a b → b.state ≡ Running c → Others b.world b.memory before →
+      (event : Event) × (state : State) × (after : List ℕ) × OpenStep b c before event state after
+  pub fine : (k : ℕ) (b : Moment) (c : Config) (before : List ℕ) (event : Event) (state : State) (after : List ℕ) →
+      OpenRun k a b → OpenStep b c before event state after → IsFine b.world event
+  pub asks : (k : ℕ) (b : Moment) (c : Config) (before : List ℕ) (event : Event) (state : State) (after : List ℕ) →
+      OpenRun k a b → OpenStep b c before event state after → AsksWithin pages b.world event state
+  pub bounded : (k : ℕ) (b : Moment) (c : Config) → OpenRun k a b → b.state ≡ Running c → k < most
+  pub ends : (k : ℕ) (b : Moment) → OpenRun k a b → IsOver b.state → (k ≤ most) × P b
+
+-- a step was made: it is allowed, and Q holds of the moment after it
+abbrev pub OnStep : (pages : ℕ) → World → List ℕ → (Moment → Type 0) → Option Next → Type 0
+OnStep pages w before Q None = ⊥
+OnStep pages w before Q (Some t) = IsAllowed pages w t.event t.state × Q (moment_after w before t.event t.state t.memory)
+
+-- an instance runs, and P holds of its configuration
+abbrev pub OnRunning : State → (Config → Type 0) → Type 0
+OnRunning (Running c) P = P c
+OnRunning Returned P = ⊥
+OnRunning (Raised code) P = ⊥
+OnRunning Trapped P = ⊥
+
+-- At most n steps follow, each allowed whatever others do before it, and then Q holds.
+abbrev pub Within : (pages : ℕ) → (Moment → Type 0) → ℕ → Moment → Type 0
+Within pages Q zero a = Q a
+Within pages Q (suc n) a = Q a ⊎ OnRunning a.state (λ c. (before : List ℕ) → Others a.world a.memory before →
+    OnStep pages a.world before (Within pages Q n) (next (grants a.world) c before))

@@ -1,0 +1,160 @@
+-- Several instances over one memory, and the turns that they are given. A step is one
+-- instruction, and is never divided.
+use Rattle.std.specs.Prelude.{◌≡◌, ◌≢◌, ℕ, zero, suc, ◌+◌, ◌-◌, ◌*◌, ◌≤◌, ◌==◌, nat_le, ◌||◌, ◌⊎◌, if◌then◌else◌, List, [], ◌∷◌, ◌++◌, length, Option, Some, None, slice_get, slice_set, is_some}
+use Rattle.std.specs.List.{AllByRecursion}
+use Rattle.qw_module.specs.Execution.{Config, Event, State, Running, Returned, Raised, Trapped}
+use Rattle.qw_module.specs.Step.{Next, next}
+use Rattle.qw_map.specs.Map.{Area, World, Others, IsFine, grants, world_after}
+use Rattle.qw_linear.specs.Memory.{page, most_pages, AreOctets}
+use Rattle.qw_map.specs.Runs.{Moment, OpenStep, OpenRun}
+
+-- How an instance ended: it returned, it raised an exception's code, it raised 3 after a refused request, it ran as many
+-- instructions as its limit says, or it trapped. `Pages` says how many pages it holds at its end, how many more it asked for in
+-- its last request that was refused, and its limit; later requests may have been granted.
+pub data End : Type 0 where
+  Done : End
+  Exception : (code : ℕ) → End
+  Pages : (held asked limit : ℕ) → End
+  Steps : (limit : ℕ) → End
+  Trap : End
+
+-- An instance: where it is, what it has of the memory, how many instructions it may run, how many it has run, and how it
+-- ended.
+pub record Instance : Type 0 where
+  pub state : State
+  pub world : World
+  pub most_steps : ℕ
+  pub ran : ℕ
+  pub end : Option End
+
+-- One memory and the instances that share it.
+pub record Shared : Type 0 where
+  pub memory : List ℕ
+  pub instances : List Instance
+
+-- the end at a raise of 3, with the last request that was refused; where none was, it counts as a trap
+abbrev pub end_of_refusal : Option ℕ → World → Option End
+end_of_refusal None w = Some Trap
+end_of_refusal (Some asked) w = Some (Pages w.held asked w.limit)
+
+-- the end at a code that was raised: 1 and 2 are exceptions, 3 tells that a request was refused,
+-- and any other code counts as a trap
+abbrev pub end_of_raise : ℕ → World → Option End
+end_of_raise code w =
+    if (code == 1) || (code == 2) then Some (Exception code) else (if code == 3 then end_of_refusal w.refused w else Some Trap)
+
+-- the end at a state, after so many instructions of at most `most`
+abbrev pub end_at : State → World → (ran most : ℕ) → Option End
+end_at Returned w ran most = Some Done
+end_at (Raised code) w ran most = end_of_raise code w
+end_at Trapped w ran most = Some Trap
+end_at (Running c) w ran most = if nat_le most ran then Some (Steps most) else None
+
+-- the instance after a step to a state, with what it has then
+abbrev pub moved : Instance → World → State → Instance
+moved i w s = record {
+  state = s;
+  world = w;
+  most_steps = i.most_steps;
+  ran = i.ran + 1;
+  end = end_at s w (i.ran + 1) i.most_steps;
+}
+
+-- an instance and the memory after a step of it; a state that has none stays
+abbrev pub after_next : Instance → List ℕ → Option Next → Instance × List ℕ
+after_next i m None = (i, m)
+after_next i m (Some t) = (moved i (world_after i.world m t.event) t.state, t.memory)
+
+abbrev pub stepped_from : State → Instance → List ℕ → Instance × List ℕ
+stepped_from (Running c) i m = after_next i m (next (grants i.world) c m)
+stepped_from Returned i m = (i, m)
+stepped_from (Raised code) i m = (i, m)
+stepped_from Trapped i m = (i, m)
+
+abbrev pub stepped : Instance → List ℕ → Instance × List ℕ
+stepped i m = stepped_from i.state i m
+
+-- an instance and the memory after at most `quantum` steps of it, none after its end
+abbrev pub steps_of : (quantum : ℕ) → Instance → List ℕ → Instance × List ℕ
+steps_of zero i m = (i, m)
+steps_of (suc q) i m = if is_some i.end then (i, m) else steps_of q (stepped i m).0 (stepped i m).1
+
+-- with one instance and the memory changed
+abbrev pub with_instance : Shared → ℕ → Instance × List ℕ → Shared
+with_instance s i changed = record { memory = changed.1; instances = slice_set s.instances i changed.0 }
+
+abbrev pub turn_at : Shared → ℕ → ℕ → Option Instance → Shared
+turn_at s i quantum None = s
+turn_at s i quantum (Some instance) = with_instance s i (steps_of quantum instance s.memory)
+
+-- A turn: the instance of this number takes steps until it has ended or has taken `quantum`.
+abbrev pub turn : Shared → ℕ × ℕ → Shared
+turn s (i, quantum) = turn_at s i quantum (slice_get s.instances i)
+
+-- turns one after another
+abbrev pub turns : List (ℕ × ℕ) → Shared → Shared
+turns [] s = s
+turns (t ∷ ts) s = turns ts (turn s t)
+
+-- P holds of each instance
+abbrev pub EachInstance : (Instance → Type 0) → Shared → Type 0
+EachInstance P s = (k : ℕ) (i : Instance) → slice_get s.instances k ≡ Some i → P i
+
+-- R holds between each instance and what it has become
+abbrev pub EachAfter : (Instance → Instance → Type 0) → (before after : Shared) → Type 0
+EachAfter R before after = (k : ℕ) (i later : Instance) → slice_get before.instances k ≡ Some i →
+    slice_get after.instances k ≡ Some later → R i later
+
+-- An instance's count and its end go with where it is: it ran at most what it may, and its end is the one at its state.
+pub record IsWhole (i : Instance) : Type 0 where
+  pub within : i.ran ≤ i.most_steps
+  pub end_is : i.end ≡ end_at i.state i.world i.ran i.most_steps
+
+-- One area ends before the other begins, or where it begins. This is stricter than having no octet in common: an empty area
+-- inside another isn't apart from it.
+abbrev pub AreApart : Area → Area → Type 0
+AreApart a b = (a.start + a.size ≤ b.start) ⊎ (b.start + b.size ≤ a.start)
+
+-- each of these areas is apart from each of those
+abbrev pub AllApart : List Area → List Area → Type 0
+AllApart areas others = AllByRecursion (λ a. AllByRecursion (AreApart a) others) areas
+
+-- an area lies in a memory of so many octets
+abbrev pub LiesWithin : ℕ → Area → Type 0
+LiesWithin octets area = area.start + area.size ≤ octets
+
+-- how many pages the instances may still ask for
+abbrev pub may_ask : List Instance → ℕ
+may_ask [] = 0
+may_ask (i ∷ instances) = (i.world.limit - i.world.held) + may_ask instances
+
+-- The instances' areas lie in the memory; the own areas of one meet neither those of another nor any mapped columns;
+-- and the memory has room for all that the instances may still ask for.
+pub record AreSeparate (s : Shared) : Type 0 where
+  pub octets : AreOctets s.memory
+  pub inside : EachInstance (λ i. AllByRecursion (LiesWithin (length s.memory)) (i.world.mapped ++ i.world.own)) s
+  pub own_apart : (j k : ℕ) (one other : Instance) → j ≢ k → slice_get s.instances j ≡ Some one → slice_get s.instances k ≡ Some other →
+      AllApart one.world.own other.world.own
+  pub columns_apart : (j k : ℕ) (one other : Instance) → slice_get s.instances j ≡ Some one → slice_get s.instances k ≡ Some other →
+      AllApart one.world.own other.world.mapped
+  pub room : length s.memory + may_ask s.instances * page ≤ most_pages * page
+
+-- an instance over a memory, between two of its steps
+abbrev pub moment_of : Instance → List ℕ → Moment
+moment_of i memory = record { world = i.world; state = i.state; memory = memory }
+
+-- from a moment on each step that can be made is fine, whatever others do before it
+abbrev pub StaysFine : Moment → Type 0
+StaysFine a = (k : ℕ) (b : Moment) (c : Config) (before : List ℕ) (event : Event) (state : State) (after : List ℕ) →
+    OpenRun k a b → OpenStep b c before event state after → IsFine b.world event
+
+-- instances that lie apart, and of which each does only what it may
+pub record AreSafe (s : Shared) : Type 0 where
+  pub separate : AreSeparate s
+  pub fine : EachInstance (λ i. StaysFine (moment_of i s.memory)) s
+
+-- An open run of so many steps leads from one moment to another, but for what others make of the memory after the last.
+pub record LeadsTo (steps : ℕ) (a b : Moment) : Type 0 where
+  pub left : List ℕ
+  pub run : OpenRun steps a (record b { memory = left })
+  pub others : Others b.world left b.memory

@@ -1,5 +1,0 @@
-use Rattle.qw_module.proofs.TurnSteps.{ended_stays}
-use Rattle.qw_module.proofs.turn_laws.ended_stays_ended.Goals as goal
-
-pub returns : goal.returns
-returns c = ended_stays

@@ -1,0 +1,250 @@
+//! The forms of the statements, read from left to right.
+
+ghost use Rattle.std.specs.Prelude.{◌≡◌, ◌≤ℤ◌, pos, IfOk, IfSome, option_map};
+ghost use Rattle.qw_ast.specs.Grammar.{folded};
+ghost use Rattle.qw_parse.specs.Reading.{key_word_at, symbol_at, regular_at, unsigned_at, literal_at, comparison_of, comparison_at, is_end, column_definition_at, item_at, list_at, table_at, is_closed, create_table_of, source_of, selection_of};
+ghost use Rattle.qw_token.specs.Token.{lexemes};
+ghost use Rattle.qw_ast.specs.Views.{definition, names_of, source, selection};
+
+use super::literal::literal_of;
+use super::word::{folds_to, is_reserved};
+use qw_token::token::{Kind, Token};
+use qw_ast::tree::{QuerySpecification, TableDefinition, TableExpression};
+use qw_meaning::query::Comparison;
+use qw_types::NoMemory;
+use std::alloc::Global;
+
+/// What stands in a list, between the commas.
+#[derive(Clone, Copy, Debug)]
+pub(crate) enum Item {
+    ColumnDefinition,
+    ColumnReference,
+}
+
+/// The tokens behind the key word.
+#[tactic(auto, unfolding(crate::specs::Reading::key_word_at))]
+fn key_word<'t, 'a>(tokens: &'t [Token<'a>], word: &[u8]) -> Option<&'t [Token<'a>]>
+    ensures { option_map (λ x. lexemes x.now) result ≡ key_word_at word.now (lexemes tokens.now) }
+{
+    match tokens {
+        [first, rest @ ..] if folds_to(first.octets, word) => Some(rest),
+        _ => None,
+    }
+}
+
+/// The tokens behind the symbol.
+#[tactic(auto, unfolding(crate::specs::Reading::symbol_at))]
+fn symbol<'t, 'a>(tokens: &'t [Token<'a>], octets: &[u8]) -> Option<&'t [Token<'a>]>
+    ensures { option_map (λ x. lexemes x.now) result ≡ symbol_at octets.now (lexemes tokens.now) }
+{
+    match tokens {
+        [first, rest @ ..] if first.octets == octets => Some(rest),
+        _ => None,
+    }
+}
+
+/// The regular identifier in front, as it stands in the text, and the tokens behind it.
+#[tactic(auto, unfolding(crate::specs::Reading::regular_at))]
+fn regular<'t, 'a>(tokens: &'t [Token<'a>]) -> Option<(&'a [u8], &'t [Token<'a>])>
+    ensures { option_map (λ x. (folded x.0.now, lexemes x.1.now)) result ≡ regular_at (lexemes tokens.now) }
+{
+    match tokens {
+        [first, rest @ ..] if first.kind == Kind::Word && !is_reserved(first.octets) => {
+            Some((first.octets, rest))
+        }
+        _ => None,
+    }
+}
+
+/// Whether nothing is left but a `;`.
+#[tactic(auto, unfolding(crate::specs::Reading::is_end))]
+fn is_end(tokens: &[Token<'_>]) -> bool
+    ensures { result ≡ is_end (lexemes tokens.now) }
+{
+    match tokens {
+        [] => true,
+        [last] => last.octets == b";".as_slice(),
+        _ => false,
+    }
+}
+
+/// The literal in front, without a sign, and the tokens behind it.
+#[tactic(auto, unfolding(crate::specs::Reading::unsigned_at))]
+fn unsigned<'t, 'a>(tokens: &'t [Token<'a>]) -> Option<(i64, &'t [Token<'a>])>
+    ensures read { option_map (λ x. (x.0, lexemes x.1.now)) result ≡ unsigned_at (lexemes tokens.now) }
+    ensures no_sign { IfSome result (λ x. pos 0 ≤ℤ x.0) }
+{
+    let [first, rest @ ..] = tokens else {
+        return None;
+    };
+    Some((literal_of(first.octets)?, rest))
+}
+
+/// The literal in front, with a `-` before it or not, and the tokens behind it.
+#[tactic(auto, unfolding(crate::specs::Reading::literal_at))]
+fn literal<'t, 'a>(tokens: &'t [Token<'a>]) -> Option<(i64, &'t [Token<'a>])>
+    ensures { option_map (λ x. (x.0, lexemes x.1.now)) result ≡ literal_at (lexemes tokens.now) }
+{
+    let Some(behind_sign) = symbol(tokens, b"-") else {
+        return unsigned(tokens);
+    };
+    let (magnitude, rest) = unsigned(behind_sign)?;
+    Some((-magnitude, rest))
+}
+
+/// The comparison of the symbol.
+fn comparison_of(octets: &[u8]) -> Option<Comparison>
+    ensures { result ≡ comparison_of octets.now }
+{
+    match octets {
+        [b'='] => Some(Comparison::Equal),
+        [b'<', b'>'] => Some(Comparison::NotEqual),
+        [b'<'] => Some(Comparison::Less),
+        [b'<', b'='] => Some(Comparison::LessOrEqual),
+        [b'>'] => Some(Comparison::Greater),
+        [b'>', b'='] => Some(Comparison::GreaterOrEqual),
+        _ => None,
+    }
+}
+
+/// The comparison in front, and the tokens behind it.
+#[tactic(auto, unfolding(crate::specs::Reading::comparison_at))]
+fn comparison<'t, 'a>(tokens: &'t [Token<'a>]) -> Option<(Comparison, &'t [Token<'a>])>
+    ensures { option_map (λ x. (x.0, lexemes x.1.now)) result ≡ comparison_at (lexemes tokens.now) }
+{
+    let [first, rest @ ..] = tokens else {
+        return None;
+    };
+    Some((comparison_of(first.octets)?, rest))
+}
+
+/// The name in the column definition in front, and the tokens behind that.
+#[tactic(auto, unfolding(crate::specs::Reading::column_definition_at))]
+fn column_definition<'t, 'a>(tokens: &'t [Token<'a>]) -> Option<(&'a [u8], &'t [Token<'a>])>
+    ensures { option_map (λ x. (folded x.0.now, lexemes x.1.now)) result ≡ column_definition_at (lexemes tokens.now) }
+{
+    let (name, rest) = regular(tokens)?;
+    let rest = key_word(rest, b"INTEGER")?;
+    let rest = key_word(rest, b"NOT")?;
+    let rest = key_word(rest, b"NULL")?;
+    Some((name, rest))
+}
+
+/// The name in the item in front, and the tokens behind the item.
+fn one_item<'t, 'a>(item: Item, tokens: &'t [Token<'a>]) -> Option<(&'a [u8], &'t [Token<'a>])>
+    ensures { option_map (λ x. (folded x.0.now, lexemes x.1.now)) result ≡ item_at item (lexemes tokens.now) }
+{
+    match item {
+        Item::ColumnDefinition => column_definition(tokens),
+        Item::ColumnReference => regular(tokens),
+    }
+}
+
+/// The names in the items in front, with a comma between each two, and the tokens behind them.
+fn list<'t, 'a>(
+    alloc: Global,
+    kind: Item,
+    tokens: &'t [Token<'a>],
+) -> Result<Option<(Vec<&'a [u8]>, &'t [Token<'a>])>, NoMemory>
+    ensures { IfOk result (λ read. option_map (λ x. (names_of x.0.items, lexemes x.1.now)) read ≡ list_at kind (lexemes tokens.now)) }
+{
+    let Some((first, mut rest)) = one_item(kind, tokens) else {
+        return Ok(None);
+    };
+    let mut names = vec![in alloc; first]?;
+    while let Some(behind_comma) = symbol(rest, b",") {
+        let Some((name, after)) = one_item(kind, behind_comma) else {
+            return Ok(None);
+        };
+        names.push(name)?;
+        rest = after;
+    }
+    Ok(Some((names, rest)))
+}
+
+/// The name of the table that is created, and the tokens behind the `(`.
+#[tactic(auto, unfolding(crate::specs::Reading::table_at))]
+fn table<'t, 'a>(tokens: &'t [Token<'a>]) -> Option<(&'a [u8], &'t [Token<'a>])>
+    ensures { option_map (λ x. (folded x.0.now, lexemes x.1.now)) result ≡ table_at (lexemes tokens.now) }
+{
+    let rest = key_word(tokens, b"CREATE")?;
+    let rest = key_word(rest, b"TABLE")?;
+    let (table, rest) = regular(rest)?;
+    let rest = symbol(rest, b"(")?;
+    Some((table, rest))
+}
+
+/// Whether nothing is left but a `)` and an end.
+#[tactic(auto, unfolding(crate::specs::Reading::is_closed))]
+fn is_closed(tokens: &[Token<'_>]) -> bool
+    ensures { result ≡ is_closed (lexemes tokens.now) }
+{
+    match symbol(tokens, b")") {
+        Some(rest) => is_end(rest),
+        None => false,
+    }
+}
+
+/// The names of the table and of its columns.
+#[tactic(auto, unfolding(crate::specs::Reading::create_table_of))]
+pub(crate) fn create_table<'a>(
+    alloc: Global,
+    tokens: &[Token<'a>],
+) -> Result<Option<TableDefinition<'a>>, NoMemory>
+    ensures { IfOk result (λ read. option_map definition read ≡ create_table_of (lexemes tokens.now)) }
+{
+    let Some((table, rest)) = table(tokens) else {
+        return Ok(None);
+    };
+    let Some((columns, rest)) = list(alloc, Item::ColumnDefinition, rest)? else {
+        return Ok(None);
+    };
+    if is_closed(rest) {
+        Ok(Some(TableDefinition { table, columns }))
+    } else {
+        Ok(None)
+    }
+}
+
+/// What stands behind a select list, to the end.
+#[tactic(auto, unfolding(crate::specs::Reading::source_of))]
+fn table_expression<'a>(tokens: &[Token<'a>]) -> Option<TableExpression<'a>>
+    ensures { option_map source result ≡ source_of (lexemes tokens.now) }
+{
+    let rest = key_word(tokens, b"FROM")?;
+    let (table, rest) = regular(rest)?;
+    let rest = key_word(rest, b"WHERE")?;
+    let (tested, rest) = regular(rest)?;
+    let (comparison, rest) = comparison(rest)?;
+    let (literal, rest) = literal(rest)?;
+    if is_end(rest) {
+        Some(TableExpression {
+            table,
+            tested,
+            comparison,
+            literal,
+        })
+    } else {
+        None
+    }
+}
+
+/// The names and the literal of the query.
+#[tactic(auto, unfolding(crate::specs::Reading::selection_of))]
+pub(crate) fn query_specification<'a>(
+    alloc: Global,
+    tokens: &[Token<'a>],
+) -> Result<Option<QuerySpecification<'a>>, NoMemory>
+    ensures { IfOk result (λ read. option_map selection read ≡ selection_of (lexemes tokens.now)) }
+{
+    let Some(rest) = key_word(tokens, b"SELECT") else {
+        return Ok(None);
+    };
+    let Some((columns, rest)) = list(alloc, Item::ColumnReference, rest)? else {
+        return Ok(None);
+    };
+    let Some(source) = table_expression(rest) else {
+        return Ok(None);
+    };
+    Ok(Some(QuerySpecification { columns, source }))
+}

@@ -1,0 +1,84 @@
+//! The statement that the names of a query mean over a schema.
+
+ghost use Rattle.std.specs.Prelude.{◌≡◌, ◌<◌, ℕ, List, length, IfOk, IsErrOf, map, option_map, Some, MatchOption};
+ghost use Rattle.qw_meaning.specs.Statement.{Statement};
+ghost use Rattle.qw_ast.specs.Grammar.{folded};
+ghost use Rattle.qw_parse.specs.Parse.{Means, table_of, place_of};
+ghost use Rattle.qw_ast.specs.Views.{names_of, selection};
+
+use super::ParseFault;
+use qw_ast::tree::QuerySpecification;
+use super::word::folds_to;
+use qw_meaning::query::{MAX_ITEMS, Query};
+use qw_types::{Column, NoMemory, Schema, Table};
+use std::alloc::Global;
+
+/// The statement that the names mean over the schema's tables.
+///
+/// # Errors
+///
+/// `Refused` where they mean none, and `NoMemory`.
+pub(crate) fn resolved(
+    alloc: Global,
+    schema: &Schema,
+    query: &QuerySpecification<'_>,
+) -> Result<Query, ParseFault>
+    requires { 0 < length query.now.columns.items }
+    ensures means { IfOk result (λ statement. Means schema.now (selection query.now) statement) }
+    ensures refused { IsErrOf result ParseFault.Refused → (statement : Statement) → Means schema.now (selection query.now) statement → ⊥ }
+{
+    let source = &query.source;
+    let names = query.columns.as_slice();
+    if MAX_ITEMS < names.len() {
+        return Err(ParseFault::Refused);
+    }
+    let Some(table) = table_named(schema.as_slice(), source.table) else {
+        return Err(ParseFault::Refused);
+    };
+    let columns = table.columns.as_slice();
+    let Some(tested) = place_named(columns, source.tested) else {
+        return Err(ParseFault::Refused);
+    };
+    let Some(places) = places_of(alloc, columns, names)? else {
+        return Err(ParseFault::Refused);
+    };
+    Ok(Query::new(places, tested, source.comparison, source.literal))
+}
+
+/// The table of the name.
+fn table_named<'s>(tables: &'s [Table], name: &[u8]) -> Option<&'s Table>
+    ensures { option_map (λ t. t.now) result ≡ table_of tables.now (folded name.now) }
+{
+    tables
+        .iter()
+        .find(|table| folds_to(name, table.name.as_str().as_bytes()))
+}
+
+/// The place of the column of the name.
+fn place_named(columns: &[Column], name: &[u8]) -> Option<usize>
+    ensures { result ≡ place_of columns.now (folded name.now) }
+{
+    columns
+        .iter()
+        .position(|column| folds_to(name, column.name.as_str().as_bytes()))
+}
+
+/// The places of the columns of the names, if there is one of each.
+fn places_of(
+    alloc: Global,
+    columns: &[Column],
+    names: &[&[u8]],
+) -> Result<Option<Vec<usize>>, NoMemory>
+    ensures { IfOk result (λ found. MatchOption found
+        ((places : List ℕ) → map (place_of columns.now) (names_of names.now) ≡ map Some places → ⊥)
+        (λ places. map (place_of columns.now) (names_of names.now) ≡ map Some places.items)) }
+{
+    let mut places = Vec::new(alloc);
+    for name in names {
+        let Some(place) = place_named(columns, name) else {
+            return Ok(None);
+        };
+        places.push(place)?;
+    }
+    Ok(Some(places))
+}

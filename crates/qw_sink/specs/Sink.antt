@@ -1,0 +1,45 @@
+-- The text of rows, and what the report says of a query.
+use Rattle.std.specs.Prelude.{◌≡◌, ℕ, List, ◌++◌, length, map, false, Some, All, codes}
+use Rattle.std.specs.Fmt.{decimal, signed_decimal}
+use Rattle.std.specs.List.{flat_map}
+use Rattle.std.specs.declared.vec.Vec.{Vec}
+use Rattle.std.specs.declared.alloc.Global.{Global}
+use Rattle.csv.specs.Writing.{default_writer, fields_written, has_written, row_text, text_written, writer_setup}
+use Rattle.csv.specs.declared.writer.Writer.{Writer}
+use Rattle.qw_types.specs.declared.value.Val.{Val}
+use Rattle.qw_types.specs.declared.value.Val.TheVariants.{Num}
+use Rattle.qw_sink.specs.declared.sink.Head.{Head}
+use Rattle.qw_sink.specs.declared.sink.Kind.TheVariants.{Number}
+
+-- a value as it is printed: a number in decimal digits, after "-" where it is below 0
+abbrev pub printed : Val → List ℕ
+printed (Num n) = signed_decimal n
+
+-- a line of fields (RFC 4180), which are quoted only where they have to be; it ends with a line feed
+abbrev pub line_of : List (List ℕ) → List ℕ
+line_of fields = row_text default_writer fields
+
+-- a line of the columns' names, and a line for each row
+abbrev pub text_of_rows : List Head → List (List Val) → List ℕ
+text_of_rows header rows = line_of (map (λ (h : Head). h.name) header) ++ flat_map (λ row. line_of (map printed row)) rows
+
+-- what the report says of the query of a number, counted from 1, that gave these rows
+abbrev pub report_of_rows : ℕ → List Head → List (List Val) → List ℕ
+report_of_rows number header rows = codes "QUERY " ++ decimal number ++ codes " ROWS " ++ decimal (length rows) ++ codes "\n" ++ text_of_rows header rows
+
+-- what the report says of the query of a number whose request for pages beside those held was past its limit
+abbrev pub report_of_pages : (number held asked limit : ℕ) → List ℕ
+report_of_pages number held asked limit =
+    codes "QUERY " ++ decimal number ++ codes " PAGES " ++ decimal held ++ codes " " ++ decimal asked ++ codes " " ++ decimal limit ++ codes "\n"
+
+-- the header's columns are all whole numbers, and each row has a value for each
+pub record AreRowsOf (header : List Head) (rows : List (List Val)) : Type 0 where
+  pub kinds : All (λ (h : Head). h.kind ≡ Number 0) header
+  pub widths : All (λ row. length row ≡ length header) rows
+
+-- a writer that has written this text, and is between records
+pub record HasWritten (writer : Writer (Vec ℕ Global)) (text : List ℕ) : Type 0 where
+  pub setup : writer_setup writer ≡ default_writer
+  pub fields : fields_written writer ≡ 0
+  pub clean : has_written writer ≡ false
+  pub written : text_written (λ (v : Vec ℕ Global). Some v.items) writer ≡ Some text

@@ -1,0 +1,16 @@
+use qw_emit::emit::module_of;
+use qw_meaning::query::Query;
+use qw_meaning::query::Comparison;
+use std::test::Fail;
+
+// No clause refuses a body that always wants memory: this test does.
+#[test]
+fn a_module_is_made(rt: HostRuntime) -> Result<(), Fail> {
+    let columns = vec![in rt.alloc(); 2, 0, 2]?;
+    let query = Query::new(columns, 1, Comparison::NotEqual, -5);
+    let module = module_of(rt.alloc(), &query)?;
+    assert_eq!(rt; module.imports.len(), 2);
+    assert_eq!(rt; module.functions.len(), 1);
+    assert_eq!(rt; module.exports.len(), 1);
+    Ok(())
+}

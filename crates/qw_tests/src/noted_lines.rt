@@ -1,0 +1,47 @@
+// The lines that are noted, whole and cut short.
+
+use qw_top::notes::note_stop;
+use qw_top::status::Status;
+use qw_top::stop::{FileName, Refusal, Stop};
+use qw_io::MemorySink;
+use std::test::Fail;
+
+#[test]
+fn lines(rt: HostRuntime) -> Result<(), Fail> {
+    let alloc = rt.alloc();
+    let made = String::from_str(alloc, "d/t.csv")?;
+    let cases: [(Stop<'_>, &[u64], Status, &[u8]); 6] = [
+        (
+            Stop::Refused(Refusal::Schema),
+            &[0],
+            Status::SchemaRefused,
+            b"",
+        ),
+        (
+            Stop::Unread(FileName::Given("s")),
+            &[],
+            Status::ReadFailed,
+            b"read fault: s\n",
+        ),
+        (
+            Stop::Unread(FileName::Made(made)),
+            &[],
+            Status::ReadFailed,
+            b"read fault: d/t.csv\n",
+        ),
+        (
+            Stop::Unread(FileName::Given("s")),
+            &[13],
+            Status::WriteFailed,
+            b"read fault: s",
+        ),
+        (Stop::NoMemory, &[], Status::NoMemory, b"want of memory\n"),
+        (Stop::NoMemory, &[4], Status::WriteFailed, b"want"),
+    ];
+    for (stop, failing, end, line) in cases {
+        let mut notes = MemorySink::new(alloc, 1, Vec::from_slice(alloc, failing)?);
+        assert_eq!(rt; note_stop(&mut notes, &stop), end);
+        assert_eq!(rt; notes.bytes(), line);
+    }
+    Ok(())
+}

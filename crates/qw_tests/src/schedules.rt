@@ -1,0 +1,152 @@
+// Compiled statements beside the plain program, whatever turns they are given, and the octets that a run leaves.
+
+use qw_bench::bench::{Bench, DEFAULT_LIMITS, Ended};
+use qw_sink::results::received;
+use crate::tables::{asking, bench_of, narrow};
+use qw_meaning::plain::plain_rows;
+use qw_meaning::query::{Comparison, Query};
+use qw_types::{NoMemory, Row, Val};
+use std::alloc::{AllocError, Global};
+use std::test::Fail;
+
+const STORED: [i32; 3] = [4, 1, 7];
+
+// How many instructions a run over the stored table takes, as docs/THEOREMS.md counts them by hand.
+const STEPS: u64 = 104;
+
+// The first octets of the stored table's memory after the run, by the addresses where they begin: the column, the
+// descriptor and the one result row. Eight octets a line.
+const OCTETS: [(u64, [u8; 8]); 15] = [
+    (64, [4, 0, 0, 0, 1, 0, 0, 0]),
+    (72, [7, 0, 0, 0, 0, 0, 0, 0]),
+    (65_536, [0x68, 0, 1, 0, 0, 0, 2, 0]),
+    (65_544, [0x50, 0, 1, 0, 0x50, 0, 1, 0]),
+    (65_552, [1, 0, 0, 0, 0, 0, 0, 0]),
+    (65_560, [0; 8]),
+    (65_568, [0; 8]),
+    (65_576, [0; 8]),
+    (65_584, [0; 8]),
+    (65_592, [0; 8]),
+    (65_600, [64, 0, 0, 0, 0, 0, 0, 0]),
+    (65_608, [0, 0, 0, 0, 3, 0, 0, 0]),
+    (65_616, [0; 8]),
+    (65_624, [7, 0, 0, 0, 0, 0, 0, 0]),
+    (65_632, [0; 8]),
+];
+
+// The next state of a linear congruential generator.
+fn next_random(state: u32) -> u32 {
+    state.wrapping_mul(1_664_525).wrapping_add(1_013_904_223)
+}
+
+fn symbol_of(comparison: Comparison) -> &'static str {
+    match comparison {
+        Comparison::Equal => "=",
+        Comparison::NotEqual => "<>",
+        Comparison::Less => "<",
+        Comparison::LessOrEqual => "<=",
+        Comparison::Greater => ">",
+        Comparison::GreaterOrEqual => ">=",
+    }
+}
+
+// The octets of a table file of one column A with these values.
+fn table_file(alloc: Global, values: &[i32]) -> Result<String, AllocError> {
+    let mut table = String::from_str(alloc, "A\n")?;
+    for value in values {
+        table.push_str(format!(in alloc; "{value}\n")?.as_str())?;
+    }
+    Ok(table)
+}
+
+// The text of the query of the values that compare so with the literal.
+fn query_text(alloc: Global, comparison: Comparison, literal: i64) -> Result<String, AllocError> {
+    let symbol = symbol_of(comparison);
+    format!(in alloc; "SELECT A FROM T WHERE A {symbol} {literal}")
+}
+
+// A bench of the stored table and its query, before its first turn.
+fn stored_bench(alloc: Global) -> Result<Bench, Fail> {
+    let file = table_file(alloc, &STORED)?;
+    bench_of(alloc, &narrow(alloc)?, file.as_bytes(), DEFAULT_LIMITS)
+}
+
+// Gives turns of 1 to 100 instructions until the end, and answers the generator's state then.
+fn turn_to_the_end(bench: &mut Bench, random: u32) -> u32 {
+    let mut state = random;
+    for _ in 0..1_000 {
+        if bench.len() == 0 || bench.ended(0).is_some() {
+            return state;
+        }
+        state = next_random(state);
+        bench.turn(0, u64::from(1 + (state >> 16) % 100));
+    }
+    state
+}
+
+fn numbers_of(alloc: Global, rows: &[Row]) -> Result<Vec<i64>, NoMemory> {
+    let mut numbers = Vec::new(alloc);
+    for row in rows {
+        if let [Val::Num(number)] = row.values() {
+            numbers.push(*number)?;
+        }
+    }
+    Ok(numbers)
+}
+
+// What the plain program gives of a column of these values.
+fn plain_numbers(alloc: Global, query: &Query, values: &[i32]) -> Result<Vec<i64>, NoMemory> {
+    let mut rows = Vec::new(alloc);
+    for value in values {
+        let values = vec![in alloc; Val::Num(i64::from(*value))]?;
+        rows.push(Row::new(values))?;
+    }
+    let bag = plain_rows(alloc, query, rows.as_slice())?;
+    numbers_of(alloc, bag.as_slice())
+}
+
+// How many instructions the one instance of a bench ran, and its result rows, if it is done.
+fn run_of(alloc: Global, bench: &Bench) -> Result<Option<(u64, Vec<i64>)>, NoMemory> {
+    if bench.len() == 0 {
+        return Ok(None);
+    }
+    match bench.ended(0) {
+        Some(Ended::Done) => {
+            let rows = received(alloc, bench, 0)?;
+            let numbers = numbers_of(alloc, rows.as_slice())?;
+            Ok(Some((bench.steps(0), numbers)))
+        }
+        _ => Ok(None),
+    }
+}
+
+#[test]
+fn turns_change_no_result(rt: HostRuntime) -> Result<(), Fail> {
+    let alloc = rt.alloc();
+    let plain = plain_numbers(alloc, &asking(alloc, Comparison::Greater, 5)?, &STORED)?;
+    let mut random = 1;
+    for _ in 0..1_000 {
+        let mut bench = stored_bench(alloc)?;
+        random = turn_to_the_end(&mut bench, random);
+        let (steps, numbers) = run_of(alloc, &bench)?.ok_or("not done")?;
+        assert_eq!(rt; steps, STEPS);
+        assert_eq!(rt; numbers.as_slice(), plain.as_slice());
+    }
+    Ok(())
+}
+
+#[test]
+fn a_run_leaves_these_octets(rt: HostRuntime) -> Result<(), Fail> {
+    let alloc = rt.alloc();
+    let mut bench = stored_bench(alloc)?;
+    bench.run_all(u64::MAX);
+    let (steps, _) = run_of(alloc, &bench)?.ok_or("not done")?;
+    assert_eq!(rt; steps, STEPS);
+    for (address, octets) in OCTETS {
+        let number = bench.memory().load64(address).ok_or("outside")?;
+        assert_eq!(rt; number, u64::from_le_bytes(octets), "at {address}");
+    }
+    Ok(())
+}
+
+mod columns;

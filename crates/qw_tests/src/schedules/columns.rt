@@ -1,0 +1,200 @@
+// Columns of all kinds of values and literals: what `qwasm` prints of each, beside the plain program's rows.
+
+use super::{next_random, plain_numbers, query_text, table_file};
+use qw_top::status::Status;
+use crate::tables::{WORDS, asking, shelf, words};
+use qw_top::top::qwasm;
+use qw_io::MemorySink;
+use qw_meaning::query::Comparison;
+use qw_types::NoMemory;
+use std::alloc::{AllocError, Global};
+use std::test::Fail;
+
+const SCHEMA: &[u8] = b"CREATE TABLE T (A INTEGER NOT NULL)";
+
+// The least value of a column, the one after it, and the two greatest.
+const BOUNDS: &[i32] = &[-2_147_483_648, -2_147_483_647, 2_147_483_646, 2_147_483_647];
+
+const GREATEST_LITERAL: i64 = 999_999_999_999_999_999;
+
+const MOST_ROWS: u32 = 2_727;
+
+// Values that a column repeats, how many rows it has, a literal, and how many rows are above it.
+const EDGES: [(&[i32], u32, i64, usize); 24] = [
+    (&[1], 0, 0, 0),
+    (&[1], 0, GREATEST_LITERAL, 0),
+    (&[-1], 1, 0, 0),
+    (&[0], 1, 0, 0),
+    (&[1], 1, 0, 1),
+    (&[1], 1, 1, 0),
+    (&[-1, 0, 1], 3, 0, 1),
+    (&[4, 6, 5, 6, 4], 5, 5, 2),
+    (BOUNDS, 4, 0, 2),
+    (BOUNDS, 4, 2_147_483_645, 2),
+    (BOUNDS, 4, 2_147_483_646, 1),
+    (BOUNDS, 4, 2_147_483_647, 0),
+    (BOUNDS, 4, 2_147_483_648, 0),
+    (BOUNDS, 4, 2_147_483_649, 0),
+    (BOUNDS, 4, 4_294_967_295, 0),
+    (BOUNDS, 4, 4_294_967_296, 0),
+    (BOUNDS, 4, GREATEST_LITERAL, 0),
+    (&[-2_147_483_648], MOST_ROWS, 0, 0),
+    (&[0], MOST_ROWS, 0, 0),
+    (&[1], MOST_ROWS, 0, 2_727),
+    (&[2_147_483_647], MOST_ROWS, 2_147_483_646, 2_727),
+    (&[2_147_483_647], MOST_ROWS, 2_147_483_647, 0),
+    (&[2_147_483_647, -2_147_483_648], MOST_ROWS, 0, 1_364),
+    (BOUNDS, MOST_ROWS, 2_147_483_646, 681),
+];
+
+// With the columns at the edges these make 200.
+const GENERATED: u32 = 176;
+
+// The comparison for the generated column of this number: each in its turn.
+fn comparison_of(number: u32) -> Comparison {
+    match number % 6 {
+        0 => Comparison::Greater,
+        1 => Comparison::Less,
+        2 => Comparison::GreaterOrEqual,
+        3 => Comparison::LessOrEqual,
+        4 => Comparison::NotEqual,
+        _ => Comparison::Equal,
+    }
+}
+
+// So many values: these ones, over and over.
+fn repeated(alloc: Global, values: &[i32], rows: u32) -> Result<Vec<i32>, AllocError> {
+    let mut column = Vec::new(alloc);
+    for value in values.iter().cycle().take(rows as usize) {
+        column.push(*value)?;
+    }
+    Ok(column)
+}
+
+// A literal, negative or not: one of the least, one about the greatest INTEGER, any INTEGER, or one of up to 18 digits.
+fn literal_of(random: u32) -> i64 {
+    let magnitude = magnitude_of(random);
+    if (random >> 12) % 2 == 0 {
+        magnitude
+    } else {
+        magnitude.wrapping_neg()
+    }
+}
+
+fn magnitude_of(random: u32) -> i64 {
+    let few = i64::from((random >> 16) % 16);
+    let many = i64::from(next_random(random) >> 1);
+    match random >> 30 {
+        0 => few,
+        1 => 2_147_483_640 + few,
+        2 => many,
+        _ => many * 465_661_287,
+    }
+}
+
+// A value about the literal or about the bounds of INTEGER, which wraps from one to the other, or any at all.
+fn value_of(random: u32, literal: i64) -> i32 {
+    let offset = ((random >> 16) % 8).cast_signed();
+    let middle = match random >> 30 {
+        0 | 1 => i32::try_from(literal).unwrap_or(0),
+        2 => i32::MAX,
+        _ => next_random(random).cast_signed(),
+    };
+    middle.wrapping_add(offset).wrapping_sub(4)
+}
+
+// How many rows a column has: one in eight may have as many as a table can.
+fn rows_of(random: u32) -> u32 {
+    let most = if random >> 29 == 0 { MOST_ROWS } else { 64 };
+    (random >> 8) % (most + 1)
+}
+
+// A column of random values for a literal, and the generator's state after it.
+fn generated(alloc: Global, random: u32, literal: i64) -> Result<(Vec<i32>, u32), AllocError> {
+    let mut state = next_random(random);
+    let mut column = Vec::new(alloc);
+    for _ in 0..rows_of(state) {
+        state = next_random(state);
+        column.push(value_of(state, literal))?;
+    }
+    Ok((column, state))
+}
+
+// How a run over a column ends, and what it prints.
+fn printed(
+    alloc: Global,
+    column: &[i32],
+    comparison: Comparison,
+    literal: i64,
+) -> Result<(Status, MemorySink), AllocError> {
+    let table = table_file(alloc, column)?;
+    let query = query_text(alloc, comparison, literal)?;
+    let mut files = shelf(alloc, SCHEMA, table.as_bytes(), query.as_bytes())?;
+    let mut out = MemorySink::new(alloc, 4_096, Vec::new(alloc));
+    let mut notes = MemorySink::new(alloc, 1, Vec::new(alloc));
+    let words = words(alloc, &WORDS)?;
+    let mut kept = None;
+    let status = qwasm(
+        alloc,
+        words.as_slice(),
+        &mut files,
+        &mut out,
+        &mut notes,
+        &mut kept,
+    );
+    Ok((status, out))
+}
+
+// The values that compare so with the literal, by the plain program.
+fn plain(
+    alloc: Global,
+    column: &[i32],
+    comparison: Comparison,
+    literal: i64,
+) -> Result<Vec<i64>, NoMemory> {
+    plain_numbers(alloc, &asking(alloc, comparison, literal)?, column)
+}
+
+// The report of these numbers, a line each.
+fn report_of(alloc: Global, numbers: &[i64]) -> Result<String, AllocError> {
+    let count = numbers.len();
+    let mut report = format!(in alloc; "QUERY 1 ROWS {count}\nA\n")?;
+    for number in numbers {
+        report.push_str(format!(in alloc; "{number}\n")?.as_str())?;
+    }
+    Ok(report)
+}
+
+#[test]
+fn columns_at_the_edges(rt: HostRuntime) -> Result<(), Fail> {
+    let alloc = rt.alloc();
+    for (values, rows, literal, above) in EDGES {
+        let column = repeated(alloc, values, rows)?;
+        let numbers = plain(alloc, column.as_slice(), Comparison::Greater, literal)?;
+        assert_eq!(rt; numbers.len(), above, "above {literal}");
+        let report = report_of(alloc, numbers.as_slice())?;
+        let (status, out) = printed(alloc, column.as_slice(), Comparison::Greater, literal)?;
+        assert_eq!(rt; status, Status::Done);
+        assert_eq!(rt; out.bytes(), report.as_bytes(), "above {literal}");
+    }
+    Ok(())
+}
+
+#[test]
+fn generated_columns(rt: HostRuntime) -> Result<(), Fail> {
+    let alloc = rt.alloc();
+    let mut random = 1;
+    for number in 0..GENERATED {
+        random = next_random(random);
+        let literal = literal_of(random);
+        let (column, state) = generated(alloc, random, literal)?;
+        random = state;
+        let comparison = comparison_of(number);
+        let numbers = plain(alloc, column.as_slice(), comparison, literal)?;
+        let report = report_of(alloc, numbers.as_slice())?;
+        let (status, out) = printed(alloc, column.as_slice(), comparison, literal)?;
+        assert_eq!(rt; status, Status::Done);
+        assert_eq!(rt; out.bytes(), report.as_bytes(), "column {number}");
+    }
+    Ok(())
+}

@@ -1,0 +1,220 @@
+// Files at the edges of what can be loaded. That `load` doesn't answer want of memory is what no
+// clause says.
+
+use qw_csv::loading::{FieldFault, LoadFault, Loaded, load};
+use crate::tables::{narrow, sevens, wide};
+use qw_types::schema::MAX_ROWS;
+use std::alloc::Global;
+use std::test::Fail;
+
+// The values, row by row.
+fn values(alloc: Global, loaded: &Loaded) -> Result<Vec<i32>, Fail> {
+    let mut values = Vec::new(alloc);
+    for row in 0..loaded.len() {
+        for column in 0..loaded.width() {
+            values.push(loaded.value(row, column))?;
+        }
+    }
+    Ok(values)
+}
+
+const LOADED: [(&[u8], &[i32]); 12] = [
+    (b"A", &[]),
+    (b"a\n7\n", &[7]),
+    (b"A\r\n7\r\n8", &[7, 8]),
+    (b"\n\nA\n\n7\n\n\n8\n", &[7, 8]),
+    (b"\xEF\xBB\xBFA\n7\n", &[7]),
+    (b"\"A\"\n\"7\"\n", &[7]),
+    (b"A\n+7\n-0\n007\n", &[7, 0, 7]),
+    (b"A\n2147483647\n-2147483648\n", &[2147483647, -2147483648]),
+    (b"A\n00000000000000000000007\n", &[7]),
+    (b"A\r7\r", &[7]),
+    (b"A\n-7", &[-7]),
+    (b"\"a\"\n1\n2\n3\n", &[1, 2, 3]),
+];
+
+const NOT_NUMBER: FieldFault = FieldFault::NotNumber;
+
+const TOO_LARGE: FieldFault = FieldFault::TooLarge;
+
+const REFUSED: [(&[u8], LoadFault); 18] = [
+    (b"", LoadFault::BadHeader),
+    (b"\n\n", LoadFault::BadHeader),
+    (b"B\n7\n", LoadFault::BadHeader),
+    (b" A\n7\n", LoadFault::BadHeader),
+    (b"A,A\n7\n", LoadFault::BadHeader),
+    (b"\xEF\xBB\xBF\xEF\xBB\xBFA\n7\n", LoadFault::BadHeader),
+    (b"A\n7,8\n", LoadFault::FieldCount { row: 1 }),
+    (b"A\n7\n,\nx\n", LoadFault::FieldCount { row: 2 }),
+    (
+        b"A\n7.0\n",
+        LoadFault::Field {
+            row: 1,
+            column: 0,
+            fault: NOT_NUMBER,
+        },
+    ),
+    (
+        b"A\n7\n 7\n",
+        LoadFault::Field {
+            row: 2,
+            column: 0,
+            fault: NOT_NUMBER,
+        },
+    ),
+    (
+        b"A\n\"\"\n",
+        LoadFault::Field {
+            row: 1,
+            column: 0,
+            fault: NOT_NUMBER,
+        },
+    ),
+    (
+        b"A\n+\n",
+        LoadFault::Field {
+            row: 1,
+            column: 0,
+            fault: NOT_NUMBER,
+        },
+    ),
+    (
+        b"A\n-+7\n",
+        LoadFault::Field {
+            row: 1,
+            column: 0,
+            fault: NOT_NUMBER,
+        },
+    ),
+    (
+        b"A\n\xFF\n",
+        LoadFault::Field {
+            row: 1,
+            column: 0,
+            fault: NOT_NUMBER,
+        },
+    ),
+    (
+        b"A\n99999999999x\n",
+        LoadFault::Field {
+            row: 1,
+            column: 0,
+            fault: NOT_NUMBER,
+        },
+    ),
+    (
+        b"A\n2147483648\n",
+        LoadFault::Field {
+            row: 1,
+            column: 0,
+            fault: TOO_LARGE,
+        },
+    ),
+    (
+        b"A\n-2147483649\n",
+        LoadFault::Field {
+            row: 1,
+            column: 0,
+            fault: TOO_LARGE,
+        },
+    ),
+    (
+        b"A\n99999999999\nx\n",
+        LoadFault::Field {
+            row: 1,
+            column: 0,
+            fault: TOO_LARGE,
+        },
+    ),
+];
+
+const WIDE_LOADED: [(&[u8], &[i32]); 5] = [
+    (b"A,B", &[]),
+    (b"a,b\n7,8\n", &[7, 8]),
+    (b"A,B\r\n1,2\r\n3,4\r\n5,6", &[1, 2, 3, 4, 5, 6]),
+    (b"\n\"a\",B\n\n-1,\"+2\"\n", &[-1, 2]),
+    (b"\xEF\xBB\xBFA,B\n7,7\n", &[7, 7]),
+];
+
+const WIDE_REFUSED: [(&[u8], LoadFault); 10] = [
+    (b"A\n7\n", LoadFault::BadHeader),
+    (b"A,C\n7,8\n", LoadFault::BadHeader),
+    (b"B,A\n7,8\n", LoadFault::BadHeader),
+    (b"A,B,C\n7,8,9\n", LoadFault::BadHeader),
+    (b"A,B\n7\n", LoadFault::FieldCount { row: 1 }),
+    (b"A,B\n7,8\nx,8,9\n", LoadFault::FieldCount { row: 2 }),
+    (
+        b"A,B\n7,\n",
+        LoadFault::Field {
+            row: 1,
+            column: 1,
+            fault: NOT_NUMBER,
+        },
+    ),
+    (
+        b"A,B\n7,8\n9999999999,x\n",
+        LoadFault::Field {
+            row: 2,
+            column: 0,
+            fault: TOO_LARGE,
+        },
+    ),
+    (
+        b"A,B\n7,x\nx,7\n",
+        LoadFault::Field {
+            row: 1,
+            column: 1,
+            fault: NOT_NUMBER,
+        },
+    ),
+    (
+        b"A,B\n7,2147483648\n1\n",
+        LoadFault::Field {
+            row: 1,
+            column: 1,
+            fault: TOO_LARGE,
+        },
+    ),
+];
+
+#[test]
+fn files_at_the_edges(rt: HostRuntime) -> Result<(), Fail> {
+    let table = narrow(rt.alloc())?;
+    for (bytes, expected) in LOADED {
+        let loaded = load(rt.alloc(), &table, bytes)?;
+        assert_eq!(rt; loaded.width(), 1);
+        assert_eq!(rt; values(rt.alloc(), &loaded)?.as_slice(), expected);
+    }
+    for (bytes, fault) in REFUSED {
+        assert_eq!(rt; load(rt.alloc(), &table, bytes).err(), Some(fault));
+    }
+    Ok(())
+}
+
+#[test]
+fn files_of_two_columns(rt: HostRuntime) -> Result<(), Fail> {
+    let table = wide(rt.alloc())?;
+    for (bytes, expected) in WIDE_LOADED {
+        let loaded = load(rt.alloc(), &table, bytes)?;
+        assert_eq!(rt; loaded.width(), 2);
+        assert_eq!(rt; loaded.is_empty(), expected.is_empty());
+        assert_eq!(rt; values(rt.alloc(), &loaded)?.as_slice(), expected);
+    }
+    for (bytes, fault) in WIDE_REFUSED {
+        assert_eq!(rt; load(rt.alloc(), &table, bytes).err(), Some(fault));
+    }
+    Ok(())
+}
+
+#[test]
+fn files_at_the_limit(rt: HostRuntime) -> Result<(), Fail> {
+    let table = narrow(rt.alloc())?;
+    let full = sevens(rt.alloc(), MAX_ROWS)?;
+    assert_eq!(rt; load(rt.alloc(), &table, full.as_slice())?.len(), 1_000_000);
+    let over = sevens(rt.alloc(), MAX_ROWS + 1)?;
+    assert_eq!(rt;
+        load(rt.alloc(), &table, over.as_slice()).err(),
+        Some(LoadFault::TooManyRows)
+    );
+    Ok(())
+}

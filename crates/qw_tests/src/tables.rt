@@ -1,0 +1,126 @@
+//! Tables, files and benches that several tests use.
+
+ghost use Rattle.std.specs.Prelude.{◌≡◌, ◌≤◌, [], ◌∷◌, IfOk, true};
+ghost use Rattle.qw_types.specs.declared.value.Ty.TheVariants.{Integer};
+ghost use Rattle.qw_csv.specs.Loading.{AreIntegers};
+
+use qw_bench::bench::{Bench, Job, Limits, MAX_INSTANCE_PAGES};
+use qw_csv::loading::load;
+use qw_emit::emit::module_of;
+use qw_io::{MemoryShelf, NamedFile};
+use qw_valid::valid::validate;
+use qw_meaning::query::{Comparison, Query};
+use qw_types::{Column, Columns, Table, Text, Ty};
+use std::alloc::{AllocError, Global};
+use std::test::Fail;
+
+/// The words of a run over the files of a `shelf`.
+pub const WORDS: [&str; 4] = ["run", "s", "d", "q"];
+
+fn integer(alloc: Global, name: &str) -> Result<Column, AllocError>
+    ensures { IfOk result (λ c. (c.name ≡ name.now) × (c.ty ≡ Integer) × (c.not_null ≡ true)) }
+{
+    Ok(Column {
+        name: Text::new(String::from_str(alloc, name)?),
+        ty: Ty::Integer,
+        not_null: true,
+    })
+}
+
+/// CREATE TABLE T ( A INTEGER NOT NULL )
+pub fn narrow(alloc: Global) -> Result<Table, AllocError>
+    ensures { IfOk result (λ t. AreIntegers t.columns) }
+{
+    let columns = vec![in alloc; integer(alloc, "A")?]?;
+    Ok(Table {
+        name: Text::new(String::from_str(alloc, "T")?),
+        columns: Columns::new(columns),
+    })
+}
+
+/// CREATE TABLE T ( A INTEGER NOT NULL , B INTEGER NOT NULL )
+pub fn wide(alloc: Global) -> Result<Table, AllocError>
+    ensures { IfOk result (λ t. AreIntegers t.columns) }
+{
+    let columns = vec![in alloc; integer(alloc, "A")?, integer(alloc, "B")?]?;
+    Ok(Table {
+        name: Text::new(String::from_str(alloc, "T")?),
+        columns: Columns::new(columns),
+    })
+}
+
+/// The file of a table: a header, and so many times the same record.
+pub fn file_of(
+    alloc: Global,
+    header: &[u8],
+    record: &[u8],
+    rows: usize,
+) -> Result<Vec<u8>, AllocError> {
+    let mut bytes = Vec::from_slice(alloc, header)?;
+    for _ in 0..rows {
+        bytes.extend_from_slice(record)?;
+    }
+    Ok(bytes)
+}
+
+/// The file of a table of one column and so many rows of 7.
+pub fn sevens(alloc: Global, rows: usize) -> Result<Vec<u8>, AllocError> {
+    file_of(alloc, b"A\n", b"7\n", rows)
+}
+
+fn file(alloc: Global, name: &str, bytes: &[u8]) -> Result<NamedFile, AllocError> {
+    Ok(NamedFile {
+        name: String::from_str(alloc, name)?,
+        bytes: Vec::from_slice(alloc, bytes)?,
+    })
+}
+
+/// A schema file `s`, the file of a table T in a folder `d`, and a queries file `q`, on a shelf that gives at most
+/// seven octets a call.
+pub fn shelf(
+    alloc: Global,
+    schema: &[u8],
+    table: &[u8],
+    query: &[u8],
+) -> Result<MemoryShelf, AllocError> {
+    let files = vec![in alloc;
+        file(alloc, "s", schema)?,
+        file(alloc, "d/t.csv", table)?,
+        file(alloc, "q", query)?,
+    ]?;
+    Ok(MemoryShelf::new(files, 7, Vec::new(alloc)))
+}
+
+/// The words of a command line.
+pub fn words(alloc: Global, texts: &[&str]) -> Result<Vec<String>, AllocError> {
+    let mut words = Vec::new(alloc);
+    for text in texts {
+        words.push(String::from_str(alloc, text)?)?;
+    }
+    Ok(words)
+}
+
+/// The statement that selects the first column where it compares so with the literal.
+pub fn asking(alloc: Global, comparison: Comparison, literal: i64) -> Result<Query, AllocError>
+    ensures columns { IfOk result (λ query. query.columns ≡ 0 ∷ []) }
+    ensures tested { IfOk result (λ query. query.tested ≡ 0) }
+{
+    let columns = vec![in alloc; 0]?;
+    Ok(Query::new(columns, 0, comparison, literal))
+}
+
+/// A bench of `SELECT A FROM T WHERE A > 5` over a table's file, before its first turn.
+pub fn bench_of(alloc: Global, table: &Table, file: &[u8], limits: Limits) -> Result<Bench, Fail>
+    requires integers { AreIntegers table.now.columns }
+    requires pages { (1 ≤ limits.pages) × (limits.pages ≤ MAX_INSTANCE_PAGES) }
+    requires steps { 1 ≤ limits.steps }
+{
+    let loaded = load(alloc, table, file)?;
+    if loaded.width() == 0 {
+        return Err("no column".into());
+    }
+    let query = asking(alloc, Comparison::Greater, 5)?;
+    let valid = validate(alloc, module_of(alloc, &query)?)?;
+    let job = Job::new(query, valid);
+    Ok(Bench::new(alloc, &loaded, job, limits)?)
+}

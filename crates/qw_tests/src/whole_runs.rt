@@ -1,0 +1,361 @@
+// Whole runs over files in memory. That memory suffices for them is what no clause says.
+
+use qw_top::top::qwasm;
+use qw_bench::bench::Bench;
+use qw_top::status::Status;
+use crate::tables::{WORDS, shelf, words};
+use qw_io::{IoFault, MemoryShelf, MemorySink, Sink};
+use std::alloc::{AllocError, Global};
+use std::test::Fail;
+
+mod sizes;
+
+const SCHEMA: &[u8] = b"CREATE TABLE T (A INTEGER NOT NULL);";
+
+const TABLE: &[u8] = b"A\n4\n1\n7\n";
+
+const QUERY: &[u8] = b"SELECT A FROM T WHERE A > 5;";
+
+const SEVEN: &[u8] = b"QUERY 1 ROWS 1\nA\n7\n";
+
+const NO_ROWS: &[u8] = b"QUERY 1 ROWS 0\nA\n";
+
+const WIDE_SCHEMA: &[u8] =
+    b"CREATE TABLE T (A INTEGER NOT NULL, B INTEGER NOT NULL, C INTEGER NOT NULL);";
+
+const WIDE_TABLE: &[u8] = b"A,B,C\n1,20,-300\n2,-10,400\n3,30,500\n";
+
+// A schema, a table, a query, the end of their run and its report.
+const RUNS: [(&[u8], &[u8], &[u8], Status, &[u8]); 27] = [
+    (SCHEMA, TABLE, QUERY, Status::Done, SEVEN),
+    (
+        b"create table t ( a integer not null )",
+        TABLE,
+        b"select a from t where a > 5",
+        Status::Done,
+        SEVEN,
+    ),
+    (
+        b"\xEF\xBB\xBFCREATE TABLE T\r\n(A INTEGER\r\nNOT NULL);\r\n",
+        b"\xEF\xBB\xBFa\r\n4\r\n1\r\n7\r\n",
+        b"\xEF\xBB\xBFSELECT A\r\nFROM T WHERE A > 5\r\n",
+        Status::Done,
+        SEVEN,
+    ),
+    (
+        SCHEMA,
+        b"A\n-1\n2147483647\n",
+        b"SELECT A FROM T WHERE A > 0",
+        Status::Done,
+        b"QUERY 1 ROWS 1\nA\n2147483647\n",
+    ),
+    (SCHEMA, b"A\n", QUERY, Status::Done, NO_ROWS),
+    (
+        SCHEMA,
+        TABLE,
+        b"SELECT A FROM T WHERE A = 4",
+        Status::Done,
+        b"QUERY 1 ROWS 1\nA\n4\n",
+    ),
+    (
+        SCHEMA,
+        TABLE,
+        b"SELECT A FROM T WHERE A <> 4",
+        Status::Done,
+        b"QUERY 1 ROWS 2\nA\n1\n7\n",
+    ),
+    (
+        SCHEMA,
+        TABLE,
+        b"SELECT A FROM T WHERE A < 4",
+        Status::Done,
+        b"QUERY 1 ROWS 1\nA\n1\n",
+    ),
+    (
+        SCHEMA,
+        TABLE,
+        b"SELECT A FROM T WHERE A <= 4",
+        Status::Done,
+        b"QUERY 1 ROWS 2\nA\n4\n1\n",
+    ),
+    (
+        SCHEMA,
+        TABLE,
+        b"SELECT A FROM T WHERE A > 7",
+        Status::Done,
+        NO_ROWS,
+    ),
+    (
+        SCHEMA,
+        TABLE,
+        b"SELECT A FROM T WHERE A >= 7",
+        Status::Done,
+        SEVEN,
+    ),
+    (
+        SCHEMA,
+        b"A\n-5\n-6\n0\n",
+        b"SELECT A FROM T WHERE A > - 6",
+        Status::Done,
+        b"QUERY 1 ROWS 2\nA\n-5\n0\n",
+    ),
+    (
+        SCHEMA,
+        TABLE,
+        b"SELECT A FROM T WHERE A > 999999999999999999",
+        Status::Done,
+        NO_ROWS,
+    ),
+    (
+        WIDE_SCHEMA,
+        WIDE_TABLE,
+        b"SELECT C, A FROM T WHERE B < 30",
+        Status::Done,
+        b"QUERY 1 ROWS 2\nC,A\n-300,1\n400,2\n",
+    ),
+    (
+        WIDE_SCHEMA,
+        WIDE_TABLE,
+        b"SELECT B, C, A FROM T WHERE A <> 2",
+        Status::Done,
+        b"QUERY 1 ROWS 2\nB,C,A\n20,-300,1\n30,500,3\n",
+    ),
+    (
+        WIDE_SCHEMA,
+        WIDE_TABLE,
+        b"SELECT B, A, B FROM T WHERE C = 400",
+        Status::Done,
+        b"QUERY 1 ROWS 1\nB,A,B\n-10,2,-10\n",
+    ),
+    (
+        SCHEMA,
+        TABLE,
+        b"SELECT A FROM T WHERE A > 1000000000000000000",
+        Status::QueriesRefused,
+        b"",
+    ),
+    (
+        SCHEMA,
+        TABLE,
+        b"SELECT A FROM T WHERE A > +5",
+        Status::QueriesRefused,
+        b"",
+    ),
+    (
+        SCHEMA,
+        TABLE,
+        b"SELECT A FROM T WHERE A > 5;;",
+        Status::QueriesRefused,
+        b"",
+    ),
+    (
+        SCHEMA,
+        TABLE,
+        b"SELECT B FROM T WHERE B > 5",
+        Status::QueriesRefused,
+        b"",
+    ),
+    (
+        SCHEMA,
+        TABLE,
+        b"SELECT A FROM U WHERE A > 5",
+        Status::QueriesRefused,
+        b"",
+    ),
+    (SCHEMA, b"A\nx\n", QUERY, Status::TableFileRefused, b""),
+    (
+        SCHEMA,
+        b"A\n2147483648\n",
+        b"no query",
+        Status::TableFileRefused,
+        b"",
+    ),
+    (
+        WIDE_SCHEMA,
+        b"A,B,C\n1,2\n",
+        QUERY,
+        Status::TableFileRefused,
+        b"",
+    ),
+    (
+        b"CREATE TABLE T (A INTEGER)",
+        b"x\n",
+        QUERY,
+        Status::SchemaRefused,
+        b"",
+    ),
+    (
+        b"CREATE TABLE T (A INTEGER NOT NULL, A INTEGER NOT NULL)",
+        TABLE,
+        QUERY,
+        Status::SchemaRefused,
+        b"",
+    ),
+    (
+        b"CREATE TABLE T (A INTEGER NOT NULL);;",
+        TABLE,
+        QUERY,
+        Status::SchemaRefused,
+        b"",
+    ),
+];
+
+// What a run over these files came to: its end, and the bench.
+fn run<O: Sink>(
+    alloc: Global,
+    files: &mut MemoryShelf,
+    texts: &[&str],
+    out: &mut O,
+    notes: &mut MemorySink,
+) -> Result<(Status, Option<Bench>), AllocError> {
+    let words = words(alloc, texts)?;
+    let mut kept = None;
+    let status = qwasm(alloc, words.as_slice(), files, out, notes, &mut kept);
+    Ok((status, kept))
+}
+
+// The end, the report and the bench of a run over these files, whose words are read. Nothing is noted.
+fn report_of(
+    alloc: Global,
+    schema: &[u8],
+    table: &[u8],
+    query: &[u8],
+) -> Result<(Status, MemorySink, Option<Bench>), Fail> {
+    let mut files = shelf(alloc, schema, table, query)?;
+    let mut out = MemorySink::new(alloc, 4_096, Vec::new(alloc));
+    let mut notes = MemorySink::new(alloc, 1, Vec::new(alloc));
+    let (status, kept) = run(alloc, &mut files, &WORDS, &mut out, &mut notes)?;
+    if !notes.bytes().is_empty() {
+        return Err("noted".into());
+    }
+    Ok((status, out, kept))
+}
+
+#[test]
+fn files_and_their_reports(rt: HostRuntime) -> Result<(), Fail> {
+    for (schema, table, query, end, report) in RUNS {
+        let (status, out, kept) = report_of(rt.alloc(), schema, table, query)?;
+        assert_eq!(rt; status, end);
+        assert_eq!(rt; out.bytes(), report);
+        assert_eq!(rt; kept.is_some(), end == Status::Done);
+    }
+    Ok(())
+}
+
+// The number of a call that isn't reached.
+const NEVER: u64 = 99;
+
+// The words, the call of the report's sink that fails, the one of the notes' sink, the end, what was written to both,
+// and whether a bench is kept. Both sinks take an octet a call.
+const FAULTS: [(&[&str], u64, u64, Status, &[u8], &[u8], bool); 9] = [
+    (
+        &["run", "s"],
+        NEVER,
+        NEVER,
+        Status::WordsRefused,
+        b"",
+        b"",
+        false,
+    ),
+    (
+        &["run", "s", "d", "-q"],
+        NEVER,
+        0,
+        Status::WordsRefused,
+        b"",
+        b"",
+        false,
+    ),
+    (
+        &["run", "S", "d", "q"],
+        NEVER,
+        NEVER,
+        Status::ReadFailed,
+        b"",
+        b"read fault: S\n",
+        false,
+    ),
+    (
+        &["run", "s", "e", "q"],
+        NEVER,
+        NEVER,
+        Status::ReadFailed,
+        b"",
+        b"read fault: e/t.csv\n",
+        false,
+    ),
+    (
+        &["run", "s", "d", "Q"],
+        NEVER,
+        NEVER,
+        Status::ReadFailed,
+        b"",
+        b"read fault: Q\n",
+        false,
+    ),
+    (
+        &["run", "s", "d", "Q"],
+        NEVER,
+        0,
+        Status::WriteFailed,
+        b"",
+        b"",
+        false,
+    ),
+    (
+        &["run", "s", "e", "q"],
+        NEVER,
+        4,
+        Status::WriteFailed,
+        b"",
+        b"read",
+        false,
+    ),
+    (&WORDS, 0, NEVER, Status::WriteFailed, b"", b"", true),
+    (&WORDS, 1, NEVER, Status::WriteFailed, b"Q", b"", true),
+];
+
+#[test]
+fn words_and_faults(rt: HostRuntime) -> Result<(), Fail> {
+    let alloc = rt.alloc();
+    for (texts, failing, failing_note, end, report, noted, keeps) in FAULTS {
+        let mut files = shelf(alloc, SCHEMA, TABLE, QUERY)?;
+        let mut out = MemorySink::new(alloc, 1, vec![in alloc; failing]?);
+        let mut notes = MemorySink::new(alloc, 1, vec![in alloc; failing_note]?);
+        let (status, kept) = run(alloc, &mut files, texts, &mut out, &mut notes)?;
+        assert_eq!(rt; status, end);
+        assert_eq!(rt; out.bytes(), report);
+        assert_eq!(rt; notes.bytes(), noted);
+        assert_eq!(rt; kept.is_some(), keeps);
+    }
+    Ok(())
+}
+
+// A sink whose calls want memory.
+#[derive(Drop)]
+struct FullSink;
+
+impl Sink for FullSink {
+    ghost use Rattle.std.specs.Prelude.{Some, []};
+
+    ghost taken = { λ _. Some [] };
+
+    ghost faults = { λ _. 0 };
+
+    fn put(&mut self, _piece: &[u8]) -> Result<usize, IoFault> {
+        Err(IoFault::NoMemory)
+    }
+}
+
+#[test]
+fn want_of_memory_is_noted(rt: HostRuntime) -> Result<(), Fail> {
+    let alloc = rt.alloc();
+    let mut files = shelf(alloc, SCHEMA, TABLE, QUERY)?;
+    let mut notes = MemorySink::new(alloc, 1, Vec::new(alloc));
+    let (status, kept) = run(alloc, &mut files, &WORDS, &mut FullSink, &mut notes)?;
+    assert_eq!(rt; status, Status::NoMemory);
+    assert_eq!(rt; status.code(), 9);
+    assert_eq!(rt; notes.bytes(), b"want of memory\n".as_slice());
+    assert!(rt; kept.is_some());
+    Ok(())
+}

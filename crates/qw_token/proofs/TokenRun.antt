@@ -1,0 +1,77 @@
+-- Reading one token after another.
+use Rattle.std.proofs.Common.{◌≡◌, ℕ, ◌<◌, ◌≤◌, List, [], ◌∷◌, ◌++◌, length, take, refl, sym, ap, subst, ◌∙◌, arith, inl, inr}
+use Rattle.std.specs.Str.{bytes_eq}
+use Rattle.std.proofs.lemmas.Bool.{cases_Bool}
+use Rattle.std.proofs.lemmas.List.{length-append, length-drop}
+use Rattle.qw_token.specs.declared.token.Kind.{Kind}
+use Rattle.qw_token.specs.declared.token.Kind.TheVariants.{Word, DelimitedIdentifier, CharacterString, Number, Symbol}
+use Rattle.qw_token.specs.Token.{Lexeme, is_separator, after_run, after_mark, HasForm, Begins, Reads, AreTokens, StopsAt}
+use Rattle.qw_token.proofs.TokenLemmas.{after_run-shorter, Begins-unique}
+
+-- what the loop keeps: the tokens so far, and that the rest is behind them
+pub record HasRead (text : List ℕ) (ts : List Lexeme) (rest : List ℕ) : Type 0 where
+  pub reads : Reads (after_mark text) ts rest
+  pub shorter : length rest ≤ length text
+
+Reads-push : (text : List ℕ) (ts : List Lexeme) (t : Lexeme) (rest after : List ℕ) → Reads text ts rest → Begins rest t after → Reads text (ts ++ t ∷ []) (after_run is_separator after)
+Reads-push text [] t rest after r b = (after, rw r b, refl)
+Reads-push text (u ∷ ts) t rest after r b = (r.0, r.1, Reads-push r.0 ts t rest after r.2 b)
+
+after_mark-shorter : (text : List ℕ) → length (after_mark text) ≤ length text
+after_mark-shorter text =
+    elim (cases_Bool (bytes_eq (take 3 text) (0xEF ∷ 0xBB ∷ 0xBF ∷ []))) [
+      | inl e ↦ rw e (omega (arith, length-drop 3 text))
+      | inr e ↦ rw e (omega arith)
+    ]
+
+pub HasRead-none : (text : List ℕ) → HasRead text [] (after_run is_separator (after_mark text))
+HasRead-none text = record { reads = refl; shorter = omega (arith, after_run-shorter is_separator (after_mark text), after_mark-shorter text) }
+
+pub HasRead-push : (text : List ℕ) (ts : List Lexeme) (t : Lexeme) (rest after : List ℕ) → HasRead text ts rest → Begins rest t after → HasRead text (ts ++ t ∷ []) (after_run is_separator after)
+HasRead-push text ts t rest after h b = record {
+  reads = Reads-push (after_mark text) ts t rest after h.reads b;
+  shorter = omega (arith, h.shorter, after_run-shorter is_separator after, ap length b.parts, length-append t.octets after);
+}
+
+pub not_empty : (kind : Kind) (octets : List ℕ) → HasForm kind octets → 0 < length octets
+not_empty Word [] form = absurd form
+not_empty Word (b ∷ bs) form = omega arith
+not_empty DelimitedIdentifier octets form = rw form.2 (omega arith)
+not_empty CharacterString octets form = rw form.1 (omega arith)
+not_empty Number [] form = absurd (omega (arith, form.some_digit))
+not_empty Number (b ∷ bs) form = omega arith
+not_empty Symbol [] form = absurd form
+not_empty Symbol (b ∷ bs) form = omega arith
+
+-- what follows a token is shorter than the text that it begins
+pub Begins-shorter : (text : List ℕ) (t : Lexeme) (rest : List ℕ) → Begins text t rest → length rest < length text
+Begins-shorter text t rest b = omega (arith, not_empty t.kind t.octets b.form, ap length b.parts, length-append t.octets rest)
+
+-- ---- a text has one reading
+
+abbrev IsStuck : List ℕ → Type 0
+IsStuck rest = (t : Lexeme) (after : List ℕ) → Begins rest t after → ⊥
+
+nothing_begins : IsStuck []
+nothing_begins t after b = let short = Begins-shorter [] t after b in absurd (omega (arith, short))
+
+Reads-unique : (text : List ℕ) (ts us : List Lexeme) (r s : List ℕ) → Reads text ts r → Reads text us s → IsStuck r → IsStuck s → (ts ≡ us) × (r ≡ s)
+Reads-unique text [] [] r s p q stuck stuck' = (refl, sym p ∙ q)
+Reads-unique text [] (u ∷ us) r s p q stuck stuck' = absurd (stuck u q.0 (subst (λ x. Begins x u q.0) p q.1))
+Reads-unique text (t ∷ ts) [] r s p q stuck stuck' = absurd (stuck' t p.0 (subst (λ x. Begins x t p.0) q p.1))
+Reads-unique text (t ∷ ts) (u ∷ us) r s p q stuck stuck' =
+    let first = Begins-unique (after_run is_separator text) t u p.0 q.0 p.1 q.1 in
+    let more = Reads-unique p.0 ts us r s p.2 (subst (λ x. Reads x us s) (sym first.1) q.2) stuck stuck' in
+    ((λ i. first.0 i ∷ more.0 i), more.1)
+
+pub AreTokens-unique : (text : List ℕ) (ts us : List Lexeme) → AreTokens text ts → AreTokens text us → ts ≡ us
+AreTokens-unique text ts us a b = (Reads-unique (after_mark text) ts us [] [] a.reads b.reads nothing_begins nothing_begins).0
+
+pub StopsAt-unique : (text : List ℕ) (m n : ℕ) → StopsAt text m → StopsAt text n → m ≡ n
+StopsAt-unique text m n a b =
+    let same = (Reads-unique (after_mark text) a.before b.before a.rest b.rest a.reads b.reads a.no_token b.no_token).1 in
+    omega (arith, a.place, b.place, ap length same)
+
+pub AreTokens-no_stop : (text : List ℕ) (ts : List Lexeme) (n : ℕ) → AreTokens text ts → StopsAt text n → ⊥
+AreTokens-no_stop text ts n a b =
+    b.more (sym (Reads-unique (after_mark text) ts b.before [] b.rest a.reads b.reads nothing_begins b.no_token).1)

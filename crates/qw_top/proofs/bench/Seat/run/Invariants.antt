@@ -1,5 +1,0 @@
-use Rattle.qw_top.proofs.SeatSteps.{HasRun}
-use Rattle.qw_top.proofs.bench.Seat.run.Given as goal
-
-abbrev pub invariant-loop-taken : goal.invariant-loop-taken
-invariant-loop-taken l = HasRun l.fn.self l.fn.memory l.taken l.self l.memory

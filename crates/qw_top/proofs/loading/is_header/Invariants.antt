@@ -1,7 +1,0 @@
-use Rattle.std.proofs.Common.{take}
-use Rattle.csv.specs.Records.{fields_of}
-use Rattle.qw_top.specs.Loading.{IsHeader}
-use Rattle.qw_top.proofs.loading.is_header.Given as goal
-
-abbrev pub invariant-loop-place : goal.invariant-loop-place
-invariant-loop-place l = IsHeader (take l.place l.columns) (take l.place (fields_of l.row))

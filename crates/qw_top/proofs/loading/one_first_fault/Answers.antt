@@ -1,5 +1,0 @@
-use Rattle.qw_top.proofs.LoadingLaws.{same_fault}
-use Rattle.qw_top.proofs.loading.one_first_fault.Goals as goal
-
-pub returns : goal.returns
-returns c table bytes a b h k = same_fault table bytes a b h k

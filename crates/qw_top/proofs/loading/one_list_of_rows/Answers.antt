@@ -1,5 +1,0 @@
-use Rattle.qw_top.proofs.LoadingLaws.{same_loads}
-use Rattle.qw_top.proofs.loading.one_list_of_rows.Goals as goal
-
-pub returns : goal.returns
-returns c table bytes a b h k = same_loads table bytes a b h k

@@ -1,5 +1,0 @@
-use Rattle.qw_top.proofs.TokenRun.{AreTokens-unique, StopsAt-unique, AreTokens-no_stop}
-use Rattle.qw_top.proofs.token.one_reading.Goals as goal
-
-pub returns : goal.returns
-returns c = record { tokens = AreTokens-unique; place = StopsAt-unique; either = AreTokens-no_stop }

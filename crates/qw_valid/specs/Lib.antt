@@ -1,0 +1,4 @@
+pub mod Checkers
+pub mod Checking
+pub mod Refusals
+pub mod ValidFaults
