@@ -12,7 +12,7 @@ use Rattle.qw_linear.specs.Linear.{Octets}
 use Rattle.qw_linear.specs.Memory.{page}
 use Rattle.qw_module.specs.Syntax.{Code, done, op, block, loop, if_else, br, br_if, code_of}
 use Rattle.qw_module.specs.Execution.{State, Running, Returned, Raised, Trapped, label, settled}
-use Rattle.qw_map.specs.Map.{Area, World}
+use Rattle.qw_map.specs.Areas.{Area, World}
 use Rattle.qw_map.specs.Turns.{End, Instance, end_at}
 use Rattle.qw_module.specs.Start.{begun, body_of}
 use Rattle.qw_machine.specs.declared.machine.Stepped.{Stepped}
@@ -27,7 +27,7 @@ use Rattle.qw_bench.specs.declared.bench.Ended.TheVariants as ended
 use Rattle.qw_bench.specs.declared.bench.Grant.{Grant}
 use Rattle.qw_bench.specs.declared.bench.Seat.{Seat}
 use Rattle.qw_bench.specs.Bench.{IsStart, IsStarting, Task, starting}
-use Rattle.qw_bench.specs.FirstPage.{IsFirstMemory}
+use Rattle.qw_bench.specs.Inner.FirstMemory.{IsFirstMemory}
 use Rattle.qw_csv.specs.Loading.{AreLoaded, IsIntegerRow}
 use Rattle.qw_bench.specs.Seats.{HasGrants, IsBench, IsEndOf, area_of, end_of, instance_of, state_in, task_of, world_of}
 use Rattle.qw_columns.proofs.ColumnLemmas.{few_pages, within_pages}

@@ -11,7 +11,8 @@ use Rattle.qw_linear.proofs.MemoryFacts.{AreOctets-with_number, length-with_numb
 use Rattle.qw_linear.proofs.GrowthFacts.{AreOctets-grown_by, grown_by-above, grown_by-below, length-grown_by}
 use Rattle.qw_map.specs.Columns.{Holds, column_pages}
 use Rattle.qw_map.specs.Layout.{IsFresh, column_starts, entry_offset}
-use Rattle.qw_bench.specs.FirstPage.{IsBlank, IsFirstMemory}
+use Rattle.qw_bench.specs.FirstPage.{IsBlank}
+use Rattle.qw_bench.specs.Inner.FirstMemory.{IsFirstMemory}
 use Rattle.qw_columns.proofs.ColumnLemmas.{Holds-kept}
 
 -- zeros are the number 0

@@ -12,7 +12,8 @@ use Rattle.qw_map.proofs.TurnFacts.{slice_get-set_same}
 use Rattle.qw_map.proofs.TurnSteps.{limits-turns, turn-others, turns-many, turns-whole, unended-runs}
 use Rattle.qw_bench.specs.declared.bench.Ended.{Ended}
 use Rattle.qw_bench.specs.declared.bench.Seat.{Seat}
-use Rattle.qw_bench.specs.Bench.{AreRounds, end_in, ran_in, round, steps_left, unended_below}
+use Rattle.qw_bench.specs.Bench.{AreRounds, end_in, ran_in, round, unended_below}
+use Rattle.qw_bench.specs.Inner.Rounds.{steps_left}
 use Rattle.qw_bench.specs.Bench as rounds
 use Rattle.qw_bench.proofs.SeatSteps.{is_some-end_of}
 use Rattle.qw_bench.proofs.Serving.{each-whole, there}

@@ -13,7 +13,7 @@ use Rattle.qw_machine.specs.declared.machine.Stepped.TheVariants as came
 use Rattle.qw_machine.specs.Instance.{GoesWith, IsAnswer, IsNoRequest, Went}
 use Rattle.qw_module.specs.Execution.{Config, State, Running, Returned, Raised, Trapped, Event, Silent, Loads, Stores, Grows, Raises, Traps, pages_gained}
 use Rattle.qw_module.specs.Step.{Next, next, Want, Stuck, Goes, Asks, Puts, AsksPages, Signals, answered, wants}
-use Rattle.qw_map.specs.Map.{Area, World, grants, world_after}
+use Rattle.qw_map.specs.Areas.{Area, World, grants, world_after}
 use Rattle.qw_map.specs.Turns.{Done, IsWhole, steps_of, moved, end_at}
 use Rattle.qw_map.specs.Turns as t
 use Rattle.qw_module.proofs.Outcomes.{Outcome, outcome, went, read, read_outside, put, put_outside, was_granted, was_refused, raised}

@@ -12,10 +12,10 @@ use Rattle.qw_types.specs.declared.value.Val.{Val}
 use Rattle.qw_types.specs.declared.value.Val.TheVariants.{Num}
 use Rattle.qw_linear.specs.Memory.{page}
 use Rattle.qw_module.specs.Execution.{Config, State, Running, Returned, Raised, Trapped, Event, Silent, Loads, Stores, Grows, Raises, Traps, IsOver}
-use Rattle.qw_map.specs.Map.{Area, World, SameIn, Others, AsksWithin, IsAnswered, world_after}
+use Rattle.qw_map.specs.Areas.{Area, World, SameIn, Others, AsksWithin, IsAnswered, world_after}
 use Rattle.qw_map.specs.Runs.{Moment, OpenStep, OpenRun, Behaves, begins, goes_on, moment_after}
 use Rattle.qw_map.specs.Turns.{Steps, Instance, Shared, end_at, end_of_raise, steps_of, turn_at, turns, with_instance, EachInstance, IsWhole, AreApart, LiesWithin, AreSeparate, moment_of, LeadsTo}
-use Rattle.qw_map.proofs.Areas.{all-append, all-front}
+use Rattle.qw_map.proofs.AreaLemmas.{all-append, all-front}
 use Rattle.qw_map.proofs.RunRules.{number_at-kept}
 use Rattle.qw_map.proofs.Separate.{safe-turns, runs-turns, worlds-turns, columns-turns, behaves-turns, open-step}
 use Rattle.qw_map.proofs.TurnFacts.{slice_get-set_same}

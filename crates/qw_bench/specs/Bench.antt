@@ -6,7 +6,7 @@ use Rattle.std.specs.Option.{option_and_then, option_map_or}
 use Rattle.qw_types.specs.declared.value.Val.{Val}
 use Rattle.qw_linear.specs.Memory.{page, most_pages, AreOctets}
 use Rattle.qw_module.specs.declared.module.Module.{Module}
-use Rattle.qw_map.specs.Map.{Area}
+use Rattle.qw_map.specs.Areas.{Area}
 use Rattle.qw_map.specs.Runs.{Behaves}
 use Rattle.qw_map.specs.Turns.{Done, Pages, Steps, End, Instance, Shared, end_at, turns, may_ask, IsWhole, AreSafe, moment_of}
 use Rattle.qw_module.specs.Validity.{IsShaped}
@@ -126,8 +126,3 @@ round quantum s = map (λ i. (i, quantum)) (unended_below s (length s.instances)
 pub data AreRounds (quantum : ℕ) : List (ℕ × ℕ) → Shared → Type 0 where
   none : (s : Shared) → round quantum s ≡ [] → AreRounds quantum [] s
   first : (s : Shared) (ts : List (ℕ × ℕ)) → AreRounds quantum ts (turns (round quantum s) s) → AreRounds quantum (round quantum s ++ ts) s
-
--- how many instructions instances may still run before their limits
-abbrev pub steps_left : List Instance → ℕ
-steps_left [] = 0
-steps_left (i ∷ instances) = (i.most_steps - i.ran) + steps_left instances

@@ -1,19 +1,7 @@
 -- The first page of an instance, and the memory that it begins in.
-use Rattle.std.specs.Prelude.{◌≡◌, ℕ, ◌+◌, ◌*◌, ◌<◌, List, length, slice_index}
-use Rattle.qw_types.specs.declared.value.Val.{Val}
-use Rattle.qw_linear.specs.Memory.{page, AreOctets}
-use Rattle.qw_meaning.specs.Statement.{Statement}
-use Rattle.qw_map.specs.Columns.{Holds, column_pages}
-use Rattle.qw_map.specs.Layout.{IsFresh, column_starts}
+use Rattle.std.specs.Prelude.{◌≡◌, ℕ, ◌+◌, ◌<◌, List, slice_index}
+use Rattle.qw_linear.specs.Memory.{page}
 
 -- the page at an address is zeros
 abbrev pub IsBlank : List ℕ → ℕ → Type 0
 IsBlank memory address = (k : ℕ) → k < page → slice_index memory (address + k) ≡ 0
-
--- the memory of a table and one instance before its first step: the pages of the columns, and the instance's first page, which
--- tells of the columns that its statement uses
-pub record IsFirstMemory (statement : Statement) (width : ℕ) (rows : List (List Val)) (memory : List ℕ) : Type 0 where
-  pub octets : AreOctets memory
-  pub size : length memory ≡ (column_pages width (length rows) + 1) * page
-  pub columns : Holds width memory rows
-  pub fresh : IsFresh memory (column_pages width (length rows) * page) (column_starts statement (length rows)) (length rows)

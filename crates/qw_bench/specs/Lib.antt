@@ -1,3 +1,4 @@
 pub mod Bench
 pub mod FirstPage
+pub mod Inner
 pub mod Seats

@@ -6,7 +6,7 @@ use Rattle.qw_types.specs.declared.value.Val.{Val}
 use Rattle.qw_linear.specs.Memory.{page}
 use Rattle.qw_linear.specs.Linear.{Octets}
 use Rattle.qw_module.specs.Execution.{Config, State, Running, Returned, Raised, Trapped, Event, Grows}
-use Rattle.qw_map.specs.Map.{Area, World, GoesOn, grants}
+use Rattle.qw_map.specs.Areas.{Area, World, GoesOn, grants}
 use Rattle.qw_module.specs.Step.{Next, next}
 use Rattle.qw_map.specs.Turns.{Done, Pages, Steps, End, Instance, Shared, end_at, steps_of, may_ask}
 use Rattle.qw_machine.specs.Instance.{GoesWith, state_of}

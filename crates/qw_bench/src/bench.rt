@@ -12,9 +12,9 @@ use qw_columns::columns::{MAX_COLUMN_PAGES, pages_needed};
 use qw_csv::loading::Loaded;
 use qw_linear::linear::{Linear, MAX_PAGES, PAGE};
 use qw_machine::machine::{Instance, Stepped};
-use qw_valid::valid::ValidModule;
 use qw_meaning::query::Query;
 use qw_types::NoMemory;
+use qw_valid::valid::ValidModule;
 use std::alloc::Global;
 use std::marker::Model;
 
@@ -234,7 +234,8 @@ impl Bench {
     ghost use Rattle.std.specs.List.{AllByRecursion};
     ghost use Rattle.qw_map.specs.Layout.{used};
     ghost use Rattle.qw_map.specs.Turns.{EachInstance, turn, turns};
-    ghost use Rattle.qw_bench.specs.Bench.{AreRounds, IsStart, round, steps_left};
+    ghost use Rattle.qw_bench.specs.Bench.{AreRounds, IsStart, round};
+    ghost use Rattle.qw_bench.specs.Inner.Rounds.{steps_left};
     ghost use Rattle.qw_bench.specs.Seats.{IsBench, end_of, first_task, shared_of, tasks_of};
     ghost use Rattle.qw_bench.specs.Bench.{end_in, ran_in};
 

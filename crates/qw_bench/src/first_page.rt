@@ -5,8 +5,8 @@ ghost use Rattle.qw_linear.specs.Memory.{AreOctets, page, with_number, SameBelow
 ghost use Rattle.qw_map.specs.Layout.{IsFresh};
 ghost use Rattle.qw_bench.specs.FirstPage.{IsBlank};
 
-use qw_map::layout::{ENTRY_ROWS_OFFSET, ENTRY_SIZE, FREE_OFFSET, HEAD_SIZE, PAGE_END_OFFSET};
 use qw_linear::linear::{Linear, PAGE};
+use qw_map::layout::{ENTRY_ROWS_OFFSET, ENTRY_SIZE, FREE_OFFSET, HEAD_SIZE, PAGE_END_OFFSET};
 use qw_types::schema::MAX_COLUMNS;
 
 /// Writes the descriptor of columns into a blank page: where their values stand, and how many rows

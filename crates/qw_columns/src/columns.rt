@@ -5,8 +5,8 @@ ghost use Rattle.qw_linear.specs.Memory.{AreOctets, page, SameBelow};
 ghost use Rattle.qw_map.specs.Columns.{Holds, HoldsColumn, column_pages, column_start, integer_size};
 
 use qw_csv::loading::Loaded;
-use qw_map::layout::{COLUMN_ALIGNMENT, COLUMNS_START, INTEGER_SIZE};
 use qw_linear::linear::{Linear, PAGE};
+use qw_map::layout::{COLUMN_ALIGNMENT, COLUMNS_START, INTEGER_SIZE};
 use qw_types::NoMemory;
 use qw_types::schema::{MAX_COLUMNS, MAX_ROWS};
 use std::alloc::Global;

@@ -1,5 +1,5 @@
+pub mod CsvReaderLemmas
 pub mod LoadingLaws
 pub mod NumberLemmas
-pub mod ReaderLemmas
 pub mod RecordLemmas
 pub mod RowLemmas

@@ -19,7 +19,8 @@ use Rattle.qw_types.specs.declared.value.Val.{Val}
 use Rattle.qw_types.specs.declared.value.Val.TheVariants.{Num}
 use Rattle.qw_csv.specs.declared.loading.LoadFault.{LoadFault}
 use Rattle.qw_csv.specs.declared.loading.LoadFault.TheVariants as fault
-use Rattle.qw_csv.specs.Loading.{AreKept, AreLoaded, AreRecordsOf, Follows, HasRead, IsFirstFault, IsHeader, IsIntegerRow, IsRecordFault, IsRecordOf, Loads, rows_of}
+use Rattle.qw_csv.specs.Loading.{AreKept, AreLoaded, AreRecordsOf, Follows, IsFirstFault, IsHeader, IsIntegerRow, IsRecordFault, IsRecordOf, Loads, rows_of}
+use Rattle.qw_csv.specs.Inner.Loading.{HasRead}
 
 -- ---- rows that stand one after another
 

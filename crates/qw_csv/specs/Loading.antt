@@ -1,14 +1,11 @@
 -- What a table file stands for: records of comma-separated values, the first of which names the columns.
-use Rattle.std.specs.Prelude.{◌≡◌, ◌≢◌, ◌⊎◌, ◌≤◌, ◌+◌, ◌*◌, ℕ, zero, suc, ℤ, pos, neg_ℤ, List, [], ◌∷◌, ◌++◌, length, map, take, drop, true, IsTrue, Some, All}
-use Rattle.std.specs.Borrow.{Bor}
+use Rattle.std.specs.Prelude.{◌≡◌, ◌≢◌, ◌⊎◌, ◌≤◌, ◌+◌, ◌*◌, ℕ, zero, suc, ℤ, pos, neg_ℤ, List, [], ◌∷◌, ◌++◌, length, map, take, drop, true, IsTrue, All}
 use Rattle.std.specs.Char.{to_ascii_lowercase}
 use Rattle.std.specs.List.{AllByRecursion}
 use Rattle.std.specs.Str.Parse.{digits_value}
-use Rattle.csv.specs.Reading.{AreRecords, Reached, Ready, default_config, source_of, strip_bom}
+use Rattle.csv.specs.Reading.{AreRecords, Reached, default_config, strip_bom}
 use Rattle.csv.specs.declared.parser.State.{State}
 use Rattle.csv.specs.declared.parser.State.TheVariants.{StartRecord}
-use Rattle.csv.specs.declared.reader.Reader.{Reader}
-use Rattle.csv.specs.declared.reader.Trim.TheVariants as trim
 use Rattle.qw_types.specs.Value.{IsOfType}
 use Rattle.qw_types.specs.declared.schema.Column.{Column}
 use Rattle.qw_types.specs.declared.schema.Table.{Table}
@@ -137,12 +134,3 @@ pub record AreKept (count width : ℕ) (numbers : List ℤ) : Type 0 where
   pub few : count ≤ MAX_ROWS
   pub full : length numbers ≡ count * width
   pub typed : All (λ n. IsOfType Integer (Num n)) numbers
-
--- a reader that has given these records of a text, and goes on after them
-pub record HasRead (reader : Reader (Bor (List ℕ))) (text : List ℕ) (records : List (List (List ℕ))) : Type 0 where
-  pub ready : Ready reader
-  pub untrimmed : reader.trim ≡ trim.None
-  pub config : reader.config ≡ default_config
-  pub rest : List ℕ
-  pub source : source_of (λ (s : Bor (List ℕ)). Some s.now) reader ≡ Some rest
-  pub reached : Reached default_config StartRecord text records reader.state rest

@@ -14,10 +14,11 @@ ghost use Rattle.qw_types.specs.declared.value.Val.TheVariants.{Num};
 ghost use Rattle.qw_types.specs.declared.value.Ty.TheVariants.{Integer};
 ghost use Rattle.qw_types.specs.Value.{value_of};
 ghost use Rattle.qw_csv.specs.declared.loading.LoadFault.{LoadFault};
-ghost use Rattle.qw_csv.specs.Loading.{AreIntegers, AreLoaded, Contents, HasRead, IsFieldFault, IsFieldOf, IsFirstFault, IsHeader, IsRecordFault, IsRecordOf, Loads};
+ghost use Rattle.qw_csv.specs.Loading.{AreIntegers, AreLoaded, Contents, IsFieldFault, IsFieldOf, IsFirstFault, IsHeader, IsRecordFault, IsRecordOf, Loads};
+ghost use Rattle.qw_csv.specs.Inner.Loading.{HasRead};
 
-use qw_types::digits::are_digits;
 use csv::{ByteRecord, Reader, ReaderBuilder};
+use qw_types::digits::are_digits;
 use qw_types::schema::MAX_ROWS;
 use qw_types::{Column, Table};
 use std::alloc::{AllocFailed, Global};

@@ -11,7 +11,7 @@ use Rattle.qw_module.specs.Numbers.{truth, relation}
 use Rattle.qw_meaning.specs.Meaning.{compares}
 use Rattle.qw_meaning.specs.declared.query.Comparison.{Comparison}
 use Rattle.qw_meaning.specs.declared.query.Comparison.TheVariants.{Equal, NotEqual, Less, LessOrEqual, Greater, GreaterOrEqual}
-use Rattle.qw_emit.specs.Emit.{rejects}
+use Rattle.qw_emit.specs.Inner.Emit.{rejects}
 
 truth-zero : (b : Bool) → (truth b == 0) ≡ not b
 truth-zero true = refl

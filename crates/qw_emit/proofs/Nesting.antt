@@ -3,7 +3,7 @@ use Rattle.std.proofs.Common.{◌≡◌, ℕ, zero, suc, ◌<◌, length, arith,
 use Rattle.std.specs.List.{AllByRecursion}
 use Rattle.qw_module.specs.declared.instruction.Instr.{Instr}
 use Rattle.qw_module.specs.Syntax.{Code, done, loop, nested, named_below, code_of, sequence_at, NamesBelow, IsNumbered}
-use Rattle.qw_emit.specs.Emit.{Scan, get, i32, raise_refused, ask_page, scan_row, scan_frame, scan_code}
+use Rattle.qw_emit.specs.Inner.Emit.{Scan, get, i32, raise_refused, ask_page, scan_row, scan_frame, scan_code}
 use Rattle.qw_map.specs.Layout.{row_size}
 
 pub scan_nests : (scan : Scan) (raise nothing ask row around none last outer : List Instr) →

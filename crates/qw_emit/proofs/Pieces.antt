@@ -6,8 +6,8 @@ use Rattle.qw_module.specs.declared.instruction.Instr.{Instr}
 use Rattle.qw_module.specs.Syntax.{Code, done, nested, NamesBelow}
 use Rattle.qw_module.specs.declared.instruction.ValType.{ValType}
 use Rattle.qw_module.specs.declared.instruction.ValType.TheVariants.{I32, I64}
-use Rattle.qw_emit.specs.Emit.{read_distances, read_values, write_cells, other_locals}
-use Rattle.qw_emit.specs.Sequences.{Adds}
+use Rattle.qw_emit.specs.Inner.Emit.{read_distances, read_values, write_cells, other_locals}
+use Rattle.qw_emit.specs.Inner.Sequences.{Adds}
 
 pub AllByRecursion-append : {X : Type 0} (P : X → Type 0) (xs ys : List X) → AllByRecursion P xs → AllByRecursion P ys → AllByRecursion P (xs ++ ys)
 AllByRecursion-append P [] ys a b = b

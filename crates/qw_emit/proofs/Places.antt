@@ -7,7 +7,7 @@ use Rattle.std.proofs.lemmas.Bool.{cases_Bool, or_cases, or_left, or_right, eq-e
 use Rattle.std.proofs.lemmas.Option.{none-some, same_Some, slice_get_within, slice_get-map}
 use Rattle.qw_types.specs.declared.schema.TheConstants.{MAX_COLUMNS}
 use Rattle.qw_meaning.specs.Statement.{Statement, IsStatement}
-use Rattle.qw_emit.specs.Emit.{scan_of, index_in, other_columns}
+use Rattle.qw_emit.specs.Inner.Emit.{scan_of, index_in, other_columns}
 use Rattle.qw_map.specs.Layout.{is_used, used}
 
 -- whether a number is in a list

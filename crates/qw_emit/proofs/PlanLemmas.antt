@@ -9,9 +9,9 @@ use Rattle.std.proofs.Math.Dec.{ltb}
 use Rattle.qw_types.specs.declared.schema.TheConstants.{MAX_COLUMNS}
 use Rattle.qw_meaning.specs.Statement.{Statement, IsStatement}
 use Rattle.qw_meaning.specs.declared.query.Comparison.{Comparison}
-use Rattle.qw_emit.specs.Emit.{Scan, value_local, value_of_other, index_in, other_columns, local_of, scan_of}
+use Rattle.qw_emit.specs.Inner.Emit.{Scan, value_local, value_of_other, index_in, other_columns, local_of, scan_of}
 use Rattle.qw_map.specs.Layout.{used, is_used}
-use Rattle.qw_emit.specs.Plan.{IsPlan}
+use Rattle.qw_emit.specs.Inner.Plan.{IsPlan}
 
 -- the first place where a test passes, or the length where there is none
 pub first_or_length : {X : Type 0} (p : X → Bool) (xs : List X) → unwrap_or (position p xs) (length xs) ≡ position_or_len p xs

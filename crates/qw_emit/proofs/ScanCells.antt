@@ -5,10 +5,10 @@ use Rattle.std.specs.Int.{cast_signed}
 use Rattle.qw_types.specs.declared.value.Val.{Val}
 use Rattle.qw_linear.specs.Memory.{page, number_at}
 use Rattle.qw_module.specs.Syntax.{Code}
-use Rattle.qw_map.specs.Map.{World, lies_in_one}
+use Rattle.qw_map.specs.Areas.{World, lies_in_one}
 use Rattle.qw_map.specs.Runs.{Moment}
 use Rattle.qw_map.proofs.RunRules.{Reaches, Reaches-more, IsKept, go, load, store}
-use Rattle.qw_emit.specs.Emit.{Scan, read_values, write_cells}
+use Rattle.qw_emit.specs.Inner.Emit.{Scan, read_values, write_cells}
 use Rattle.qw_map.specs.Layout.{is_integer}
 use Rattle.qw_map.proofs.AccessLemmas.{lies-before}
 use Rattle.qw_map.proofs.Chains.{onto}

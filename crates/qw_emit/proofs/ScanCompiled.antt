@@ -13,7 +13,7 @@ use Rattle.qw_module.specs.declared.module.Module.{Module}
 use Rattle.qw_map.proofs.OpenRuns.{Within-now, Within-then, behaves_within}
 use Rattle.qw_meaning.specs.Statement.{Statement, IsStatement}
 use Rattle.qw_meaning.specs.Meaning.{results}
-use Rattle.qw_emit.specs.Emit.{Scan, IsScan, scan_of, scan_code, local_of}
+use Rattle.qw_emit.specs.Inner.Emit.{Scan, IsScan, scan_of, scan_code, local_of}
 use Rattle.qw_map.specs.Layout.{row_size, entry_offset, first_world}
 use Rattle.qw_emit.specs.Compiled.{IsReady, units, page_bound, Answers, IsCompiled}
 use Rattle.qw_map.proofs.Chains.{Chain, integers}

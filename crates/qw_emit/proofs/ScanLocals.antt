@@ -3,7 +3,7 @@ use Rattle.std.proofs.Common.{◌≡◌, ℕ, suc, ◌+◌, ◌*◌, ◌<◌, tr
 use Rattle.std.specs.Prelude.{nat_lt, slice_get, slice_set}
 use Rattle.std.proofs.lemmas.Bool.{lt-ltb}
 use Rattle.std.proofs.lemmas.Option.{slice_get-get_or}
-use Rattle.qw_emit.specs.Emit.{distance_of, value_of_other}
+use Rattle.qw_emit.specs.Inner.Emit.{distance_of, value_of_other}
 use Rattle.qw_emit.proofs.ScanSteps.{locals_of}
 
 module _ (d p e r l last v n : ℕ) (others : List ℕ) where

@@ -11,10 +11,10 @@ use Rattle.qw_linear.specs.Memory.{page, number_at}
 use Rattle.qw_linear.proofs.MemoryFacts.{number_at-with_number}
 use Rattle.qw_module.specs.Numbers.{relation}
 use Rattle.qw_module.specs.Execution.{State, Running, Returned, Raised, Trapped}
-use Rattle.qw_map.specs.Map.{World, lies_in_one}
+use Rattle.qw_map.specs.Areas.{World, lies_in_one}
 use Rattle.qw_map.specs.Runs.{Moment}
 use Rattle.qw_map.proofs.RunRules.{Reaches, IsKept, reached, go, store}
-use Rattle.qw_emit.specs.Emit.{Scan, rejects}
+use Rattle.qw_emit.specs.Inner.Emit.{Scan, rejects}
 use Rattle.qw_map.specs.Layout.{rows_at, rows_from}
 use Rattle.qw_map.proofs.Chains.{onto, Chain-rows, value_of_bits}
 use Rattle.qw_emit.proofs.ScanMemory.{Setting, size_of, Lies, Scanned, Scanned-kept, Scanned-head}

@@ -7,7 +7,7 @@ use Rattle.qw_types.specs.declared.value.Val.{Val}
 use Rattle.qw_linear.specs.Memory.{page, number_at, with_number, grown_by}
 use Rattle.qw_linear.proofs.MemoryFacts.{length-with_number, number_at-with_number, number_at-apart}
 use Rattle.qw_linear.proofs.GrowthFacts.{length-grown_by, number_at-grown_by, number_at-grown_by-new}
-use Rattle.qw_map.specs.Map.{Area, World, Others, SameIn, lies_in_one}
+use Rattle.qw_map.specs.Areas.{Area, World, Others, SameIn, lies_in_one}
 use Rattle.qw_map.proofs.RunRules.{IsKept}
 use Rattle.qw_map.specs.Layout.{is_integer, row_size, cells_at}
 use Rattle.qw_map.proofs.AccessLemmas.{lies-first, lies-before, lies-after, number-kept}

@@ -9,13 +9,13 @@ use Rattle.std.proofs.lemmas.Option.{none-some, same_Some, slice_get-get_or, sli
 use Rattle.qw_types.specs.declared.value.Val.{Val}
 use Rattle.qw_types.specs.declared.value.Val.TheVariants.{Num}
 use Rattle.qw_linear.proofs.MemoryFacts.{number_at-below}
-use Rattle.qw_map.specs.Map.{Area, lies_in_one}
+use Rattle.qw_map.specs.Areas.{Area, lies_in_one}
 use Rattle.qw_meaning.specs.Statement.{Statement, IsStatement}
 use Rattle.qw_meaning.specs.Meaning.{True, False, condition, is_true, results, compares}
 use Rattle.qw_types.specs.Value.{value_of}
 use Rattle.qw_map.specs.Columns.{StandsAt}
 use Rattle.qw_emit.specs.Compiled.{IsReady}
-use Rattle.qw_emit.specs.Emit.{scan_of, index_in, other_columns, local_of}
+use Rattle.qw_emit.specs.Inner.Emit.{scan_of, index_in, other_columns, local_of}
 use Rattle.qw_map.specs.Layout.{used, cell_types, column_areas}
 use Rattle.qw_map.proofs.AccessLemmas.{lies-first, lies-within}
 use Rattle.qw_map.proofs.Chains.{value_of_bits}

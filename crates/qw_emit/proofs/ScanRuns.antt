@@ -6,10 +6,10 @@ use Rattle.std.proofs.lemmas.List.{length-map}
 use Rattle.qw_types.specs.declared.value.Val.{Val}
 use Rattle.qw_linear.specs.Memory.{page, most_pages}
 use Rattle.qw_module.specs.Execution.{refusal}
-use Rattle.qw_map.specs.Map.{World}
+use Rattle.qw_map.specs.Areas.{World}
 use Rattle.qw_map.specs.Runs.{Moment}
 use Rattle.qw_map.proofs.RunRules.{more, Reaches, Reaches-more, Reaches-weaker, IsKept, with_granted, with_refused, reached, go, load, store, grow, raise}
-use Rattle.qw_emit.specs.Emit.{Scan, store_i32}
+use Rattle.qw_emit.specs.Inner.Emit.{Scan, store_i32}
 use Rattle.qw_map.proofs.AccessLemmas.{lies-before}
 use Rattle.qw_map.proofs.Chains.{onto, length-onto, integers, length-integers, value_of_bits}
 use Rattle.qw_emit.proofs.ScanMemory.{Setting, size_of, Lies, Scanned, Writing, Scanned-linked, Scanned-kept, Writing-row, Writing-kept, with_page, Lies-grown, Scanned-grown}

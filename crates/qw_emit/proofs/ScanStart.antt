@@ -4,10 +4,10 @@ use Rattle.std.specs.Prelude.{slice_get}
 use Rattle.qw_types.specs.declared.value.Val.{Val}
 use Rattle.qw_linear.specs.Memory.{page, number_at}
 use Rattle.qw_module.specs.Syntax.{Code}
-use Rattle.qw_map.specs.Map.{Area, World, lies_in_one}
+use Rattle.qw_map.specs.Areas.{Area, World, lies_in_one}
 use Rattle.qw_map.specs.Runs.{Moment}
 use Rattle.qw_map.proofs.RunRules.{more, Reaches, Reaches-more, Reaches-weaker, IsKept, go, load}
-use Rattle.qw_emit.specs.Emit.{Scan, read_distances, scan_code}
+use Rattle.qw_emit.specs.Inner.Emit.{Scan, read_distances, scan_code}
 use Rattle.qw_map.specs.Layout.{entry_offset}
 use Rattle.qw_map.proofs.AccessLemmas.{lies-first, lies-after, number-kept}
 use Rattle.qw_map.proofs.Chains.{integers}

@@ -6,7 +6,7 @@ use Rattle.qw_module.specs.Start.{weight}
 use Rattle.qw_module.specs.Validity.{IsValid, IsShaped}
 use Rattle.qw_meaning.specs.Statement.{Statement, IsStatement}
 use Rattle.qw_emit.specs.Compiled.{module_weight, weight_of}
-use Rattle.qw_emit.specs.Emit.{IsScan, local_of, scan_of}
+use Rattle.qw_emit.specs.Inner.Emit.{IsScan, local_of, scan_of}
 use Rattle.qw_emit.proofs.ScanFacts.{are_values, weight-scan_of}
 use Rattle.qw_emit.proofs.ScanValid.{valid, shaped, weight_is, code_is}
 

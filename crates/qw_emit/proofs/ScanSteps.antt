@@ -13,7 +13,7 @@ use Rattle.qw_module.specs.Syntax.{Code, done, op, block, loop, if_else, br, br_
 use Rattle.qw_module.specs.Numbers.{relation}
 use Rattle.qw_module.specs.Execution.{Context, label, State, Running, settled, refusal}
 use Rattle.qw_map.proofs.RunRules.{Silently}
-use Rattle.qw_emit.specs.Emit.{Scan, get, set, tee, i32, i64, load_i32, load_value, store_i32, store_i64, rejects, distance_of, value_of_other, read_distances, read_values, write_cells, raise_refused, ask_page, scan_row, scan_end, scan_code}
+use Rattle.qw_emit.specs.Inner.Emit.{Scan, get, set, tee, i32, i64, load_i32, load_value, store_i32, store_i64, rejects, distance_of, value_of_other, read_distances, read_values, write_cells, raise_refused, ask_page, scan_row, scan_end, scan_code}
 use Rattle.qw_map.specs.Layout.{entry_offset, row_size}
 
 -- the locals: eight, and those of the other columns

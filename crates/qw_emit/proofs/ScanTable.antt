@@ -9,8 +9,8 @@ use Rattle.std.proofs.Math.Facts.{sfits_to_z, sfits_widen}
 use Rattle.qw_linear.specs.Memory.{page, number_at}
 use Rattle.qw_module.specs.declared.instruction.Sign.TheVariants.{Signed}
 use Rattle.qw_module.specs.Numbers.{extended}
-use Rattle.qw_map.specs.Map.{lies_in_one}
-use Rattle.qw_emit.specs.Emit.{Scan, value_local, value_of_other}
+use Rattle.qw_map.specs.Areas.{lies_in_one}
+use Rattle.qw_emit.specs.Inner.Emit.{Scan, value_local, value_of_other}
 use Rattle.qw_map.specs.Layout.{is_integer}
 use Rattle.qw_emit.proofs.ScanMemory.{Setting}
 

@@ -13,7 +13,7 @@ use Rattle.qw_module.specs.Soundness.{raise_signature, scope_of}
 use Rattle.qw_module.specs.Typing.{Signature, Scope, OpTyped, typed-local_get, typed-local_set, typed-local_tee, typed-const, typed-binary, typed-relation, typed-load, typed-store, typed-grow, typed-call, Typed, typed-done, typed-op, typed-block, typed-loop, typed-if_else, typed-br, typed-br_if}
 use Rattle.qw_meaning.specs.declared.query.Comparison.{Comparison}
 use Rattle.qw_meaning.specs.declared.query.Comparison.TheVariants.{Equal, NotEqual, Less, LessOrEqual, Greater, GreaterOrEqual}
-use Rattle.qw_emit.specs.Emit.{Scan, rejects, read_distances, read_values, write_cells, raise_refused, ask_page, scan_row, scan_end, scan_code, other_locals, scan_locals, i32, get}
+use Rattle.qw_emit.specs.Inner.Emit.{Scan, rejects, read_distances, read_values, write_cells, raise_refused, ask_page, scan_row, scan_end, scan_code, other_locals, scan_locals, i32, get}
 use Rattle.qw_map.specs.Layout.{row_size}
 
 -- the scope of `run`

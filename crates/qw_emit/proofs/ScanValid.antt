@@ -26,7 +26,7 @@ use Rattle.qw_module.specs.Syntax.{Code, done, code_of}
 use Rattle.qw_module.specs.Typing.{Signature}
 use Rattle.qw_module.specs.Validity.{code_of_body, imported_function, imported_functions, imported_memory, imported_signatures, signature_of, functions_of, memories_of, TakesOneI32, IsOneI32, IsValidType, IsValidImport, IsValidGlobal, IsExportedOf, IsTypedFunction, IsValidFunction, IsValid, IsShaped}
 use Rattle.qw_emit.specs.Compiled.{module_weight}
-use Rattle.qw_emit.specs.Emit.{Scan, IsScan, contents_of, exported, scan_code, scan_locals}
+use Rattle.qw_emit.specs.Inner.Emit.{Scan, IsScan, contents_of, exported, scan_code, scan_locals}
 use Rattle.qw_emit.proofs.ScanFacts.{length-other_locals}
 use Rattle.qw_emit.proofs.ScanTyped.{AreValues, code_typed}
 

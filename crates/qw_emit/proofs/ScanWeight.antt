@@ -4,7 +4,7 @@ use Rattle.std.specs.Prelude.{◌==◌}
 use Rattle.std.proofs.lemmas.Bool.{cases_Bool}
 use Rattle.std.proofs.Math.Nat.{mul-le-mul_right}
 use Rattle.qw_module.specs.Start.{weight}
-use Rattle.qw_emit.specs.Emit.{Scan, scan_code}
+use Rattle.qw_emit.specs.Inner.Emit.{Scan, scan_code}
 use Rattle.qw_emit.proofs.ScanFacts.{weight-scan_code}
 use Rattle.qw_emit.proofs.ScanMemory.{Setting}
 use Rattle.qw_emit.proofs.ScanTable.{Table}

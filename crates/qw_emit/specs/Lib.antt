@@ -1,4 +1,2 @@
-pub mod Emit
-pub mod Plan
-pub mod Sequences
 pub mod Compiled
+pub mod Inner

@@ -4,7 +4,7 @@ ghost use Rattle.qw_module.specs.Syntax.{IsNumbered};
 ghost use Rattle.qw_module.specs.Validity.{code_of_body, sequences_of};
 ghost use Rattle.qw_meaning.specs.Statement.{IsStatement};
 ghost use Rattle.qw_emit.specs.Compiled.{IsCompiled};
-ghost use Rattle.qw_emit.specs.Emit as emit;
+ghost use Rattle.qw_emit.specs.Inner.Emit as emit;
 
 mod instructions;
 mod locals;
@@ -13,11 +13,11 @@ mod plan;
 mod row;
 mod sequences;
 
-use qw_map::layout::row_size;
 use instructions::{get, i32_const, repeat};
 use locals::LINK;
 use outer::outer_sequence;
 use plan::Plan;
+use qw_map::layout::row_size;
 use qw_meaning::query::Query;
 use qw_module::instruction::ValType;
 use qw_module::module::{Body, Export, ExportKind, FuncType, Function, Import, Limits, Module};

@@ -10,7 +10,7 @@ use Rattle.qw_machine.specs.declared.machine.Stepped.TheVariants as stepped
 use Rattle.qw_module.specs.Execution.{Config, State, Running, Returned}
 use Rattle.qw_module.specs.Step.{Next}
 use Rattle.qw_machine.specs.Machine.{Point, Rooms, IsPoint, IsRunning, state_at, config_at}
-use Rattle.qw_machine.specs.Executed.{is_over, WentOn, IsExecuted, IsLeft, IsStepped}
+use Rattle.qw_machine.specs.Inner.Executed.{is_over, WentOn, IsExecuted, IsLeft, IsStepped}
 use Rattle.qw_machine.specs.Instance.{end_of, Went}
 use Rattle.qw_module.specs.Validity.{items_of}
 use Rattle.qw_machine.proofs.Points.{code_at-end, left, left-point, left-state}

@@ -12,7 +12,7 @@ use Rattle.qw_module.specs.Step.{Goes, wants, answered, goes_if_some}
 use Rattle.qw_module.specs.Typing.{Scope, within, types_of, Typed, typed-block, typed-loop, typed-if_else, typed-br, typed-br_if}
 use Rattle.qw_module.specs.Soundness.{AreOf, scope_of}
 use Rattle.qw_machine.specs.Machine.{code_at, Point, contexts_of, state_at, config_at, Rooms, IsPoint, entered, CanJump, IsJump}
-use Rattle.qw_machine.specs.Executed.{IsExecuted}
+use Rattle.qw_machine.specs.Inner.Executed.{IsExecuted}
 use Rattle.qw_module.proofs.Numbered.{named}
 use Rattle.qw_module.proofs.Steps.{by_operand-other}
 use Rattle.qw_module.proofs.TypedOperands.{first_of_types}

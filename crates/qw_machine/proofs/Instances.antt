@@ -16,7 +16,7 @@ use Rattle.qw_module.specs.Syntax.{Code, done, nested, sequence_at, IsNumbered}
 use Rattle.qw_module.specs.Execution.{Config, State, Running, IsOver}
 use Rattle.qw_module.specs.Validity.{items_of, IsValid, IsValidFunction, IsTypedFunction, IsShaped, IsOneI32}
 use Rattle.qw_machine.specs.Machine.{code_at, base_of, above, under, contexts_of, Point, state_at, config_at, IsRunning, point_of, rooms_of}
-use Rattle.qw_machine.specs.Executed.{IsStepped}
+use Rattle.qw_machine.specs.Inner.Executed.{IsStepped}
 use Rattle.qw_machine.specs.Instance.{end_of, state_after, state_of, WhileRunning, GoesWith, IsLast, Went}
 use Rattle.qw_module.specs.Start.{body_of}
 use Rattle.qw_module.proofs.Numbered.{named}

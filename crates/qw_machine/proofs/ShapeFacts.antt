@@ -8,7 +8,7 @@ use Rattle.qw_module.specs.declared.module.ExportKind.TheVariants as kind
 use Rattle.qw_module.specs.Validity.{imported_functions, HaveOtherNames, IsShaped}
 use Rattle.std.specs.List.{AllPairs}
 use Rattle.std.specs.String.{string_bytes}
-use Rattle.qw_machine.specs.Shape.{ImportsMemory, ImportsRaise, ExportsNoRun, ExportsRun}
+use Rattle.qw_machine.specs.Inner.Shape.{ImportsMemory, ImportsRaise, ExportsNoRun, ExportsRun}
 
 pub no_run-more : (m : Module) (exports : List Export) (index : ℕ) (export : Export) → ((k : ℕ) (d : Export) → k < index → ExportsNoRun m (get_or exports k d)) →
     index < length exports → export ≡ get_or exports index export → ExportsNoRun m export → (k : ℕ) (d : Export) → k < index + 1 → ExportsNoRun m (get_or exports k d)

@@ -18,7 +18,7 @@ use Rattle.qw_module.specs.Typing.{Signature, Typed, typed-done}
 use Rattle.qw_module.specs.Soundness.{AreOf, AreLinked, scope_of}
 use Rattle.qw_module.specs.Validity.{code_of_body, sequences_of, imported_signatures, IsValid, IsTypedFunction, IsShaped, IsOneI32, TakesOneI32}
 use Rattle.qw_machine.specs.Machine.{code_at, state_at, IsPoint, IsRunning, Rooms, first_point, whole_room, instructions_below, point_of, rooms_of}
-use Rattle.qw_machine.specs.Executed.{IsLeft}
+use Rattle.qw_machine.specs.Inner.Executed.{IsLeft}
 use Rattle.qw_machine.specs.Instance.{state_of, GoesWith}
 use Rattle.qw_module.specs.Start.{body_of, begun}
 use Rattle.qw_machine.proofs.Points.{code_at-first, code_at-end}

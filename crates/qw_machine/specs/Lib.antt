@@ -1,5 +1,3 @@
-pub mod Stacked
-pub mod Machine
+pub mod Inner
 pub mod Instance
-pub mod Executed
-pub mod Shape
+pub mod Machine

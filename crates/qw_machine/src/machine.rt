@@ -6,18 +6,18 @@ ghost use Rattle.qw_module.specs.Numbers.{constant, truth};
 ghost use Rattle.qw_module.specs.Syntax.{IsNumbered, sequence_at};
 ghost use Rattle.qw_linear.specs.Memory.{page};
 ghost use Rattle.qw_machine.specs.Machine.{CanJump, IsJump, IsPoint, entered, first_point, instructions_below, whole_room, point_of, rooms_of, under};
-ghost use Rattle.qw_machine.specs.Executed.{IsExecuted, IsLeft, IsStepped};
+ghost use Rattle.qw_machine.specs.Inner.Executed.{IsExecuted, IsLeft, IsStepped};
 ghost use Rattle.qw_machine.specs.Instance.{end_of};
 ghost use Rattle.qw_module.specs.Validity.{IsShaped, IsValid, items_of};
 
 use crate::operators::{operate, value_of};
 use crate::shape::shaped_run;
 use crate::stack::Stack;
-use qw_valid::valid::ValidModule;
 use qw_linear::linear::Linear;
 use qw_module::instruction::{Instr, ValType};
 use qw_module::module::{self, Module};
 use qw_types::NoMemory;
+use qw_valid::valid::ValidModule;
 use std::alloc::Global;
 use thiserror::Error;
 

@@ -5,7 +5,7 @@ ghost use Rattle.qw_module.specs.Numbers.{values_of, constant, binary, type_of_b
 ghost use Rattle.qw_linear.specs.Memory.{page, number_at, with_number};
 ghost use Rattle.qw_module.specs.Step.{op_wants};
 ghost use Rattle.qw_module.specs.Execution.{effective};
-ghost use Rattle.qw_machine.specs.Executed.{CanOperate, IsDone};
+ghost use Rattle.qw_machine.specs.Inner.Executed.{CanOperate, IsDone};
 
 use crate::machine::Stepped;
 use crate::stack::Stack;

@@ -3,11 +3,11 @@
 
 ghost use Rattle.std.specs.Prelude.{◌≡◌, ◌↔◌, ℕ, length, IsTrue, MatchOption, IfNone, IfSome, All, Any, Contains};
 ghost use Rattle.qw_module.specs.Validity.{imported_function, imported_functions, IsOneI32, IsShaped, TakesOneI32};
-ghost use Rattle.qw_machine.specs.Shape.{ImportsMemory, ImportsRaise, ExportsNoRun, ExportsRun};
+ghost use Rattle.qw_machine.specs.Inner.Shape.{ImportsMemory, ImportsRaise, ExportsNoRun, ExportsRun};
 
-use qw_valid::imports::imported_functions;
 use qw_module::instruction::ValType;
 use qw_module::module::{Export, ExportKind, FuncType, Import, Module};
+use qw_valid::imports::imported_functions;
 
 fn takes_one_i32(ty: &FuncType) -> bool
     ensures { IsTrue result ↔ TakesOneI32 ty.now }

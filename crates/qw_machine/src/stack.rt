@@ -12,7 +12,7 @@ pub(crate) struct Stack<T> {
 
 impl<T> Model for Stack<T> {
     ghost use Rattle.std.specs.Prelude.{reverse, vec_capacity};
-    ghost use Rattle.qw_machine.specs.Stacked.{Stacked};
+    ghost use Rattle.qw_machine.specs.Inner.Stacked.{Stacked};
 
     ghost Value = { Stacked T };
 

@@ -3,7 +3,7 @@ use Rattle.std.proofs.Common.{◌≡◌, ℕ, ◌+◌, ◌≤◌, nat_le, true, 
 use Rattle.std.specs.List.{AllByRecursion}
 use Rattle.std.proofs.lemmas.Bool.{or_cases, or_left, or_right, and_parts, and_from, le-leb, leb-true}
 use Rattle.qw_linear.specs.Memory.{number_at}
-use Rattle.qw_map.specs.Map.{Area, SameIn, lies_in, lies_in_one}
+use Rattle.qw_map.specs.Areas.{Area, SameIn, lies_in, lies_in_one}
 use Rattle.qw_map.proofs.RunRules.{number_at-kept}
 
 -- an access inside an area that is the first of several

@@ -7,7 +7,7 @@ use Rattle.qw_types.specs.declared.value.Ty.TheVariants.{Integer}
 use Rattle.qw_types.specs.declared.value.Val.{Val}
 use Rattle.qw_types.specs.declared.value.Val.TheVariants.{Num}
 use Rattle.qw_linear.specs.Memory.{number_at}
-use Rattle.qw_map.specs.Map.{Area, lies_in_one}
+use Rattle.qw_map.specs.Areas.{Area, lies_in_one}
 use Rattle.qw_map.specs.Layout.{is_integer, row_size, cell_at, cells_at, row_at, rows_from}
 use Rattle.qw_map.proofs.AccessLemmas.{lies-part}
 

@@ -1,11 +1,11 @@
 pub mod AccessLemmas
-pub mod Areas
+pub mod AreaLemmas
 pub mod Chains
 pub mod NoTrap
 pub mod OpenRuns
 pub mod ResultLemmas
+pub mod ResultRows
 pub mod RunRules
 pub mod Separate
 pub mod TurnFacts
 pub mod TurnSteps
-pub mod RowReading

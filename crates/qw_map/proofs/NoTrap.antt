@@ -4,7 +4,7 @@ use Rattle.std.proofs.lemmas.Bool.{cases_Bool, false≢true}
 use Rattle.std.proofs.lemmas.Option.{same_Some, none-some}
 use Rattle.qw_module.specs.Syntax.{Code, done}
 use Rattle.qw_module.specs.Execution.{Context, label, frame, Config, State, Running, Returned, Raised, Trapped, Event, Grows, Raises, Step, local_get, local_set, local_tee, const, binop, relop, load, load_outside, store, store_outside, grow_granted, grow_refused, raise, enter_block, enter_loop, if_true, if_false, branch, branch_taken, branch_passed, settled, branched}
-use Rattle.qw_map.specs.Map.{World, IsFine, grants, world_after}
+use Rattle.qw_map.specs.Areas.{World, IsFine, grants, world_after}
 use Rattle.qw_map.specs.Turns.{Shared, Trap, end_of_refusal, end_of_raise, end_at, turns, EachInstance, AreSafe}
 use Rattle.qw_module.proofs.Steps.{rule_from_next}
 use Rattle.qw_map.proofs.TurnFacts.{each-step, turns-keep}

@@ -4,8 +4,10 @@ use Rattle.std.proofs.lemmas.Bool.{cases_Bool, le-leb, leb-true, and_from, false
 use Rattle.qw_module.specs.Execution.{Config, State, Running, Returned, Raised, Trapped, Event, Silent, Loads, Stores, Grows, Raises, Traps, IsOver}
 use Rattle.qw_linear.specs.Memory.{page, most_pages, pages_of}
 use Rattle.qw_module.specs.Step.{Want, wants, answered, Next, next, Agrees}
-use Rattle.qw_map.specs.Map.{World, Others, IsFine, IsAllowed, AsksWithin, IsAnswered, grants}
-use Rattle.qw_map.specs.Runs.{Moment, moment_after, OpenStep, OpenRun, begins, goes_on, Behaves, OnStep, OnRunning, Within}
+use Rattle.qw_map.specs.Areas.{World, Others, IsFine, AsksWithin, IsAnswered, grants}
+use Rattle.qw_map.specs.Inner.Steps.{IsAllowed}
+use Rattle.qw_map.specs.Runs.{Moment, moment_after, OpenStep, OpenRun, begins, goes_on, Behaves}
+use Rattle.qw_map.specs.Inner.Steps.{OnStep, OnRunning, Within}
 use Rattle.qw_module.proofs.Outcomes.{Outcome, went, read, read_outside, put, put_outside, was_granted, was_refused, raised, outcome}
 use Rattle.qw_module.proofs.Steps.{next-rule, rule_from_next}
 

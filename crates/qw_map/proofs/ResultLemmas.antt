@@ -6,7 +6,7 @@ use Rattle.std.proofs.lemmas.Option.{none-some}
 use Rattle.qw_types.specs.declared.value.Ty.{Ty}
 use Rattle.qw_types.specs.declared.value.Val.{Val}
 use Rattle.qw_linear.specs.Memory.{number_at}
-use Rattle.qw_map.specs.Map.{Area, World, Others, SameIn, lies_in_one}
+use Rattle.qw_map.specs.Areas.{Area, World, Others, SameIn, lies_in_one}
 use Rattle.qw_map.specs.Layout.{row_size, before, row_at, rows_from, rows_at}
 use Rattle.qw_map.proofs.AccessLemmas.{lies-part, number-kept}
 use Rattle.qw_map.proofs.Chains.{cells-same}

@@ -5,8 +5,9 @@ use Rattle.std.proofs.lemmas.Option.{none-some, same_Some}
 use Rattle.qw_module.specs.Execution.{Config, State, Running, Returned, Raised, Trapped, Raises, refusal}
 use Rattle.qw_linear.specs.Memory.{page, most_pages, number_at, with_number, grown_by, pages_of}
 use Rattle.qw_module.specs.Step.{Want, Stuck, Goes, Asks, Puts, AsksPages, Signals, wants}
-use Rattle.qw_map.specs.Map.{Area, World, Others, SameIn, lies_in_one, IsFine, GoesOn, grants}
-use Rattle.qw_map.specs.Runs.{Moment, Within}
+use Rattle.qw_map.specs.Areas.{Area, World, Others, SameIn, lies_in_one, IsFine, GoesOn, grants}
+use Rattle.qw_map.specs.Runs.{Moment}
+use Rattle.qw_map.specs.Inner.Steps.{Within}
 use Rattle.qw_linear.proofs.MemoryFacts.{number_at-moved}
 use Rattle.qw_map.proofs.OpenRuns.{Within-now, Within-more, room-granted}
 

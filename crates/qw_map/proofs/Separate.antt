@@ -6,10 +6,10 @@ use Rattle.std.proofs.lemmas.Option.{same_Some, none-some, slice_get_within}
 use Rattle.qw_linear.specs.Memory.{page}
 use Rattle.qw_module.specs.Execution.{Config, State, Running, Event, pages_gained}
 use Rattle.qw_module.specs.Step.{wants, Next, next}
-use Rattle.qw_map.specs.Map.{Area, World, SameIn, Others, IsFine, grants, world_after}
+use Rattle.qw_map.specs.Areas.{Area, World, SameIn, Others, IsFine, grants, world_after}
 use Rattle.qw_map.specs.Runs.{Moment, moment_after, OpenStep, OpenRun, begins, goes_on, Behaves}
 use Rattle.qw_map.specs.Turns.{Instance, Shared, moved, turns, EachInstance, EachAfter, AreApart, AllApart, LiesWithin, may_ask, AreSeparate, moment_of, StaysFine, AreSafe, LeadsTo}
-use Rattle.qw_map.proofs.Areas.{all-append, all-front, all-back, all-weaker, all-same, all-then, outcome-kept, all-behind-apart, all-apart-behind, Gains, outcome-gains, inside-gains}
+use Rattle.qw_map.proofs.AreaLemmas.{all-append, all-front, all-back, all-weaker, all-same, all-then, outcome-kept, all-behind-apart, all-apart-behind, Gains, outcome-gains, inside-gains}
 use Rattle.qw_map.proofs.OpenRuns.{answered-rightly}
 use Rattle.qw_module.proofs.Outcomes.{outcome}
 use Rattle.qw_module.proofs.Sound.{octets_stay, length_grows}

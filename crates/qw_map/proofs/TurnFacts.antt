@@ -5,7 +5,7 @@ use Rattle.std.proofs.lemmas.List.{set-set}
 use Rattle.std.proofs.lemmas.Option.{same_Some, none-some, slice_get_within}
 use Rattle.qw_module.specs.Execution.{Config, State, Running, Returned, Raised, Trapped}
 use Rattle.qw_module.specs.Step.{Next, next}
-use Rattle.qw_map.specs.Map.{grants, world_after}
+use Rattle.qw_map.specs.Areas.{grants, world_after}
 use Rattle.qw_map.specs.Turns.{Instance, Shared, moved, after_next, stepped_from, stepped, steps_of, with_instance, turn_at, turn, turns}
 
 -- ---- an element that was put

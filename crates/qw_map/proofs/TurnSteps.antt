@@ -5,7 +5,7 @@ use Rattle.std.proofs.lemmas.Option.{same_Some, slice_get_within}
 use Rattle.qw_module.specs.Execution.{Config, State, Running, Returned, Raised, Trapped}
 use Rattle.qw_linear.specs.Memory.{AreOctets}
 use Rattle.qw_module.specs.Step.{Next, next}
-use Rattle.qw_map.specs.Map.{World, grants, world_after}
+use Rattle.qw_map.specs.Areas.{World, grants, world_after}
 use Rattle.qw_module.specs.Soundness.{IsTyped, IsTypedState}
 use Rattle.qw_map.specs.Turns.{Instance, Shared, end_of_refusal, end_of_raise, end_at, moved, after_next, stepped_from, stepped, steps_of, with_instance, turn_at, turn, turns, EachInstance, IsWhole}
 use Rattle.qw_module.proofs.Sound.{progress, preservation, octets_stay}

@@ -8,7 +8,7 @@ use Rattle.qw_types.specs.declared.value.Ty.TheVariants.{Integer}
 use Rattle.qw_types.specs.declared.value.Val.{Val}
 use Rattle.qw_types.specs.declared.value.Val.TheVariants.{Num}
 use Rattle.qw_linear.specs.Memory.{page, number_at}
-use Rattle.qw_map.specs.Map.{Area, World, lies_in_one}
+use Rattle.qw_map.specs.Areas.{Area, World, lies_in_one}
 use Rattle.qw_meaning.specs.Statement.{Statement}
 use Rattle.qw_map.specs.Columns.{column_start}
 

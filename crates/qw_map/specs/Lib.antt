@@ -1,5 +1,6 @@
+pub mod Areas
 pub mod Columns
+pub mod Inner
 pub mod Layout
-pub mod Map
 pub mod Runs
 pub mod Turns

@@ -1,8 +1,9 @@
 -- Open runs: an instance's steps over a memory that others change between them.
-use Rattle.std.specs.Prelude.{◌≡◌, ℕ, zero, suc, ◌<◌, ◌≤◌, ◌⊎◌, List, Option, Some, None}
-use Rattle.qw_module.specs.Execution.{Config, State, Running, Returned, Raised, Trapped, Event, Step}
-use Rattle.qw_module.specs.Step.{Next, next}
-use Rattle.qw_map.specs.Map.{World, Others, IsFine, IsAllowed, AsksWithin, IsAnswered, grants, world_after}
+use Rattle.std.specs.Prelude.{◌≡◌, ℕ, zero, suc, ◌<◌, ◌≤◌, List, Some}
+use Rattle.qw_module.specs.Execution.{Config, State, Running, Trapped, Event, Step}
+use Rattle.qw_module.specs.Step.{next}
+use Rattle.qw_map.specs.Areas.{World, Others, IsFine, AsksWithin, IsAnswered, grants, world_after}
+use Rattle.qw_map.specs.Inner.Steps.{IsAllowed}
 
 -- an instance between two steps: what it has, its state, and the memory
 pub record Moment : Type 0 where
@@ -39,21 +40,6 @@ pub record Behaves (most pages : ℕ) (P : Moment → Type 0) (a : Moment) : Typ
       OpenRun k a b → OpenStep b c before event state after → AsksWithin pages b.world event state
   pub bounded : (k : ℕ) (b : Moment) (c : Config) → OpenRun k a b → b.state ≡ Running c → k < most
   pub ends : (k : ℕ) (b : Moment) → OpenRun k a b → IsOver b.state → (k ≤ most) × P b
-
--- a step was made: it is allowed, and Q holds of the moment after it
-abbrev pub OnStep : (pages : ℕ) → World → List ℕ → (Moment → Type 0) → Option Next → Type 0
-OnStep pages w before Q None = ⊥
 OnStep pages w before Q (Some t) = IsAllowed pages w t.event t.state × Q (moment_after w before t.event t.state t.memory)
-
--- an instance runs, and P holds of its configuration
-abbrev pub OnRunning : State → (Config → Type 0) → Type 0
-OnRunning (Running c) P = P c
-OnRunning Returned P = ⊥
-OnRunning (Raised code) P = ⊥
 OnRunning Trapped P = ⊥
-
--- At most n steps follow, each allowed whatever others do before it, and then Q holds.
-abbrev pub Within : (pages : ℕ) → (Moment → Type 0) → ℕ → Moment → Type 0
-Within pages Q zero a = Q a
-Within pages Q (suc n) a = Q a ⊎ OnRunning a.state (λ c. (before : List ℕ) → Others a.world a.memory before →
     OnStep pages a.world before (Within pages Q n) (next (grants a.world) c before))

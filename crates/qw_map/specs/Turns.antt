@@ -4,7 +4,7 @@ use Rattle.std.specs.Prelude.{◌≡◌, ◌≢◌, ℕ, zero, suc, ◌+◌, ◌
 use Rattle.std.specs.List.{AllByRecursion}
 use Rattle.qw_module.specs.Execution.{Config, Event, State, Running, Returned, Raised, Trapped}
 use Rattle.qw_module.specs.Step.{Next, next}
-use Rattle.qw_map.specs.Map.{Area, World, Others, IsFine, grants, world_after}
+use Rattle.qw_map.specs.Areas.{Area, World, Others, IsFine, grants, world_after}
 use Rattle.qw_linear.specs.Memory.{page, most_pages, AreOctets}
 use Rattle.qw_map.specs.Runs.{Moment, OpenStep, OpenRun}
 

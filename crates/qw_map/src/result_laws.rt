@@ -3,7 +3,7 @@
 ghost use Rattle.std.specs.Prelude.{◌≡◌, ℕ, List, Some};
 ghost use Rattle.qw_types.specs.declared.value.Ty.{Ty};
 ghost use Rattle.qw_types.specs.declared.value.Val.{Val};
-ghost use Rattle.qw_map.specs.Map.{World, Others};
+ghost use Rattle.qw_map.specs.Areas.{World, Others};
 ghost use Rattle.qw_map.specs.Layout.{rows_at};
 
 /// The result rows of an instance stay whatever others do.

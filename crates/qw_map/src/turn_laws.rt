@@ -6,7 +6,7 @@ ghost use Rattle.qw_module.specs.Execution.{Config, Running};
 ghost use Rattle.qw_linear.specs.Memory.{AreOctets};
 ghost use Rattle.qw_module.specs.Step.{Next, next};
 ghost use Rattle.qw_module.specs.Soundness.{IsTypedState};
-ghost use Rattle.qw_map.specs.Map.{SameIn, IsFine, grants};
+ghost use Rattle.qw_map.specs.Areas.{SameIn, IsFine, grants};
 ghost use Rattle.qw_map.specs.Runs.{Moment, OpenRun, Behaves};
 ghost use Rattle.qw_map.specs.Turns.{Instance, Shared, Trap, steps_of, turn, turns, EachInstance, EachAfter, IsWhole, AreSafe, moment_of, LeadsTo};
 

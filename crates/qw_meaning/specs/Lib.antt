@@ -1,2 +1,2 @@
-pub mod Statement
 pub mod Meaning
+pub mod Statement

@@ -1,5 +1,5 @@
 pub mod Numbered
-pub mod Steps
 pub mod Outcomes
 pub mod Sound
+pub mod Steps
 pub mod TypedOperands

@@ -1,8 +1,8 @@
-pub mod Syntax
-pub mod Numbers
 pub mod Execution
-pub mod Step
-pub mod Typing
+pub mod Numbers
 pub mod Soundness
-pub mod Validity
 pub mod Start
+pub mod Step
+pub mod Syntax
+pub mod Typing
+pub mod Validity

@@ -12,8 +12,8 @@ use Rattle.qw_types.specs.declared.schema.TheConstants.{MAX_COLUMNS}
 use Rattle.qw_types.specs.Schema.{AreColumns, AreDistinct}
 use Rattle.qw_ast.specs.Grammar.{folded}
 use Rattle.qw_parse.specs.Parse.{integer_column}
-use Rattle.qw_parse.specs.Reading.{are_distinct}
-use Rattle.qw_ast.specs.Views.{names_of}
+use Rattle.qw_parse.specs.Inner.Parser.{are_distinct}
+use Rattle.qw_ast.specs.Inner.Views.{names_of}
 
 any_same : (name : List ℕ) (names : List (Bor (List ℕ))) → list_any (λ other. bytes_eq name (folded other.now)) names ≡ list_any (bytes_eq name) (names_of names)
 any_same name [] = refl

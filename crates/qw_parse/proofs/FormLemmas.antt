@@ -4,7 +4,7 @@ use Rattle.std.specs.Prelude.{codes}
 use Rattle.qw_token.specs.Token.{Lexeme}
 use Rattle.qw_ast.specs.Grammar.{folded, Place, key_word, regular, symbol, Fills, Source, Selection, create_table, signed, table_expression, query_specification}
 use Rattle.qw_parse.specs.declared.parse.form.Item.TheVariants.{ColumnDefinition, ColumnReference}
-use Rattle.qw_parse.specs.Reading.{key_word_at, symbol_at, regular_at, literal_at, comparison_at, is_end, list_at, table_at, is_closed, create_table_of, source_of, selection_of}
+use Rattle.qw_parse.specs.Inner.Parser.{key_word_at, symbol_at, regular_at, literal_at, comparison_at, is_end, list_at, table_at, is_closed, create_table_of, source_of, selection_of}
 use Rattle.qw_parse.proofs.GrammarLemmas.{bind_some, guard_some, cases_option, Fronts, FollowsOne, fronts_append, fronts_split, other_than, key_word_takes, key_word_is, symbol_takes, symbol_is, regular_takes, regular_is, literal_takes, literal_is, comparison_takes, comparison_is}
 use Rattle.qw_parse.proofs.ListLemmas.{list_form, list_takes, list_is}
 

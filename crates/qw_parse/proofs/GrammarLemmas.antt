@@ -14,7 +14,7 @@ use Rattle.qw_token.specs.declared.token.Kind.TheVariants.{Word, DelimitedIdenti
 use Rattle.qw_token.specs.Token.{Lexeme}
 use Rattle.qw_types.specs.Digits.{are_digits}
 use Rattle.qw_ast.specs.Grammar.{folded, reserved, IsReserved, Place, key_word, regular, symbol, unsigned, Fills, comparison_symbol, signed_literal, signed}
-use Rattle.qw_parse.specs.Reading.{◌>>=◌, is_word, is_reserved, key_word_at, symbol_at, regular_at, literal_of, unsigned_at, negated, literal_at, comparison_of, comparison_at, is_end}
+use Rattle.qw_parse.specs.Inner.Parser.{◌>>=◌, is_word, is_reserved, key_word_at, symbol_at, regular_at, literal_of, unsigned_at, negated, literal_at, comparison_of, comparison_at, is_end}
 
 pub bind_some : {A B : Type 0} (r : Option A) (f : A → Option B) (y : B) → (r >>= f) ≡ Some y → (x : A) × (r ≡ Some x) × (f x ≡ Some y)
 bind_some (Some x) f y e = (x, refl, e)

@@ -2,6 +2,6 @@ pub mod DeclareLemmas
 pub mod FormLemmas
 pub mod GrammarLemmas
 pub mod ListLemmas
-pub mod ParseLemmas
-pub mod ReadLemmas
+pub mod LiteralLemmas
+pub mod ParserLemmas
 pub mod ResolveLemmas

@@ -7,7 +7,7 @@ use Rattle.qw_token.specs.Token.{Lexeme, lexeme, lexemes}
 use Rattle.qw_ast.specs.Grammar.{Place, key_word, regular, symbol, Fills, behind_commas, separated, column_definition, column_reference}
 use Rattle.qw_parse.specs.declared.parse.form.Item.{Item}
 use Rattle.qw_parse.specs.declared.parse.form.Item.TheVariants.{ColumnDefinition, ColumnReference}
-use Rattle.qw_parse.specs.Reading.{key_word_at, symbol_at, regular_at, column_definition_at, item_at, behind, further_within, further, list_at}
+use Rattle.qw_parse.specs.Inner.Parser.{key_word_at, symbol_at, regular_at, column_definition_at, item_at, behind, further_within, further, list_at}
 use Rattle.qw_parse.proofs.GrammarLemmas.{bind_some, cases_option, none_not_some, Fronts, fronts_append, fronts_split, fronts_shorter, takes_shorter, key_word_takes, key_word_is, symbol_takes, symbol_is, regular_takes, regular_is}
 
 -- ---- an item

@@ -15,7 +15,7 @@ use Rattle.qw_meaning.specs.declared.query.TheConstants.{MAX_ITEMS}
 use Rattle.qw_meaning.specs.Statement.{Statement, IsStatement}
 use Rattle.qw_ast.specs.Grammar.{folded, Selection}
 use Rattle.qw_parse.specs.Parse.{place_of, Means}
-use Rattle.qw_ast.specs.Views.{names_of}
+use Rattle.qw_ast.specs.Inner.Views.{names_of}
 
 -- ---- places
 

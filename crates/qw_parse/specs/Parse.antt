@@ -7,18 +7,7 @@ use Rattle.qw_types.specs.declared.value.Ty.TheVariants.{Integer}
 use Rattle.qw_types.specs.Schema.{AreColumns}
 use Rattle.qw_meaning.specs.declared.query.TheConstants.{MAX_ITEMS}
 use Rattle.qw_meaning.specs.Statement.{Statement}
-use Rattle.qw_parse.specs.declared.parse.ParseFault.{ParseFault}
-use Rattle.qw_parse.specs.declared.parse.ParseFault.TheVariants.{Refused, NoMemory}
-use Rattle.qw_token.specs.declared.token.TokenFault.{TokenFault}
-use Rattle.qw_token.specs.declared.token.TokenFault.TheVariants.{NotUtf8, NotToken}
-use Rattle.qw_token.specs.declared.token.TokenFault.TheVariants as token_faults
 use Rattle.qw_ast.specs.Grammar.{IsStatement, create_table, Selection, Selects}
-
--- a fault in the tokens of a text, as one of the text
-abbrev pub parse_fault_of : TokenFault → ParseFault
-parse_fault_of NotUtf8 = Refused
-parse_fault_of (NotToken at) = Refused
-parse_fault_of token_faults.NoMemory = NoMemory
 
 -- a column that is declared INTEGER NOT NULL
 abbrev pub integer_column : List ℕ → Column

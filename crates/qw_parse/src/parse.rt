@@ -9,12 +9,13 @@ mod word;
 ghost use Rattle.std.specs.Prelude.{◌≡◌, List, ℕ, IfOk, IsErrOf};
 ghost use Rattle.qw_types.specs.declared.schema.Table.{Table};
 ghost use Rattle.qw_meaning.specs.Statement.{Statement};
-ghost use Rattle.qw_parse.specs.Parse.{ReadsSchema, ReadsQuery, parse_fault_of};
+ghost use Rattle.qw_parse.specs.Parse.{ReadsSchema, ReadsQuery};
+ghost use Rattle.qw_parse.specs.Inner.Faults.{parse_fault_of};
 
-use qw_token::token::{self, TokenFault};
 use declare::declared;
 use form::{create_table, query_specification};
 use qw_meaning::query::Query;
+use qw_token::token::{self, TokenFault};
 use qw_types::{NoMemory, Schema};
 use resolve::resolved;
 use std::alloc::Global;

@@ -6,9 +6,9 @@ use Rattle.std.specs.Option.{option_and_then, option_map, option_map_or}
 use Rattle.std.proofs.lemmas.Option.{none-some, same_Some, slice_get-map}
 use Rattle.qw_types.specs.declared.value.Val.{Val}
 use Rattle.qw_linear.specs.Memory.{page}
-use Rattle.qw_map.specs.Map.{Area}
+use Rattle.qw_map.specs.Areas.{Area}
 use Rattle.qw_map.specs.Turns.{Done, Instance, LiesWithin}
-use Rattle.qw_map.proofs.Areas.{all-back}
+use Rattle.qw_map.proofs.AreaLemmas.{all-back}
 use Rattle.qw_meaning.specs.Statement.{Statement}
 use Rattle.qw_meaning.specs.Meaning.{Rows, outcome}
 use Rattle.qw_map.specs.Layout.{cell_types, rows_at}

@@ -1,11 +1,8 @@
 -- The text of rows, and what the report says of a query.
-use Rattle.std.specs.Prelude.{◌≡◌, ℕ, List, ◌++◌, length, map, false, Some, All, codes}
+use Rattle.std.specs.Prelude.{◌≡◌, ℕ, List, ◌++◌, length, map, All, codes}
 use Rattle.std.specs.Fmt.{decimal, signed_decimal}
 use Rattle.std.specs.List.{flat_map}
-use Rattle.std.specs.declared.vec.Vec.{Vec}
-use Rattle.std.specs.declared.alloc.Global.{Global}
-use Rattle.csv.specs.Writing.{default_writer, fields_written, has_written, row_text, text_written, writer_setup}
-use Rattle.csv.specs.declared.writer.Writer.{Writer}
+use Rattle.csv.specs.Writing.{default_writer, row_text}
 use Rattle.qw_types.specs.declared.value.Val.{Val}
 use Rattle.qw_types.specs.declared.value.Val.TheVariants.{Num}
 use Rattle.qw_sink.specs.declared.sink.Head.{Head}
@@ -36,10 +33,3 @@ report_of_pages number held asked limit =
 pub record AreRowsOf (header : List Head) (rows : List (List Val)) : Type 0 where
   pub kinds : All (λ (h : Head). h.kind ≡ Number 0) header
   pub widths : All (λ row. length row ≡ length header) rows
-
--- a writer that has written this text, and is between records
-pub record HasWritten (writer : Writer (Vec ℕ Global)) (text : List ℕ) : Type 0 where
-  pub setup : writer_setup writer ≡ default_writer
-  pub fields : fields_written writer ≡ 0
-  pub clean : has_written writer ≡ false
-  pub written : text_written (λ (v : Vec ℕ Global). Some v.items) writer ≡ Some text

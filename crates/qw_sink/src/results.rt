@@ -5,15 +5,15 @@ ghost use Rattle.std.specs.List.{AllByRecursion};
 ghost use Rattle.qw_types.specs.declared.value.Val.{Val};
 ghost use Rattle.qw_meaning.specs.declared.query.TheConstants.{MAX_ITEMS};
 ghost use Rattle.qw_meaning.specs.Meaning.{Rows, outcome};
-ghost use Rattle.qw_map.specs.Map.{Area};
+ghost use Rattle.qw_map.specs.Areas.{Area};
 ghost use Rattle.qw_map.specs.Turns.{Done, LiesWithin};
 ghost use Rattle.qw_map.specs.Layout.{cell_at, cell_types, cells_at, rows_at, rows_from};
 ghost use Rattle.qw_bench.specs.Bench.{AreServing, end_in};
 ghost use Rattle.qw_bench.specs.Seats.{rows_in, shared_of, tasks_of};
 
 use qw_bench::bench::Bench;
-use qw_map::layout::{CELL_OFFSET, CELL_SIZE, COUNT_OFFSET, FIRST_ROW_OFFSET};
 use qw_linear::linear::Linear;
+use qw_map::layout::{CELL_OFFSET, CELL_SIZE, COUNT_OFFSET, FIRST_ROW_OFFSET};
 use qw_meaning::query::{MAX_ITEMS, Query};
 use qw_types::{NoMemory, Row, Ty, Val};
 use std::alloc::Global;

@@ -3,7 +3,8 @@
 ghost use Rattle.std.specs.Prelude.{◌≡◌, ◌++◌, List, ℕ, map, IfOk, OnOk};
 ghost use Rattle.std.specs.String.{string_bytes};
 ghost use Rattle.csv.specs.Records.{fields_of};
-ghost use Rattle.qw_sink.specs.Sink.{AreRowsOf, HasWritten, line_of, printed, report_of_pages, report_of_rows, text_of_rows};
+ghost use Rattle.qw_sink.specs.Sink.{AreRowsOf, line_of, printed, report_of_pages, report_of_rows, text_of_rows};
+ghost use Rattle.qw_sink.specs.Inner.Sink.{HasWritten};
 
 use csv::{ByteRecord, Writer, WriterBuilder};
 use qw_types::{NoMemory, Row, Text, Val};

@@ -1,6 +1,5 @@
 use qw_emit::emit::module_of;
-use qw_meaning::query::Query;
-use qw_meaning::query::Comparison;
+use qw_meaning::query::{Comparison, Query};
 use std::test::Fail;
 
 // No clause refuses a body that always wants memory: this test does.

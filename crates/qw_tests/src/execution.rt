@@ -2,9 +2,9 @@ ghost use Rattle.qw_machine.specs.Instance.{GoesWith};
 
 use qw_linear::linear::Linear;
 use qw_machine::machine::{Instance, Stepped};
-use qw_valid::valid::validate;
 use qw_module::instruction::{Binary, Const, Instr, MemArg, Op, Relation, Sign, Store, ValType};
 use qw_module::module::{Body, Export, ExportKind, FuncType, Function, Import, Limits, Module};
+use qw_valid::valid::validate;
 use std::alloc::{AllocError, Global};
 use std::test::Fail;
 

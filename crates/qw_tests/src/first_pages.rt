@@ -1,9 +1,9 @@
 // The octets of a table of two columns, and of the first page of an instance that uses both, as docs/FORMATS.md says.
 
+use crate::tables::wide;
 use qw_bench::first_page::begin_page;
 use qw_columns::columns::{column_starts, pages_needed, place};
 use qw_csv::loading::{Loaded, load};
-use crate::tables::wide;
 use qw_linear::linear::{Linear, PAGE};
 use qw_types::NoMemory;
 use std::alloc::Global;

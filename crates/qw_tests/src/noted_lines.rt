@@ -1,9 +1,9 @@
 // The lines that are noted, whole and cut short.
 
+use qw_io::MemorySink;
 use qw_top::notes::note_stop;
 use qw_top::status::Status;
 use qw_top::stop::{FileName, Refusal, Stop};
-use qw_io::MemorySink;
 use std::test::Fail;
 
 #[test]

@@ -1,8 +1,8 @@
 // Instances at their limit of pages: what fits the first page, and the row after that.
 
+use crate::tables::{bench_of, file_of, wide};
 use qw_bench::bench::{Bench, Ended, Limits};
 use qw_sink::results::received;
-use crate::tables::{bench_of, file_of, wide};
 use std::alloc::Global;
 use std::test::Fail;
 

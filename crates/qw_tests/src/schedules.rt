@@ -1,10 +1,10 @@
 // Compiled statements beside the plain program, whatever turns they are given, and the octets that a run leaves.
 
-use qw_bench::bench::{Bench, DEFAULT_LIMITS, Ended};
-use qw_sink::results::received;
 use crate::tables::{asking, bench_of, narrow};
+use qw_bench::bench::{Bench, DEFAULT_LIMITS, Ended};
 use qw_meaning::plain::plain_rows;
 use qw_meaning::query::{Comparison, Query};
+use qw_sink::results::received;
 use qw_types::{NoMemory, Row, Val};
 use std::alloc::{AllocError, Global};
 use std::test::Fail;

@@ -1,8 +1,8 @@
 // Files at the edges of what can be loaded. That `load` doesn't answer want of memory is what no
 // clause says.
 
-use qw_csv::loading::{FieldFault, LoadFault, Loaded, load};
 use crate::tables::{narrow, sevens, wide};
+use qw_csv::loading::{FieldFault, LoadFault, Loaded, load};
 use qw_types::schema::MAX_ROWS;
 use std::alloc::Global;
 use std::test::Fail;

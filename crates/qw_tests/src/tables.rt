@@ -8,9 +8,9 @@ use qw_bench::bench::{Bench, Job, Limits, MAX_INSTANCE_PAGES};
 use qw_csv::loading::load;
 use qw_emit::emit::module_of;
 use qw_io::{MemoryShelf, NamedFile};
-use qw_valid::valid::validate;
 use qw_meaning::query::{Comparison, Query};
 use qw_types::{Column, Columns, Table, Text, Ty};
+use qw_valid::valid::validate;
 use std::alloc::{AllocError, Global};
 use std::test::Fail;
 

@@ -1,5 +1,5 @@
-use qw_parse::parse::{ParseFault, query_of, schema_of};
 use qw_meaning::query::Comparison;
+use qw_parse::parse::{ParseFault, query_of, schema_of};
 use qw_types::Ty;
 use std::test::Fail;
 

@@ -1,8 +1,6 @@
-use qw_module::instruction::Instr;
-use qw_module::module::{FuncType, Function, Import, Limits, Module};
+use qw_module::instruction::{Instr, Load, MemArg, Op, Store, ValType};
+use qw_module::module::{Body, FuncType, Function, Import, Limits, Module};
 use qw_valid::valid::{ValidFault, validate};
-use qw_module::instruction::{Load, MemArg, Op, Store, ValType};
-use qw_module::module::Body;
 use std::alloc::{AllocError, Global};
 use std::test::Fail;
 

@@ -1,5 +1,5 @@
-use qw_top::files::{ReadFault, read_whole, table_file_name};
 use qw_io::{MemoryShelf, NamedFile};
+use qw_top::files::{ReadFault, read_whole, table_file_name};
 use std::test::Fail;
 
 #[test]

@@ -1,10 +1,10 @@
 // Whole runs over files in memory. That memory suffices for them is what no clause says.
 
-use qw_top::top::qwasm;
-use qw_bench::bench::Bench;
-use qw_top::status::Status;
 use crate::tables::{WORDS, shelf, words};
+use qw_bench::bench::Bench;
 use qw_io::{IoFault, MemoryShelf, MemorySink, Sink};
+use qw_top::status::Status;
+use qw_top::top::qwasm;
 use std::alloc::{AllocError, Global};
 use std::test::Fail;
 

@@ -1,5 +1,5 @@
-use qw_top::output::write_whole;
 use qw_io::{IoFault, MemorySink};
+use qw_top::output::write_whole;
 use std::test::Fail;
 
 #[test]

@@ -1,2 +1,2 @@
-pub mod Scan
+pub mod Inner
 pub mod Token

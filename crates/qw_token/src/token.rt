@@ -1,12 +1,12 @@
 //! The tokens of a text.
 
-mod scan;
+mod lexer;
 
 ghost use Rattle.std.specs.Prelude.{◌≡◌, ◌↔◌, ◌≤◌, ◌++◌, ℕ, IfOk, IsErrOf, List, length};
 ghost use Rattle.std.specs.Str.{IsUtf8};
 ghost use Rattle.qw_token.specs.Token.{Lexeme, lexemes, HasForm, Begins, AreTokens, StopsAt};
 
-use scan::{after_mark, after_separators, first_token};
+use lexer::{after_mark, after_separators, first_token};
 use std::alloc::Global;
 use std::str;
 use thiserror::Error;

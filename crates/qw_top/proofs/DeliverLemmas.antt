@@ -18,18 +18,19 @@ use Rattle.qw_top.specs.declared.stop.Refusal.{Refusal}
 use Rattle.qw_top.specs.declared.stop.Refusal.TheVariants.{Words, Schema, TableFile, Queries}
 use Rattle.qw_top.specs.declared.stop.Stop.{Stop}
 use Rattle.qw_top.specs.declared.stop.Stop.TheVariants.{Refused, Unread, NoMemory as NoMemoryLeft}
-use Rattle.qw_top.specs.Counts.{CountsWrite, write_fault_of}
+use Rattle.qw_top.specs.Inner.FaultCounts.{CountsWrite, write_fault_of}
 use Rattle.qw_top.specs.Delivered.{Asks, HasRun, IsLine, Leaves, LeavesBench, Notes, Reports, ShowsEnd, status_of}
-use Rattle.qw_top.specs.Noted.{NotesLine, NotesStop}
+use Rattle.qw_top.specs.Inner.Noted.{NotesLine, NotesStop}
 use Rattle.qw_map.specs.Layout.{used}
 use Rattle.qw_csv.specs.Loading.{Contents}
 use Rattle.qw_top.specs.Notes.{read_fault_line, want_of_memory_line}
 use Rattle.qw_top.specs.Output.{TookFront, with_text}
 use Rattle.qw_bench.specs.Bench.{end_in}
 use Rattle.qw_bench.specs.Seats.{Standing, shared_of}
-use Rattle.qw_top.specs.Stages.{FilesStop, HasAsked, IsReport, Ran, Stops, Writes}
-use Rattle.qw_top.specs.Stop.{octets_of, refusal_status}
-use Rattle.qw_top.specs.Top.{AreNames, Explains, Files, FilesExplain, HasQuery, IsFault, IsOneTable, IsSettled, Names}
+use Rattle.qw_top.specs.Inner.Stages.{FilesStop, HasAsked, IsReport, Ran, Stops, Writes}
+use Rattle.qw_top.specs.Inner.Stop.{octets_of, refusal_status}
+use Rattle.qw_top.specs.Top.{AreNames, Explains, Files, FilesExplain, HasQuery, IsFault, IsSettled, Names}
+use Rattle.qw_top.specs.Inner.Inputs.{IsOneTable}
 use Rattle.qw_top.proofs.RunLemmas.{HasRun-pages, HasRun-shows}
 use Rattle.qw_top.proofs.TopLemmas.{AreNames-unique, Explains-unique, HasQuery-unique, ReadsQuery-columns, used_within}
 

@@ -1,6 +1,6 @@
-pub mod OutputLemmas
-pub mod WholeFileLemmas
-pub mod TopLemmas
-pub mod RunLemmas
-pub mod ReportLemmas
 pub mod DeliverLemmas
+pub mod OutputLemmas
+pub mod ReportLemmas
+pub mod RunLemmas
+pub mod TopLemmas
+pub mod WholeFileLemmas

@@ -12,7 +12,7 @@ use Rattle.qw_types.specs.declared.value.Ty.{Ty}
 use Rattle.qw_types.specs.declared.value.Ty.TheVariants.{Integer}
 use Rattle.qw_types.specs.declared.value.Val.{Val}
 use Rattle.qw_linear.specs.Memory.{number_at}
-use Rattle.qw_map.specs.Map.{Area, lies_in_one}
+use Rattle.qw_map.specs.Areas.{Area, lies_in_one}
 use Rattle.qw_meaning.specs.Statement.{Statement}
 use Rattle.qw_map.specs.Layout.{before, cell_at, cell_types, cells_at, row_at, row_size, rows_at, rows_from}
 use Rattle.qw_bench.specs.declared.bench.Seat.{Seat}
@@ -21,7 +21,8 @@ use Rattle.qw_sink.specs.declared.sink.Kind.TheVariants.{Number}
 use Rattle.qw_bench.specs.Bench.{Task}
 use Rattle.qw_bench.specs.Seats.{Standing, rows_in, task_of, tasks_of, world_of}
 use Rattle.qw_sink.specs.Sink.{AreRowsOf}
-use Rattle.qw_top.specs.Top.{AreColumnsOf, head_of, header_of, kind_of}
+use Rattle.qw_top.specs.Top.{head_of, header_of, kind_of}
+use Rattle.qw_top.specs.Inner.Inputs.{AreColumnsOf}
 
 -- ---- the widths of rows
 

@@ -22,11 +22,12 @@ use Rattle.qw_top.specs.declared.stop.Stop.TheVariants.{Refused, Unread, NoMemor
 use Rattle.qw_top.specs.FileNames.{table_file_of}
 use Rattle.qw_parse.specs.Parse.{ReadsQuery, ReadsSchema, integer_column, place_of, table_of}
 use Rattle.qw_csv.specs.Loading.{AreIntegers, Contents, Loads}
-use Rattle.qw_top.specs.Stages.{FilesStop, StopsAs}
-use Rattle.qw_top.specs.Stop.{refusal_status}
-use Rattle.qw_top.specs.Top.{AreColumnsOf, AreNames, Explains, Files, FilesExplain, HasQuery, HasRows, IsFault, IsFile, IsFileOf, IsNoQuery, IsNoSchema, IsNoTable, IsOneTable, IsSettled, IsTooLong, Names, QueryIs, SchemaIs, TableIs}
+use Rattle.qw_top.specs.Inner.Stages.{FilesStop, StopsAs}
+use Rattle.qw_top.specs.Inner.Stop.{refusal_status}
+use Rattle.qw_top.specs.Top.{AreNames, Explains, Files, FilesExplain, HasQuery, HasRows, IsFault, IsFile, IsFileOf, IsNoQuery, IsNoSchema, IsNoTable, IsSettled, IsTooLong, Names, QueryIs, SchemaIs, TableIs}
+use Rattle.qw_top.specs.Inner.Inputs.{AreColumnsOf, IsOneTable}
 use Rattle.qw_csv.proofs.LoadingLaws.{same_loads, loads_or_fails}
-use Rattle.qw_parse.proofs.ReadLemmas.{ReadsQuery-unique, ReadsSchema-unique}
+use Rattle.qw_parse.proofs.ParserLemmas.{ReadsQuery-unique, ReadsSchema-unique}
 
 -- a stage that stopped for a reason of its own, or at a file that a run may read, is explained
 pub StopsAs-explained : (files : Files) (names : Names) (refusal : Refusal) (reason : Type 0) (name : List ℕ) (stop : Stop) → (reason → FilesExplain files names (refusal_status refusal)) → IsFileOf files names name → StopsAs refusal reason name stop → FilesStop files names stop

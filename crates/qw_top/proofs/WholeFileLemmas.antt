@@ -4,7 +4,7 @@ use Rattle.std.specs.Prelude.{unwrap_or, IsSomeAnd}
 use Rattle.std.proofs.lemmas.List.{take_all, length-take-le}
 use Rattle.std.proofs.Math.Seq.{take-add}
 use Rattle.qw_io.specs.Files.{OfFile}
-use Rattle.qw_top.specs.WholeFiles.{IsFront}
+use Rattle.qw_top.specs.Inner.WholeFiles.{IsFront}
 
 -- a front of a list, and a front of what stands behind it
 pub front-append : (bytes more file : List ℕ) → bytes ≡ take (length bytes) file → more ≡ take (length more) (drop (length bytes) file) → bytes ++ more ≡ take (length (bytes ++ more)) file

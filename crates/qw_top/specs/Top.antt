@@ -1,5 +1,5 @@
 -- What the files of a run hold, and which ends of a run the words and the files explain.
-use Rattle.std.specs.List.{AllByRecursion, filter_map}
+use Rattle.std.specs.List.{filter_map}
 use Rattle.std.specs.Option.{option_map}
 use Rattle.std.specs.Prelude.{◌≡◌, ◌⊎◌, ℕ, ◌<◌, ◌≤◌, List, [], ◌∷◌, Option, length, slice_get}
 use Rattle.qw_io.specs.Files.{OfFile}
@@ -16,10 +16,9 @@ use Rattle.qw_sink.specs.declared.sink.Kind.{Kind}
 use Rattle.qw_sink.specs.declared.sink.Kind.TheVariants.{Number}
 use Rattle.qw_top.specs.declared.status.Status.{Status}
 use Rattle.qw_top.specs.declared.status.Status.TheVariants.{Done, WordsRefused, SchemaRefused, TableFileRefused, QueriesRefused, ReadFailed, WriteFailed, PageLimitMet, NoMemory}
-use Rattle.qw_top.specs.declared.words.RunWords.{RunWords}
 use Rattle.qw_top.specs.FileNames.{table_file_of}
 use Rattle.qw_emit.specs.Compiled.{page_bound}
-use Rattle.qw_csv.specs.Loading.{IsFirstFault, AreIntegers, Loads}
+use Rattle.qw_csv.specs.Loading.{IsFirstFault, Loads}
 use Rattle.qw_bench.specs.declared.bench.TheConstants.{DEFAULT_LIMITS}
 use Rattle.qw_parse.specs.Parse.{ReadsQuery, ReadsSchema}
 use Rattle.qw_top.specs.Words.{IsRun}
@@ -84,10 +83,6 @@ pub record Names : Type 0 where
   pub schema : List ℕ
   pub folder : List ℕ
   pub queries : List ℕ
-
--- the names that words which were read give
-abbrev pub names_of : RunWords → Names
-names_of run = record { schema = run.schema.now; folder = run.folder.now; queries = run.queries.now }
 
 -- the words are those of `run` with these names
 abbrev pub AreNames : List (List ℕ) → Names → Type 0
@@ -163,14 +158,3 @@ head_of column = record { name = column.name; kind = kind_of column.ty }
 -- the header of the rows that a statement gives: its columns, in its order
 abbrev pub header_of : Table → Statement → List Head
 header_of table statement = filter_map (λ column. option_map head_of (slice_get table.columns column)) statement.columns
-
--- a statement's columns are columns of the table
-abbrev pub AreColumnsOf : Table → Statement → Type 0
-AreColumnsOf table statement = (statement.tested < length table.columns)
-    × AllByRecursion (λ column. column < length table.columns) statement.columns
-
--- a schema of one table that has INTEGER columns
-abbrev pub IsOneTable : List Table → Type 0
-IsOneTable [] = ⊥
-IsOneTable (table ∷ []) = AreIntegers table.columns
-IsOneTable (table ∷ next ∷ tables) = ⊥

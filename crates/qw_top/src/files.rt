@@ -3,9 +3,9 @@
 ghost use Rattle.std.specs.Prelude.{◌≡◌, ◌+◌, ◌<◌, ◌≤◌, IfOk, IsErrOf, OnOk, length};
 ghost use Rattle.std.specs.String.{string_bytes};
 ghost use Rattle.qw_io.specs.Files.{OfFile};
-ghost use Rattle.qw_top.specs.Counts.{CountsRead};
+ghost use Rattle.qw_top.specs.Inner.FaultCounts.{CountsRead};
 ghost use Rattle.qw_top.specs.FileNames.{table_file_of};
-ghost use Rattle.qw_top.specs.WholeFiles.{IsFront};
+ghost use Rattle.qw_top.specs.Inner.WholeFiles.{IsFront};
 
 use qw_io::{IoFault, Shelf};
 use std::alloc::{AllocError, Global};
@@ -32,7 +32,7 @@ pub enum ReadFault {
 }
 
 impl From<IoFault> for ReadFault {
-    ghost use Rattle.qw_top.specs.Counts.{read_fault_of};
+    ghost use Rattle.qw_top.specs.Inner.FaultCounts.{read_fault_of};
 
     ghost from_gives = { λ fault read. read ≡ read_fault_of fault };
 

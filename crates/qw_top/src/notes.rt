@@ -3,8 +3,8 @@
 ghost use Rattle.std.specs.Prelude.{◌≡◌, ◌≢◌, IsErrOf, IsTrue, OnOk, OnErr};
 ghost use Rattle.qw_io.specs.Faults.{IsCounted};
 ghost use Rattle.qw_top.specs.declared.status.Status.{Status};
-ghost use Rattle.qw_top.specs.Counts.{CountsWrite};
-ghost use Rattle.qw_top.specs.Noted.{NotesLine, NotesStop};
+ghost use Rattle.qw_top.specs.Inner.FaultCounts.{CountsWrite};
+ghost use Rattle.qw_top.specs.Inner.Noted.{NotesLine, NotesStop};
 ghost use Rattle.qw_top.specs.Notes.{read_fault_line, want_of_memory_line};
 ghost use Rattle.qw_top.specs.Output.{TookFront, with_text};
 

@@ -14,15 +14,15 @@ ghost use Rattle.qw_top.specs.Notes.{want_of_memory_line};
 ghost use Rattle.qw_top.specs.Output.{TookFront, with_text};
 ghost use Rattle.qw_top.specs.Top.{AreNames, Explains, HasQuery, IsFault, IsSettled, Names};
 
-use qw_bench::bench::Bench;
 use crate::notes::{note_stop, note_want_of_memory};
 use crate::status::Status;
+use qw_bench::bench::Bench;
 use qw_io::{Shelf, Sink};
 use report::deliver;
 use run::run;
 use std::alloc::Global;
 
-mod reading;
+mod inputs;
 mod report;
 mod run;
 

@@ -1,4 +1,4 @@
-pub mod Value
-pub mod Schema
 pub mod Digits
 pub mod Octets
+pub mod Schema
+pub mod Value

@@ -15,7 +15,7 @@ use Rattle.qw_module.specs.Syntax.{Code, done, op, block, loop, if_else, br, br_
 use Rattle.qw_module.specs.Numbers.{values_of, constant, type_of_constant, type_of_binary, type_of_relation, type_of_load, load_width, type_of_store, store_width}
 use Rattle.qw_module.specs.Typing.{types_of, Signature, Scope, within, OpTyped, typed-local_get, typed-local_set, typed-local_tee, typed-const, typed-binary, typed-relation, typed-load, typed-store, typed-grow, typed-call, Typed, typed-done, typed-op, typed-block, typed-loop, typed-if_else, typed-br, typed-br_if}
 use Rattle.qw_module.specs.Validity.{is_access, accesses_memory}
-use Rattle.qw_valid.specs.Checking.{Known, nothing, anything, Under, inside, is_same, pushed, popped_from, popped, all_pushed, all_popped, two_to_one, after_call, after_op, after_inner, after_br, after_br_if, has_none, holds_of, is_left, checks}
+use Rattle.qw_valid.specs.Inner.Checking.{Known, nothing, anything, Under, inside, is_same, pushed, popped_from, popped, all_pushed, all_popped, two_to_one, after_call, after_op, after_inner, after_br, after_br_if, has_none, holds_of, is_left, checks}
 
 -- Parts of a computation that goes on only where something is there.
 pub then_some : {A B : Type 0} (f : A → Option B) (r : Option A) (y : B) → option_and_then f r ≡ Some y → (x : A) × (r ≡ Some x) × (f x ≡ Some y)

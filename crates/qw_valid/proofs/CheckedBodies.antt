@@ -10,10 +10,10 @@ use Rattle.qw_module.specs.declared.instruction.Instr.{Instr}
 use Rattle.qw_module.specs.declared.instruction.Instr.TheVariants as i
 use Rattle.qw_module.specs.Syntax.{Code, nested, named, sequence_at, NamesBelow, IsNumbered}
 use Rattle.qw_module.specs.Validity.{items_of}
-use Rattle.qw_valid.specs.Checking.{Known, nothing, Under, has_none, holds_of, is_left, all_popped, after_instruction, checks}
+use Rattle.qw_valid.specs.Inner.Checking.{Known, nothing, Under, has_none, holds_of, is_left, all_popped, after_instruction, checks}
 use Rattle.qw_valid.specs.declared.checker.Refusal.{Refusal}
 use Rattle.qw_valid.specs.declared.checker.Refusal.TheVariants.{IllTyped, NoMemory}
-use Rattle.qw_valid.specs.Refusals.{Finds, Decides}
+use Rattle.qw_valid.specs.Inner.Refusals.{Finds, Decides}
 use Rattle.qw_module.proofs.Numbered.{named-at}
 
 -- the first instruction, and the rest after it

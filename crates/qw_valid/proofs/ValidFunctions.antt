@@ -9,8 +9,8 @@ use Rattle.qw_valid.specs.declared.checker.Refusal.{Refusal}
 use Rattle.qw_valid.specs.declared.checker.Refusal.TheVariants.{IllTyped}
 use Rattle.qw_module.specs.Syntax.{IsNumbered}
 use Rattle.qw_module.specs.Typing.{Scope}
-use Rattle.qw_valid.specs.Checking.{nothing, conditions_of, checks}
-use Rattle.qw_valid.specs.Refusals.{Decides}
+use Rattle.qw_valid.specs.Inner.Checking.{nothing, conditions_of, checks}
+use Rattle.qw_valid.specs.Inner.Refusals.{Decides}
 use Rattle.qw_module.specs.Validity.{sequences_of, code_of_body, memories_of, imported_signatures, IsTypedFunction, IsValidFunction}
 use Rattle.qw_valid.proofs.Checked.{typed_from_checks, checks_from_typed}
 

@@ -1,4 +1,2 @@
-pub mod Checkers
-pub mod Checking
-pub mod Refusals
+pub mod Inner
 pub mod ValidFaults

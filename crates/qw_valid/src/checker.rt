@@ -11,11 +11,11 @@ ghost use Rattle.qw_module.specs.Numbers.{type_of_store, store_width};
 ghost use Rattle.qw_module.specs.Syntax.{NamesBelow, IsNumbered};
 ghost use Rattle.qw_module.specs.Typing.{types_of};
 ghost use Rattle.qw_module.specs.Validity.{IsValidImport, imported_signatures, signature_of};
-ghost use Rattle.qw_valid.specs.Checking.{nothing, anything, pushed, popped, all_pushed};
-ghost use Rattle.qw_valid.specs.Checking.{all_popped, has_none, inside, after_call, after_op, checks};
-ghost use Rattle.qw_valid.specs.Checking.{after_instruction};
-ghost use Rattle.qw_valid.specs.Checkers.{conditions, sequences_in, code_named};
-ghost use Rattle.qw_valid.specs.Refusals.{Finds, Decides};
+ghost use Rattle.qw_valid.specs.Inner.Checking.{nothing, anything, pushed, popped, all_pushed};
+ghost use Rattle.qw_valid.specs.Inner.Checking.{all_popped, has_none, inside, after_call, after_op, checks};
+ghost use Rattle.qw_valid.specs.Inner.Checking.{after_instruction};
+ghost use Rattle.qw_valid.specs.Inner.Checkers.{conditions, sequences_in, code_named};
+ghost use Rattle.qw_valid.specs.Inner.Refusals.{Finds, Decides};
 
 use crate::imports::imported_function;
 use qw_module::instruction::{
@@ -42,7 +42,7 @@ pub(crate) struct Operands {
 
 impl Model for Operands {
     ghost use Rattle.std.specs.Prelude.{reverse};
-    ghost use Rattle.qw_valid.specs.Checking.{Known};
+    ghost use Rattle.qw_valid.specs.Inner.Checking.{Known};
 
     ghost Value = { Known };
 

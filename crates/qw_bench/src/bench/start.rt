@@ -5,18 +5,18 @@ ghost use Rattle.qw_map.specs.Columns.{column_pages};
 ghost use Rattle.qw_machine.specs.Instance.{GoesWith, state_of};
 ghost use Rattle.qw_module.specs.Start.{begun};
 ghost use Rattle.qw_module.specs.Validity.{IsShaped};
-ghost use Rattle.qw_bench.specs.FirstPage.{IsFirstMemory};
+ghost use Rattle.qw_bench.specs.Inner.FirstMemory.{IsFirstMemory};
 
 use crate::bench::MAX_INSTANCE_PAGES;
-use qw_columns::columns::{column_starts, pages_needed, place};
 use crate::first_page::begin_page;
+use qw_columns::columns::{column_starts, pages_needed, place};
 use qw_csv::loading::Loaded;
-use qw_map::layout::used_columns;
 use qw_linear::linear::{Linear, PAGE};
 use qw_machine::machine::{Instance, InstanceFault};
-use qw_valid::valid::ValidModule;
+use qw_map::layout::used_columns;
 use qw_meaning::query::Query;
 use qw_types::NoMemory;
+use qw_valid::valid::ValidModule;
 use std::alloc::Global;
 
 /// The memory of the columns and of the first page of an instance of the statement, which may hold so

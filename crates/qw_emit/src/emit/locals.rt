@@ -2,7 +2,7 @@
 
 ghost use Rattle.std.specs.Prelude.{◌≡◌, ◌≤◌};
 ghost use Rattle.qw_types.specs.declared.schema.TheConstants.{MAX_COLUMNS};
-ghost use Rattle.qw_emit.specs.Emit as emit;
+ghost use Rattle.qw_emit.specs.Inner.Emit as emit;
 
 use qw_types::schema::MAX_COLUMNS;
 

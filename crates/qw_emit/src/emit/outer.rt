@@ -8,9 +8,9 @@ ghost use Rattle.qw_module.specs.declared.instruction.Relation.TheVariants.{I64E
 ghost use Rattle.qw_module.specs.declared.instruction.ValType.TheVariants.{I32};
 ghost use Rattle.qw_module.specs.declared.instruction.Op.TheVariants as o;
 ghost use Rattle.qw_module.specs.Syntax.{Code, NamesBelow, nested, op, block, if_else};
-ghost use Rattle.qw_emit.specs.Emit as emit;
+ghost use Rattle.qw_emit.specs.Inner.Emit as emit;
 ghost use Rattle.qw_map.specs.Layout as layout;
-ghost use Rattle.qw_emit.specs.Sequences.{Adds};
+ghost use Rattle.qw_emit.specs.Inner.Sequences.{Adds};
 
 use super::instructions::{
     binary, block, get, i32_choice, i32_const, i64_const, load, relation, set, store_i32,

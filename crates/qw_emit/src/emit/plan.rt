@@ -5,7 +5,7 @@ ghost use Rattle.std.specs.List.{AllByRecursion, position};
 ghost use Rattle.qw_types.specs.declared.schema.TheConstants.{MAX_COLUMNS};
 ghost use Rattle.qw_meaning.specs.declared.query.TheConstants.{MAX_ITEMS};
 ghost use Rattle.qw_meaning.specs.Statement.{IsStatement};
-ghost use Rattle.qw_emit.specs.Emit as emit;
+ghost use Rattle.qw_emit.specs.Inner.Emit as emit;
 
 use super::locals::{VALUE, value_of_other};
 use qw_map::layout::used_columns;
@@ -27,8 +27,8 @@ pub struct Plan {
 }
 
 impl Model for Plan {
-    ghost use Rattle.qw_emit.specs.Emit.{Scan};
-    ghost use Rattle.qw_emit.specs.Plan.{IsPlan};
+    ghost use Rattle.qw_emit.specs.Inner.Emit.{Scan};
+    ghost use Rattle.qw_emit.specs.Inner.Plan.{IsPlan};
 
     ghost Value = { Scan };
 

@@ -11,8 +11,8 @@ ghost use Rattle.qw_module.specs.declared.instruction.Relation.TheVariants.{I32E
 ghost use Rattle.qw_module.specs.declared.instruction.Sign.TheVariants.{Unsigned};
 ghost use Rattle.qw_module.specs.declared.instruction.Op.TheVariants as o;
 ghost use Rattle.qw_module.specs.Syntax.{Code, NamesBelow, nested, op, if_else, br, br_if};
-ghost use Rattle.qw_emit.specs.Emit as emit;
-ghost use Rattle.qw_emit.specs.Sequences.{Adds};
+ghost use Rattle.qw_emit.specs.Inner.Emit as emit;
+ghost use Rattle.qw_emit.specs.Inner.Sequences.{Adds};
 
 use super::RAISE_INDEX;
 use super::instructions::{
@@ -23,8 +23,8 @@ use super::locals::{
 };
 use super::plan::Plan;
 use super::sequences::{ASK, NOTHING, RAISE};
-use qw_map::layout::{CELL_OFFSET, CELL_SIZE, INTEGER_SIZE, NEXT_OFFSET, row_size};
 use qw_linear::linear::PAGE;
+use qw_map::layout::{CELL_OFFSET, CELL_SIZE, INTEGER_SIZE, NEXT_OFFSET, row_size};
 use qw_meaning::query::Comparison;
 use qw_module::instruction::{Binary, Instr, Load, Op, REFUSAL, Relation, Sign};
 use qw_types::NoMemory;

@@ -6,12 +6,12 @@ ghost use Rattle.std.specs.Str.{IsAscii, bytes_eq};
 ghost use Rattle.qw_types.specs.Schema.{AreColumns};
 ghost use Rattle.qw_ast.specs.Grammar.{folded};
 ghost use Rattle.qw_parse.specs.Parse.{integer_column, one_table};
-ghost use Rattle.qw_parse.specs.Reading.{are_distinct};
-ghost use Rattle.qw_ast.specs.Views.{names_of};
+ghost use Rattle.qw_parse.specs.Inner.Parser.{are_distinct};
+ghost use Rattle.qw_ast.specs.Inner.Views.{names_of};
 
 use super::ParseFault;
-use qw_ast::tree::TableDefinition;
 use super::word::is_same_name;
+use qw_ast::tree::TableDefinition;
 use qw_types::schema::MAX_COLUMNS;
 use qw_types::{Column, Columns, NoMemory, Schema, Table, Text, Ty};
 use std::alloc::Global;

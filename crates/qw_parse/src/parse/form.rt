@@ -2,15 +2,15 @@
 
 ghost use Rattle.std.specs.Prelude.{◌≡◌, ◌≤ℤ◌, pos, IfOk, IfSome, option_map};
 ghost use Rattle.qw_ast.specs.Grammar.{folded};
-ghost use Rattle.qw_parse.specs.Reading.{key_word_at, symbol_at, regular_at, unsigned_at, literal_at, comparison_of, comparison_at, is_end, column_definition_at, item_at, list_at, table_at, is_closed, create_table_of, source_of, selection_of};
+ghost use Rattle.qw_parse.specs.Inner.Parser.{key_word_at, symbol_at, regular_at, unsigned_at, literal_at, comparison_of, comparison_at, is_end, column_definition_at, item_at, list_at, table_at, is_closed, create_table_of, source_of, selection_of};
 ghost use Rattle.qw_token.specs.Token.{lexemes};
-ghost use Rattle.qw_ast.specs.Views.{definition, names_of, source, selection};
+ghost use Rattle.qw_ast.specs.Inner.Views.{definition, names_of, source, selection};
 
 use super::literal::literal_of;
 use super::word::{folds_to, is_reserved};
-use qw_token::token::{Kind, Token};
 use qw_ast::tree::{QuerySpecification, TableDefinition, TableExpression};
 use qw_meaning::query::Comparison;
+use qw_token::token::{Kind, Token};
 use qw_types::NoMemory;
 use std::alloc::Global;
 
@@ -22,7 +22,7 @@ pub(crate) enum Item {
 }
 
 /// The tokens behind the key word.
-#[tactic(auto, unfolding(crate::specs::Reading::key_word_at))]
+#[tactic(auto, unfolding(crate::specs::Inner::Parser::key_word_at))]
 fn key_word<'t, 'a>(tokens: &'t [Token<'a>], word: &[u8]) -> Option<&'t [Token<'a>]>
     ensures { option_map (λ x. lexemes x.now) result ≡ key_word_at word.now (lexemes tokens.now) }
 {
@@ -33,7 +33,7 @@ fn key_word<'t, 'a>(tokens: &'t [Token<'a>], word: &[u8]) -> Option<&'t [Token<'
 }
 
 /// The tokens behind the symbol.
-#[tactic(auto, unfolding(crate::specs::Reading::symbol_at))]
+#[tactic(auto, unfolding(crate::specs::Inner::Parser::symbol_at))]
 fn symbol<'t, 'a>(tokens: &'t [Token<'a>], octets: &[u8]) -> Option<&'t [Token<'a>]>
     ensures { option_map (λ x. lexemes x.now) result ≡ symbol_at octets.now (lexemes tokens.now) }
 {
@@ -44,7 +44,7 @@ fn symbol<'t, 'a>(tokens: &'t [Token<'a>], octets: &[u8]) -> Option<&'t [Token<'
 }
 
 /// The regular identifier in front, as it stands in the text, and the tokens behind it.
-#[tactic(auto, unfolding(crate::specs::Reading::regular_at))]
+#[tactic(auto, unfolding(crate::specs::Inner::Parser::regular_at))]
 fn regular<'t, 'a>(tokens: &'t [Token<'a>]) -> Option<(&'a [u8], &'t [Token<'a>])>
     ensures { option_map (λ x. (folded x.0.now, lexemes x.1.now)) result ≡ regular_at (lexemes tokens.now) }
 {
@@ -57,7 +57,7 @@ fn regular<'t, 'a>(tokens: &'t [Token<'a>]) -> Option<(&'a [u8], &'t [Token<'a>]
 }
 
 /// Whether nothing is left but a `;`.
-#[tactic(auto, unfolding(crate::specs::Reading::is_end))]
+#[tactic(auto, unfolding(crate::specs::Inner::Parser::is_end))]
 fn is_end(tokens: &[Token<'_>]) -> bool
     ensures { result ≡ is_end (lexemes tokens.now) }
 {
@@ -69,7 +69,7 @@ fn is_end(tokens: &[Token<'_>]) -> bool
 }
 
 /// The literal in front, without a sign, and the tokens behind it.
-#[tactic(auto, unfolding(crate::specs::Reading::unsigned_at))]
+#[tactic(auto, unfolding(crate::specs::Inner::Parser::unsigned_at))]
 fn unsigned<'t, 'a>(tokens: &'t [Token<'a>]) -> Option<(i64, &'t [Token<'a>])>
     ensures read { option_map (λ x. (x.0, lexemes x.1.now)) result ≡ unsigned_at (lexemes tokens.now) }
     ensures no_sign { IfSome result (λ x. pos 0 ≤ℤ x.0) }
@@ -81,7 +81,7 @@ fn unsigned<'t, 'a>(tokens: &'t [Token<'a>]) -> Option<(i64, &'t [Token<'a>])>
 }
 
 /// The literal in front, with a `-` before it or not, and the tokens behind it.
-#[tactic(auto, unfolding(crate::specs::Reading::literal_at))]
+#[tactic(auto, unfolding(crate::specs::Inner::Parser::literal_at))]
 fn literal<'t, 'a>(tokens: &'t [Token<'a>]) -> Option<(i64, &'t [Token<'a>])>
     ensures { option_map (λ x. (x.0, lexemes x.1.now)) result ≡ literal_at (lexemes tokens.now) }
 {
@@ -108,7 +108,7 @@ fn comparison_of(octets: &[u8]) -> Option<Comparison>
 }
 
 /// The comparison in front, and the tokens behind it.
-#[tactic(auto, unfolding(crate::specs::Reading::comparison_at))]
+#[tactic(auto, unfolding(crate::specs::Inner::Parser::comparison_at))]
 fn comparison<'t, 'a>(tokens: &'t [Token<'a>]) -> Option<(Comparison, &'t [Token<'a>])>
     ensures { option_map (λ x. (x.0, lexemes x.1.now)) result ≡ comparison_at (lexemes tokens.now) }
 {
@@ -119,7 +119,7 @@ fn comparison<'t, 'a>(tokens: &'t [Token<'a>]) -> Option<(Comparison, &'t [Token
 }
 
 /// The name in the column definition in front, and the tokens behind that.
-#[tactic(auto, unfolding(crate::specs::Reading::column_definition_at))]
+#[tactic(auto, unfolding(crate::specs::Inner::Parser::column_definition_at))]
 fn column_definition<'t, 'a>(tokens: &'t [Token<'a>]) -> Option<(&'a [u8], &'t [Token<'a>])>
     ensures { option_map (λ x. (folded x.0.now, lexemes x.1.now)) result ≡ column_definition_at (lexemes tokens.now) }
 {
@@ -163,7 +163,7 @@ fn list<'t, 'a>(
 }
 
 /// The name of the table that is created, and the tokens behind the `(`.
-#[tactic(auto, unfolding(crate::specs::Reading::table_at))]
+#[tactic(auto, unfolding(crate::specs::Inner::Parser::table_at))]
 fn table<'t, 'a>(tokens: &'t [Token<'a>]) -> Option<(&'a [u8], &'t [Token<'a>])>
     ensures { option_map (λ x. (folded x.0.now, lexemes x.1.now)) result ≡ table_at (lexemes tokens.now) }
 {
@@ -175,7 +175,7 @@ fn table<'t, 'a>(tokens: &'t [Token<'a>]) -> Option<(&'a [u8], &'t [Token<'a>])>
 }
 
 /// Whether nothing is left but a `)` and an end.
-#[tactic(auto, unfolding(crate::specs::Reading::is_closed))]
+#[tactic(auto, unfolding(crate::specs::Inner::Parser::is_closed))]
 fn is_closed(tokens: &[Token<'_>]) -> bool
     ensures { result ≡ is_closed (lexemes tokens.now) }
 {
@@ -186,7 +186,7 @@ fn is_closed(tokens: &[Token<'_>]) -> bool
 }
 
 /// The names of the table and of its columns.
-#[tactic(auto, unfolding(crate::specs::Reading::create_table_of))]
+#[tactic(auto, unfolding(crate::specs::Inner::Parser::create_table_of))]
 pub(crate) fn create_table<'a>(
     alloc: Global,
     tokens: &[Token<'a>],
@@ -207,7 +207,7 @@ pub(crate) fn create_table<'a>(
 }
 
 /// What stands behind a select list, to the end.
-#[tactic(auto, unfolding(crate::specs::Reading::source_of))]
+#[tactic(auto, unfolding(crate::specs::Inner::Parser::source_of))]
 fn table_expression<'a>(tokens: &[Token<'a>]) -> Option<TableExpression<'a>>
     ensures { option_map source result ≡ source_of (lexemes tokens.now) }
 {
@@ -230,7 +230,7 @@ fn table_expression<'a>(tokens: &[Token<'a>]) -> Option<TableExpression<'a>>
 }
 
 /// The names and the literal of the query.
-#[tactic(auto, unfolding(crate::specs::Reading::selection_of))]
+#[tactic(auto, unfolding(crate::specs::Inner::Parser::selection_of))]
 pub(crate) fn query_specification<'a>(
     alloc: Global,
     tokens: &[Token<'a>],

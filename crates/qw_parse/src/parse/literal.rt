@@ -2,7 +2,7 @@
 
 ghost use Rattle.std.specs.Prelude.{◌≡◌, IsTrue};
 ghost use Rattle.qw_types.specs.Digits.{are_digits};
-ghost use Rattle.qw_parse.specs.Reading.{literal_of};
+ghost use Rattle.qw_parse.specs.Inner.Parser.{literal_of};
 
 use qw_types::digits::are_digits;
 use std::str;

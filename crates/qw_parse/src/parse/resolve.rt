@@ -4,11 +4,11 @@ ghost use Rattle.std.specs.Prelude.{◌≡◌, ◌<◌, ℕ, List, length, IfOk,
 ghost use Rattle.qw_meaning.specs.Statement.{Statement};
 ghost use Rattle.qw_ast.specs.Grammar.{folded};
 ghost use Rattle.qw_parse.specs.Parse.{Means, table_of, place_of};
-ghost use Rattle.qw_ast.specs.Views.{names_of, selection};
+ghost use Rattle.qw_ast.specs.Inner.Views.{names_of, selection};
 
 use super::ParseFault;
-use qw_ast::tree::QuerySpecification;
 use super::word::folds_to;
+use qw_ast::tree::QuerySpecification;
 use qw_meaning::query::{MAX_ITEMS, Query};
 use qw_types::{Column, NoMemory, Schema, Table};
 use std::alloc::Global;

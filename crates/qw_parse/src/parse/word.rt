@@ -4,7 +4,7 @@ ghost use Rattle.std.specs.Prelude.{◌≡◌};
 ghost use Rattle.std.specs.List.{list_any};
 ghost use Rattle.std.specs.Str.{bytes_eq};
 ghost use Rattle.qw_ast.specs.Grammar.{folded};
-ghost use Rattle.qw_parse.specs.Reading.{is_reserved};
+ghost use Rattle.qw_parse.specs.Inner.Parser.{is_reserved};
 
 /// The words that are no regular identifiers (ISO/IEC 9075:1992, 5.2 "reserved word", as far as this language has them).
 const RESERVED: [&str; 60] = [

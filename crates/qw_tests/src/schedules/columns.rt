@@ -1,11 +1,11 @@
 // Columns of all kinds of values and literals: what `qwasm` prints of each, beside the plain program's rows.
 
 use super::{next_random, plain_numbers, query_text, table_file};
-use qw_top::status::Status;
 use crate::tables::{WORDS, asking, shelf, words};
-use qw_top::top::qwasm;
 use qw_io::MemorySink;
 use qw_meaning::query::Comparison;
+use qw_top::status::Status;
+use qw_top::top::qwasm;
 use qw_types::NoMemory;
 use std::alloc::{AllocError, Global};
 use std::test::Fail;

@@ -1,9 +1,9 @@
 // Runs over many columns and over many rows.
 
 use super::{QUERY, SCHEMA, report_of};
+use crate::tables::sevens;
 use qw_bench::bench::Ended;
 use qw_top::status::Status;
-use crate::tables::sevens;
 use std::alloc::{AllocError, Global};
 use std::test::Fail;
 

@@ -8,18 +8,19 @@ ghost use Rattle.qw_bench.specs.Bench.{end_in};
 ghost use Rattle.qw_top.specs.Delivered.{ShowsEnd, status_of};
 ghost use Rattle.qw_bench.specs.Seats.{rows_in, shared_of, tasks_of};
 ghost use Rattle.qw_sink.specs.Sink.{report_of_rows};
-ghost use Rattle.qw_top.specs.Stages.{IsReport, Ran, Writes};
-ghost use Rattle.qw_top.specs.Top.{AreColumnsOf, head_of, header_of};
+ghost use Rattle.qw_top.specs.Inner.Stages.{IsReport, Ran, Writes};
+ghost use Rattle.qw_top.specs.Top.{head_of, header_of};
+ghost use Rattle.qw_top.specs.Inner.Inputs.{AreColumnsOf};
 
-use super::reading::one_table;
+use super::inputs::one_table;
 use super::run::Turned;
-use qw_bench::bench::{Bench, Ended};
 use crate::output::{end_of_write, write_whole};
-use qw_sink::results::received;
-use qw_sink::sink::{Head, Kind, pages_text, report_text};
 use crate::status::Status;
+use qw_bench::bench::{Bench, Ended};
 use qw_io::Sink;
 use qw_meaning::query::Query;
+use qw_sink::results::received;
+use qw_sink::sink::{Head, Kind, pages_text, report_text};
 use qw_types::{Column, NoMemory, Table, Text, Ty};
 use std::alloc::Global;
 

@@ -7,20 +7,20 @@ ghost use Rattle.qw_types.specs.declared.schema.Table.{Table};
 ghost use Rattle.qw_emit.specs.Compiled.{IsCompiled};
 ghost use Rattle.qw_map.specs.Layout.{used};
 ghost use Rattle.qw_top.specs.Delivered.{Asks, HasRun};
-ghost use Rattle.qw_top.specs.Stages.{CountsStop, HasAsked, Stops};
-ghost use Rattle.qw_top.specs.Top.{IsOneTable};
+ghost use Rattle.qw_top.specs.Inner.Stages.{CountsStop, HasAsked, Stops};
+ghost use Rattle.qw_top.specs.Inner.Inputs.{IsOneTable};
 
 use super::QUANTUM;
-use super::reading::{Prepared, prepare};
-use qw_bench::bench::{Bench, DEFAULT_LIMITS, Job};
-use qw_csv::loading::Loaded;
+use super::inputs::{Prepared, prepare};
 use crate::stop::{Refusal, Stop};
 use crate::words::run_words;
+use qw_bench::bench::{Bench, DEFAULT_LIMITS, Job};
+use qw_csv::loading::Loaded;
 use qw_emit::emit::module_of;
 use qw_io::Shelf;
-use qw_valid::valid::validate;
 use qw_meaning::query::Query;
 use qw_types::{NoMemory, Schema};
+use qw_valid::valid::validate;
 use std::alloc::Global;
 
 /// The schema of a run, and the bench that was turned to its end.

@@ -1,7 +1,7 @@
 use Rattle.std.proofs.Common.{◌∙◌}
 use Rattle.std.proofs.lemmas.Result.{MatchResult-weaker}
 use Rattle.csv.specs.Reading.{strip_bom}
-use Rattle.qw_csv.proofs.ReaderLemmas.{none_read}
+use Rattle.qw_csv.proofs.CsvReaderLemmas.{none_read}
 use Rattle.qw_csv.proofs.loading.load.Goals as goal
 
 pub returns-clause-rows : goal.returns-clause-rows

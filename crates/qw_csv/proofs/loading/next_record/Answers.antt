@@ -1,4 +1,4 @@
-use Rattle.qw_csv.proofs.ReaderLemmas.{read_on}
+use Rattle.qw_csv.proofs.CsvReaderLemmas.{read_on}
 use Rattle.qw_csv.proofs.loading.next_record.Goals as goal
 use Rattle.qw_csv.proofs.loading.next_record.Goals.{in-Ok, in-Err}
 

@@ -4,7 +4,8 @@ use Rattle.csv.specs.Reading.{strip_bom}
 use Rattle.qw_types.specs.Value.{IsOfType}
 use Rattle.qw_types.specs.declared.value.Ty.TheVariants.{Integer}
 use Rattle.qw_types.specs.declared.value.Val.TheVariants.{Num}
-use Rattle.qw_csv.specs.Loading.{AreRecordsOf, HasRead, rows_of}
+use Rattle.qw_csv.specs.Loading.{AreRecordsOf, rows_of}
+use Rattle.qw_csv.specs.Inner.Loading.{HasRead}
 use Rattle.qw_csv.proofs.loading.rows_after_header.Given as goal
 
 abbrev pub invariant-loop-len : goal.invariant-loop-len

@@ -1,5 +1,5 @@
 use Rattle.std.proofs.Common.{◌≡◌, ◌++◌, take}
-use Rattle.qw_emit.specs.Emit.{other_locals}
+use Rattle.qw_emit.specs.Inner.Emit.{other_locals}
 use Rattle.qw_emit.proofs.emit.push_other_locals.Given as goal
 
 abbrev pub invariant-loop-place : goal.invariant-loop-place

@@ -1,6 +1,6 @@
 use Rattle.std.proofs.Common.{ℕ, ◌<◌, get_or}
 use Rattle.qw_module.specs.declared.module.Export.{Export}
-use Rattle.qw_machine.specs.Shape.{ExportsNoRun}
+use Rattle.qw_machine.specs.Inner.Shape.{ExportsNoRun}
 use Rattle.qw_machine.proofs.shape.exported_run.Given as goal
 
 -- no export so far gives a `run`

@@ -1,4 +1,4 @@
-use Rattle.qw_parse.proofs.ReadLemmas.{ReadsQuery-unique}
+use Rattle.qw_parse.proofs.ParserLemmas.{ReadsQuery-unique}
 use Rattle.qw_parse.proofs.parse.one_query.Goals as goal
 
 pub returns : goal.returns

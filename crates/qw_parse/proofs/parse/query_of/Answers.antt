@@ -2,10 +2,11 @@ use Rattle.std.proofs.Common.{◌≡◌, refl, ap, ◌∙◌, sym}
 use Rattle.std.proofs.lemmas.Result.{err_from_is_err_and, IfOk-weaker}
 use Rattle.qw_parse.specs.declared.parse.ParseFault.TheVariants.{Refused}
 use Rattle.qw_token.specs.Token.{lexemes}
-use Rattle.qw_parse.specs.Reading.{selection_of}
-use Rattle.qw_parse.specs.Parse.{parse_fault_of, Means, ReadsQuery}
-use Rattle.qw_ast.specs.Views.{selection}
-use Rattle.qw_parse.proofs.ReadLemmas.{no_reading, reads_query, query_is_none, query_means_none, some_columns}
+use Rattle.qw_parse.specs.Inner.Parser.{selection_of}
+use Rattle.qw_parse.specs.Parse.{Means, ReadsQuery}
+use Rattle.qw_parse.specs.Inner.Faults.{parse_fault_of}
+use Rattle.qw_ast.specs.Inner.Views.{selection}
+use Rattle.qw_parse.proofs.ParserLemmas.{no_reading, reads_query, query_is_none, query_means_none, some_columns}
 use Rattle.qw_parse.proofs.parse.query_of.Goals as goal
 
 -- a text with no tokens is none

@@ -3,10 +3,10 @@ use Rattle.std.proofs.lemmas.Result.{err_from_is_err_and}
 use Rattle.qw_parse.specs.declared.parse.ParseFault.TheVariants.{Refused}
 use Rattle.qw_token.specs.Token.{lexemes}
 use Rattle.qw_ast.specs.Grammar.{folded}
-use Rattle.qw_parse.specs.Reading.{create_table_of}
-use Rattle.qw_ast.specs.Views.{definition}
-use Rattle.qw_parse.specs.Parse.{parse_fault_of}
-use Rattle.qw_parse.proofs.ReadLemmas.{no_reading, declared_reads, schema_is_none, schema_is_beyond, names_are_ascii, some_names}
+use Rattle.qw_parse.specs.Inner.Parser.{create_table_of}
+use Rattle.qw_ast.specs.Inner.Views.{definition}
+use Rattle.qw_parse.specs.Inner.Faults.{parse_fault_of}
+use Rattle.qw_parse.proofs.ParserLemmas.{no_reading, declared_reads, schema_is_none, schema_is_beyond, names_are_ascii, some_names}
 use Rattle.qw_parse.proofs.parse.schema_of.Goals as goal
 
 -- a text with no tokens is none

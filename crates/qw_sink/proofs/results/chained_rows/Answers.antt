@@ -3,7 +3,7 @@ use Rattle.std.proofs.lemmas.Option.{same_Some}
 use Rattle.qw_linear.specs.Memory.{number_at}
 use Rattle.qw_map.specs.Layout.{row_size}
 use Rattle.qw_linear.proofs.AccessFacts.{loaded-inside}
-use Rattle.qw_map.proofs.RowReading.{next-inside, next-there, read-all, read-more, read-none}
+use Rattle.qw_map.proofs.ResultRows.{next-inside, next-there, read-all, read-more, read-none}
 use Rattle.qw_sink.proofs.results.chained_rows.Goals as goal
 
 pub loop-init : goal.loop-init

@@ -1,7 +1,7 @@
 use Rattle.std.proofs.Common.{List, IsSome, ◌<◌, ◌^◌}
-use Rattle.qw_map.specs.Map.{Area}
+use Rattle.qw_map.specs.Areas.{Area}
 use Rattle.qw_map.specs.Layout.{rows_from}
-use Rattle.qw_map.proofs.RowReading.{IsRead}
+use Rattle.qw_map.proofs.ResultRows.{IsRead}
 use Rattle.qw_sink.proofs.results.chained_rows.Given as goal
 
 abbrev pub invariant-loop : goal.invariant-loop

@@ -1,4 +1,4 @@
-use Rattle.qw_map.proofs.RowReading.{cells-more, cells-none}
+use Rattle.qw_map.proofs.ResultRows.{cells-more, cells-none}
 use Rattle.qw_sink.proofs.results.row_at.Goals as goal
 
 pub loop-place-init : goal.loop-place-init

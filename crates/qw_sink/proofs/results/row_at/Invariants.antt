@@ -1,4 +1,4 @@
-use Rattle.qw_map.proofs.RowReading.{AreCells}
+use Rattle.qw_map.proofs.ResultRows.{AreCells}
 use Rattle.qw_sink.proofs.results.row_at.Given as goal
 
 abbrev pub invariant-loop-place : goal.invariant-loop-place

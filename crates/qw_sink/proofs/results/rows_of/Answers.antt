@@ -1,6 +1,6 @@
 use Rattle.std.proofs.Common.{◌+◌, ◌≤◌, length, arith, refl}
 use Rattle.qw_linear.proofs.AccessFacts.{loaded-inside}
-use Rattle.qw_map.proofs.RowReading.{head-inside, lies-within}
+use Rattle.qw_map.proofs.ResultRows.{head-inside, lies-within}
 use Rattle.qw_sink.proofs.results.rows_of.Goals as goal
 
 pub unwrap-first-requires : goal.unwrap-first-requires

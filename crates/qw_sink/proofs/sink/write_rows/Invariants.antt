@@ -1,5 +1,6 @@
 use Rattle.std.proofs.Common.{◌++◌, List, ℕ, take}
-use Rattle.qw_sink.specs.Sink.{HasWritten, text_of_rows}
+use Rattle.qw_sink.specs.Sink.{text_of_rows}
+use Rattle.qw_sink.specs.Inner.Sink.{HasWritten}
 use Rattle.qw_sink.proofs.sink.write_rows.Given as goal
 
 abbrev pub invariant-loop-row : goal.invariant-loop-row

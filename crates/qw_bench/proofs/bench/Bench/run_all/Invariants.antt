@@ -1,5 +1,5 @@
 use Rattle.std.proofs.Common.{◌≡◌}
-use Rattle.qw_bench.specs.Bench.{steps_left}
+use Rattle.qw_bench.specs.Inner.Rounds.{steps_left}
 use Rattle.qw_bench.specs.Seats.{shared_of, tasks_of}
 use Rattle.qw_bench.proofs.Rounds.{HasRounded}
 use Rattle.qw_bench.proofs.bench.Bench.run_all.Given as goal

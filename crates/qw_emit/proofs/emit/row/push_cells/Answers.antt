@@ -1,5 +1,5 @@
 use Rattle.std.proofs.Common.{arith}
-use Rattle.qw_emit.specs.Emit.{write_cells}
+use Rattle.qw_emit.specs.Inner.Emit.{write_cells}
 use Rattle.qw_emit.proofs.Pieces.{Adds-none, Adds-next, Adds-past, write_cells-append}
 use Rattle.qw_emit.proofs.emit.row.push_cells.Goals as goal
 

@@ -1,5 +1,5 @@
 use Rattle.std.proofs.Common.{arith}
-use Rattle.qw_emit.specs.Emit.{read_values}
+use Rattle.qw_emit.specs.Inner.Emit.{read_values}
 use Rattle.qw_emit.proofs.Pieces.{Adds-none, Adds-next, Adds-past, read_values-append}
 use Rattle.qw_emit.proofs.emit.row.push_values.Goals as goal
 

@@ -1,7 +1,7 @@
 use Rattle.std.proofs.Common.{◌≡◌, ◌∙◌, sym, ap, ◌-◌, length, arith}
 use Rattle.std.proofs.lemmas.Option.{slice_get_within}
 use Rattle.qw_machine.specs.declared.machine.Entry.{Entry}
-use Rattle.qw_machine.specs.Stacked.{Stacked}
+use Rattle.qw_machine.specs.Inner.Stacked.{Stacked}
 use Rattle.qw_machine.proofs.ListFacts.{first_dropped}
 use Rattle.qw_machine.proofs.machine.Activity.branch.Goals as goal
 

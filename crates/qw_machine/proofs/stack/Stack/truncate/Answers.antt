@@ -1,6 +1,6 @@
 use Rattle.std.proofs.Common.{List, ℕ, ◌∙◌, ap, ap₂, reverse}
 use Rattle.std.proofs.lemmas.List.{length-reverse}
-use Rattle.qw_machine.specs.Stacked.{Stacked}
+use Rattle.qw_machine.specs.Inner.Stacked.{Stacked}
 use Rattle.qw_machine.proofs.StackFacts.{reverse-take}
 use Rattle.qw_machine.proofs.stack.Stack.truncate.Goals as goal
 

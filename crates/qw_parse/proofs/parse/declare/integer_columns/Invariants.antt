@@ -1,6 +1,6 @@
 use Rattle.std.proofs.Common.{◌≡◌, map, take}
 use Rattle.qw_parse.specs.Parse.{integer_column}
-use Rattle.qw_ast.specs.Views.{names_of}
+use Rattle.qw_ast.specs.Inner.Views.{names_of}
 use Rattle.qw_parse.proofs.parse.declare.integer_columns.Given as goal
 
 abbrev pub invariant-loop-name : goal.invariant-loop-name

@@ -1,9 +1,9 @@
 use Rattle.std.proofs.Common.{◌∷◌, [], Some, sym, ap, ◌∙◌}
 use Rattle.std.proofs.lemmas.List.{map_push, append-nil}
 use Rattle.qw_ast.specs.Grammar.{folded}
-use Rattle.qw_parse.specs.Reading.{behind}
+use Rattle.qw_parse.specs.Inner.Parser.{behind}
 use Rattle.qw_token.specs.Token.{lexemes}
-use Rattle.qw_ast.specs.Views.{names_of}
+use Rattle.qw_ast.specs.Inner.Views.{names_of}
 use Rattle.qw_parse.proofs.ListLemmas.{list_begins, list_none, further_end, further_stop, further_more, behind_behind, list_smaller}
 use Rattle.qw_parse.proofs.parse.form.list.Goals as goal
 

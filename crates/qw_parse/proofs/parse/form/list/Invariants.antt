@@ -1,7 +1,7 @@
 use Rattle.std.proofs.Common.{◌≡◌, length}
 use Rattle.qw_token.specs.Token.{lexemes}
-use Rattle.qw_parse.specs.Reading.{behind, further, list_at}
-use Rattle.qw_ast.specs.Views.{names_of}
+use Rattle.qw_parse.specs.Inner.Parser.{behind, further, list_at}
+use Rattle.qw_ast.specs.Inner.Views.{names_of}
 use Rattle.qw_parse.proofs.parse.form.list.Given as goal
 
 abbrev pub invariant-loop-behind_comma : goal.invariant-loop-behind_comma

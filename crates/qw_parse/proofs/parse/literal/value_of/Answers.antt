@@ -1,4 +1,4 @@
-use Rattle.qw_parse.proofs.ParseLemmas.{no_literal}
+use Rattle.qw_parse.proofs.LiteralLemmas.{no_literal}
 use Rattle.qw_parse.proofs.parse.literal.value_of.Goals as goal
 
 pub returns-in_default : goal.returns-in_default

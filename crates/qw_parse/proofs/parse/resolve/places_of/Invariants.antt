@@ -1,6 +1,6 @@
 use Rattle.std.proofs.Common.{◌≡◌, map, take, Some}
 use Rattle.qw_parse.specs.Parse.{place_of}
-use Rattle.qw_ast.specs.Views.{names_of}
+use Rattle.qw_ast.specs.Inner.Views.{names_of}
 use Rattle.qw_parse.proofs.parse.resolve.places_of.Given as goal
 
 abbrev pub invariant-loop-name : goal.invariant-loop-name

@@ -1,4 +1,4 @@
-use Rattle.qw_parse.proofs.ParseLemmas.{same_name}
+use Rattle.qw_parse.proofs.LiteralLemmas.{same_name}
 use Rattle.qw_parse.proofs.parse.word.is_same_name.Goals as goal
 
 pub returns : goal.returns

@@ -1,7 +1,8 @@
 use Rattle.std.proofs.Common.{map, arith}
 use Rattle.std.proofs.lemmas.Grind.{common_steps}
 use Rattle.std.specs.String.{string_bytes}
-use Rattle.qw_top.specs.Top.{AreNames, names_of}
+use Rattle.qw_top.specs.Top.{AreNames}
+use Rattle.qw_top.specs.Inner.Inputs.{names_of}
 use Rattle.qw_top.proofs.DeliverLemmas.{IfErr-Stops}
 use Rattle.qw_top.proofs.top.run.accept.Goals as goal
 

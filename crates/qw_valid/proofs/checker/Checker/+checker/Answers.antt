@@ -6,7 +6,7 @@ use Rattle.qw_module.specs.Typing.{types_of}
 use Rattle.qw_module.specs.declared.instruction.ValType.{ValType}
 use Rattle.qw_module.specs.Syntax.{Code, sequence_at, named}
 use Rattle.qw_module.specs.Validity.{items_of, imported_signatures}
-use Rattle.qw_valid.specs.Checking.{Under, conditions_of}
+use Rattle.qw_valid.specs.Inner.Checking.{Under, conditions_of}
 use Rattle.qw_valid.proofs.CheckedBodies.{checks-next, checks-refused, checks-end, checks-whole, left_when_popped, left_when_refused, decides_from_none, sequence_at-items, names_below-at}
 use Rattle.qw_valid.proofs.checker.Checker.+checker.Goals as goal
 

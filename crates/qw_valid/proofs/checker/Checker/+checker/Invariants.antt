@@ -2,7 +2,7 @@ use Rattle.std.proofs.Common.{◌≡◌, ◌++◌, ◌+◌, ◌*◌, drop}
 use Rattle.qw_module.specs.Typing.{types_of}
 use Rattle.qw_module.specs.Syntax.{nested, named, sequence_at}
 use Rattle.qw_module.specs.Validity.{items_of, imported_signatures}
-use Rattle.qw_valid.specs.Checking.{nothing, conditions_of, checks}
+use Rattle.qw_valid.specs.Inner.Checking.{nothing, conditions_of, checks}
 use Rattle.qw_valid.proofs.checker.Checker.+checker.Given as goal
 
 abbrev pub decreases-inner : goal.decreases-inner

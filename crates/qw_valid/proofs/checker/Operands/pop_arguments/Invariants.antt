@@ -1,5 +1,5 @@
 use Rattle.std.proofs.Common.{◌≡◌, reverse}
-use Rattle.qw_valid.specs.Checking.{all_popped}
+use Rattle.qw_valid.specs.Inner.Checking.{all_popped}
 use Rattle.qw_valid.proofs.checker.Operands.pop_arguments.Given as goal
 
 -- what is still to be taken

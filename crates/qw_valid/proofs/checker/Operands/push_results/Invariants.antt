@@ -1,5 +1,5 @@
 use Rattle.std.proofs.Common.{◌≡◌, take, reverse}
-use Rattle.qw_valid.specs.Checking.{all_pushed}
+use Rattle.qw_valid.specs.Inner.Checking.{all_pushed}
 use Rattle.qw_valid.proofs.checker.Operands.push_results.Given as goal
 
 -- the results so far were put

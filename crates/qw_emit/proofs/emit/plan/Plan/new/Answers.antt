@@ -2,8 +2,8 @@ use Rattle.std.proofs.Common.{◌≡◌, ◌≤◌, ℕ, List, length, map, ap�
 use Rattle.std.specs.Prelude.{FitsSigned}
 use Rattle.std.proofs.lemmas.Int.{to_z-of_z}
 use Rattle.qw_types.specs.declared.schema.TheConstants.{MAX_COLUMNS}
-use Rattle.qw_emit.specs.Emit.{index_in, other_columns}
-use Rattle.qw_emit.specs.Plan.{IsPlan}
+use Rattle.qw_emit.specs.Inner.Emit.{index_in, other_columns}
+use Rattle.qw_emit.specs.Inner.Plan.{IsPlan}
 use Rattle.qw_emit.proofs.PlanLemmas.{length-used, length-other_columns, others_are, cells_are, scan_is, IsPlan-scan_of}
 use Rattle.qw_emit.proofs.emit.plan.Plan.new.Goals as goal
 

@@ -1,0 +1,168 @@
+-- Areas of a memory: which are apart, and which a step leaves as they were.
+use Rattle.std.proofs.Common.{◌≡◌, ℕ, ◌+◌, ◌-◌, ◌*◌, ◌≤◌, nat_le, Bool, true, IsTrue, List, [], ◌∷◌, ◌++◌, length, inl, inr, refl, sym, ◌∙◌, ⊎_elim, arith, append_assoc}
+use Rattle.std.specs.List.{AllByRecursion}
+use Rattle.std.proofs.lemmas.Bool.{cases_Bool, leb-true, false≢true, and_parts}
+use Rattle.std.proofs.lemmas.List.{append-nil}
+use Rattle.qw_linear.specs.Memory.{page, with_number, grown_by}
+use Rattle.qw_linear.proofs.GrowthFacts.{length-grown_by, grown_by-below}
+use Rattle.qw_linear.proofs.MemoryFacts.{length-with_number, with_number-below, with_number-above}
+use Rattle.qw_module.specs.Step.{Want, Next}
+use Rattle.qw_map.specs.Areas.{Area, World, SameIn, lies_in, lies_in_one, IsFine, world_after}
+use Rattle.qw_map.specs.Turns.{AreApart, AllApart, LiesWithin}
+use Rattle.qw_module.proofs.Outcomes.{Outcome, went, read, read_outside, put, put_outside, was_granted, was_refused, raised}
+
+-- ---- what holds of each element
+module _ {A : Type 0} (P : A → Type 0) where
+  pub all-append : (xs ys : List A) → AllByRecursion P xs → AllByRecursion P ys → AllByRecursion P (xs ++ ys)
+  all-append [] ys first second = second
+  all-append (x ∷ xs) ys first second = (first.0, all-append xs ys first.1 second)
+
+  pub all-front : (xs ys : List A) → AllByRecursion P (xs ++ ys) → AllByRecursion P xs
+  all-front [] ys each = tt
+  all-front (x ∷ xs) ys each = (each.0, all-front xs ys each.1)
+
+  pub all-back : (xs ys : List A) → AllByRecursion P (xs ++ ys) → AllByRecursion P ys
+  all-back [] ys each = each
+  all-back (x ∷ xs) ys each = all-back xs ys each.1
+
+  pub all-weaker : (Q : A → Type 0) → ((x : A) → P x → Q x) → (xs : List A) → AllByRecursion P xs → AllByRecursion Q xs
+  all-weaker Q weaker [] each = tt
+  all-weaker Q weaker (x ∷ xs) each = (weaker x each.0, all-weaker Q weaker xs each.1)
+
+-- ---- areas that a step leaves alone
+pub all-same : (m : List ℕ) (areas : List Area) → AllByRecursion (SameIn m m) areas
+all-same m [] = tt
+all-same m (area ∷ areas) = (λ k within. refl, all-same m areas)
+
+-- what is the same from one memory to another, and from there to a third
+pub all-then : (a b c : List ℕ) (areas : List Area) → AllByRecursion (SameIn a b) areas → AllByRecursion (SameIn b c) areas → AllByRecursion (SameIn a c) areas
+all-then a b c [] one two = tt
+all-then a b c (area ∷ areas) (one, ones) (two, twos) = (λ k within. two k within ∙ one k within, all-then a b c areas ones twos)
+
+-- a number put in one area leaves those apart from it
+SameIn-apart : (m : List ℕ) (address width value : ℕ) (own area : Area) → IsTrue (lies_in address width own) → AreApart own area →
+    SameIn m (with_number m address width value) area
+SameIn-apart m address width value own area inside apart k within =
+    let parts = and_parts (nat_le own.start address) (nat_le (address + width) (own.start + own.size)) inside in
+    let low : own.start ≤ address = leb-true own.start address parts.0 in
+    let high : address + width ≤ own.start + own.size = leb-true (address + width) (own.start + own.size) parts.1 in
+    ⊎_elim
+    (λ above. with_number-above m address width value (area.start + k) (omega arith))
+    (λ below. with_number-below m address width value (area.start + k) (omega arith))
+    apart
+
+stored-apart : (m : List ℕ) (address width value : ℕ) (own areas : List Area) → IsTrue (lies_in_one own address width) → AllApart own areas →
+    AllByRecursion (SameIn m (with_number m address width value)) areas
+stored-apart m address width value [] areas inside apart = absurd (false≢true inside)
+stored-apart m address width value (first ∷ own) areas inside (here, rest) = ⊎_elim
+    (λ is. all-weaker (AreApart first) (SameIn m (with_number m address width value)) (λ area apart. SameIn-apart m address width value first area is apart) areas here)
+    (λ is_not. stored-apart m address width value own areas (rw is_not at inside) rest)
+    (cases_Bool (lies_in address width first))
+
+-- a growth leaves those that lie in the memory before it
+pub SameIn-grown_by : (pages : ℕ) (m : List ℕ) (area : Area) → LiesWithin (length m) area → SameIn m (grown_by pages m) area
+SameIn-grown_by pages m area inside k within = grown_by-below pages m (area.start + k) (omega arith)
+
+-- So areas in the memory that are apart from the own ones of an instance are kept by its fine steps.
+pub outcome-kept : (w : World) (g : ℕ → Bool) (m : List ℕ) (want : Want) (t : Next) → Outcome g m want t → IsFine w t.event →
+    (areas : List Area) → AllApart w.own areas → AllByRecursion (LiesWithin (length m)) areas → AllByRecursion (SameIn m t.memory) areas
+outcome-kept w _ _ _ _ (went g m s) fine areas apart inside = all-same m areas
+outcome-kept w _ _ _ _ (read g m address width make room) fine areas apart inside = all-same m areas
+outcome-kept w _ _ _ _ (read_outside g m address width make outside) fine areas apart inside = all-same m areas
+outcome-kept w _ _ _ _ (put g m address width value s room) fine areas apart inside = stored-apart m address width value w.own areas fine apart
+outcome-kept w _ _ _ _ (put_outside g m address width value s outside) fine areas apart inside = all-same m areas
+outcome-kept w _ _ _ _ (was_granted g m pages make is room) fine areas apart inside =
+    all-weaker (LiesWithin (length m)) (SameIn m (grown_by pages m)) (SameIn-grown_by pages m) areas inside
+outcome-kept w _ _ _ _ (was_refused g m pages make is) fine areas apart inside = all-same m areas
+outcome-kept w _ _ _ _ (raised g m code) fine areas apart inside = all-same m areas
+
+-- ---- areas that a growth adds
+-- an area lies behind a memory of so many octets, in one of more
+abbrev pub LiesBehind : ℕ → ℕ → Area → Type 0
+LiesBehind octets more area = (octets ≤ area.start) × (area.start + area.size ≤ more)
+
+-- so it is apart from those that lie in that memory
+behind-apart : (octets more : ℕ) (area : Area) → LiesBehind octets more area → (areas : List Area) → AllByRecursion (LiesWithin octets) areas →
+    AllByRecursion (AreApart area) areas
+behind-apart octets more area behind = all-weaker (LiesWithin octets) (AreApart area) (λ other inside. inr (omega (arith, behind.0)))
+
+pub all-behind-apart : (octets more : ℕ) (gained areas : List Area) → AllByRecursion (LiesBehind octets more) gained →
+    AllByRecursion (LiesWithin octets) areas → AllApart gained areas
+all-behind-apart octets more gained areas behind inside =
+    all-weaker (LiesBehind octets more) (λ area. AllByRecursion (AreApart area) areas) (λ area is. behind-apart octets more area is areas inside) gained behind
+
+apart-behind : (octets more : ℕ) (area : Area) → LiesWithin octets area → (gained : List Area) → AllByRecursion (LiesBehind octets more) gained →
+    AllByRecursion (AreApart area) gained
+apart-behind octets more area inside = all-weaker (LiesBehind octets more) (AreApart area) (λ other behind. inl (omega (arith, behind.0)))
+
+-- areas that are apart stay so with such ones
+pub all-apart-behind : (octets more : ℕ) (gained areas others : List Area) → AllByRecursion (LiesBehind octets more) gained →
+    AllByRecursion (LiesWithin octets) areas → AllApart areas others → AllApart areas (others ++ gained)
+all-apart-behind octets more gained [] others behind inside apart = tt
+all-apart-behind octets more gained (area ∷ areas) others behind inside apart = (
+  all-append (AreApart area) others gained apart.0 (apart-behind octets more area inside.0 gained behind),
+  all-apart-behind octets more gained areas others behind inside.1 apart.1,
+)
+
+-- What an instance has after a step: own areas behind those in the memory were added, and it may ask for fewer pages by what
+-- the memory grew.
+pub record Gains (octets more : ℕ) (w after : World) : Type 0 where
+  pub longer : octets ≤ more
+  pub mapped_is : after.mapped ≡ w.mapped
+  pub limit_is : after.limit ≡ w.limit
+  pub gained : List Area
+  pub own_is : after.own ≡ w.own ++ gained
+  pub behind : AllByRecursion (LiesBehind octets more) gained
+  pub asks_is : more + (after.limit - after.held) * page ≡ octets + (w.limit - w.held) * page
+
+Gains-nothing : (octets more : ℕ) (w : World) → more ≡ octets → Gains octets more w w
+Gains-nothing octets more w same = record {
+  longer = omega arith;
+  mapped_is = refl;
+  limit_is = refl;
+  gained = [];
+  own_is = sym (append-nil w.own);
+  behind = tt;
+  asks_is = omega arith;
+}
+
+pub outcome-gains : (w : World) (g : ℕ → Bool) (m : List ℕ) (want : Want) (t : Next) → Outcome g m want t →
+    ((asked : ℕ) → g asked ≡ true → w.held + asked ≤ w.limit) → Gains (length m) (length t.memory) w (world_after w m t.event)
+outcome-gains w _ _ _ _ (went g m s) within = Gains-nothing (length m) (length m) w refl
+outcome-gains w _ _ _ _ (read g m address width make room) within = Gains-nothing (length m) (length m) w refl
+outcome-gains w _ _ _ _ (read_outside g m address width make outside) within = Gains-nothing (length m) (length m) w refl
+outcome-gains w _ _ _ _ (put g m address width value s room) within =
+    Gains-nothing (length m) (length (with_number m address width value)) w (length-with_number m address width value)
+outcome-gains w _ _ _ _ (put_outside g m address width value s outside) within = Gains-nothing (length m) (length m) w refl
+outcome-gains w _ _ _ _ (was_granted g m pages make is room) within =
+    let longer : length (grown_by pages m) ≡ length m + pages * page = length-grown_by pages m in
+    let fits : w.held + pages ≤ w.limit = within pages is in
+    record {
+      longer = omega arith;
+      mapped_is = refl;
+      limit_is = refl;
+      gained = record { start = length m; size = pages * page } ∷ [];
+      own_is = refl;
+      behind = ((omega arith, omega arith), tt);
+      asks_is = omega arith;
+    }
+outcome-gains w _ _ _ _ (was_refused g m pages make is) within = record {
+  longer = omega arith;
+  mapped_is = refl;
+  limit_is = refl;
+  gained = [];
+  own_is = sym (append-nil w.own);
+  behind = tt;
+  asks_is = omega arith;
+}
+outcome-gains w _ _ _ _ (raised g m code) within = Gains-nothing (length m) (length m) w refl
+
+-- each area that lay in the memory, and each that was added, lies in it now
+pub inside-gains : (octets more : ℕ) (w after : World) → Gains octets more w after → AllByRecursion (LiesWithin octets) (w.mapped ++ w.own) →
+    AllByRecursion (LiesWithin more) (after.mapped ++ after.own)
+inside-gains octets more w after gains inside =
+    let longer : octets ≤ more = gains.longer in
+    let before = all-weaker (LiesWithin octets) (LiesWithin more) (λ area h. omega arith) (w.mapped ++ w.own) inside in
+    let added = all-weaker (LiesBehind octets more) (LiesWithin more) (λ area h. h.1) gains.gained gains.behind in
+    rw (gains.mapped_is, gains.own_is, ← append_assoc w.mapped w.own gains.gained)
+    (all-append (LiesWithin more) (w.mapped ++ w.own) gains.gained before added)

@@ -1,0 +1,77 @@
+-- The memory as its users see it: areas, what an instance may touch of it, and what others may change.
+use Rattle.std.specs.Prelude.{◌≡◌, ℕ, ◌+◌, ◌-◌, ◌*◌, ◌<◌, ◌≤◌, nat_le, ◌&&◌, Bool, true, false, IsTrue, ◌⊎◌, List, [], ◌∷◌, ◌++◌, length, Option, Some, IsSome, slice_index}
+use Rattle.std.specs.List.{list_any, AllByRecursion}
+use Rattle.qw_linear.specs.Memory.{page, most_pages, AreOctets}
+use Rattle.qw_module.specs.Execution.{State, Running, Returned, Raised, Trapped, Event, Silent, Loads, Stores, Grows, Raises, Traps}
+
+-- an area of the memory: its first place, and how many octets it has
+pub record Area : Type 0 where
+  pub start : ℕ
+  pub size : ℕ
+
+-- whether an access to so many octets from an address on lies in an area, and in one of several
+abbrev pub lies_in : ℕ → ℕ → Area → Bool
+lies_in address width area = nat_le area.start address && nat_le (address + width) (area.start + area.size)
+
+abbrev pub lies_in_one : List Area → ℕ → ℕ → Bool
+lies_in_one areas address width = list_any (lies_in address width) areas
+
+-- What an instance has: the areas of the columns that its layout maps, its own areas, the pages held,
+-- how many it may hold, and its last request that was refused.
+pub record World : Type 0 where
+  pub mapped : List Area
+  pub own : List Area
+  pub held : ℕ
+  pub limit : ℕ
+  pub refused : Option ℕ
+
+-- an area's octets are the same in two memories
+abbrev pub SameIn : List ℕ → List ℕ → Area → Type 0
+SameIn before after area = (k : ℕ) → k < area.size → slice_index after (area.start + k) ≡ slice_index before (area.start + k)
+
+-- What others may make of the memory between two steps of an instance: it may grow by whole pages, but leaves
+-- room for those that the instance may still ask for; outside the instance's areas any octet may change.
+pub record Others (w : World) (before after : List ℕ) : Type 0 where
+  pub grown : ℕ
+  pub length_is : length after ≡ length before + grown * page
+  pub room : length after + (w.limit - w.held) * page ≤ most_pages * page
+  pub octets : AreOctets after
+  pub mapped_kept : AllByRecursion (SameIn before after) w.mapped
+  pub own_kept : AllByRecursion (SameIn before after) w.own
+
+-- What a step may do: load from the mapped columns and the own areas, store in the own areas, ask for pages, raise 1 or 2,
+-- and 3 after a refused request. It never traps.
+abbrev pub IsFine : World → Event → Type 0
+IsFine w Silent = Unit {0}
+IsFine w (Loads address width) = IsTrue (lies_in_one (w.mapped ++ w.own) address width)
+IsFine w (Stores address width) = IsTrue (lies_in_one w.own address width)
+IsFine w (Grows pages granted) = Unit {0}
+IsFine w (Raises code) = (code ≡ 1) ⊎ (code ≡ 2) ⊎ ((code ≡ 3) × IsSome w.refused)
+IsFine w Traps = ⊥
+
+-- whether memory grants a request: exactly where it stays within the limit
+abbrev pub grants : World → ℕ → Bool
+grants w pages = nat_le (w.held + pages) w.limit
+
+abbrev pub IsAnswered : World → Event → Type 0
+IsAnswered w (Grows pages granted) = granted ≡ grants w pages
+IsAnswered w _ = Unit {0}
+
+-- an instance that goes on has not ended
+abbrev pub GoesOn : State → Type 0
+GoesOn (Running c) = Unit {0}
+GoesOn Returned = ⊥
+GoesOn (Raised code) = ⊥
+GoesOn Trapped = ⊥
+
+-- A request asks for a page at least, and for no more than that with it so many are held; and the run goes on after it.
+abbrev pub AsksWithin : (most : ℕ) → World → Event → State → Type 0
+AsksWithin most w (Grows pages granted) state = (1 ≤ pages) × (w.held + pages ≤ most) × GoesOn state
+AsksWithin most w _ state = Unit {0}
+
+-- what the instance has after a step from a memory: a granted growth's pages are its own, the memory's next ones
+abbrev pub world_after : World → List ℕ → Event → World
+world_after w memory (Grows pages true) =
+    record w { own = w.own ++ record { start = length memory; size = pages * page } ∷ []; held = w.held + pages }
+world_after w memory (Grows pages false) = record w { refused = Some pages }
+world_after w memory _ = w

@@ -1,5 +1,0 @@
-use Rattle.qw_token.proofs.TokenLemmas.{IsAfter-string, behind_first}
-use Rattle.qw_token.proofs.token.scan.after_string.Goals as goal
-
-pub returns : goal.returns
-returns c = rw (c.after_quote.ensures, behind_first c.args.text.now) (IsAfter-string c.args.text.now c.requires)

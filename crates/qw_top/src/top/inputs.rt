@@ -1,0 +1,167 @@
+//! From the words of a run to the contents of its files.
+
+ghost use Rattle.std.specs.Prelude.{◌≡◌, ◌≤◌, [], ◌∷◌, IfOk, IfErr, length};
+ghost use Rattle.qw_types.specs.declared.schema.Table.{Table};
+ghost use Rattle.qw_csv.specs.Loading.{AreIntegers};
+ghost use Rattle.qw_top.specs.FileNames.{table_file_of};
+ghost use Rattle.qw_top.specs.Inner.Stages.{CountsStop, FilesStop, StopsAs};
+ghost use Rattle.qw_top.specs.Inner.Stop.{octets_of};
+ghost use Rattle.qw_top.specs.Top.{HasQuery, IsFile, IsNoQuery, IsNoSchema, IsNoTable, IsTooLong, QueryIs, SchemaIs, TableIs};
+ghost use Rattle.qw_top.specs.Inner.Inputs.{IsOneTable, names_of};
+
+use crate::files::{MAX_TABLE_FILE, MAX_TEXT_FILE, ReadFault, read_whole, table_file_name};
+use crate::stop::{FileName, Refusal, Stop};
+use crate::words::RunWords;
+use qw_csv::loading::{LoadFault, Loaded, load};
+use qw_io::Shelf;
+use qw_meaning::query::Query;
+use qw_parse::parse::{ParseFault, query_of, schema_of};
+use qw_types::{Schema, Table};
+use std::alloc::Global;
+
+/// What the files of a run hold.
+#[derive(Debug, Drop)]
+pub struct Prepared {
+    /// The one table that is declared.
+    pub schema: Schema,
+    /// Its rows.
+    pub loaded: Loaded,
+    /// The query over it.
+    pub query: Query,
+}
+
+/// Reads the files that the words name: the schema file, the table's file and the queries file, in this
+/// order. The first that is refused ends the reading.
+///
+/// # Errors
+///
+/// A refusal of the file, the name of the one that couldn't be read, or want of memory.
+pub fn prepare<'a, F: Shelf>(
+    alloc: Global,
+    names: &RunWords<'a>,
+    files: &mut F,
+) -> Result<Prepared, Stop<'a>>
+    ensures accepted { IfOk result (λ run. (table : Table) × (run.schema ≡ table ∷ [])
+        × (run.loaded.width ≡ length table.columns)
+        × HasQuery (F.files files.old) (names_of names.now) table run.loaded.rows run.query) }
+    ensures one_table { IfOk result (λ run. IsOneTable run.schema) }
+    ensures stops { IfErr result (λ stop. FilesStop (F.files files.old) (names_of names.now) stop) }
+    ensures counts { CountsStop result (F.faults files.old) (F.faults files.new) }
+    ensures never_falls { F.faults files.old ≤ F.faults files.new }
+    ensures same_files { F.files files.new ≡ F.files files.old }
+{
+    let schema = read_schema(alloc, names.schema, files)?;
+    let loaded = read_table(alloc, names.folder, &schema, files)?;
+    let query = read_query(alloc, names.queries, &schema, files)?;
+    Ok(Prepared {
+        schema,
+        loaded,
+        query,
+    })
+}
+
+/// The table of a schema of one table.
+pub fn one_table(schema: &Schema) -> &Table
+    requires { IsOneTable schema.now }
+    ensures only { schema.now ≡ result.now ∷ [] }
+    ensures integers { AreIntegers result.now.columns }
+{
+    &schema.as_slice()[0]
+}
+
+/// The schema of a schema file.
+fn read_schema<'a, F: Shelf>(
+    alloc: Global,
+    name: &'a str,
+    files: &mut F,
+) -> Result<Schema, Stop<'a>>
+    ensures accepted { IfOk result (λ schema. SchemaIs (F.files files.old) name.now schema) }
+    ensures one_table { IfOk result (λ schema. IsOneTable schema) }
+    ensures stops { IfErr result (λ stop.
+        StopsAs Refusal.Schema (IsNoSchema (F.files files.old) name.now) name.now stop) }
+    ensures counts { CountsStop result (F.faults files.old) (F.faults files.new) }
+    ensures never_falls { F.faults files.old ≤ F.faults files.new }
+    ensures same_files { F.files files.new ≡ F.files files.old }
+{
+    let name = FileName::Given(name);
+    let text = read_file(alloc, files, name, MAX_TEXT_FILE, Refusal::Schema)?;
+    match schema_of(alloc, text.as_slice()) {
+        Ok(schema) => Ok(schema),
+        Err(ParseFault::Refused) => Err(Stop::Refused(Refusal::Schema)),
+        Err(ParseFault::NoMemory) => Err(Stop::NoMemory),
+    }
+}
+
+/// The rows of the table file of a schema's one table, in this folder.
+fn read_table<'a, F: Shelf>(
+    alloc: Global,
+    folder: &str,
+    schema: &Schema,
+    files: &mut F,
+) -> Result<Loaded, Stop<'a>>
+    requires { IsOneTable schema.now }
+    ensures accepted { IfOk result (λ loaded. (table : Table) → schema.now ≡ table ∷ []
+        → TableIs (F.files files.old) folder.now table loaded.rows) }
+    ensures width { IfOk result (λ loaded. (table : Table) → schema.now ≡ table ∷ []
+        → loaded.width ≡ length table.columns) }
+    ensures stops { IfErr result (λ stop. (table : Table) → schema.now ≡ table ∷ []
+        → StopsAs Refusal.TableFile (IsNoTable (F.files files.old) folder.now table) (table_file_of folder.now table.name) stop) }
+    ensures counts { CountsStop result (F.faults files.old) (F.faults files.new) }
+    ensures never_falls { F.faults files.old ≤ F.faults files.new }
+    ensures same_files { F.files files.new ≡ F.files files.old }
+{
+    let table = one_table(schema);
+    let name = table_file_name(alloc, folder, table.name.as_str()).map_err(|_| Stop::NoMemory)?;
+    let name = FileName::Made(name);
+    let bytes = read_file(alloc, files, name, MAX_TABLE_FILE, Refusal::TableFile)?;
+    load(alloc, table, bytes.as_slice()).map_err(|fault| match fault {
+        LoadFault::NoMemory => Stop::NoMemory,
+        _ => Stop::Refused(Refusal::TableFile),
+    })
+}
+
+/// The query of a queries file.
+fn read_query<'a, F: Shelf>(
+    alloc: Global,
+    name: &'a str,
+    schema: &Schema,
+    files: &mut F,
+) -> Result<Query, Stop<'a>>
+    ensures accepted { IfOk result (λ query. QueryIs (F.files files.old) name.now schema.now query) }
+    ensures stops { IfErr result (λ stop.
+        StopsAs Refusal.Queries (IsNoQuery (F.files files.old) name.now schema.now) name.now stop) }
+    ensures counts { CountsStop result (F.faults files.old) (F.faults files.new) }
+    ensures never_falls { F.faults files.old ≤ F.faults files.new }
+    ensures same_files { F.files files.new ≡ F.files files.old }
+{
+    let name = FileName::Given(name);
+    let text = read_file(alloc, files, name, MAX_TEXT_FILE, Refusal::Queries)?;
+    match query_of(alloc, schema, text.as_slice()) {
+        Ok(query) => Ok(query),
+        Err(ParseFault::Refused) => Err(Stop::Refused(Refusal::Queries)),
+        Err(ParseFault::NoMemory) => Err(Stop::NoMemory),
+    }
+}
+
+/// A whole file within its limit. A longer one is refused with the refusal of its kind.
+fn read_file<'a, F: Shelf>(
+    alloc: Global,
+    files: &mut F,
+    name: FileName<'a>,
+    limit: usize,
+    too_long: Refusal,
+) -> Result<Vec<u8>, Stop<'a>>
+    ensures whole { IfOk result (λ bytes. IsFile (F.files files.old) (octets_of name.entry) limit bytes.items) }
+    ensures stops { IfErr result (λ stop.
+        StopsAs too_long (IsTooLong (F.files files.old) (octets_of name.entry) limit) (octets_of name.entry) stop) }
+    ensures counts { CountsStop result (F.faults files.old) (F.faults files.new) }
+    ensures never_falls { F.faults files.old ≤ F.faults files.new }
+    ensures same_files { F.files files.new ≡ F.files files.old }
+{
+    match read_whole(alloc, files, name.as_str(), limit) {
+        Ok(bytes) => Ok(bytes),
+        Err(ReadFault::TooLong) => Err(Stop::Refused(too_long)),
+        Err(ReadFault::Failed) => Err(Stop::Unread(name)),
+        Err(ReadFault::NoMemory) => Err(Stop::NoMemory),
+    }
+}

@@ -1,0 +1,4 @@
+-- What restates code for proofs. No public clause rests on it.
+pub mod Checkers
+pub mod Checking
+pub mod Refusals
