@@ -3,7 +3,7 @@ use Rattle.std.proofs.Common.{◌≡◌, ℕ, zero, suc, ◌+◌, ◌*◌, ◌%�
 use Rattle.std.specs.Prelude.{slice_get}
 use Rattle.std.proofs.lemmas.Bool.{cases_lt}
 use Rattle.std.proofs.lemmas.Option.{slice_get-get_or, slice_get_within}
-use Rattle.qw_types.specs.declared.schema.TheConstants.{MAX_COLUMNS}
+use Rattle.qw_types.specs.Limits.{most_columns}
 use Rattle.qw_types.specs.declared.value.Val.{Val}
 use Rattle.qw_meaning.specs.Statement.{Statement}
 use Rattle.qw_linear.specs.Memory.{AreOctets, grown_by, number_at, page, with_number, SameBelow}
@@ -128,7 +128,7 @@ module _ (d rows : ℕ) (starts memory m1 m2 m3 : List ℕ) (is1 : m1 ≡ with_n
   pub same-below : SameBelow memory m3 d
   same-below k lt = entries.outside k (inl (omega arith)) ∙ head_kept k (inl lt)
 
-  module _ (few : length starts ≤ MAX_COLUMNS) (small : d + page < 2 ^ 32) (inside : d + page ≤ length memory) (blank : IsBlank memory d) where
+  module _ (few : length starts ≤ most_columns) (small : d + page < 2 ^ 32) (inside : d + page ≤ length memory) (blank : IsBlank memory d) where
     long : length m1 ≡ length memory
     long = same_length memory m1 d (d + entry_offset (length starts)) is1
 

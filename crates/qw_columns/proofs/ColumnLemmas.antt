@@ -9,7 +9,7 @@ use Rattle.std.proofs.lemmas.List.Elements.{All-filter, All-nil}
 use Rattle.std.proofs.lemmas.List.Sums.{count_by-le-length, length-filter}
 use Rattle.std.proofs.lemmas.List.FromFn.{get_or-range_with_len, length-range_with_len}
 use Rattle.std.specs.List.{range_with_len}
-use Rattle.qw_types.specs.declared.schema.TheConstants.{MAX_COLUMNS, MAX_ROWS}
+use Rattle.qw_types.specs.Limits.{most_columns, most_rows}
 use Rattle.qw_types.specs.declared.value.Val.{Val}
 use Rattle.qw_types.specs.declared.value.Val.TheVariants.{Num}
 use Rattle.qw_linear.specs.Memory.{AreOctets, number_at, page, with_number, SameBelow}
@@ -34,24 +34,24 @@ within_pages width rows column inside =
     omega arith
 
 -- the columns of the widest and longest table
-pub few_pages : (width rows : ℕ) → rows ≤ MAX_ROWS → width ≤ MAX_COLUMNS → column_pages width rows ≤ 3907
+pub few_pages : (width rows : ℕ) → rows ≤ most_rows → width ≤ most_columns → column_pages width rows ≤ 3907
 few_pages width rows few narrow =
     let size : to_eight (integer_size * rows) ≤ 4000000 = omega arith in
     let most : width * to_eight (integer_size * rows) ≤ 64 * 4000000 = mul-le-mul narrow size in
     omega arith
 
 -- a statement uses columns that a table may have
-pub used-below : (statement : Statement) → All (λ column. column < MAX_COLUMNS) (used statement)
+pub used-below : (statement : Statement) → All (λ column. column < most_columns) (used statement)
 unfolding used
 used-below statement =
-    All-filter (is_used statement) (λ column. column < MAX_COLUMNS) (range_with_len 0 MAX_COLUMNS)
-    (λ k d lt. rw (get_or-range_with_len 0 MAX_COLUMNS k d (omega (arith, length-range_with_len 0 MAX_COLUMNS))) (omega (arith, length-range_with_len 0 MAX_COLUMNS)))
+    All-filter (is_used statement) (λ column. column < most_columns) (range_with_len 0 most_columns)
+    (λ k d lt. rw (get_or-range_with_len 0 most_columns k d (omega (arith, length-range_with_len 0 most_columns))) (omega (arith, length-range_with_len 0 most_columns)))
 
-pub few_used : (statement : Statement) → length (used statement) ≤ MAX_COLUMNS
+pub few_used : (statement : Statement) → length (used statement) ≤ most_columns
 unfolding used
 few_used statement =
-    let columns = range_with_len 0 MAX_COLUMNS in
-    omega (arith, length-filter (is_used statement) columns, count_by-le-length (is_used statement) columns, length-range_with_len 0 MAX_COLUMNS)
+    let columns = range_with_len 0 most_columns in
+    omega (arith, length-filter (is_used statement) columns, count_by-le-length (is_used statement) columns, length-range_with_len 0 most_columns)
 
 -- ---- the values of one column
 

@@ -6,7 +6,7 @@ use Rattle.csv.specs.declared.parser.State.{State}
 use Rattle.csv.specs.declared.parser.State.TheVariants.{StartRecord}
 use Rattle.qw_types.specs.declared.schema.Column.{Column}
 use Rattle.qw_types.specs.declared.schema.Table.{Table}
-use Rattle.qw_types.specs.declared.schema.TheConstants.{MAX_ROWS}
+use Rattle.qw_types.specs.Limits.{most_rows}
 use Rattle.qw_types.specs.declared.value.Ty.{Ty}
 use Rattle.qw_types.specs.declared.value.Ty.TheVariants.{Integer}
 use Rattle.qw_types.specs.declared.value.Val.{Val}
@@ -82,7 +82,7 @@ same_first_fault (c ∷ cs) (f ∷ fs) (suc p) zero a b h k = absurd (value_or_f
 same_first_fault (c ∷ cs) (f ∷ fs) (suc p) (suc q) a b h k = let (e, why) = same_first_fault cs fs p q a b h.2 k.2 in (ap suc e, why)
 
 -- so a record within the limit that stands for a row isn't at fault
-sound_record : (columns : List Column) (number : ℕ) (fields : List (List ℕ)) (row : List Val) (e : LoadFault) → number ≤ MAX_ROWS
+sound_record : (columns : List Column) (number : ℕ) (fields : List (List ℕ)) (row : List Val) (e : LoadFault) → number ≤ most_rows
     → IsRecordOf columns fields row → IsRecordFault columns number fields e → ⊥
 sound_record columns number fields row fault.BadHeader few h k = k
 sound_record columns number fields row (fault.FieldCount r) few h k = k.2 (length_of columns fields row h)
@@ -91,7 +91,7 @@ sound_record columns number fields row fault.TooManyRows few h k = omega arith
 sound_record columns number fields row fault.NoMemory few h k = k
 
 -- a record at fault is no later than the one after the limit
-fault_place : (columns : List Column) (number : ℕ) (fields : List (List ℕ)) (e : LoadFault) → IsRecordFault columns number fields e → number ≤ MAX_ROWS + 1
+fault_place : (columns : List Column) (number : ℕ) (fields : List (List ℕ)) (e : LoadFault) → IsRecordFault columns number fields e → number ≤ most_rows + 1
 fault_place columns number fields fault.BadHeader k = absurd k
 fault_place columns number fields (fault.FieldCount r) k = omega (arith, k.0)
 fault_place columns number fields (fault.Field r p why) k = omega (arith, k.0)

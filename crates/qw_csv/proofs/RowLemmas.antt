@@ -13,7 +13,7 @@ use Rattle.csv.specs.declared.reader.Reader.{Reader}
 use Rattle.qw_types.specs.Value.{IsOfType, value_of}
 use Rattle.qw_types.specs.declared.schema.Column.{Column}
 use Rattle.qw_types.specs.declared.schema.Table.{Table}
-use Rattle.qw_types.specs.declared.schema.TheConstants.{MAX_ROWS}
+use Rattle.qw_types.specs.Limits.{most_rows}
 use Rattle.qw_types.specs.declared.value.Ty.TheVariants.{Integer}
 use Rattle.qw_types.specs.declared.value.Val.{Val}
 use Rattle.qw_types.specs.declared.value.Val.TheVariants.{Num}
@@ -125,7 +125,7 @@ rows_push columns records count width numbers more next full wide h r =
 
 -- all records read: the file stands for the rows
 pub loads_all : (table : Table) (bytes : List ℕ) (header : List (List ℕ)) (records : List (List (List ℕ))) (count width : ℕ) (numbers : List ℤ)
-    → AreRecords default_config StartRecord (strip_bom bytes) (header ∷ records) → IsHeader table.columns header → count ≤ MAX_ROWS
+    → AreRecords default_config StartRecord (strip_bom bytes) (header ∷ records) → IsHeader table.columns header → count ≤ most_rows
     → AreRecordsOf table.columns records (rows_of count width numbers) → Loads table bytes (rows_of count width numbers)
 loads_all table bytes header records count width numbers all named few each =
     record { header = header; records = records; all = all; named = named; few = rw (length-rows_of count width numbers) few; each = each }

@@ -9,7 +9,7 @@ use Rattle.csv.specs.declared.parser.State.TheVariants.{StartRecord}
 use Rattle.qw_types.specs.Value.{IsOfType}
 use Rattle.qw_types.specs.declared.schema.Column.{Column}
 use Rattle.qw_types.specs.declared.schema.Table.{Table}
-use Rattle.qw_types.specs.declared.schema.TheConstants.{MAX_COLUMNS, MAX_ROWS}
+use Rattle.qw_types.specs.Limits.{most_columns, most_rows}
 use Rattle.qw_types.specs.declared.value.Ty.{Ty}
 use Rattle.qw_types.specs.declared.value.Ty.TheVariants.{Integer}
 use Rattle.qw_types.specs.declared.value.Val.{Val}
@@ -68,7 +68,7 @@ pub record Loads (table : Table) (bytes : List ℕ) (rows : List (List Val)) : T
   pub records : List (List (List ℕ))
   pub all : AreAllRecords bytes (header ∷ records)
   pub named : IsHeader table.columns header
-  pub few : length rows ≤ MAX_ROWS
+  pub few : length rows ≤ most_rows
   pub each : AreRecordsOf table.columns records rows
 
 -- the file begins with the header and records for these rows, and then comes this record
@@ -88,10 +88,10 @@ IsFirstFieldFault _ _ place why = ⊥
 
 -- what is wrong with the data record of this number, counted from 1
 abbrev pub IsRecordFault : List Column → ℕ → List (List ℕ) → LoadFault → Type 0
-IsRecordFault columns number fields fault.TooManyRows = number ≡ MAX_ROWS + 1
-IsRecordFault columns number fields (fault.FieldCount row) = (number ≤ MAX_ROWS) × (row ≡ number) × (length fields ≢ length columns)
+IsRecordFault columns number fields fault.TooManyRows = number ≡ most_rows + 1
+IsRecordFault columns number fields (fault.FieldCount row) = (number ≤ most_rows) × (row ≡ number) × (length fields ≢ length columns)
 IsRecordFault columns number fields (fault.Field row place why) =
-    (number ≤ MAX_ROWS) × (row ≡ number) × (length fields ≡ length columns) × IsFirstFieldFault columns fields place why
+    (number ≤ most_rows) × (row ≡ number) × (length fields ≡ length columns) × IsFirstFieldFault columns fields place why
 IsRecordFault columns number fields fault.BadHeader = ⊥
 IsRecordFault columns number fields fault.NoMemory = ⊥
 
@@ -118,8 +118,8 @@ IsIntegerRow width row = (length row ≡ width) × AllByRecursion (IsOfType Inte
 -- the limits of a loaded table, whose rows have a value for each column
 pub record AreLoaded (contents : Contents) : Type 0 where
   pub some : 1 ≤ contents.width
-  pub narrow : contents.width ≤ MAX_COLUMNS
-  pub few : length contents.rows ≤ MAX_ROWS
+  pub narrow : contents.width ≤ most_columns
+  pub few : length contents.rows ≤ most_rows
   pub typed : AllByRecursion (IsIntegerRow contents.width) contents.rows
 
 -- so many rows, of so many numbers each, that stand one after another
@@ -130,7 +130,7 @@ rows_of (suc count) width numbers = map Num (take width numbers) ∷ rows_of cou
 -- numbers that stand for so many rows of so many columns
 pub record AreKept (count width : ℕ) (numbers : List ℤ) : Type 0 where
   pub some : 1 ≤ width
-  pub narrow : width ≤ MAX_COLUMNS
-  pub few : count ≤ MAX_ROWS
+  pub narrow : width ≤ most_columns
+  pub few : count ≤ most_rows
   pub full : length numbers ≡ count * width
   pub typed : All (λ n. IsOfType Integer (Num n)) numbers

@@ -5,7 +5,7 @@ use Rattle.std.specs.List.{AllByRecursion, list_any, range_with_len}
 use Rattle.std.specs.Option.{option_map}
 use Rattle.std.proofs.lemmas.Bool.{cases_Bool, or_cases, or_left, or_right, eq-eqb, eqb-true, eqb-false}
 use Rattle.std.proofs.lemmas.Option.{none-some, same_Some, slice_get_within, slice_get-map}
-use Rattle.qw_types.specs.declared.schema.TheConstants.{MAX_COLUMNS}
+use Rattle.qw_types.specs.Limits.{most_columns}
 use Rattle.qw_meaning.specs.Statement.{Statement, IsStatement}
 use Rattle.qw_emit.specs.Inner.Emit.{scan_of, index_in, other_columns}
 use Rattle.qw_map.specs.Layout.{is_used, used}
@@ -70,15 +70,15 @@ module _ (statement : Statement) (is : IsStatement statement) where
   unfolding used
   tested-used = any-filter (is_used statement) statement.tested
       (or_left (statement.tested == statement.tested) (list_any (λ c. c == statement.tested) statement.columns) (eq-eqb statement.tested statement.tested refl))
-      (range_with_len 0 MAX_COLUMNS) (any-range statement.tested 0 MAX_COLUMNS (omega arith) (omega (arith, is.tested)))
+      (range_with_len 0 most_columns) (any-range statement.tested 0 most_columns (omega arith) (omega (arith, is.tested)))
 
-  selected-used : (column : ℕ) → column < MAX_COLUMNS → is_among column statement.columns ≡ true → is_among column (used statement) ≡ true
+  selected-used : (column : ℕ) → column < most_columns → is_among column statement.columns ≡ true → is_among column (used statement) ≡ true
   unfolding used
   selected-used column small there = any-filter (is_used statement) column (or_right (column == statement.tested) (is_among column statement.columns) there)
-      (range_with_len 0 MAX_COLUMNS) (any-range column 0 MAX_COLUMNS (omega arith) (omega arith))
+      (range_with_len 0 most_columns) (any-range column 0 most_columns (omega arith) (omega arith))
 
   -- all of these are used
-  all_used : (columns : List ℕ) → AllByRecursion (λ column. column < MAX_COLUMNS) columns → ((c : ℕ) → is_among c columns ≡ true → is_among c statement.columns ≡ true) →
+  all_used : (columns : List ℕ) → AllByRecursion (λ column. column < most_columns) columns → ((c : ℕ) → is_among c columns ≡ true → is_among c statement.columns ≡ true) →
       AllByRecursion (λ column. is_among column (used statement) ≡ true) columns
   all_used [] small inside = tt
   all_used (column ∷ columns) small inside = (

@@ -6,7 +6,7 @@ use Rattle.std.proofs.lemmas.Bool.{cases_Bool, ltb-false}
 use Rattle.std.proofs.lemmas.List.{length-map}
 use Rattle.std.proofs.lemmas.List.Sums.{prefix_len-le-length, length-filter, count_by-le-length}
 use Rattle.std.proofs.Math.Dec.{ltb}
-use Rattle.qw_types.specs.declared.schema.TheConstants.{MAX_COLUMNS}
+use Rattle.qw_types.specs.Limits.{most_columns}
 use Rattle.qw_meaning.specs.Statement.{Statement, IsStatement}
 use Rattle.qw_meaning.specs.declared.query.Comparison.{Comparison}
 use Rattle.qw_emit.specs.Inner.Emit.{Scan, value_local, value_of_other, index_in, other_columns, local_of, scan_of}
@@ -31,11 +31,11 @@ length-filter_le : (p : ℕ → Bool) (xs : List ℕ) → length (filter p xs) �
 length-filter_le p xs = rw (length-filter p xs) (count_by-le-length p xs)
 
 -- a statement uses at most as many columns as a table has
-pub length-used : (statement : Statement) → length (used statement) ≤ MAX_COLUMNS
+pub length-used : (statement : Statement) → length (used statement) ≤ most_columns
 unfolding used
-length-used statement = length-filter_le (is_used statement) (range_with_len 0 MAX_COLUMNS)
+length-used statement = length-filter_le (is_used statement) (range_with_len 0 most_columns)
 
-pub length-other_columns : (statement : Statement) → length (other_columns statement) ≤ MAX_COLUMNS
+pub length-other_columns : (statement : Statement) → length (other_columns statement) ≤ most_columns
 length-other_columns statement =
     omega (arith, length-filter_le (λ column. not (column == statement.tested)) (used statement), length-used statement)
 
@@ -49,7 +49,7 @@ places_small columns (x ∷ xs) most few = (omega (arith, index_in-small columns
 pub IsPlan-scan_of : (statement : Statement) → IsStatement statement → FitsSigned w64 statement.literal → IsPlan (scan_of statement)
 IsPlan-scan_of statement limits literal = record {
   tested = le_trans (index_in-small (used statement) statement.tested) (length-used statement);
-  others = places_small (used statement) (other_columns statement) MAX_COLUMNS (length-used statement);
+  others = places_small (used statement) (other_columns statement) most_columns (length-used statement);
   few = rw (length-map (other_columns statement) (index_in (used statement))) (length-other_columns statement);
   cells = rw (length-map statement.columns (local_of statement)) limits.few;
   literal = literal;

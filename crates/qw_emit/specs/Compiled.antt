@@ -1,7 +1,7 @@
 -- When a module is the compiled form of a statement: what its runs do, whatever shares the memory with them.
 use Rattle.std.specs.Prelude.{◌≡◌, ℕ, ◌+◌, ◌-◌, ◌*◌, ◌/◌, ◌^◌, ◌<◌, ◌≤◌, List, length, Some, Contains, slice_get, None, sum_by}
 use Rattle.std.specs.List.{AllByRecursion}
-use Rattle.qw_types.specs.declared.schema.TheConstants.{MAX_ROWS}
+use Rattle.qw_types.specs.Limits.{most_rows}
 use Rattle.qw_types.specs.declared.value.Val.{Val}
 use Rattle.qw_linear.specs.Memory.{page, most_pages, pages_of, AreOctets}
 use Rattle.qw_module.specs.declared.module.Function.{Function}
@@ -23,7 +23,7 @@ pub record IsReady (statement : Statement) (rows : List (List Val)) (starts : Li
   pub octets : AreOctets memory
   pub whole : length memory ≡ pages_of memory * page
   pub size : pages_of memory ≤ most_pages
-  pub few : length rows ≤ MAX_ROWS
+  pub few : length rows ≤ most_rows
   pub typed : AllByRecursion (λ (row : List Val). AllByRecursion (λ column. column < length row) (used statement)) rows
   pub many : length starts ≡ length (used statement)
   pub columns : (k start column : ℕ) → slice_get starts k ≡ Some start → slice_get (used statement) k ≡ Some column →
@@ -77,7 +77,7 @@ Answers statement rows descriptor b Trapped = ⊥
 -- The module is the compiled form of the statement: it is valid, and of the shape that is executed; it can be linked to a
 -- memory of any size, as it asks for one of at least one page; all functions of its own have at most 2^22 instructions
 -- together, and its `run` at most 2^24 with all that it calls, which is nothing of its own yet; and over any table of at most
--- `MAX_ROWS` rows, wherever its columns lie from octet 64 on and the first page behind them, every open run behaves: its loads
+-- `most_rows` rows, wherever its columns lie from octet 64 on and the first page behind them, every open run behaves: its loads
 -- lie in the columns and its own areas, its stores in its own areas, it doesn't trap, its requests stay within the page bound,
 -- it ends within its bound, and then answers.
 pub record IsCompiled (statement : Statement) (m : Module) : Type 0 where

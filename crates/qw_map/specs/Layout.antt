@@ -2,7 +2,7 @@
 use Rattle.std.specs.Prelude.{◌≡◌, ℕ, zero, suc, ◌+◌, ◌*◌, ◌<◌, ◌≤◌, ◌==◌, ◌&&◌, ◌||◌, if◌then◌else◌, Bool, pos, negsuc, ℤ, int_le, List, [], ◌∷◌, length, map, filter, Option, Some, None, slice_get, slice_index}
 use Rattle.std.specs.Int.{w64, cast_signed}
 use Rattle.std.specs.List.{list_any, range_with_len}
-use Rattle.qw_types.specs.declared.schema.TheConstants.{MAX_COLUMNS}
+use Rattle.qw_types.specs.Limits.{most_columns}
 use Rattle.qw_types.specs.declared.value.Ty.{Ty}
 use Rattle.qw_types.specs.declared.value.Ty.TheVariants.{Integer}
 use Rattle.qw_types.specs.declared.value.Val.{Val}
@@ -20,7 +20,7 @@ is_used statement column = (column == statement.tested) || list_any (λ c. c == 
 
 -- the columns that a statement uses, each once, in the order of the table
 unfoldable pub used : Statement → List ℕ
-used statement = filter (is_used statement) (range_with_len 0 MAX_COLUMNS)
+used statement = filter (is_used statement) (range_with_len 0 most_columns)
 
 -- where these columns stand, in a table of so many rows
 abbrev pub column_starts : Statement → (rows : ℕ) → List ℕ

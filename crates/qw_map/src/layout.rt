@@ -1,8 +1,8 @@
 //! Where the columns begin, and where the parts of an instance's descriptor and of its result rows stand.
 
 ghost use Rattle.std.specs.Prelude.{◌≡◌, ◌≤◌, IfOk};
-ghost use Rattle.qw_types.specs.declared.schema.TheConstants.{MAX_COLUMNS};
-ghost use Rattle.qw_meaning.specs.declared.query.TheConstants.{MAX_ITEMS};
+ghost use Rattle.qw_types.specs.Limits.{most_columns};
+ghost use Rattle.qw_meaning.specs.Statement.{most_items};
 ghost use Rattle.qw_map.specs.Layout as layout;
 
 use qw_meaning::query::{MAX_ITEMS, Query};
@@ -54,7 +54,7 @@ pub const CELL_SIZE: u32 = 16;
 
 /// Where a column's entry begins in the descriptor, by the column's place among those that are used.
 pub fn entry_offset(place: u32) -> u32
-    requires { place ≤ MAX_COLUMNS }
+    requires { place ≤ most_columns }
     ensures { result ≡ layout.entry_offset place }
 {
     HEAD_SIZE + ENTRY_SIZE * place
@@ -62,7 +62,7 @@ pub fn entry_offset(place: u32) -> u32
 
 /// The octets of a result row of so many cells.
 pub fn row_size(cells: usize) -> u32
-    requires { cells ≤ MAX_ITEMS }
+    requires { cells ≤ most_items }
     ensures { result ≡ layout.row_size cells }
 {
     CELL_OFFSET + CELL_SIZE * cells as u32

@@ -1,9 +1,8 @@
 -- A typed statement over one table (ISO/IEC 9075:1992, 7.9 "query specification").
 use Rattle.std.specs.Prelude.{ℕ, ℤ, ◌<◌, ◌≤◌, List, length}
 use Rattle.std.specs.List.{AllByRecursion}
-use Rattle.qw_types.specs.declared.schema.TheConstants.{MAX_COLUMNS}
+use Rattle.qw_types.specs.Limits.{most_columns}
 use Rattle.qw_meaning.specs.declared.query.Comparison.{Comparison}
-use Rattle.qw_meaning.specs.declared.query.TheConstants.{MAX_ITEMS}
 
 -- SELECT columns FROM the table WHERE tested comparison literal; columns are counted from 0
 pub record Statement : Type 0 where
@@ -12,9 +11,13 @@ pub record Statement : Type 0 where
   pub comparison : Comparison
   pub literal : ℤ
 
+-- items of a select list, at most
+abbrev pub most_items : ℕ
+most_items = 64
+
 -- the limits of a statement
 pub record IsStatement (statement : Statement) : Type 0 where
   pub some : 1 ≤ length statement.columns
-  pub few : length statement.columns ≤ MAX_ITEMS
-  pub selected : AllByRecursion (λ column. column < MAX_COLUMNS) statement.columns
-  pub tested : statement.tested < MAX_COLUMNS
+  pub few : length statement.columns ≤ most_items
+  pub selected : AllByRecursion (λ column. column < most_columns) statement.columns
+  pub tested : statement.tested < most_columns

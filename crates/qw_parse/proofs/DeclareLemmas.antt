@@ -8,7 +8,7 @@ use Rattle.std.proofs.lemmas.List.{length-map}
 use Rattle.std.proofs.lemmas.Slice.{between_to_end}
 use Rattle.std.proofs.lemmas.Slice.Eq.{bytes_eq-Decides}
 use Rattle.qw_types.specs.declared.schema.Column.{Column}
-use Rattle.qw_types.specs.declared.schema.TheConstants.{MAX_COLUMNS}
+use Rattle.qw_types.specs.Limits.{most_columns}
 use Rattle.qw_types.specs.Schema.{AreColumns, AreDistinct}
 use Rattle.qw_ast.specs.Grammar.{folded}
 use Rattle.qw_parse.specs.Parse.{integer_column}
@@ -74,7 +74,7 @@ column_names : (names : List (List ℕ)) → map (λ (c : Column). c.name) (map 
 column_names [] = refl
 column_names (name ∷ names) = ap (λ ns. name ∷ ns) (column_names names)
 
-pub are_columns : (names : List (Bor (List ℕ))) → 0 < length names → length names ≤ MAX_COLUMNS → true ≡ are_distinct (names_of names) → AreColumns (map integer_column (names_of names))
+pub are_columns : (names : List (Bor (List ℕ))) → 0 < length names → length names ≤ most_columns → true ≡ are_distinct (names_of names) → AreColumns (map integer_column (names_of names))
 are_columns names some few distinct =
     let count : length (map integer_column (names_of names)) ≡ length names = length-map (names_of names) integer_column ∙ length-map names (λ name. folded name.now) in
     record {
@@ -83,7 +83,7 @@ are_columns names some few distinct =
       distinct = subst AreDistinct (sym (column_names (names_of names))) (distinct_from_test (names_of names) (sym distinct));
     }
 
-pub too_many : (names : List (Bor (List ℕ))) → MAX_COLUMNS < length names → AreColumns (map integer_column (names_of names)) → ⊥
+pub too_many : (names : List (Bor (List ℕ))) → most_columns < length names → AreColumns (map integer_column (names_of names)) → ⊥
 too_many names many are =
     let count : length (map integer_column (names_of names)) ≡ length names = length-map (names_of names) integer_column ∙ length-map names (λ name. folded name.now) in
     omega (arith, count, many, are.few)

@@ -8,11 +8,10 @@ use Rattle.std.proofs.lemmas.List.{length-map, map_push, take_more}
 use Rattle.std.proofs.lemmas.List.Quantifiers.{position-Some}
 use Rattle.qw_types.specs.declared.schema.Column.{Column}
 use Rattle.qw_types.specs.declared.schema.Table.{Table}
-use Rattle.qw_types.specs.declared.schema.TheConstants.{MAX_COLUMNS}
+use Rattle.qw_types.specs.Limits.{most_columns}
 use Rattle.qw_types.specs.Schema.{AreColumns}
 use Rattle.qw_meaning.specs.declared.query.Comparison.{Comparison}
-use Rattle.qw_meaning.specs.declared.query.TheConstants.{MAX_ITEMS}
-use Rattle.qw_meaning.specs.Statement.{Statement, IsStatement}
+use Rattle.qw_meaning.specs.Statement.{most_items, Statement, IsStatement}
 use Rattle.qw_ast.specs.Grammar.{folded, Selection}
 use Rattle.qw_parse.specs.Parse.{place_of, Means}
 use Rattle.qw_ast.specs.Inner.Views.{names_of}
@@ -68,14 +67,14 @@ as_many find names places e =
     let counts : length (map find names) ≡ length (map Some places) = ap (λ (x : List (Option ℕ)). length x) e in
     omega (arith, counts, length-map names find, length-map {A = ℕ} places Some)
 
-pub statement_within : (columns : List Column) (names : List (Bor (List ℕ))) (places : List ℕ) (name : List ℕ) (tested : ℕ) (comparison : Comparison) (literal : ℤ) → AreColumns columns → 0 < length names → length names ≤ MAX_ITEMS → map (place_of columns) (names_of names) ≡ map Some places → Some tested ≡ place_of columns name → IsStatement (record { columns = places; tested = tested; comparison = comparison; literal = literal })
+pub statement_within : (columns : List Column) (names : List (Bor (List ℕ))) (places : List ℕ) (name : List ℕ) (tested : ℕ) (comparison : Comparison) (literal : ℤ) → AreColumns columns → 0 < length names → length names ≤ most_items → map (place_of columns) (names_of names) ≡ map Some places → Some tested ≡ place_of columns name → IsStatement (record { columns = places; tested = tested; comparison = comparison; literal = literal })
 statement_within columns names places name tested comparison literal are some few found is =
     let count = as_many (place_of columns) (names_of names) places found in
     let named = length-map names (λ n. folded n.now) in
     record {
       some = omega (arith, count, named, some);
       few = omega (arith, count, named, few);
-      selected = places_within columns (names_of names) places MAX_COLUMNS are.few found;
+      selected = places_within columns (names_of names) places most_columns are.few found;
       tested = omega (arith, place_below columns name tested (sym is), are.few);
     }
 

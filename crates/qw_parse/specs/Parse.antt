@@ -5,8 +5,7 @@ use Rattle.qw_types.specs.declared.schema.Column.{Column}
 use Rattle.qw_types.specs.declared.schema.Table.{Table}
 use Rattle.qw_types.specs.declared.value.Ty.TheVariants.{Integer}
 use Rattle.qw_types.specs.Schema.{AreColumns}
-use Rattle.qw_meaning.specs.declared.query.TheConstants.{MAX_ITEMS}
-use Rattle.qw_meaning.specs.Statement.{Statement}
+use Rattle.qw_meaning.specs.Statement.{most_items, Statement}
 use Rattle.qw_ast.specs.Grammar.{IsStatement, create_table, Selection, Selects}
 
 -- a column that is declared INTEGER NOT NULL
@@ -37,7 +36,7 @@ place_of columns name = position (λ (c : Column). bytes_eq name c.name) columns
 pub record Means (schema : List Table) (selection : Selection) (statement : Statement) : Type 0 where
   pub table : Table
   pub table_is : table_of schema selection.source.table ≡ Some table
-  pub few : length selection.columns ≤ MAX_ITEMS
+  pub few : length selection.columns ≤ most_items
   pub columns_are : map (place_of table.columns) selection.columns ≡ map Some statement.columns
   pub tested_is : place_of table.columns selection.source.tested ≡ Some statement.tested
   pub comparison_is : statement.comparison ≡ selection.source.comparison

@@ -3,7 +3,7 @@
 ghost use Rattle.std.specs.Prelude.{◌≡◌, ◌+◌, ◌<◌, ◌≤◌, ◌^◌, ◌*◌, List, length, IfOk, IfSome, IsSome, Some, slice_get};
 ghost use Rattle.std.specs.List.{AllByRecursion};
 ghost use Rattle.qw_types.specs.declared.value.Val.{Val};
-ghost use Rattle.qw_meaning.specs.declared.query.TheConstants.{MAX_ITEMS};
+ghost use Rattle.qw_meaning.specs.Statement.{most_items};
 ghost use Rattle.qw_meaning.specs.Meaning.{Rows, outcome};
 ghost use Rattle.qw_map.specs.Areas.{Area};
 ghost use Rattle.qw_map.specs.Turns.{Done, LiesWithin};
@@ -32,7 +32,7 @@ pub fn received(alloc: Global, bench: &Bench, i: usize) -> Result<Vec<Row>, NoMe
 /// The types of the cells of a statement's result rows.
 fn types_of(alloc: Global, query: &Query) -> Result<Vec<Ty>, NoMemory>
     ensures types { IfOk result (λ types. types.items ≡ cell_types query.now) }
-    ensures few { IfOk result (λ types. length types.items ≤ MAX_ITEMS) }
+    ensures few { IfOk result (λ types. length types.items ≤ most_items) }
 {
     let types = query.columns().iter().map(|_| Ty::Integer).collect(alloc)?;
     Ok(types)
@@ -46,7 +46,7 @@ fn rows_of(
     types: &[Ty],
 ) -> Result<Vec<Row>, NoMemory>
     requires small { descriptor < 2 ^ 32 }
-    requires few { length types.now ≤ MAX_ITEMS }
+    requires few { length types.now ≤ most_items }
     requires there { (own : List Area) × AllByRecursion (LiesWithin (length memory.now.octets)) own
         × IsSome (rows_at types.now own memory.now.octets descriptor) }
     ensures { IfOk result (λ rows. (own : List Area) → IsSome (rows_at types.now own memory.now.octets descriptor)
@@ -68,7 +68,7 @@ fn chained_rows(
     types: &[Ty],
 ) -> Result<Vec<Row>, NoMemory>
     requires small { first < 2 ^ 32 }
-    requires few { length types.now ≤ MAX_ITEMS }
+    requires few { length types.now ≤ most_items }
     requires there { (own : List Area) × AllByRecursion (LiesWithin (length memory.now.octets)) own
         × IsSome (rows_from types.now own memory.now.octets count first) }
     ensures { IfOk result (λ rows. (own : List Area) → IsSome (rows_from types.now own memory.now.octets count first)
@@ -86,7 +86,7 @@ fn chained_rows(
 /// The row whose cells begin at an address.
 fn row_at(alloc: Global, memory: &Linear, cells: u64, types: &[Ty]) -> Result<Row, NoMemory>
     requires small { cells < 2 ^ 33 }
-    requires few { length types.now ≤ MAX_ITEMS }
+    requires few { length types.now ≤ most_items }
     requires inside { cells + 16 * length types.now ≤ length memory.now.octets }
     requires there { IsSome (cells_at memory.now.octets cells types.now) }
     ensures { IfOk result (λ row. cells_at memory.now.octets cells types.now ≡ Some row) }

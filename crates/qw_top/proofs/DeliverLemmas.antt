@@ -11,7 +11,7 @@ use Rattle.qw_types.specs.declared.value.Val.{Val}
 use Rattle.qw_map.specs.Turns.{End, Done as EndedDone, Exception, Pages, Steps, Trap}
 use Rattle.qw_meaning.specs.Statement.{Statement}
 use Rattle.qw_emit.specs.Compiled.{page_bound}
-use Rattle.qw_bench.specs.declared.bench.TheConstants.{DEFAULT_LIMITS}
+use Rattle.qw_top.specs.Limits.{default_limits}
 use Rattle.qw_top.specs.declared.status.Status.{Status}
 use Rattle.qw_top.specs.declared.status.Status.TheVariants.{Done, WordsRefused, SchemaRefused, TableFileRefused, QueriesRefused, ReadFailed, WriteFailed, PageLimitMet, NoMemory}
 use Rattle.qw_top.specs.declared.stop.Refusal.{Refusal}
@@ -79,7 +79,7 @@ runs_explained files words result why told is done =
 
 -- the page limit isn't met where it is as large as the page bound
 pages_enough : (told : List ℕ → Option (List ℕ)) (words : List (List ℕ)) (names : Names) (table : Table) (rows : List (List Val)) (statement : Statement) →
-    AreNames words names → HasQuery (Some told) names table rows statement → page_bound statement rows ≤ DEFAULT_LIMITS.pages → Explains (Some told) words PageLimitMet → ⊥
+    AreNames words names → HasQuery (Some told) names table rows statement → page_bound statement rows ≤ default_limits.pages → Explains (Some told) words PageLimitMet → ⊥
 pages_enough told words names table rows statement are asks enough (other, are', (table', rows', statement', asks', above)) =
     let same = AreNames-unique words other names are' are in
     let one = HasQuery-unique told names table table' rows rows' statement statement' asks (subst (λ (n : Names). HasQuery (Some told) n table' rows' statement') same asks') in
@@ -87,7 +87,7 @@ pages_enough told words names table rows statement are asks enough (other, are',
     omega (arith, bound, enough, above)
 
 pub enough_explained : (files : Files) (words : List (List ℕ)) (result : Status) → Explains files words result → (told : List ℕ → Option (List ℕ)) (names : Names) (table : Table) (rows : List (List Val)) (statement : Statement) →
-    files ≡ Some told → AreNames words names → HasQuery (Some told) names table rows statement → page_bound statement rows ≤ DEFAULT_LIMITS.pages → (result ≡ Done) ⊎ IsFault result
+    files ≡ Some told → AreNames words names → HasQuery (Some told) names table rows statement → page_bound statement rows ≤ default_limits.pages → (result ≡ Done) ⊎ IsFault result
 enough_explained files words result why told names table rows statement is are asks enough =
     let here : Explains (Some told) words result = subst (λ (f : Files). Explains f words result) is why in
     elim (runs_explained files words result why told is (names, are, (table, rows, statement, asks))) [

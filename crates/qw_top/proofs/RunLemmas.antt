@@ -4,7 +4,7 @@ use Rattle.std.specs.Prelude.{IsSome, slice_get}
 use Rattle.std.proofs.lemmas.List.{length-map}
 use Rattle.std.proofs.lemmas.List.Sums.{length-filter, count_by-le-length}
 use Rattle.std.proofs.lemmas.Nat.{mul-le}
-use Rattle.qw_types.specs.declared.schema.TheConstants.{MAX_ROWS}
+use Rattle.qw_types.specs.Limits.{most_rows}
 use Rattle.qw_types.specs.declared.schema.Table.{Table}
 use Rattle.qw_types.specs.declared.value.Val.{Val}
 use Rattle.qw_module.specs.declared.module.Module.{Module}
@@ -15,8 +15,7 @@ use Rattle.qw_meaning.specs.Meaning.{condition, is_true, results, selected}
 use Rattle.qw_emit.specs.Compiled.{IsCompiled, bound, page_bound, units, weight_of}
 use Rattle.qw_map.specs.Layout.{cell_types, rows_at}
 use Rattle.qw_bench.specs.declared.bench.Seat.{Seat}
-use Rattle.qw_bench.specs.declared.bench.TheConstants.{DEFAULT_LIMITS}
-use Rattle.qw_top.specs.declared.top.TheConstants.{QUANTUM}
+use Rattle.qw_top.specs.Limits.{default_limits, quantum}
 use Rattle.qw_bench.specs.Bench.{AreRounds, AreServing, end_in, IsAt, IsStart, Serves, Task}
 use Rattle.qw_top.specs.Delivered.{HasRun, ShowsEnd}
 use Rattle.qw_bench.specs.Seats.{Standing, first_task, instance_of, rows_in, shared_of, task_of, tasks_of, world_of}
@@ -33,7 +32,7 @@ few_results statement rows =
     let keeps : List Val → Bool = λ row. is_true (condition statement row) in
     omega (arith, length-map (filter keeps rows) (selected statement), length-filter keeps rows, count_by-le-length keeps rows)
 
-bounded : (statement : Statement) (rows : List (List Val)) (program : Module) (number : ℕ) → IsCompiled statement program → IsShaped program number → length rows ≤ MAX_ROWS → bound statement rows program number ≤ 999999999999999999
+bounded : (statement : Statement) (rows : List (List Val)) (program : Module) (number : ℕ) → IsCompiled statement program → IsShaped program number → length rows ≤ most_rows → bound statement rows program number ≤ 999999999999999999
 bounded statement rows program number compiled shaped few =
     few_instructions (weight_of program number) (units statement rows) (compiled.light number shaped) (omega (arith, few, few_results statement rows))
 
@@ -52,14 +51,14 @@ rows_are b seat is = ap (λ (seats : List Seat). rows_in (record { memory = b.me
 first_is : (b : Standing) (seat : Seat) → b.seats ≡ seat ∷ [] → slice_get (shared_of b).instances 0 ≡ Some (instance_of seat)
 first_is b seat is = ap (λ (seats : List Seat). slice_get (map instance_of seats) 0) is
 
-few_at_start : (width : ℕ) (rows : List (List Val)) (t : Task) (start : Shared) → IsStart width rows (t ∷ []) start → length rows ≤ MAX_ROWS
+few_at_start : (width : ℕ) (rows : List (List Val)) (t : Task) (start : Shared) → IsStart width rows (t ∷ []) start → length rows ≤ most_rows
 few_at_start width rows t start began =
     let many : length start.instances ≡ 1 = began.begins.many in
     let i = there start.instances 0 (omega arith) in
     (began.begins.starting 0 t i.0 refl i.1).ready.few
 
 abbrev pub task_for : (width : ℕ) → List (List Val) → Statement → Module → Task
-task_for width rows statement program = first_task width (length rows) (record { statement = statement; program = program }) DEFAULT_LIMITS
+task_for width rows statement program = first_task width (length rows) (record { statement = statement; program = program }) default_limits
 
 -- An instance has served its one task from the start on: its end is one of a task, and comes before its limit of instructions.
 record Served (width : ℕ) (rows : List (List Val)) (t : Task) (b : Standing) : Type 0 where
@@ -97,7 +96,7 @@ some_of (Some x) is = (x, refl)
 -- turns from the start of a statement on, after which its instance has ended
 pub HasRun-from : (width : ℕ) (rows : List (List Val)) (statement : Statement) (program : Module) (before b : Standing) → IsCompiled statement program →
     tasks_of before ≡ task_for width rows statement program ∷ [] → IsStart width rows (tasks_of before) (shared_of before) → tasks_of b ≡ tasks_of before →
-    ((given : List (ℕ × ℕ)) × AreRounds QUANTUM given (shared_of before) × (shared_of b ≡ turns given (shared_of before))) →
+    ((given : List (ℕ × ℕ)) × AreRounds quantum given (shared_of before) × (shared_of b ≡ turns given (shared_of before))) →
     EachInstance (λ instance. IsSome instance.end) (shared_of b) → HasRun width rows statement b
 HasRun-from width rows statement program before b compiled task start same (given, rounds, turned) ended =
     let t = task_for width rows statement program in
@@ -147,7 +146,7 @@ HasRun-shows table rows statement b run =
 
 -- a request that was past the limit of pages was within the page bound
 pub HasRun-pages : (width : ℕ) (rows : List (List Val)) (statement : Statement) (b : Standing) (run : HasRun width rows statement b) (held asked limit : ℕ) → run.end ≡ Pages held asked limit →
-    DEFAULT_LIMITS.pages < page_bound statement rows
+    default_limits.pages < page_bound statement rows
 HasRun-pages width rows statement b run held asked limit is =
     let t = task_for width rows statement run.program in
     let s = ended_at width rows statement b run in

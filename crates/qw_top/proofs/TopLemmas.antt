@@ -7,12 +7,12 @@ use Rattle.std.proofs.lemmas.Bool.{eqb-true}
 use Rattle.std.proofs.lemmas.List.Folds.{find_at}
 use Rattle.std.proofs.lemmas.List.Quantifiers.{position-Some}
 use Rattle.qw_types.specs.declared.schema.Column.{Column}
-use Rattle.qw_types.specs.declared.schema.TheConstants.{MAX_COLUMNS}
+use Rattle.qw_types.specs.Limits.{most_columns}
 use Rattle.qw_types.specs.declared.schema.Table.{Table}
 use Rattle.qw_types.specs.declared.value.Val.{Val}
 use Rattle.qw_meaning.specs.Statement.{Statement}
 use Rattle.qw_map.specs.Layout.{is_used, used}
-use Rattle.qw_top.specs.declared.files.TheConstants.{MAX_TABLE_FILE, MAX_TEXT_FILE}
+use Rattle.qw_top.specs.Limits.{most_table_octets, most_text_octets}
 use Rattle.qw_top.specs.declared.status.Status.{Status}
 use Rattle.qw_top.specs.declared.status.Status.TheVariants.{Done, PageLimitMet, WordsRefused, SchemaRefused, TableFileRefused, QueriesRefused, ReadFailed, WriteFailed, NoMemory as NoMemoryLeft}
 use Rattle.qw_top.specs.declared.stop.Refusal.{Refusal}
@@ -163,7 +163,7 @@ filtered_within statement width (place ∷ places) tested within =
 pub used_within : (table : Table) (statement : Statement) (width : ℕ) → width ≡ length table.columns → AreColumnsOf table statement → AllByRecursion (λ column. column < width) (used statement)
 unfolding used
 used_within table statement width is (tested, within) =
-    rw is (filtered_within statement (length table.columns) (range_with_len 0 MAX_COLUMNS) tested within)
+    rw is (filtered_within statement (length table.columns) (range_with_len 0 most_columns) tested within)
 
 -- ---- told files
 
@@ -185,37 +185,37 @@ IsFile-short told name limit a h long = short_or_long (told name) a limit h.ther
 -- a schema file declares one schema at most, and is refused only where it declares none
 pub SchemaIs-unique : (told : List ℕ → Option (List ℕ)) (name : List ℕ) (a b : List Table) → SchemaIs (Some told) name a → SchemaIs (Some told) name b → a ≡ b
 SchemaIs-unique told name a b h k =
-    let e = IsFile-unique told name MAX_TEXT_FILE h.text k.text h.file k.file in
+    let e = IsFile-unique told name most_text_octets h.text k.text h.file k.file in
     ReadsSchema-unique k.text a b (subst (λ (t : List ℕ). ReadsSchema t a) e h.reads) k.reads
 
 pub SchemaIs-refused : (told : List ℕ → Option (List ℕ)) (name : List ℕ) (schema : List Table) → SchemaIs (Some told) name schema → IsNoSchema (Some told) name → ⊥
-SchemaIs-refused told name schema h (inl long) = IsFile-short told name MAX_TEXT_FILE h.text h.file long
+SchemaIs-refused told name schema h (inl long) = IsFile-short told name most_text_octets h.text h.file long
 SchemaIs-refused told name schema h (inr (text, file, none)) =
-    let e = IsFile-unique told name MAX_TEXT_FILE h.text text h.file file in
+    let e = IsFile-unique told name most_text_octets h.text text h.file file in
     none schema (subst (λ (t : List ℕ). ReadsSchema t schema) e h.reads)
 
 -- a table file stands for one list of rows at most, and is refused only where it stands for none
 pub TableIs-unique : (told : List ℕ → Option (List ℕ)) (folder : List ℕ) (table : Table) (a b : List (List Val)) → TableIs (Some told) folder table a → TableIs (Some told) folder table b → a ≡ b
 TableIs-unique told folder table a b h k =
-    let e = IsFile-unique told (table_file_of folder table.name) MAX_TABLE_FILE h.bytes k.bytes h.file k.file in
+    let e = IsFile-unique told (table_file_of folder table.name) most_table_octets h.bytes k.bytes h.file k.file in
     same_loads table k.bytes a b (subst (λ (t : List ℕ). Loads table t a) e h.loads) k.loads
 
 pub TableIs-refused : (told : List ℕ → Option (List ℕ)) (folder : List ℕ) (table : Table) (rows : List (List Val)) → TableIs (Some told) folder table rows → IsNoTable (Some told) folder table → ⊥
-TableIs-refused told folder table rows h (inl long) = IsFile-short told (table_file_of folder table.name) MAX_TABLE_FILE h.bytes h.file long
+TableIs-refused told folder table rows h (inl long) = IsFile-short told (table_file_of folder table.name) most_table_octets h.bytes h.file long
 TableIs-refused told folder table rows h (inr (bytes, fault, file, fails)) =
-    let e = IsFile-unique told (table_file_of folder table.name) MAX_TABLE_FILE h.bytes bytes h.file file in
+    let e = IsFile-unique told (table_file_of folder table.name) most_table_octets h.bytes bytes h.file file in
     loads_or_fails table bytes rows fault (subst (λ (t : List ℕ). Loads table t rows) e h.loads) fails
 
 -- a queries file is one statement at most, and is refused only where it is none
 pub QueryIs-unique : (told : List ℕ → Option (List ℕ)) (name : List ℕ) (schema : List Table) (a b : Statement) → QueryIs (Some told) name schema a → QueryIs (Some told) name schema b → a ≡ b
 QueryIs-unique told name schema a b h k =
-    let e = IsFile-unique told name MAX_TEXT_FILE h.text k.text h.file k.file in
+    let e = IsFile-unique told name most_text_octets h.text k.text h.file k.file in
     ReadsQuery-unique schema k.text a b (subst (λ (t : List ℕ). ReadsQuery schema t a) e h.reads) k.reads
 
 pub QueryIs-refused : (told : List ℕ → Option (List ℕ)) (name : List ℕ) (schema : List Table) (statement : Statement) → QueryIs (Some told) name schema statement → IsNoQuery (Some told) name schema → ⊥
-QueryIs-refused told name schema statement h (inl long) = IsFile-short told name MAX_TEXT_FILE h.text h.file long
+QueryIs-refused told name schema statement h (inl long) = IsFile-short told name most_text_octets h.text h.file long
 QueryIs-refused told name schema statement h (inr (text, file, none)) =
-    let e = IsFile-unique told name MAX_TEXT_FILE h.text text h.file file in
+    let e = IsFile-unique told name most_text_octets h.text text h.file file in
     none statement (subst (λ (t : List ℕ). ReadsQuery schema t statement) e h.reads)
 
 -- schema files that declare one table each declare the same one

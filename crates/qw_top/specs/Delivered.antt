@@ -7,10 +7,9 @@ use Rattle.qw_map.specs.Turns.{End, Done as EndedDone, Pages, Shared, turns}
 use Rattle.qw_meaning.specs.Statement.{Statement}
 use Rattle.qw_meaning.specs.Meaning.{Rows, outcome}
 use Rattle.qw_emit.specs.Compiled.{IsCompiled}
-use Rattle.qw_bench.specs.declared.bench.TheConstants.{DEFAULT_LIMITS}
+use Rattle.qw_top.specs.Limits.{default_limits, quantum}
 use Rattle.qw_top.specs.declared.status.Status.{Status}
 use Rattle.qw_top.specs.declared.status.Status.TheVariants.{Done, WordsRefused, SchemaRefused, TableFileRefused, QueriesRefused, ReadFailed, WriteFailed, PageLimitMet, NoMemory}
-use Rattle.qw_top.specs.declared.top.TheConstants.{QUANTUM}
 use Rattle.qw_bench.specs.Bench.{AreRounds, IsStart, end_in}
 use Rattle.qw_top.specs.Notes.{read_fault_line, want_of_memory_line}
 use Rattle.qw_top.specs.Output.{TookFront, with_text}
@@ -29,11 +28,11 @@ pub record Asks (files : Files) (words : List (List ℕ)) (table : Table) (rows 
 pub record HasRun (width : ℕ) (rows : List (List Val)) (statement : Statement) (b : Standing) : Type 0 where
   pub program : Module
   pub compiled : IsCompiled statement program
-  pub tasks : tasks_of b ≡ first_task width (length rows) (record { statement = statement; program = program }) DEFAULT_LIMITS ∷ []
+  pub tasks : tasks_of b ≡ first_task width (length rows) (record { statement = statement; program = program }) default_limits ∷ []
   pub start : Shared
   pub began : IsStart width rows (tasks_of b) start
   pub given : List (ℕ × ℕ)
-  pub rounds : AreRounds QUANTUM given start
+  pub rounds : AreRounds quantum given start
   pub turned : shared_of b ≡ turns given start
   pub end : End
   pub ended : end_in (shared_of b) 0 ≡ Some end

@@ -8,7 +8,7 @@ use Rattle.qw_types.specs.declared.schema.Table.{Table}
 use Rattle.qw_types.specs.declared.value.Ty.{Ty}
 use Rattle.qw_types.specs.declared.value.Ty.TheVariants.{Integer}
 use Rattle.qw_types.specs.declared.value.Val.{Val}
-use Rattle.qw_top.specs.declared.files.TheConstants.{MAX_TABLE_FILE, MAX_TEXT_FILE}
+use Rattle.qw_top.specs.Limits.{most_table_octets, most_text_octets, default_limits}
 use Rattle.qw_csv.specs.declared.loading.LoadFault.{LoadFault}
 use Rattle.qw_meaning.specs.Statement.{Statement}
 use Rattle.qw_sink.specs.declared.sink.Head.{Head}
@@ -19,7 +19,6 @@ use Rattle.qw_top.specs.declared.status.Status.TheVariants.{Done, WordsRefused, 
 use Rattle.qw_top.specs.FileNames.{table_file_of}
 use Rattle.qw_emit.specs.Compiled.{page_bound}
 use Rattle.qw_csv.specs.Loading.{IsFirstFault, Loads}
-use Rattle.qw_bench.specs.declared.bench.TheConstants.{DEFAULT_LIMITS}
 use Rattle.qw_parse.specs.Parse.{ReadsQuery, ReadsSchema}
 use Rattle.qw_top.specs.Words.{IsRun}
 
@@ -40,7 +39,7 @@ IsTooLong files name limit = OfFile files name (λ file. limit < length file)
 -- the schema file of this name declares these tables
 pub record SchemaIs (files : Files) (name : List ℕ) (schema : List Table) : Type 0 where
   pub text : List ℕ
-  pub file : IsFile files name MAX_TEXT_FILE text
+  pub file : IsFile files name most_text_octets text
   pub reads : ReadsSchema text schema
 
 -- a text that declares no tables
@@ -49,24 +48,24 @@ DeclaresNothing text = (schema : List Table) → ReadsSchema text schema → ⊥
 
 -- the schema file of this name is refused: it is too long, or its text declares no tables
 abbrev pub IsNoSchema : Files → List ℕ → Type 0
-IsNoSchema files name = IsTooLong files name MAX_TEXT_FILE
-    ⊎ ((text : List ℕ) × IsFile files name MAX_TEXT_FILE text × DeclaresNothing text)
+IsNoSchema files name = IsTooLong files name most_text_octets
+    ⊎ ((text : List ℕ) × IsFile files name most_text_octets text × DeclaresNothing text)
 
 -- the file of a table in this folder stands for these rows
 pub record TableIs (files : Files) (folder : List ℕ) (table : Table) (rows : List (List Val)) : Type 0 where
   pub bytes : List ℕ
-  pub file : IsFile files (table_file_of folder table.name) MAX_TABLE_FILE bytes
+  pub file : IsFile files (table_file_of folder table.name) most_table_octets bytes
   pub loads : Loads table bytes rows
 
 -- the file of a table in this folder is refused: it is too long, or it has a first fault
 abbrev pub IsNoTable : Files → List ℕ → Table → Type 0
-IsNoTable files folder table = IsTooLong files (table_file_of folder table.name) MAX_TABLE_FILE
-    ⊎ ((bytes : List ℕ) × (fault : LoadFault) × IsFile files (table_file_of folder table.name) MAX_TABLE_FILE bytes × IsFirstFault table bytes fault)
+IsNoTable files folder table = IsTooLong files (table_file_of folder table.name) most_table_octets
+    ⊎ ((bytes : List ℕ) × (fault : LoadFault) × IsFile files (table_file_of folder table.name) most_table_octets bytes × IsFirstFault table bytes fault)
 
 -- the queries file of this name is this query over the schema
 pub record QueryIs (files : Files) (name : List ℕ) (schema : List Table) (statement : Statement) : Type 0 where
   pub text : List ℕ
-  pub file : IsFile files name MAX_TEXT_FILE text
+  pub file : IsFile files name most_text_octets text
   pub reads : ReadsQuery schema text statement
 
 -- a text that is no query over the schema
@@ -75,8 +74,8 @@ AsksNothing schema text = (statement : Statement) → ReadsQuery schema text sta
 
 -- the queries file of this name is refused: it is too long, or its text is no query over the schema
 abbrev pub IsNoQuery : Files → List ℕ → List Table → Type 0
-IsNoQuery files name schema = IsTooLong files name MAX_TEXT_FILE
-    ⊎ ((text : List ℕ) × IsFile files name MAX_TEXT_FILE text × AsksNothing schema text)
+IsNoQuery files name schema = IsTooLong files name most_text_octets
+    ⊎ ((text : List ℕ) × IsFile files name most_text_octets text × AsksNothing schema text)
 
 -- what the words of `run` name: the schema file, the folder of the table files, the queries file
 pub record Names : Type 0 where
@@ -117,7 +116,7 @@ FilesExplain files names SchemaRefused = IsNoSchema files names.schema
 FilesExplain files names TableFileRefused = (table : Table) × SchemaIs files names.schema (table ∷ []) × IsNoTable files names.folder table
 FilesExplain files names QueriesRefused = (table : Table) × (rows : List (List Val)) × HasRows files names table rows × IsNoQuery files names.queries (table ∷ [])
 FilesExplain files names PageLimitMet = (table : Table) × (rows : List (List Val)) × (statement : Statement)
-    × HasQuery files names table rows statement × (DEFAULT_LIMITS.pages < page_bound statement rows)
+    × HasQuery files names table rows statement × (default_limits.pages < page_bound statement rows)
 FilesExplain files names ReadFailed = Unit {0}
 FilesExplain files names WriteFailed = Unit {0}
 FilesExplain files names NoMemory = Unit {0}

@@ -7,7 +7,7 @@ ghost use Rattle.qw_types.specs.declared.schema.Table.{Table};
 ghost use Rattle.qw_types.specs.declared.value.Val.{Val};
 ghost use Rattle.qw_meaning.specs.Statement.{Statement};
 ghost use Rattle.qw_emit.specs.Compiled.{page_bound};
-ghost use Rattle.qw_bench.specs.declared.bench.TheConstants.{DEFAULT_LIMITS};
+ghost use Rattle.qw_top.specs.Limits.{default_limits};
 ghost use Rattle.qw_top.specs.declared.status.Status.{Status};
 ghost use Rattle.qw_top.specs.Delivered.{Leaves, LeavesBench, Notes};
 ghost use Rattle.qw_top.specs.Notes.{want_of_memory_line};
@@ -52,7 +52,7 @@ pub fn qwasm<F: Shelf, O: Sink, E: Sink>(
         → (result ≡ Status.Done) ⊎ (result ≡ Status.PageLimitMet) ⊎ IsFault result }
     ensures enough { (told : List ℕ → Option (List ℕ)) (names : Names) (table : Table) (rows : List (List Val)) (statement : Statement)
         → F.files files.old ≡ Some told → AreNames (map string_bytes words.now) names → HasQuery (Some told) names table rows statement
-        → page_bound statement rows ≤ DEFAULT_LIMITS.pages → (result ≡ Status.Done) ⊎ IsFault result }
+        → page_bound statement rows ≤ default_limits.pages → (result ≡ Status.Done) ⊎ IsFault result }
     ensures left { Leaves (F.files files.old) (map string_bytes words.now) result kept.new (O.taken out.old) (O.taken out.new) }
     ensures kept_at_fault { O.faults out.new ≢ O.faults out.old
         → LeavesBench (F.files files.old) (map string_bytes words.now) kept.new

@@ -1,4 +1,0 @@
-pub mod Digits
-pub mod Octets
-pub mod Schema
-pub mod Value

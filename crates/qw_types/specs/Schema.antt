@@ -3,7 +3,7 @@ use Rattle.std.specs.Prelude.{◌≢◌, ◌≤◌, ℕ, List, [], ◌∷◌, le
 use Rattle.std.specs.List.{AllByRecursion}
 use Rattle.qw_types.specs.declared.schema.Column.{Column}
 use Rattle.qw_types.specs.declared.schema.Table.{Table}
-use Rattle.qw_types.specs.declared.schema.TheConstants.{MAX_COLUMNS, MAX_TABLES}
+use Rattle.qw_types.specs.Limits.{most_columns, most_tables}
 
 -- no name comes twice
 abbrev pub AreDistinct : List (List ℕ) → Type 0
@@ -13,11 +13,11 @@ AreDistinct (name ∷ names) = AllByRecursion (λ other. name ≢ other) names �
 -- the columns of a table
 pub record AreColumns (columns : List Column) : Type 0 where
   pub some : 1 ≤ length columns
-  pub few : length columns ≤ MAX_COLUMNS
+  pub few : length columns ≤ most_columns
   pub distinct : AreDistinct (map (λ (c : Column). c.name) columns)
 
 -- the tables of a schema
 pub record AreTables (tables : List Table) : Type 0 where
   pub some : 1 ≤ length tables
-  pub few : length tables ≤ MAX_TABLES
+  pub few : length tables ≤ most_tables
   pub distinct : AreDistinct (map (λ (t : Table). t.name) tables)

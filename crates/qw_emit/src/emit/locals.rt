@@ -1,7 +1,7 @@
 //! The locals of `run`, by their indices. Behind the first eight each other column has two: its distance, and its value.
 
 ghost use Rattle.std.specs.Prelude.{◌≡◌, ◌≤◌};
-ghost use Rattle.qw_types.specs.declared.schema.TheConstants.{MAX_COLUMNS};
+ghost use Rattle.qw_types.specs.Limits.{most_columns};
 ghost use Rattle.qw_emit.specs.Inner.Emit as emit;
 
 use qw_types::schema::MAX_COLUMNS;
@@ -35,7 +35,7 @@ const FIRST_OTHER: u32 = 8;
 
 /// The local that holds the value of the other column of this number.
 pub fn value_of_other(number: u32) -> u32
-    requires { number ≤ MAX_COLUMNS }
+    requires { number ≤ most_columns }
     ensures { result ≡ emit.value_of_other number }
 {
     FIRST_OTHER + 2 * number + 1
@@ -43,7 +43,7 @@ pub fn value_of_other(number: u32) -> u32
 
 /// The local that holds the distance of the other column of this number.
 pub fn distance_of(number: u32) -> u32
-    requires { number ≤ MAX_COLUMNS }
+    requires { number ≤ most_columns }
     ensures { result ≡ emit.distance_of number }
 {
     FIRST_OTHER + 2 * number

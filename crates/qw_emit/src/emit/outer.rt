@@ -2,7 +2,7 @@
 
 ghost use Rattle.std.specs.Prelude.{◌≡◌, ℕ, IfOk, OnOk, length, ◌∷◌, [], ◌+◌, ◌-◌, ◌^◌, ◌≤◌, None, Some};
 ghost use Rattle.std.specs.List.{AllByRecursion};
-ghost use Rattle.qw_types.specs.declared.schema.TheConstants.{MAX_COLUMNS};
+ghost use Rattle.qw_types.specs.Limits.{most_columns};
 ghost use Rattle.qw_module.specs.declared.instruction.Binary.TheVariants.{I32Add, I32Mul};
 ghost use Rattle.qw_module.specs.declared.instruction.Relation.TheVariants.{I64Eq};
 ghost use Rattle.qw_module.specs.declared.instruction.ValType.TheVariants.{I32};
@@ -39,7 +39,7 @@ fn minus(number: u32) -> u32
 
 /// Reads the places before the compared column's first value and of its last.
 fn push_places(sequence: &mut Vec<Instr>, tested: u32) -> Result<(), NoMemory>
-    requires { tested ≤ MAX_COLUMNS }
+    requires { tested ≤ most_columns }
     ensures { OnOk result (Adds 7 sequence.old.items sequence.new.items (λ named rest.
         emit.get emit.descriptor_local (emit.load_i32 (layout.entry_offset tested) (emit.i32 (2 ^ 32 - 4) (op (o.Binary I32Add) (emit.tee emit.place_local
         (emit.get emit.descriptor_local (emit.load_i32 (layout.entry_offset tested + 12) (emit.i32 4 (op (o.Binary I32Mul) (op (o.Binary I32Add) (emit.set emit.last_place_local rest)))))))))))) }
@@ -67,9 +67,9 @@ fn push_distance(
     number: u32,
     place: u32,
 ) -> Result<(), NoMemory>
-    requires tested { tested ≤ MAX_COLUMNS }
-    requires number { number ≤ MAX_COLUMNS }
-    requires place { place ≤ MAX_COLUMNS }
+    requires tested { tested ≤ most_columns }
+    requires number { number ≤ most_columns }
+    requires place { place ≤ most_columns }
     ensures { OnOk result (Adds 7 sequence.old.items sequence.new.items (λ named rest. emit.read_distances tested number (place ∷ []) rest)) }
 {
     sequence.extend_from_slice(&[
@@ -85,9 +85,9 @@ fn push_distance(
 
 /// Reads the distances of the other columns.
 fn push_distances(sequence: &mut Vec<Instr>, tested: u32, others: &[u32]) -> Result<(), NoMemory>
-    requires tested { tested ≤ MAX_COLUMNS }
-    requires few { length others.now ≤ MAX_COLUMNS }
-    requires small { AllByRecursion (λ place. place ≤ MAX_COLUMNS) others.now }
+    requires tested { tested ≤ most_columns }
+    requires few { length others.now ≤ most_columns }
+    requires small { AllByRecursion (λ place. place ≤ most_columns) others.now }
     ensures { OnOk result (Adds 7 sequence.old.items sequence.new.items (λ named rest. emit.read_distances tested 0 others.now rest)) }
 {
     for (number, place) in others.iter().enumerate() {

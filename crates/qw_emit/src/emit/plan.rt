@@ -2,8 +2,8 @@
 
 ghost use Rattle.std.specs.Prelude.{◌≡◌, ◌≤◌, ◌==◌, IfOk, length, map, filter, not, if◌then◌else◌};
 ghost use Rattle.std.specs.List.{AllByRecursion, position};
-ghost use Rattle.qw_types.specs.declared.schema.TheConstants.{MAX_COLUMNS};
-ghost use Rattle.qw_meaning.specs.declared.query.TheConstants.{MAX_ITEMS};
+ghost use Rattle.qw_types.specs.Limits.{most_columns};
+ghost use Rattle.qw_meaning.specs.Statement.{most_items};
 ghost use Rattle.qw_meaning.specs.Statement.{IsStatement};
 ghost use Rattle.qw_emit.specs.Inner.Emit as emit;
 
@@ -70,7 +70,7 @@ impl Plan {
     /// The place of the compared column among those that are used.
     pub fn tested(&self) -> u32
         ensures tested { result ≡ self.now.tested }
-        ensures few { result ≤ MAX_COLUMNS }
+        ensures few { result ≤ most_columns }
     {
         self.tested
     }
@@ -78,8 +78,8 @@ impl Plan {
     /// The places of the other columns.
     pub fn others(&self) -> &[u32]
         ensures others { result.now ≡ self.now.others }
-        ensures few { length result.now ≤ MAX_COLUMNS }
-        ensures small { AllByRecursion (λ place. place ≤ MAX_COLUMNS) result.now }
+        ensures few { length result.now ≤ most_columns }
+        ensures small { AllByRecursion (λ place. place ≤ most_columns) result.now }
     {
         self.others.as_slice()
     }
@@ -87,7 +87,7 @@ impl Plan {
     /// The locals that hold the cells of a result row.
     pub fn cells(&self) -> &[u32]
         ensures cells { result.now ≡ self.now.cells }
-        ensures few { length result.now ≤ MAX_ITEMS }
+        ensures few { length result.now ≤ most_items }
     {
         self.cells.as_slice()
     }
@@ -116,7 +116,7 @@ fn first_place(columns: &[usize], column: usize) -> Option<usize>
 
 /// The first place of a column in a list, or its length.
 fn index_in(columns: &[usize], column: usize) -> u32
-    requires { length columns.now ≤ MAX_COLUMNS }
+    requires { length columns.now ≤ most_columns }
     ensures { result ≡ emit.index_in columns.now column }
 {
     first_place(columns, column).unwrap_or(columns.len()) as u32
@@ -136,7 +136,7 @@ fn other_columns(alloc: Global, used: &[usize], tested: usize) -> Result<Vec<usi
 
 /// The places of columns among those that are used.
 fn places_of(alloc: Global, used: &[usize], columns: &[usize]) -> Result<Vec<u32>, NoMemory>
-    requires { length used.now ≤ MAX_COLUMNS }
+    requires { length used.now ≤ most_columns }
     ensures { IfOk result (λ places. places.items ≡ map (emit.index_in used.now) columns.now) }
 {
     let places = columns.iter().map(|c| index_in(used, *c)).collect(alloc)?;
@@ -145,7 +145,7 @@ fn places_of(alloc: Global, used: &[usize], columns: &[usize]) -> Result<Vec<u32
 
 /// The local that holds the value of a column, by the compared column and the others.
 fn local_of(tested: usize, others: &[usize], column: usize) -> u32
-    requires { length others.now ≤ MAX_COLUMNS }
+    requires { length others.now ≤ most_columns }
     ensures { result ≡ (if column == tested then emit.value_local else emit.value_of_other (emit.index_in others.now column)) }
 {
     if column == tested {
@@ -162,7 +162,7 @@ fn cell_locals(
     others: &[usize],
     columns: &[usize],
 ) -> Result<Vec<u32>, NoMemory>
-    requires { length others.now ≤ MAX_COLUMNS }
+    requires { length others.now ≤ most_columns }
     ensures { IfOk result (λ locals. locals.items ≡ map (λ column. if column == tested then emit.value_local else emit.value_of_other (emit.index_in others.now column)) columns.now) }
 {
     let locals = columns

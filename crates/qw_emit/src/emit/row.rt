@@ -3,8 +3,8 @@
 ghost use Rattle.std.specs.Prelude.{◌≡◌, ℕ, IfOk, OnOk, length, ◌∷◌, [], ◌≤◌, None};
 ghost use Rattle.std.specs.Int.{cast_unsigned, w64};
 ghost use Rattle.std.specs.List.{AllByRecursion};
-ghost use Rattle.qw_types.specs.declared.schema.TheConstants.{MAX_COLUMNS};
-ghost use Rattle.qw_meaning.specs.declared.query.TheConstants.{MAX_ITEMS};
+ghost use Rattle.qw_types.specs.Limits.{most_columns};
+ghost use Rattle.qw_meaning.specs.Statement.{most_items};
 ghost use Rattle.qw_linear.specs.Memory.{page};
 ghost use Rattle.qw_module.specs.declared.instruction.Binary.TheVariants.{I32Add, I64Add};
 ghost use Rattle.qw_module.specs.declared.instruction.Relation.TheVariants.{I32Eq, I32Gt};
@@ -124,7 +124,7 @@ fn push_room(sequence: &mut Vec<Instr>) -> Result<(), NoMemory>
 
 /// Reads the value of the other column of this number.
 fn push_value(sequence: &mut Vec<Instr>, number: u32) -> Result<(), NoMemory>
-    requires { number ≤ MAX_COLUMNS }
+    requires { number ≤ most_columns }
     ensures { OnOk result (Adds 3 sequence.old.items sequence.new.items (λ named rest.
         emit.get emit.place_local (emit.get (emit.distance_of number) (op (o.Binary I32Add) (emit.load_value (emit.set (emit.value_of_other number) rest)))))) }
 {
@@ -140,7 +140,7 @@ fn push_value(sequence: &mut Vec<Instr>, number: u32) -> Result<(), NoMemory>
 
 /// Reads the values of the other columns.
 fn push_values(sequence: &mut Vec<Instr>, others: &[u32]) -> Result<(), NoMemory>
-    requires { length others.now ≤ MAX_COLUMNS }
+    requires { length others.now ≤ most_columns }
     ensures { OnOk result (Adds 3 sequence.old.items sequence.new.items (λ named rest. emit.read_values 0 others.now rest)) }
 {
     for (number, _place) in others.iter().enumerate() {
@@ -151,7 +151,7 @@ fn push_values(sequence: &mut Vec<Instr>, others: &[u32]) -> Result<(), NoMemory
 
 /// Writes the cell of this number.
 fn push_cell(sequence: &mut Vec<Instr>, number: u32, local: u32) -> Result<(), NoMemory>
-    requires { number ≤ MAX_ITEMS }
+    requires { number ≤ most_items }
     ensures { OnOk result (Adds 3 sequence.old.items sequence.new.items (λ named rest. emit.write_cells number (local ∷ []) rest)) }
 {
     sequence.extend_from_slice(&[
@@ -164,7 +164,7 @@ fn push_cell(sequence: &mut Vec<Instr>, number: u32, local: u32) -> Result<(), N
 
 /// Writes the cells of the row.
 fn push_cells(sequence: &mut Vec<Instr>, locals: &[u32]) -> Result<(), NoMemory>
-    requires { length locals.now ≤ MAX_ITEMS }
+    requires { length locals.now ≤ most_items }
     ensures { OnOk result (Adds 3 sequence.old.items sequence.new.items (λ named rest. emit.write_cells 0 locals.now rest)) }
 {
     for (number, local) in locals.iter().enumerate() {

@@ -1,7 +1,7 @@
 use Rattle.std.proofs.Common.{ℕ, ◌≡◌, ◌*◌, ◌<◌, List, length, map, sym, ap, ◌∙◌, subst, arith}
 use Rattle.std.specs.Prelude.{All}
 use Rattle.std.proofs.lemmas.List.{length-map}
-use Rattle.qw_types.specs.declared.schema.TheConstants.{MAX_COLUMNS}
+use Rattle.qw_types.specs.Limits.{most_columns}
 use Rattle.qw_linear.specs.Linear.{Octets}
 use Rattle.qw_linear.specs.Memory.{grown_by, page, AreOctets, SameBelow}
 use Rattle.qw_linear.proofs.GrowthFacts.{length-grown_by}
@@ -15,7 +15,7 @@ use Rattle.qw_bench.proofs.bench.start.first_memory.Goals as goal
 pub column_starts-requires-clause-columns : goal.column_starts-requires-clause-columns
 column_starts-requires-clause-columns c =
     let columns : c.as_slice.result.now ≡ used c.args.query.now = c.as_slice.ensures.value ∙ c.in_ok-columns.ensures in
-    subst (All (λ column. column < MAX_COLUMNS)) (sym columns) (used-below c.args.query.now)
+    subst (All (λ column. column < most_columns)) (sym columns) (used-below c.args.query.now)
 
 pub begin_page-requires-clause-few : goal.begin_page-requires-clause-few
 begin_page-requires-clause-few c =

@@ -1,13 +1,13 @@
 use Rattle.std.proofs.Common.{◌≡◌, ◌≤◌, ℕ, List, length, map, ap₂, ◌∙◌, sym, subst, rules, w64}
 use Rattle.std.specs.Prelude.{FitsSigned}
 use Rattle.std.proofs.lemmas.Int.{to_z-of_z}
-use Rattle.qw_types.specs.declared.schema.TheConstants.{MAX_COLUMNS}
+use Rattle.qw_types.specs.Limits.{most_columns}
 use Rattle.qw_emit.specs.Inner.Emit.{index_in, other_columns}
 use Rattle.qw_emit.specs.Inner.Plan.{IsPlan}
 use Rattle.qw_emit.proofs.PlanLemmas.{length-used, length-other_columns, others_are, cells_are, scan_is, IsPlan-scan_of}
 use Rattle.qw_emit.proofs.emit.plan.Plan.new.Goals as goal
 
-few : (xs ys : List ℕ) → xs ≡ ys → length ys ≤ MAX_COLUMNS → length xs ≤ MAX_COLUMNS
+few : (xs ys : List ℕ) → xs ≡ ys → length ys ≤ most_columns → length xs ≤ most_columns
 few xs ys same h = rw same h
 
 pub cell_locals-requires : goal.cell_locals-requires
