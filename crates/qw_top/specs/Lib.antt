@@ -1,0 +1,9 @@
+pub mod Delivered
+pub mod FileNames
+pub mod Inner
+pub mod Limits
+pub mod Notes
+pub mod Output
+pub mod Status
+pub mod Top
+pub mod Words

@@ -1,0 +1,5 @@
+pub mod Digits
+pub mod Limits
+pub mod Octets
+pub mod Schema
+pub mod Value
