@@ -1,7 +1,7 @@
 -- How the columns of loaded tables stand in the linear memory.
-use Rattle.std.specs.Prelude.{◌≡◌, suc, ◌+◌, ◌-◌, ◌*◌, ◌/◌, ◌≤◌, ℕ, ℤ, List, Option, Some, length, slice_get}
+use Rattle.std.specs.Prelude.{◌≡◌, suc, ◌+◌, ◌-◌, ◌*◌, ◌/◌, ◌≤◌, ℕ, ℤ, List, Some, length}
 use Rattle.std.specs.Int.{cast_signed, w32}
-use Rattle.std.specs.Option.{option_and_then}
+use Rattle.qw_types.specs.Value.{value_of}
 use Rattle.qw_types.specs.declared.value.Val.{Val}
 use Rattle.qw_types.specs.declared.value.Val.TheVariants.{Num}
 use Rattle.qw_linear.specs.Memory.{page, number_at}

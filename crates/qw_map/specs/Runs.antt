@@ -1,9 +1,7 @@
 -- Open runs: an instance's steps over a memory that others change between them.
-use Rattle.std.specs.Prelude.{◌≡◌, ℕ, zero, suc, ◌<◌, ◌≤◌, List, Some}
-use Rattle.qw_module.specs.Execution.{Config, State, Running, Trapped, Event, Step}
-use Rattle.qw_module.specs.Step.{next}
-use Rattle.qw_map.specs.Areas.{World, Others, IsFine, AsksWithin, IsAnswered, grants, world_after}
-use Rattle.qw_map.specs.Inner.Steps.{IsAllowed}
+use Rattle.std.specs.Prelude.{◌≡◌, ℕ, zero, suc, ◌<◌, ◌≤◌, List}
+use Rattle.qw_module.specs.Execution.{Config, State, Running, Event, Step, IsOver}
+use Rattle.qw_map.specs.Areas.{World, Others, IsFine, AsksWithin, IsAnswered, world_after}
 
 -- an instance between two steps: what it has, its state, and the memory
 pub record Moment : Type 0 where
@@ -40,6 +38,3 @@ pub record Behaves (most pages : ℕ) (P : Moment → Type 0) (a : Moment) : Typ
       OpenRun k a b → OpenStep b c before event state after → AsksWithin pages b.world event state
   pub bounded : (k : ℕ) (b : Moment) (c : Config) → OpenRun k a b → b.state ≡ Running c → k < most
   pub ends : (k : ℕ) (b : Moment) → OpenRun k a b → IsOver b.state → (k ≤ most) × P b
-OnStep pages w before Q (Some t) = IsAllowed pages w t.event t.state × Q (moment_after w before t.event t.state t.memory)
-OnRunning Trapped P = ⊥
-    OnStep pages a.world before (Within pages Q n) (next (grants a.world) c before))

@@ -1,0 +1,214 @@
+#!/usr/bin/env python3
+"""What a reader must believe: the definitions that public clauses rest on.
+
+From the clauses of public functions, through the imports of their files, to each definition of specs/ that they reach.
+Prints a line for each spec file that has such definitions: their number and lines. With --check compares these with the
+tables of docs/BELIEVE.md, and ends with 1 where they differ or where a public clause rests on specs/Inner.
+"""
+import os
+import re
+import sys
+
+TOP = os.path.join(os.path.dirname(os.path.abspath(__file__)), "..")
+CRATES = os.path.join(TOP, "crates")
+# Modules of qw_top that are public for the tests alone: what they promise is said again by the call.
+STAGES = {"files.rt", "notes.rt", "output.rt", "stop.rt", "words.rt"}
+WORD = re.compile(r"[^\s(){}\[\],;]+")
+IMPORT = re.compile(r"^\s*(?:ghost )?use (Rattle\.[^\s{]+?)(?:\.\{(.*)\}| as (\S+?));?$")
+
+
+class Definition:
+    def __init__(self, module, name, is_data):
+        self.module, self.name, self.is_data, self.lines = module, name, is_data, []
+
+
+class Scope:
+    """The names that a file imports, and its aliases of modules."""
+
+    def __init__(self, text):
+        self.names, self.aliases = {}, {}
+        for line in text.split("\n"):
+            found = IMPORT.match(line)
+            if not found:
+                continue
+            module, names, alias = found.groups()
+            if alias:
+                self.aliases[alias] = module
+                continue
+            for name in filter(None, (part.strip() for part in names.split(","))):
+                there, _, here = name.partition(" as ")
+                self.names[here or there] = (module, there)
+
+    def named_in(self, text, local):
+        """The definitions that a text names, by module and name."""
+        text = re.sub(r"--.*", "", text)
+        words = set(WORD.findall(text))
+        for word in words:
+            first, _, rest = word.partition(".")
+            if first in self.aliases and rest:
+                yield self.aliases[first], rest.split(".")[0]
+            for name in (word, first):
+                if name in self.names:
+                    yield self.names[name]
+                elif name in local:
+                    yield local[name].module, name
+        for name, target in list(self.names.items()) + [(n, (d.module, n)) for n, d in local.items()]:
+            if "◌" in name and all(part in words for part in name.replace("◌", " ").split()):
+                yield target
+
+
+class Spec:
+    def __init__(self, path):
+        self.path = os.path.relpath(path, CRATES)
+        crate, _, rest = self.path.split(os.sep, 2)
+        self.module = f"Rattle.{crate}.specs.{rest[:-5].replace(os.sep, '.')}"
+        text = open(path, encoding="utf-8").read()
+        self.scope, self.definitions, self.names = Scope(text), [], {}
+        comment = []
+        for line in text.split("\n"):
+            if line.startswith("--"):
+                comment.append(line)
+            elif not line or line.startswith(("use ", "infix")):
+                comment = [] if not line and not comment else comment
+            elif head := re.match(r"^(?:abbrev |unfoldable )?(?:pub )?(record |data )?(\S+)", line):
+                if re.match(r"^(abbrev|unfoldable|pub|record|data) ", line):
+                    self.add(head.group(2), head.group(1) == "data ", comment)
+                comment = []
+                self.definitions[-1].lines.append(line)
+            else:
+                last = self.definitions[-1]
+                last.lines.append(line)
+                constructor = re.match(r"^  (\S+) :", line)
+                if last.is_data and constructor:
+                    self.names[constructor.group(1)] = last
+
+    def add(self, name, is_data, comment):
+        definition = Definition(self.module, name, is_data)
+        definition.lines += comment
+        self.definitions.append(definition)
+        self.names[name] = definition
+
+
+def files_below(folder, ending):
+    for place, folders, names in os.walk(folder):
+        folders[:] = sorted(f for f in folders if f != "out")
+        for name in sorted(names):
+            if name.endswith(ending):
+                yield os.path.join(place, name)
+
+
+def block(text, start):
+    """The text between a brace and the one that closes it."""
+    depth = 0
+    for index in range(start, len(text)):
+        depth += {"{": 1, "}": -1}.get(text[index], 0)
+        if depth == 0:
+            return text[start + 1 : index]
+    return text[start + 1 :]
+
+
+def public_files(crate):
+    source = os.path.join(CRATES, crate, "src")
+    root = next(f for f in (os.path.join(source, "lib.rt"), os.path.join(source, "main.rt")) if os.path.exists(f))
+    found = [root]
+
+    def follow(path, folder):
+        text = open(path, encoding="utf-8").read()
+        for name in re.findall(r"^pub (?:mod|use) ([a-z_0-9]+)", text, flags=re.M):
+            inner = os.path.join(folder, name + ".rt")
+            if os.path.exists(inner) and inner not in found:
+                found.append(inner)
+                follow(inner, os.path.join(folder, name))
+
+    follow(root, source)
+    return [f for f in found if not (crate == "qw_top" and os.path.basename(f) in STAGES)]
+
+
+def clauses(path, only=None):
+    """The clauses of a file's public functions, and the values of its models."""
+    text = open(path, encoding="utf-8").read()
+    is_trait = re.search(r"^pub trait ", text, flags=re.M)
+    heads = list(re.finditer(r"^ *(pub )?(?:const )?fn ([a-z_0-9]+)", text, flags=re.M))
+    for head, after in zip(heads, heads[1:] + [None]):
+        if not (head.group(1) or is_trait) or (only and head.group(2) not in only):
+            continue
+        part = text[head.end() : after.start() if after else len(text)]
+        for clause in re.finditer(r"^\s*(?:requires|ensures)\b[^{]*\{", part, flags=re.M):
+            yield block(part, clause.end() - 1)
+
+
+def models():
+    """The value that clauses see of each type that has one."""
+    found = {}
+    for path in files_below(CRATES, ".rt"):
+        text = open(path, encoding="utf-8").read()
+        for head in re.finditer(r"^impl(?:<[^>]*>)? Model for (\w+)[^{]*\{", text, flags=re.M):
+            value = re.search(r"ghost Value = \{(.*?)\};", block(text, head.end() - 1), flags=re.S)
+            crate = os.path.relpath(path, CRATES).split(os.sep)[0]
+            found[crate, head.group(1)] = list(Scope(text).named_in(value.group(1), {})) if value else []
+    return found
+
+
+def closure(specs, values, roots):
+    found, seen, waiting = set(), set(), list(roots)
+    while waiting:
+        module, name = waiting.pop()
+        if (module, name) in seen or not module.startswith("Rattle.qw"):
+            continue
+        seen.add((module, name))
+        if ".specs.declared." in module:
+            waiting += values.get((module.split(".")[1], name), [])
+        elif module in specs and name in specs[module].names:
+            definition = specs[module].names[name]
+            if definition not in found:
+                found.add(definition)
+                spec = specs[module]
+                waiting += spec.scope.named_in("\n".join(definition.lines), spec.names)
+    return found
+
+
+def rows(specs, found):
+    for module in sorted(specs, key=lambda m: specs[m].path):
+        here = [d for d in specs[module].definitions if d in found]
+        if here:
+            yield specs[module].path, len(here), sum(len(d.lines) for d in here)
+
+
+def main():
+    specs = {}
+    for path in files_below(CRATES, ".antt"):
+        if "/specs/" in path and os.path.basename(path) not in ("Lib.antt", "Inner.antt"):
+            spec = Spec(path)
+            specs[spec.module] = spec
+    values = models()
+    crates = [c for c in sorted(os.listdir(CRATES)) if c != "qw_tests"]
+
+    def roots(crate, only=None):
+        for path in public_files(crate):
+            scope = Scope(open(path, encoding="utf-8").read())
+            for clause in clauses(path, only):
+                yield from scope.named_in(clause, {})
+
+    call = closure(specs, values, roots("qw_top", {"qwasm"}))
+    every = closure(specs, values, [r for c in crates for r in roots(c)]) | call
+    told = {"The call": list(rows(specs, call)), "Beside the call": list(rows(specs, every - call))}
+    for part, lines in told.items():
+        print(f"{part}: {len(lines)} files, {sum(n for _, n, _ in lines)} definitions, {sum(n for _, _, n in lines)} lines")
+        for path, definitions, length in lines:
+            print(f"  {path} {definitions} {length}")
+    if "--check" not in sys.argv:
+        return 0
+    page = open(os.path.join(TOP, "docs", "BELIEVE.md"), encoding="utf-8").read()
+    bad = [f"{p}: a public clause rests on it" for part in told.values() for p, _, _ in part if "/Inner/" in p]
+    for part, lines in told.items():
+        section = page.partition(f"## {part}\n")[2].partition("\n## ")[0]
+        said = {(p, int(d), int(l)) for p, d, l in re.findall(r"^\| `([^`]+)` \| (\d+) \| (\d+) \|", section, flags=re.M)}
+        bad += [f"{part}: {p} has {d} definitions in {l} lines, and docs/BELIEVE.md doesn't say so" for p, d, l in sorted(set(lines) - said)]
+        bad += [f"{part}: docs/BELIEVE.md says {d} definitions in {l} lines of {p}" for p, d, l in sorted(said - set(lines))]
+    for line in bad:
+        print(f"believe: {line}")
+    return 1 if bad else 0
+
+
+if __name__ == "__main__":
+    sys.exit(main())
