@@ -4,3 +4,4 @@ pub mod Sound
 pub mod StateCode
 pub mod Steps
 pub mod TypedOperands
+mod WorkedTyping
