@@ -25,10 +25,10 @@ sequence_at-array arrays number array inside read =
     let there : slice_get arrays number ≡ Some array = slice_get_read arrays (length arrays) number array refl within read in
     rw (slice_get-map, there) refl
 
-pub instruction-array : (arrays : List (Vec Instr Global)) (number place : ℕ) (array : Vec Instr Global) (sequence : List Instr) (instruction default : Instr) →
+pub instruction-array : (arrays : List (Vec Instr Global)) {number place : ℕ} {array : Vec Instr Global} {sequence : List Instr} {instruction : Instr} (default : Instr) →
     number < length (items_of arrays) → array ≡ get_or arrays number array → sequence ≡ array.items → place < length (sequence_at (items_of arrays) number) →
     get_or sequence place default ≡ instruction → slice_get (sequence_at (items_of arrays) number) place ≡ Some instruction
-instruction-array arrays number place array sequence instruction default inside read same within found =
+instruction-array arrays {number} {place} {array} {sequence} {instruction} default inside read same within found =
     let whole : sequence_at (items_of arrays) number ≡ sequence = sequence_at-array arrays number array inside read ∙ sym same in
     let long : place < length sequence = subst (λ (xs : List Instr). place < length xs) whole within in
     rw (whole, slice_get-get_or sequence place default long) (ap (λ (x : Instr). Some x) found)

@@ -54,7 +54,7 @@ results-short : (result : Option ValType) → length (types_of result) ≤ 1
 results-short None = omega arith
 results-short (Some t) = omega arith
 
-module _ (sequences : List (List Instr)) (rooms : Rooms) (spare : ℕ) (numbered : IsNumbered sequences) (p : Point) (is : IsPoint sequences rooms p)
+module _ {sequences : List (List Instr)} {rooms : Rooms} (spare : ℕ) (numbered : IsNumbered sequences) {p : Point} (is : IsPoint sequences rooms p)
     (inside : p.place < length (sequence_at sequences p.sequence)) where
   -- there is room for the operands
   pub operand-room : length p.operands < rooms.operands

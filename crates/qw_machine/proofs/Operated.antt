@@ -81,7 +81,7 @@ op_parts : (scope : Scope) (operator : Op) (rest : Code) (before after : List Va
 op_parts _ _ _ _ _ (typed-op scope operator rest before middle after op_is rest_is) = (middle, op_is, rest_is)
 
 -- the operand stack of a point whose code begins with such an instruction, by parts
-module _ (sequences : List (List Instr)) (rooms : Rooms) (spare : ℕ) (p : Point) (is : IsPoint sequences rooms p) (operator : Op)
+module _ {sequences : List (List Instr)} {rooms : Rooms} (spare : ℕ) {p : Point} (is : IsPoint sequences rooms p) {operator : Op}
     (found : slice_get (sequence_at sequences p.sequence) p.place ≡ Some (i.Op operator)) where
   rest : Code
   rest = code_at sequences p.sequence (p.place + 1)
