@@ -35,18 +35,18 @@ nested-more name (i.Br label) rest e = cc
 nested-more name (i.BrIf label) rest e = cc
 
 -- before the end of its sequence there is code left
-code_at-unfinished : (sequences : List (List Instr)) (number place : ℕ) → place < length (sequence_at sequences number) → code_at sequences number place ≢ done
-code_at-unfinished sequences number place inside ended =
-    let first : Instr = get_or (sequence_at sequences number) place (i.Br 0) in
-    let code = code_at-instruction sequences number place first (slice_get-get_or (sequence_at sequences number) place (i.Br 0) inside) in
+code_at-unfinished : (sequences : List (List Instr)) (number index : ℕ) → index < length (sequence_at sequences number) → code_at sequences number index ≢ done
+code_at-unfinished sequences number index inside ended =
+    let first : Instr = get_or (sequence_at sequences number) index (i.Br 0) in
+    let code = code_at-instruction sequences number index first (slice_get-get_or (sequence_at sequences number) index (i.Br 0) inside) in
     nested-more (named sequences) first _ (sym code ∙ ended)
 
 -- so a point there stands for its configuration
-pub state_at-running : (sequences : List (List Instr)) (globals : List ℕ) (p : Point) → p.place < length (sequence_at sequences p.sequence) →
+pub state_at-running : (sequences : List (List Instr)) (globals : List ℕ) (p : Point) → p.index < length (sequence_at sequences p.sequence) →
     state_at sequences globals p ≡ Running (config_at sequences globals p)
 state_at-running sequences globals p inside =
-    settled-unfinished globals (contexts_of sequences p.labels (under (base_of p.labels) p.operands)) (code_at sequences p.sequence p.place)
-    (above (base_of p.labels) p.operands) p.locals (code_at-unfinished sequences p.sequence p.place inside)
+    settled-unfinished globals (contexts_of sequences p.labels (under (base_of p.labels) p.operands)) (code_at sequences p.sequence p.index)
+    (above (base_of p.labels) p.operands) p.locals (code_at-unfinished sequences p.sequence p.index inside)
 
 -- the arrays of a function of the module
 body-array : (m : Module) (number : ℕ) (function : Function) (arrays : List (Vec Instr Global)) → slice_get m.functions.items number ≡ Some function →

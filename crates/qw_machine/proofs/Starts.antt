@@ -68,7 +68,7 @@ module _ (sequences : List (List Instr)) (numbered : IsNumbered sequences) where
         linked = linked;
         locals_are = (small, zeros-are types);
         typed = subst (λ (code : Code). Typed (scope_of functions (I32 ∷ types) ([] ∷ [])) code [] []) whole_code typed;
-        place_in = omega arith;
+        index_in = omega arith;
         fits = omega arith;
         room = record { numbered = last_in; operands = omega (arith, all_instructions); labels = omega arith };
         entries = (

@@ -77,19 +77,19 @@ pub(crate) struct Entry {
     pub(crate) takes: bool,
     /// The number of the sequence that the label stands in.
     pub(crate) sequence: usize,
-    /// The place there that a branch goes to: a loop's own, or the one after the block.
+    /// The index there that a branch goes to: a loop's own, or the one after the block.
     pub(crate) target: usize,
-    /// The place there after the label's end.
+    /// The index there after the label's end.
     pub(crate) after: usize,
 }
 
 /// Where the execution of a numbered body is (4.2.12): the labels that it is in, the sequence that runs
-/// and the place in it, the operands of all labels, and the locals. All room is reserved at first.
+/// and the index in it, the operands of all labels, and the locals. All room is reserved at first.
 #[derive(Drop)]
 pub(crate) struct Activity {
     labels: Stack<Entry>,
     sequence: usize,
-    place: usize,
+    index: usize,
     operands: Stack<u64>,
     locals: Vec<u64>,
 }
@@ -124,7 +124,7 @@ impl Activity {
         Ok(Activity {
             labels,
             sequence,
-            place: 0,
+            index: 0,
             operands,
             locals,
         })
@@ -133,7 +133,7 @@ impl Activity {
     /// Enters a block that begins with a sequence of this number (4.4.6).
     fn enter(&mut self, inner: usize, takes: bool, target: usize)
         requires room { length self.old.labels.values < self.old.labels.room }
-        requires place { self.old.place < 2 ^ 64 - 1 }
+        requires index { self.old.index < 2 ^ 64 - 1 }
         ensures point { point_of self.new ≡ entered (point_of self.old) inner takes target }
         ensures rooms { rooms_of self.new ≡ rooms_of self.old }
     {
@@ -142,10 +142,10 @@ impl Activity {
             takes,
             sequence: self.sequence,
             target,
-            after: self.place + 1,
+            after: self.index + 1,
         });
         self.sequence = inner;
-        self.place = 0;
+        self.index = 0;
     }
 
     /// Branches to the label of an index, counted from the innermost (4.4.5, `br`).
@@ -159,24 +159,24 @@ impl Activity {
         let entry = self.labels.pop();
         unwind(&mut self.operands, entry.base, entry.takes);
         self.sequence = entry.sequence;
-        self.place = entry.target;
+        self.index = entry.target;
     }
 
-    /// Executes the instruction at the place, and leaves no label yet. Never answers `Returned`.
+    /// Executes the instruction at the index, and leaves no label yet. Never answers `Returned`.
     fn execute(&mut self, sequences: &[Vec<Instr>], memory: &mut Linear, spare: u32) -> Stepped
         requires numbered { IsNumbered (items_of sequences.now) }
         requires point { IsPoint (items_of sequences.now) (rooms_of self.old) (point_of self.old) }
-        requires unfinished { self.old.place < length (sequence_at (items_of sequences.now) self.old.sequence) }
+        requires unfinished { self.old.index < length (sequence_at (items_of sequences.now) self.old.sequence) }
         requires pages { length memory.old.octets + spare * page ≤ memory.old.reserved * page }
         ensures executed { IsExecuted (items_of sequences.now) (rooms_of self.old) spare (point_of self.old) memory.old.octets result (point_of self.new) memory.new.octets }
         ensures rooms { rooms_of self.new ≡ rooms_of self.old }
         ensures reserved { memory.new.reserved ≡ memory.old.reserved }
     {
         let sequence = sequences[self.sequence].as_slice();
-        let after = self.place + 1;
-        match sequence[self.place] {
+        let after = self.index + 1;
+        match sequence[self.index] {
             Instr::Op(op) => {
-                self.place = after;
+                self.index = after;
                 return operate(
                     op,
                     &mut self.operands,
@@ -186,7 +186,7 @@ impl Activity {
                 );
             }
             Instr::Block { result, body } => self.enter(body, result.is_some(), after),
-            Instr::Loop { body, .. } => self.enter(body, false, self.place),
+            Instr::Loop { body, .. } => self.enter(body, false, self.index),
             Instr::If {
                 result,
                 then_body,
@@ -204,7 +204,7 @@ impl Activity {
                 if self.operands.pop() != 0 {
                     self.branch(index as usize);
                 } else {
-                    self.place = after;
+                    self.index = after;
                 }
             }
         }
@@ -217,13 +217,13 @@ impl Activity {
         ensures left { IsLeft (items_of sequences.now) (rooms_of self.old) (point_of self.old) result (point_of self.new) }
         ensures rooms { rooms_of self.new ≡ rooms_of self.old }
     {
-        while self.place == sequences[self.sequence].len() {
+        while self.index == sequences[self.sequence].len() {
             if self.labels.len() == 0 {
                 return false;
             }
             let entry = self.labels.pop();
             self.sequence = entry.sequence;
-            self.place = entry.after;
+            self.index = entry.after;
         }
         true
     }
@@ -232,7 +232,7 @@ impl Activity {
     fn step(&mut self, sequences: &[Vec<Instr>], memory: &mut Linear, spare: u32) -> Stepped
         requires numbered { IsNumbered (items_of sequences.now) }
         requires point { IsPoint (items_of sequences.now) (rooms_of self.old) (point_of self.old) }
-        requires unfinished { self.old.place < length (sequence_at (items_of sequences.now) self.old.sequence) }
+        requires unfinished { self.old.index < length (sequence_at (items_of sequences.now) self.old.sequence) }
         requires pages { length memory.old.octets + spare * page ≤ memory.old.reserved * page }
         ensures stepped { IsStepped (items_of sequences.now) (rooms_of self.old) spare (point_of self.old) memory.old.octets result (point_of self.new) memory.new.octets }
         ensures rooms { rooms_of self.new ≡ rooms_of self.old }

@@ -1,6 +1,6 @@
 use Rattle.std.proofs.Common.{◌≡◌, ◌∙◌, ap, ℕ, ◌∷◌, refl, length, arith}
 use Rattle.std.proofs.lemmas.List.{take_at}
-use Rattle.qw_machine.proofs.Arrays.{instruction-array, place-small}
+use Rattle.qw_machine.proofs.Arrays.{instruction-array, index-small}
 use Rattle.qw_machine.proofs.Operated.{operator-ready, executed-operator}
 use Rattle.qw_machine.proofs.Controlled.{operand-room, executed-block, executed-loop, executed-if, executed-else, if-operand, can-jump-br, executed-br, br_if-operand, can-jump-br_if, executed-br_if, executed-br_if-not}
 use Rattle.qw_machine.specs.Inner.Machine.{point_of}
@@ -9,7 +9,7 @@ use Rattle.qw_machine.proofs.machine.Activity.execute.Goals.{then-pop-ne0, else-
 
 pub overflow_add-after : goal.overflow_add-after
 overflow_add-after c =
-    let small = place-small c.args.sequences.now c.args.self.now.sequence c.args.self.now.place c.index-sequences-self.result
+    let small = index-small c.args.sequences.now c.args.self.now.sequence c.args.self.now.index c.index-sequences-self.result
     c.requires.point.room.numbered c.index-sequences-self.is c.requires.unfinished in
     omega arith
 
