@@ -299,7 +299,12 @@ impl Instance {
         Instance::call(alloc, valid, number, argument).map_err(|_| InstanceFault::NoMemory)
     }
 
-    fn call(alloc: Global, valid: ValidModule, number: usize, argument: u32) -> Result<Self, NoMemory>
+    fn call(
+        alloc: Global,
+        valid: ValidModule,
+        number: usize,
+        argument: u32,
+    ) -> Result<Self, NoMemory>
         requires { IsShaped valid number }
         ensures { IfOk result (λ instance. instance ≡ record { program = valid; state = begun valid number argument }) }
     {
