@@ -1,4 +1,4 @@
--- A code of called modules, by which a model's value may be one.
+-- A code of called modules for the model of `Instance`, which tells its values apart.
 use Rattle.std.specs.Prelude.{refl}
 use Rattle.std.specs.Coded.{Coded, code_by, coded×}
 use Rattle.qw_module.specs.declared.module.Module.{Module}

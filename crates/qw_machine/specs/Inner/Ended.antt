@@ -1,4 +1,4 @@
--- How a run has ended, as `Stepped::end` tells it, and what that says of the state.
+-- Mirrors `Stepped::end`: how a run has ended, and what that says of the state.
 use Rattle.std.specs.Prelude.{Option, Some, None}
 use Rattle.qw_machine.specs.declared.machine.RunEnd.{RunEnd}
 use Rattle.qw_machine.specs.declared.machine.RunEnd.TheVariants as end

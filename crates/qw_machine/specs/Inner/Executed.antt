@@ -1,4 +1,4 @@
--- What the machine does at an instruction, and what its step answers.
+-- Mirrors `operate` and `Activity::execute`, `leave_finished` and `step`: what the machine does at an instruction, and what its step answers.
 use Rattle.std.specs.Prelude.{◌≡◌, ℕ, ◌+◌, ◌*◌, ◌<◌, ◌≤◌, ◌^◌, nat_le, Bool, true, false, List, length, slice_index, Some, is_some}
 use Rattle.std.specs.Bool.{MatchBool}
 use Rattle.qw_module.specs.declared.instruction.Instr.{Instr}

@@ -1,4 +1,4 @@
--- What the fields of `Instance` stand for, and what they keep: its view and its invariant.
+-- Mirrors the fields of `Instance`: what they stand for, and what they keep (its view and its invariant).
 use Rattle.qw_machine.specs.declared.machine.Instance.TheInside.{Inside}
 use Rattle.qw_module.specs.Execution.{State}
 use Rattle.qw_module.specs.Start.{body_of}

@@ -1,4 +1,4 @@
--- What the machine's arrays stand for, and what they keep from step to step.
+-- Mirrors `Activity` of machine.rt: what its arrays stand for, and what they keep from step to step.
 use Rattle.std.specs.Prelude.{◌≡◌, ℕ, zero, suc, ◌+◌, ◌-◌, ◌<◌, ◌≤◌, Bool, false, List, [], ◌∷◌, ◌++◌, length, take, drop, slice_get, Some}
 use Rattle.qw_module.specs.declared.instruction.ValType.{ValType}
 use Rattle.qw_module.specs.declared.instruction.Instr.{Instr}
