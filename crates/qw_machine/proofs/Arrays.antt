@@ -9,9 +9,10 @@ use Rattle.qw_machine.specs.declared.machine.Stepped.{Stepped}
 use Rattle.qw_machine.specs.declared.machine.Stepped.TheVariants as stepped
 use Rattle.qw_module.specs.Execution.{Config, State, Running, Returned}
 use Rattle.qw_module.specs.Step.{Next}
-use Rattle.qw_machine.specs.Machine.{Point, Rooms, IsPoint, IsRunning, state_at, config_at}
+use Rattle.qw_machine.specs.Inner.Machine.{Point, Rooms, IsPoint, IsRunning, state_at, config_at}
 use Rattle.qw_machine.specs.Inner.Executed.{is_over, WentOn, IsExecuted, IsLeft, IsStepped}
-use Rattle.qw_machine.specs.Instance.{end_of, Went}
+use Rattle.qw_machine.specs.Inner.Ended.{run_end_of}
+use Rattle.qw_machine.specs.Instance.{Went}
 use Rattle.qw_module.specs.Validity.{items_of}
 use Rattle.qw_machine.proofs.Points.{code_at-end, left, left-point, left-state}
 use Rattle.qw_machine.proofs.Jumps.{point-is}
@@ -24,58 +25,58 @@ sequence_at-array arrays number array inside read =
     let there : slice_get arrays number ≡ Some array = slice_get_read arrays (length arrays) number array refl within read in
     rw (slice_get-map, there) refl
 
-pub instruction-array : (arrays : List (Vec Instr Global)) (number place : ℕ) (array : Vec Instr Global) (sequence : List Instr) (instruction default : Instr) →
-    number < length (items_of arrays) → array ≡ get_or arrays number array → sequence ≡ array.items → place < length (sequence_at (items_of arrays) number) →
-    get_or sequence place default ≡ instruction → slice_get (sequence_at (items_of arrays) number) place ≡ Some instruction
-instruction-array arrays number place array sequence instruction default inside read same within found =
+pub instruction-array : (arrays : List (Vec Instr Global)) {number index : ℕ} {array : Vec Instr Global} {sequence : List Instr} {instruction : Instr} (default : Instr) →
+    number < length (items_of arrays) → array ≡ get_or arrays number array → sequence ≡ array.items → index < length (sequence_at (items_of arrays) number) →
+    get_or sequence index default ≡ instruction → slice_get (sequence_at (items_of arrays) number) index ≡ Some instruction
+instruction-array arrays {number} {index} {array} {sequence} {instruction} default inside read same within found =
     let whole : sequence_at (items_of arrays) number ≡ sequence = sequence_at-array arrays number array inside read ∙ sym same in
-    let long : place < length sequence = subst (λ (xs : List Instr). place < length xs) whole within in
-    rw (whole, slice_get-get_or sequence place default long) (ap (λ (x : Instr). Some x) found)
+    let long : index < length sequence = subst (λ (xs : List Instr). index < length xs) whole within in
+    rw (whole, slice_get-get_or sequence index default long) (ap (λ (x : Instr). Some x) found)
 
--- a place in a sequence has one after it
-pub place-small : (arrays : List (Vec Instr Global)) (number place : ℕ) (array : Vec Instr Global) → number < length (items_of arrays) →
-    array ≡ get_or arrays number array → place < length (sequence_at (items_of arrays) number) → place + 1 < 9223372036854775808
-place-small arrays number place array inside read within =
-    let long : place < length array.items = subst (λ (xs : List Instr). place < length xs) (sequence_at-array arrays number array inside read) within in
+-- an index in a sequence has one after it
+pub index-small : (arrays : List (Vec Instr Global)) (number index : ℕ) (array : Vec Instr Global) → number < length (items_of arrays) →
+    array ≡ get_or arrays number array → index < length (sequence_at (items_of arrays) number) → index + 1 < 9223372036854775808
+index-small arrays number index array inside read within =
+    let long : index < length array.items = subst (λ (xs : List Instr). index < length xs) (sequence_at-array arrays number array inside read) within in
     omega (arith, array.ok.0, array.ok.1, array.small)
 
--- a place at the end of its array is at the end of its sequence
-place-end : (arrays : List (Vec Instr Global)) (number place : ℕ) (array : Vec Instr Global) → number < length (items_of arrays) →
-    array ≡ get_or arrays number array → place ≡ vec_len array → place ≡ length (sequence_at (items_of arrays) number)
-place-end arrays number place array inside read ended =
+-- an index at the end of its array is at the end of its sequence
+index-end : (arrays : List (Vec Instr Global)) (number index : ℕ) (array : Vec Instr Global) → number < length (items_of arrays) →
+    array ≡ get_or arrays number array → index ≡ vec_len array → index ≡ length (sequence_at (items_of arrays) number)
+index-end arrays number index array inside read ended =
     ended ∙ array.ok.0 ∙ ap length (sym (sequence_at-array arrays number array inside read))
 
 -- and one that isn't is before the end
-pub place-unfinished : (arrays : List (Vec Instr Global)) (number place : ℕ) (array : Vec Instr Global) → number < length (items_of arrays) →
-    array ≡ get_or arrays number array → place ≢ vec_len array → place ≤ length (sequence_at (items_of arrays) number) → place < length (sequence_at (items_of arrays) number)
-place-unfinished arrays number place array inside read unfinished within =
+pub index-unfinished : (arrays : List (Vec Instr Global)) (number index : ℕ) (array : Vec Instr Global) → number < length (items_of arrays) →
+    array ≡ get_or arrays number array → index ≢ vec_len array → index ≤ length (sequence_at (items_of arrays) number) → index < length (sequence_at (items_of arrays) number)
+index-unfinished arrays number index array inside read unfinished within =
     let whole : length (sequence_at (items_of arrays) number) ≡ vec_len array = ap length (sequence_at-array arrays number array inside read) ∙ sym array.ok.0 in
-    let apart : place ≢ length (sequence_at (items_of arrays) number) = λ e. unfinished (e ∙ whole) in
+    let apart : index ≢ length (sequence_at (items_of arrays) number) = λ e. unfinished (e ∙ whole) in
     omega arith
 
 -- a label that is left, by the arrays
 module _ (arrays : List (Vec Instr Global)) (rooms : Rooms) (p q : Point) (array : Vec Instr Global) (entry : Entry)
-    (is : IsPoint (items_of arrays) rooms p) (read : array ≡ get_or arrays p.sequence array) (ended : p.place ≡ vec_len array) (labels : p.labels ≡ entry ∷ q.labels)
-    (sequence : q.sequence ≡ entry.sequence) (place : q.place ≡ entry.after) (operands : q.operands ≡ p.operands) (values : q.locals ≡ p.locals) where
+    (is : IsPoint (items_of arrays) rooms p) (read : array ≡ get_or arrays p.sequence array) (ended : p.index ≡ vec_len array) (labels : p.labels ≡ entry ∷ q.labels)
+    (sequence : q.sequence ≡ entry.sequence) (index : q.index ≡ entry.after) (operands : q.operands ≡ p.operands) (values : q.locals ≡ p.locals) where
   abbrev inner : List Entry → Point
-  inner entries = record { labels = entries; sequence = p.sequence; place = p.place; operands = p.operands; locals = p.locals }
+  inner entries = record { labels = entries; sequence = p.sequence; index = p.index; operands = p.operands; locals = p.locals }
 
   inner-is : IsPoint (items_of arrays) rooms (inner (entry ∷ q.labels))
   inner-is = subst (λ (entries : List Entry). IsPoint (items_of arrays) rooms (inner entries)) labels is
 
-  at_end : p.place ≡ length (sequence_at (items_of arrays) p.sequence)
-  at_end = place-end arrays p.sequence p.place array is.room.numbered read ended
+  at_end : p.index ≡ length (sequence_at (items_of arrays) p.sequence)
+  at_end = index-end arrays p.sequence p.index array is.room.numbered read ended
 
   outer-is : q ≡ left p entry q.labels
-  outer-is = point-is q q.labels entry.sequence entry.after p.operands p.locals refl sequence place operands values
+  outer-is = point-is q q.labels entry.sequence entry.after p.operands p.locals refl sequence index operands values
 
   pub left-entry-point : IsPoint (items_of arrays) rooms q
-  left-entry-point = rw outer-is (left-point (items_of arrays) rooms entry q.labels p.sequence p.place p.operands p.locals at_end inner-is)
+  left-entry-point = rw outer-is (left-point (items_of arrays) rooms entry q.labels p.sequence p.index p.operands p.locals at_end inner-is)
 
   pub left-entry-state : (globals : List ℕ) → state_at (items_of arrays) globals p ≡ state_at (items_of arrays) globals q
   left-entry-state globals =
       ap (λ (entries : List Entry). state_at (items_of arrays) globals (inner entries)) labels
-      ∙ left-state (items_of arrays) rooms entry q.labels p.sequence p.place p.operands p.locals at_end inner-is globals
+      ∙ left-state (items_of arrays) rooms entry q.labels p.sequence p.index p.operands p.locals at_end inner-is globals
       ∙ ap (state_at (items_of arrays) globals) (sym outer-is)
 
 -- where no label is left, the state is the return
@@ -84,11 +85,11 @@ no_labels [] none = refl
 no_labels (entry ∷ labels) none = absurd (omega arith)
 
 pub left-last : (arrays : List (Vec Instr Global)) (rooms : Rooms) (p : Point) (array : Vec Instr Global) →
-    IsPoint (items_of arrays) rooms p → array ≡ get_or arrays p.sequence array → p.place ≡ vec_len array → length p.labels ≡ 0 →
+    IsPoint (items_of arrays) rooms p → array ≡ get_or arrays p.sequence array → p.index ≡ vec_len array → length p.labels ≡ 0 →
     (globals : List ℕ) → state_at (items_of arrays) globals p ≡ Returned
 left-last arrays rooms p array is read ended none globals =
-    let end : p.place ≡ length (sequence_at (items_of arrays) p.sequence) = place-end arrays p.sequence p.place array is.room.numbered read ended in
-    rw (no_labels p.labels none, code_at-end (items_of arrays) p.sequence p.place end) refl
+    let end : p.index ≡ length (sequence_at (items_of arrays) p.sequence) = index-end arrays p.sequence p.index array is.room.numbered read ended in
+    rw (no_labels p.labels none, code_at-end (items_of arrays) p.sequence p.index end) refl
 
 -- a step that goes on leads to what its state is
 went-on : (spare : ℕ) (c running : Config) (memory after : List ℕ) (s t : State) (answer : Stepped) → WentOn spare c memory s after answer →
@@ -103,7 +104,7 @@ went-on spare c running memory after s t answer leads same is = record {
 pub stepped-over : (sequences : List (List Instr)) (rooms : Rooms) (spare : ℕ) (p q : Point) (memory after : List ℕ) (answer : Stepped) →
     is_over answer ≡ true → IsExecuted sequences rooms spare p memory answer q after → IsStepped sequences rooms spare p memory answer q after
 stepped-over sequences rooms spare p q memory after answer over executed = record {
-  running = over-while (end_of answer) over (IsRunning sequences rooms q);
+  running = over-while (run_end_of answer) over (IsRunning sequences rooms q);
   went = rw over at executed;
 }
 
@@ -115,8 +116,8 @@ stepped-left sequences rooms between spare p q r memory after answer same runs e
     let goes = rw runs at executed in
     let running : IsRunning sequences rooms r = subst (λ (x : Rooms). IsRunning sequences x r) same left.0 in
     record {
-      running = running-while (end_of answer) runs (IsRunning sequences rooms r) running;
-      went = λ globals. rw (state_after-running (end_of answer) runs (state_at sequences globals r))
+      running = running-while (run_end_of answer) runs (IsRunning sequences rooms r) running;
+      went = λ globals. rw (state_after-running (run_end_of answer) runs (state_at sequences globals r))
           (went-on spare (config_at sequences globals p) (config_at sequences globals r) memory after (state_at sequences globals q) (state_at sequences globals r) answer
           (goes.1 globals) (left.1 globals) (state_at-running sequences globals r running.unfinished));
     }

@@ -11,7 +11,7 @@ use Rattle.qw_module.specs.Syntax.{sequence_at}
 use Rattle.qw_module.specs.Execution.{State, settled, branched}
 use Rattle.qw_module.specs.Typing.{Signature, Typed}
 use Rattle.qw_module.specs.Soundness.{AreOf, AreLinked, scope_of}
-use Rattle.qw_machine.specs.Machine.{code_at, Point, base_of, under, contexts_of, state_at, Rooms, HasRoom, AreEntries, IsPoint, CanJump, IsJump}
+use Rattle.qw_machine.specs.Inner.Machine.{code_at, Point, base_of, under, contexts_of, state_at, Rooms, HasRoom, AreEntries, IsPoint, CanJump, IsJump}
 use Rattle.qw_module.proofs.Sound.{AreOf-append, AreOf-length, AreOf-take}
 use Rattle.qw_machine.proofs.ListFacts.{above-append, under-append}
 use Rattle.qw_machine.proofs.Points.{state_at-split}
@@ -104,10 +104,10 @@ module _ (sequences : List (List Instr)) (rooms : Rooms) (functions : List Signa
       }
 
 -- a point is its parts
-pub point-is : (q : Point) (labels : List Entry) (sequence place : ℕ) (operands values : List ℕ) → q.labels ≡ labels → q.sequence ≡ sequence → q.place ≡ place →
+pub point-is : (q : Point) (labels : List Entry) (sequence index : ℕ) (operands values : List ℕ) → q.labels ≡ labels → q.sequence ≡ sequence → q.index ≡ index →
     q.operands ≡ operands → q.locals ≡ values →
-    q ≡ record { labels = labels; sequence = sequence; place = place; operands = operands; locals = values }
-point-is q labels sequence place operands values a b c d e = rw (← a, ← b, ← c, ← d, ← e) refl
+    q ≡ record { labels = labels; sequence = sequence; index = index; operands = operands; locals = values }
+point-is q labels sequence index operands values a b c d e = rw (← a, ← b, ← c, ← d, ← e) refl
 
 module _ (sequences : List (List Instr)) (rooms : Rooms) (p : Point) (own below : List ℕ) (functions : List Signature) (locals : List ValType) (labels : List (List ValType)) (taken more ends : List ValType)
     (operands_are : p.operands ≡ own ++ below) (below_are : length below ≡ base_of p.labels) (own_are : AreOf own (taken ++ more)) (linked : AreLinked functions) (locals_are : AreOf p.locals locals)
@@ -127,7 +127,7 @@ module _ (sequences : List (List Instr)) (rooms : Rooms) (p : Point) (own below 
   abbrev target_point : Point
   target_point =
       let f = found_label in
-      record { labels = f.rest; sequence = f.entry.sequence; place = f.entry.target; operands = (take (length taken) own ++ f.own) ++ f.lower; locals = p.locals }
+      record { labels = f.rest; sequence = f.entry.sequence; index = f.entry.target; operands = (take (length taken) own ++ f.own) ++ f.lower; locals = p.locals }
 
   jumped-is : (q : Point) → IsJump index p q → q ≡ target_point
   jumped-is q jump =
@@ -143,7 +143,7 @@ module _ (sequences : List (List Instr)) (rooms : Rooms) (p : Point) (own below 
       ∙ ap₂ (λ (xs ys : List ℕ). xs ++ ys) (take-append-le (length taken) own below within) (f.under_is own)
       ∙ sym (append_assoc (take (length taken) own) f.own f.lower) in
       point-is q f.rest f.entry.sequence f.entry.target _ p.locals rest
-      (jump.sequence ∙ ap (λ (e : Entry). e.sequence) entry) (jump.place ∙ ap (λ (e : Entry). e.target) entry) operands jump.locals
+      (jump.sequence ∙ ap (λ (e : Entry). e.sequence) entry) (jump.index ∙ ap (λ (e : Entry). e.target) entry) operands jump.locals
 
   target_point-is : IsPoint sequences rooms target_point
   target_point-is =
@@ -163,7 +163,7 @@ module _ (sequences : List (List Instr)) (rooms : Rooms) (p : Point) (own below 
         linked = linked;
         locals_are = locals_are;
         typed = f.target_typed;
-        place_in = f.target_in;
+        index_in = f.target_in;
         fits = omega (arith, length-append (take (length taken) own) f.own, AreOf-length (take (length taken) own) taken kept, f.target_fits);
         room = f.room;
         entries = f.entries_are;

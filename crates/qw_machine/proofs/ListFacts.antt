@@ -1,10 +1,10 @@
--- Lists cut at a place.
+-- Lists cut at an index.
 use Rattle.std.proofs.Common.{◌≡◌, ℕ, zero, suc, ◌+◌, ◌-◌, List, [], ◌∷◌, ◌++◌, length, take, drop, Some, slice_get, sym, ap, ◌∙◌, arith, length-append}
 use Rattle.std.proofs.Math.Seq.{drop-append_seam, take-append_seam}
-use Rattle.qw_machine.specs.Machine.{above, under}
+use Rattle.qw_machine.specs.Inner.Machine.{above, under}
 use Rattle.std.proofs.lemmas.Option.{same_Some, none-some}
 
--- what begins at a place
+-- what begins at an index
 pub drop-get : {T : Type 0} (xs : List T) (i : ℕ) (x : T) → slice_get xs i ≡ Some x → drop i xs ≡ x ∷ drop (i + 1) xs
 drop-get [] i x found = absurd (none-some x found)
 drop-get (y ∷ xs) zero x found = ap (λ z. z ∷ xs) (same_Some y x found)

@@ -15,7 +15,7 @@ use Rattle.qw_module.specs.Execution.{Config, Silent, Loads, Stores, Grows, Rais
 use Rattle.qw_module.specs.Step.{OpWant, Stuck', Leaves, Reads, Writes, Requests, Throws, op_wants, pushes_local, then_wants, answered, next}
 use Rattle.qw_module.specs.Typing.{Signature, Scope, OpTyped, typed-local_get, typed-local_set, typed-local_tee, typed-const, typed-binary, typed-relation, typed-load, typed-store, typed-grow, typed-call, Typed, typed-op}
 use Rattle.qw_module.specs.Soundness.{AreOf, AreLinked, scope_of}
-use Rattle.qw_machine.specs.Machine.{code_at, Point, contexts_of, state_at, config_at, Rooms, IsPoint}
+use Rattle.qw_machine.specs.Inner.Machine.{code_at, Point, contexts_of, state_at, config_at, Rooms, IsPoint}
 use Rattle.qw_machine.specs.Inner.Executed.{IsExecuted, CanOperate, IsDone}
 use Rattle.qw_module.proofs.Sound.{AreOf-length, OpWantTyped, op_wants-typed, linked_is}
 use Rattle.qw_module.proofs.TypedOperands.{HasFor, has_for}
@@ -81,17 +81,17 @@ op_parts : (scope : Scope) (operator : Op) (rest : Code) (before after : List Va
 op_parts _ _ _ _ _ (typed-op scope operator rest before middle after op_is rest_is) = (middle, op_is, rest_is)
 
 -- the operand stack of a point whose code begins with such an instruction, by parts
-module _ (sequences : List (List Instr)) (rooms : Rooms) (spare : ℕ) (p : Point) (is : IsPoint sequences rooms p) (operator : Op)
-    (found : slice_get (sequence_at sequences p.sequence) p.place ≡ Some (i.Op operator)) where
+module _ {sequences : List (List Instr)} {rooms : Rooms} (spare : ℕ) {p : Point} (is : IsPoint sequences rooms p) {operator : Op}
+    (found : slice_get (sequence_at sequences p.sequence) p.index ≡ Some (i.Op operator)) where
   rest : Code
-  rest = code_at sequences p.sequence (p.place + 1)
+  rest = code_at sequences p.sequence (p.index + 1)
 
-  code : code_at sequences p.sequence p.place ≡ op operator (code_at sequences p.sequence (p.place + 1))
-  code = code_at-instruction sequences p.sequence p.place (i.Op operator) found
+  code : code_at sequences p.sequence p.index ≡ op operator (code_at sequences p.sequence (p.index + 1))
+  code = code_at-instruction sequences p.sequence p.index (i.Op operator) found
 
   parts : (middle : List ValType) × OpTyped is.functions is.locals operator is.before middle
-      × Typed (scope_of is.functions is.locals is.labels) (code_at sequences p.sequence (p.place + 1)) middle is.ends
-  parts = op_parts (scope_of is.functions is.locals is.labels) operator (code_at sequences p.sequence (p.place + 1)) is.before is.ends
+      × Typed (scope_of is.functions is.locals is.labels) (code_at sequences p.sequence (p.index + 1)) middle is.ends
+  parts = op_parts (scope_of is.functions is.locals is.labels) operator (code_at sequences p.sequence (p.index + 1)) is.before is.ends
       (subst (λ (x : Code). Typed (scope_of is.functions is.locals is.labels) x is.before is.ends) code is.typed)
 
   has : HasFor operator is.own p.locals
@@ -102,11 +102,11 @@ module _ (sequences : List (List Instr)) (rooms : Rooms) (spare : ℕ) (p : Poin
 
   -- the point after it
   abbrev after_it : List ℕ → List ℕ → Point
-  after_it operands values = record { labels = p.labels; sequence = p.sequence; place = p.place + 1; operands = operands; locals = values }
+  after_it operands values = record { labels = p.labels; sequence = p.sequence; index = p.index + 1; operands = operands; locals = values }
 
   after_it-is : (operands values : List ℕ) → AreOf operands parts.0 → AreOf values is.locals → IsPoint sequences rooms (after_it (operands ++ is.below) values)
   after_it-is operands values are are_locals =
-      let within : p.place < length (sequence_at sequences p.sequence) = slice_get_within (sequence_at sequences p.sequence) p.place (i.Op operator) found in
+      let within : p.index < length (sequence_at sequences p.sequence) = slice_get_within (sequence_at sequences p.sequence) p.index (i.Op operator) found in
       record {
         own = operands;
         below = is.below;
@@ -121,7 +121,7 @@ module _ (sequences : List (List Instr)) (rooms : Rooms) (spare : ℕ) (p : Poin
         linked = is.linked;
         locals_are = are_locals;
         typed = parts.2;
-        place_in = omega arith;
+        index_in = omega arith;
         fits = omega (
           arith,
           AreOf-length operands parts.0 are,
@@ -135,10 +135,10 @@ module _ (sequences : List (List Instr)) (rooms : Rooms) (spare : ℕ) (p : Poin
 
   -- the configuration's step
   abbrev own_config : List ℕ → Config
-  own_config globals = record { globals = globals; code = op operator (code_at sequences p.sequence (p.place + 1)); operands = is.own; locals = p.locals; contexts = contexts_of sequences p.labels is.below }
+  own_config globals = record { globals = globals; code = op operator (code_at sequences p.sequence (p.index + 1)); operands = is.own; locals = p.locals; contexts = contexts_of sequences p.labels is.below }
 
   next-is : (globals memory : List ℕ) → next (λ pages. nat_le pages spare) (config_at sequences globals p) memory
-      ≡ answered (λ pages. nat_le pages spare) memory (then_wants (op_wants operator is.own p.locals) (own_config globals) (code_at sequences p.sequence (p.place + 1)))
+      ≡ answered (λ pages. nat_le pages spare) memory (then_wants (op_wants operator is.own p.locals) (own_config globals) (code_at sequences p.sequence (p.index + 1)))
   next-is globals memory =
       let split : config_at sequences globals p ≡ own_config globals =
       config_at-split sequences globals p is.own is.below is.operands_are is.below_are
@@ -146,14 +146,14 @@ module _ (sequences : List (List Instr)) (rooms : Rooms) (spare : ℕ) (p : Poin
       ap (λ (c : Config). next (λ pages. nat_le pages spare) c memory) split
 
   state-is : (globals operands values : List ℕ) →
-      state_at sequences globals (after_it (operands ++ is.below) values) ≡ goes_on (own_config globals) (code_at sequences p.sequence (p.place + 1)) operands values
+      state_at sequences globals (after_it (operands ++ is.below) values) ≡ goes_on (own_config globals) (code_at sequences p.sequence (p.index + 1)) operands values
   state-is globals operands values = state_at-split sequences globals (after_it (operands ++ is.below) values) operands is.below refl is.below_are
 
   -- what was done of a typed want over all operands is the configuration's step
   executed-want : (w : OpWant) → OpWantTyped w parts.0 is.locals → (memory : List ℕ) (answer : Stepped) (operands values after : List ℕ) →
       IsDone (over is.below w) p.locals memory spare answer operands values after →
       ((globals : List ℕ) → next (λ pages. nat_le pages spare) (config_at sequences globals p) memory
-      ≡ answered (λ pages. nat_le pages spare) memory (then_wants w (own_config globals) (code_at sequences p.sequence (p.place + 1)))) →
+      ≡ answered (λ pages. nat_le pages spare) memory (then_wants w (own_config globals) (code_at sequences p.sequence (p.index + 1)))) →
       IsExecuted sequences rooms spare p memory answer (after_it operands values) after
   executed-want Stuck' typed memory answer operands values after done steps = absurd typed
   executed-want (Leaves left changed) typed memory answer operands values after done steps =

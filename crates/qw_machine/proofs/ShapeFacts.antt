@@ -35,9 +35,9 @@ shape-found m (Some number) memory raise none (k, export, inside, same, run) = r
 }
 
 -- only one function of a valid module is its `run`
-same_place : (m : Module) → AllPairs HaveOtherNames m.exports.items → (i j : ℕ) (e f : Export) → i < length m.exports.items → j < length m.exports.items →
+same_index : (m : Module) → AllPairs HaveOtherNames m.exports.items → (i j : ℕ) (e f : Export) → i < length m.exports.items → j < length m.exports.items →
     get_or m.exports.items i e ≡ e → get_or m.exports.items j f ≡ f → string_bytes e.name ≡ string_bytes f.name → i ≡ j
-same_place m apart i j e f inside there first second same = ⊎_elim
+same_index m apart i j e f inside there first second same = ⊎_elim
     (λ less. absurd (apart i j e less there (named e f i j first (other e f i j there second) same)))
     (λ most. ⊎_elim
     (λ more. absurd (apart j i e more inside (sym (named e f i j first (other e f i j there second) same))))
@@ -57,8 +57,8 @@ shape-unique m apart a b one other =
     let f : Export = other.exported.0 in
     let at = one.exported.1 in
     let there = other.exported.1 in
-    let place : at.0 ≡ there.0 = same_place m apart at.0 there.0 e f at.1 there.1 at.2 there.2 (one.exported.2 ∙ sym other.exported.2) in
-    let same : e ≡ f = sym at.2 ∙ ap (λ (k : ℕ). get_or m.exports.items k e) place ∙ sym (get_or_read m.exports.items there.0 f there.1 (sym there.2) e) in
+    let index : at.0 ≡ there.0 = same_index m apart at.0 there.0 e f at.1 there.1 at.2 there.2 (one.exported.2 ∙ sym other.exported.2) in
+    let same : e ≡ f = sym at.2 ∙ ap (λ (k : ℕ). get_or m.exports.items k e) index ∙ sym (get_or_read m.exports.items there.0 f there.1 (sym there.2) e) in
     let kinds : kind.Function (length (imported_functions m) + a) ≡ kind.Function (length (imported_functions m) + b) =
     sym one.exported.3 ∙ ap (λ (x : Export). x.kind) same ∙ other.exported.3 in
     let index : length (imported_functions m) + a ≡ length (imported_functions m) + b = cc kinds in

@@ -5,9 +5,9 @@ ghost use Rattle.std.specs.Prelude.{◌≡◌, ℕ, ◌∷◌, ◌++◌, ◌+◌
 ghost use Rattle.qw_module.specs.Numbers.{constant, truth};
 ghost use Rattle.qw_module.specs.Syntax.{IsNumbered, sequence_at};
 ghost use Rattle.qw_linear.specs.Memory.{page};
-ghost use Rattle.qw_machine.specs.Machine.{CanJump, IsJump, IsPoint, entered, first_point, instructions_below, whole_room, point_of, rooms_of, under};
+ghost use Rattle.qw_machine.specs.Inner.Machine.{CanJump, IsJump, IsPoint, entered, first_point, instructions_below, whole_room, point_of, rooms_of, under};
 ghost use Rattle.qw_machine.specs.Inner.Executed.{IsExecuted, IsLeft, IsStepped};
-ghost use Rattle.qw_machine.specs.Instance.{end_of};
+ghost use Rattle.qw_machine.specs.Inner.Ended.{run_end_of};
 ghost use Rattle.qw_module.specs.Validity.{IsShaped, IsValid, items_of};
 
 use crate::operators::{operate, value_of};
@@ -15,10 +15,11 @@ use crate::shape::shaped_run;
 use crate::stack::Stack;
 use qw_linear::linear::Linear;
 use qw_module::instruction::{Instr, ValType};
-use qw_module::module::{self, Module};
+use qw_module::module;
 use qw_types::NoMemory;
 use qw_valid::valid::ValidModule;
 use std::alloc::Global;
+use std::marker::Model;
 use thiserror::Error;
 
 /// What a step came to.
@@ -39,7 +40,7 @@ pub enum Stepped {
 impl Stepped {
     /// How the run has ended, if no step follows.
     fn end(self) -> Option<RunEnd>
-        ensures { result ≡ end_of self }
+        ensures { result ≡ run_end_of self }
     {
         match self {
             Stepped::Ran | Stepped::Grew { .. } | Stepped::Refused { .. } => None,
@@ -76,19 +77,19 @@ pub(crate) struct Entry {
     pub(crate) takes: bool,
     /// The number of the sequence that the label stands in.
     pub(crate) sequence: usize,
-    /// The place there that a branch goes to: a loop's own, or the one after the block.
+    /// The index there that a branch goes to: a loop's own, or the one after the block.
     pub(crate) target: usize,
-    /// The place there after the label's end.
+    /// The index there after the label's end.
     pub(crate) after: usize,
 }
 
 /// Where the execution of a numbered body is (4.2.12): the labels that it is in, the sequence that runs
-/// and the place in it, the operands of all labels, and the locals. All room is reserved at first.
+/// and the index in it, the operands of all labels, and the locals. All room is reserved at first.
 #[derive(Drop)]
 pub(crate) struct Activity {
     labels: Stack<Entry>,
     sequence: usize,
-    place: usize,
+    index: usize,
     operands: Stack<u64>,
     locals: Vec<u64>,
 }
@@ -123,7 +124,7 @@ impl Activity {
         Ok(Activity {
             labels,
             sequence,
-            place: 0,
+            index: 0,
             operands,
             locals,
         })
@@ -132,7 +133,7 @@ impl Activity {
     /// Enters a block that begins with a sequence of this number (4.4.6).
     fn enter(&mut self, inner: usize, takes: bool, target: usize)
         requires room { length self.old.labels.values < self.old.labels.room }
-        requires place { self.old.place < 2 ^ 64 - 1 }
+        requires index { self.old.index < 2 ^ 64 - 1 }
         ensures point { point_of self.new ≡ entered (point_of self.old) inner takes target }
         ensures rooms { rooms_of self.new ≡ rooms_of self.old }
     {
@@ -141,10 +142,10 @@ impl Activity {
             takes,
             sequence: self.sequence,
             target,
-            after: self.place + 1,
+            after: self.index + 1,
         });
         self.sequence = inner;
-        self.place = 0;
+        self.index = 0;
     }
 
     /// Branches to the label of an index, counted from the innermost (4.4.5, `br`).
@@ -158,24 +159,24 @@ impl Activity {
         let entry = self.labels.pop();
         unwind(&mut self.operands, entry.base, entry.takes);
         self.sequence = entry.sequence;
-        self.place = entry.target;
+        self.index = entry.target;
     }
 
-    /// Executes the instruction at the place, and leaves no label yet. Never answers `Returned`.
+    /// Executes the instruction at the index, and leaves no label yet. Never answers `Returned`.
     fn execute(&mut self, sequences: &[Vec<Instr>], memory: &mut Linear, spare: u32) -> Stepped
         requires numbered { IsNumbered (items_of sequences.now) }
         requires point { IsPoint (items_of sequences.now) (rooms_of self.old) (point_of self.old) }
-        requires unfinished { self.old.place < length (sequence_at (items_of sequences.now) self.old.sequence) }
+        requires unfinished { self.old.index < length (sequence_at (items_of sequences.now) self.old.sequence) }
         requires pages { length memory.old.octets + spare * page ≤ memory.old.reserved * page }
         ensures executed { IsExecuted (items_of sequences.now) (rooms_of self.old) spare (point_of self.old) memory.old.octets result (point_of self.new) memory.new.octets }
         ensures rooms { rooms_of self.new ≡ rooms_of self.old }
         ensures reserved { memory.new.reserved ≡ memory.old.reserved }
     {
         let sequence = sequences[self.sequence].as_slice();
-        let after = self.place + 1;
-        match sequence[self.place] {
+        let after = self.index + 1;
+        match sequence[self.index] {
             Instr::Op(op) => {
-                self.place = after;
+                self.index = after;
                 return operate(
                     op,
                     &mut self.operands,
@@ -185,7 +186,7 @@ impl Activity {
                 );
             }
             Instr::Block { result, body } => self.enter(body, result.is_some(), after),
-            Instr::Loop { body, .. } => self.enter(body, false, self.place),
+            Instr::Loop { body, .. } => self.enter(body, false, self.index),
             Instr::If {
                 result,
                 then_body,
@@ -203,7 +204,7 @@ impl Activity {
                 if self.operands.pop() != 0 {
                     self.branch(index as usize);
                 } else {
-                    self.place = after;
+                    self.index = after;
                 }
             }
         }
@@ -216,13 +217,13 @@ impl Activity {
         ensures left { IsLeft (items_of sequences.now) (rooms_of self.old) (point_of self.old) result (point_of self.new) }
         ensures rooms { rooms_of self.new ≡ rooms_of self.old }
     {
-        while self.place == sequences[self.sequence].len() {
+        while self.index == sequences[self.sequence].len() {
             if self.labels.len() == 0 {
                 return false;
             }
             let entry = self.labels.pop();
             self.sequence = entry.sequence;
-            self.place = entry.after;
+            self.index = entry.after;
         }
         true
     }
@@ -231,7 +232,7 @@ impl Activity {
     fn step(&mut self, sequences: &[Vec<Instr>], memory: &mut Linear, spare: u32) -> Stepped
         requires numbered { IsNumbered (items_of sequences.now) }
         requires point { IsPoint (items_of sequences.now) (rooms_of self.old) (point_of self.old) }
-        requires unfinished { self.old.place < length (sequence_at (items_of sequences.now) self.old.sequence) }
+        requires unfinished { self.old.index < length (sequence_at (items_of sequences.now) self.old.sequence) }
         requires pages { length memory.old.octets + spare * page ≤ memory.old.reserved * page }
         ensures stepped { IsStepped (items_of sequences.now) (rooms_of self.old) spare (point_of self.old) memory.old.octets result (point_of self.new) memory.new.octets }
         ensures rooms { rooms_of self.new ≡ rooms_of self.old }
@@ -248,9 +249,11 @@ impl Activity {
     }
 }
 
-/// An instance of a module whose `run` was called. Which module it goes with is the caller's to know.
+/// A valid module whose `run` was called, and where the call is. Contracts see a [`Called`](specs/Instance): the module
+/// and the state.
 #[derive(Drop)]
 pub struct Instance {
+    valid: ValidModule,
     /// The values of the module's globals (4.2.9). A configuration has them, though no instruction reads one yet.
     globals: Vec<u64>,
     /// The number of the module's own function that is `run`.
@@ -260,8 +263,23 @@ pub struct Instance {
     activity: Activity,
 }
 
+impl Model for Instance {
+    ghost use Rattle.qw_machine.specs.Instance.{Called};
+    ghost use Rattle.qw_machine.specs.Inner.CalledCode.{called_code};
+
+    ghost Value = { Called };
+
+    ghost coded = { called_code };
+
+    ghost use Rattle.qw_machine.specs.Inner.Held.{called, IsHeld};
+
+    ghost view = { called };
+
+    ghost invariant = { IsHeld };
+}
+
 impl Instance {
-    ghost use Rattle.qw_machine.specs.Instance.{GoesWith, IsLast, Went, state_of};
+    ghost use Rattle.qw_machine.specs.Instance.{IsLast, Went};
     ghost use Rattle.qw_module.specs.Start.{begun};
     ghost use Rattle.qw_module.specs.Execution.{IsOver, Config, Running};
 
@@ -270,30 +288,34 @@ impl Instance {
     /// # Errors
     ///
     /// `NotShaped` exactly where the module hasn't the shape that is executed, and `NoMemory` for want of memory.
-    pub fn new(alloc: Global, valid: &ValidModule, argument: u32) -> Result<Self, InstanceFault>
-        ensures begun { (number : ℕ) → IsShaped valid.now number → IfOk result (λ instance. state_of valid.now instance ≡ begun valid.now number argument) }
-        ensures goes_with { IfOk result (GoesWith valid.now) }
-        ensures not_shaped { (result ≡ Err InstanceFault.NotShaped) ↔ ((number : ℕ) → IsShaped valid.now number → ⊥) }
+    pub fn new(alloc: Global, valid: ValidModule, argument: u32) -> Result<Self, InstanceFault>
+        ensures begun { (number : ℕ) → IsShaped valid number
+            → IfOk result (λ instance. instance ≡ record { program = valid; state = begun valid number argument }) }
+        ensures not_shaped { (result ≡ Err InstanceFault.NotShaped) ↔ ((number : ℕ) → IsShaped valid number → ⊥) }
     {
-        let module = valid.module();
-        let Some(number) = shaped_run(module) else {
+        let Some(number) = shaped_run(valid.module()) else {
             return Err(InstanceFault::NotShaped);
         };
-        Instance::call(alloc, module, number, argument).map_err(|_| InstanceFault::NoMemory)
+        Instance::call(alloc, valid, number, argument).map_err(|_| InstanceFault::NoMemory)
     }
 
-    fn call(alloc: Global, module: &Module, number: usize, argument: u32) -> Result<Self, NoMemory>
-        requires valid { IsValid «module».now }
-        requires shaped { IsShaped «module».now number }
-        ensures begun { IfOk result (λ instance. state_of «module».now instance ≡ begun «module».now number argument) }
-        ensures goes_with { IfOk result (GoesWith «module».now) }
+    fn call(
+        alloc: Global,
+        valid: ValidModule,
+        number: usize,
+        argument: u32,
+    ) -> Result<Self, NoMemory>
+        requires { IsShaped valid number }
+        ensures { IfOk result (λ instance. instance ≡ record { program = valid; state = begun valid number argument }) }
     {
+        let module = valid.module();
         let function = &module.functions[number];
         let sequences = function.body.sequences.as_slice();
         let globals = initial_values(alloc, &module.globals)?;
         let mut activity = Activity::begin(alloc, sequences, &function.locals, argument)?;
         let runs = activity.leave_finished(sequences);
         Ok(Instance {
+            valid,
             globals,
             function: number,
             ended: if runs { None } else { Some(RunEnd::Returned) },
@@ -304,7 +326,7 @@ impl Instance {
     /// How the run has ended: what its last step came to, or `Returned` where `run` has no instructions. It is
     /// `Ran` as long as the run goes on, also where a step was a request.
     pub fn last(&self) -> Stepped
-        ensures { (m : Module) → GoesWith m self.now → IsLast result (state_of m self.now) }
+        ensures { IsLast result self.now.state }
     {
         match self.ended {
             None => Stepped::Ran,
@@ -316,20 +338,18 @@ impl Instance {
 
     /// Executes one instruction, and leaves what it finishes. A request is granted exactly where it is for at most `spare`
     /// pages. After `Returned`, `Raised` or `Trapped` nothing changes any more, and the answer is the same again.
-    pub fn step(&mut self, valid: &ValidModule, memory: &mut Linear, spare: u32) -> Stepped
-        requires goes_with { GoesWith valid.now self.old }
-        requires room { length memory.old.octets + spare * page ≤ memory.old.reserved * page }
-        ensures step { (c : Config) → state_of valid.now self.old ≡ Running c
-            → Went spare c memory.old.octets (state_of valid.now self.new) memory.new.octets result }
-        ensures over { IsOver (state_of valid.now self.old)
-            → (self.new ≡ self.old) × (memory.new ≡ memory.old) × IsLast result (state_of valid.now self.old) }
+    pub fn step(&mut self, memory: &mut Linear, spare: u32) -> Stepped
+        requires { length memory.old.octets + spare * page ≤ memory.old.reserved * page }
+        ensures step { (c : Config) → self.old.state ≡ Running c
+            → Went spare c memory.old.octets self.new.state memory.new.octets result }
+        ensures over { IsOver self.old.state → (self.new ≡ self.old) × (memory.new ≡ memory.old) × IsLast result self.old.state }
+        ensures program { self.new.program ≡ self.old.program }
         ensures reserved { memory.new.reserved ≡ memory.old.reserved }
-        ensures goes_with { GoesWith valid.now self.new }
     {
         if self.ended.is_some() {
             return self.last();
         }
-        let function = &valid.module().functions[self.function];
+        let function = &self.valid.module().functions[self.function];
         let stepped = self.activity.step(&function.body.sequences, memory, spare);
         self.ended = stepped.end();
         stepped

@@ -66,7 +66,7 @@ fn extend(sign: Sign, n: u32) -> u64
 }
 
 /// Where an access begins.
-fn place_of(address: u64, arg: MemArg) -> u64
+fn address_of(address: u64, arg: MemArg) -> u64
     requires { address < 2 ^ 32 }
     ensures { result ≡ effective address arg }
 {
@@ -148,7 +148,7 @@ fn operate_load(load: Load, arg: MemArg, operands: &mut Stack<u64>, memory: &Lin
     ensures done { (locals : List ℕ) (spare : ℕ) → IsDone (op_wants (Op.Load load arg) operands.old.values locals) locals memory.now.octets spare result operands.new.values locals memory.now.octets }
     ensures room { operands.new.room ≡ operands.old.room }
 {
-    let at = place_of(operands.pop(), arg);
+    let at = address_of(operands.pop(), arg);
     let Some(value) = read(memory, load, at) else {
         return Stepped::Trapped;
     };
@@ -169,7 +169,7 @@ fn operate_store(
     ensures reserved { memory.new.reserved ≡ memory.old.reserved }
 {
     let value = operands.pop();
-    let at = place_of(operands.pop(), arg);
+    let at = address_of(operands.pop(), arg);
     if write(memory, store, at, value).is_none() {
         return Stepped::Trapped;
     }

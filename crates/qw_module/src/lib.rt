@@ -4,6 +4,7 @@
 //! - [`instruction::Instr`]: an instruction of a numbered body; [`instruction::Op`]: one that holds no other.
 //! - [`module::Module`]: a module, with its [`module::Function`]s and their [`module::Body`]s.
 //! - [`laws`]: the rules and the computed step agree, a step is unique, typed configurations go on.
+//! - [`worked_laws`]: the definitions on given numbers, types and limits.
 //! - `specs/Syntax`: the nested code that a numbered body stands for; `Numbers`: the values and operators.
 //! - `specs/Typing`: the typing rules; `Validity`: valid modules, and the shape of those that are executed.
 //! - `specs/Execution`: the rules of execution; `Step`: the step as a function; `Start`: how a call begins.
@@ -13,3 +14,4 @@
 pub mod instruction;
 pub mod laws;
 pub mod module;
+pub mod worked_laws;

@@ -32,11 +32,11 @@ pub(crate) enum Refusal {
     NoMemory,
 }
 
-/// The types of the operands that are known at a place.
+/// The types of the operands that are known at some point of a sequence.
 #[derive(Drop)]
 pub(crate) struct Operands {
     known: Vec<ValType>,
-    /// Whether the place follows an unconditional branch, so that any others may lie below.
+    /// Whether that point follows an unconditional branch, so that any others may lie below.
     unreachable: bool,
 }
 

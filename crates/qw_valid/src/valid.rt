@@ -36,7 +36,7 @@ pub enum ValidFault {
     Globals,
     #[error("an export isn't there, or has another's name")]
     Exports,
-    /// By its place among the functions of the module's own.
+    /// By its index among the functions of the module's own.
     #[error("function {number} isn't typed")]
     Function { number: usize },
     #[error("want of memory")]
@@ -163,8 +163,8 @@ fn lack_name(exports: &[Export], name: &str) -> bool
 fn names_differ(exports: &[Export]) -> bool
     ensures { IsTrue result ↔ AllPairs HaveOtherNames exports.now }
 {
-    for (place, export) in exports.iter().enumerate() {
-        if !lack_name(&exports[..place], export.name.as_str()) {
+    for (index, export) in exports.iter().enumerate() {
+        if !lack_name(&exports[..index], export.name.as_str()) {
             return false;
         }
     }

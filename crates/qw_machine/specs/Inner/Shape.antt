@@ -1,4 +1,4 @@
--- The shape that is executed, part by part.
+-- Mirrors `shaped_run` of shape.rt: the shape that is executed, part by part.
 use Rattle.std.specs.Prelude.{◌≡◌, ℕ, ◌+◌, List, length, codes, All, Contains, IsSomeAnd, slice_get}
 use Rattle.std.specs.String.{string_bytes}
 use Rattle.qw_module.specs.declared.module.Limits.{Limits}

@@ -1,4 +1,4 @@
--- What the sequences of one body are checked under, and which code each of their numbers names.
+-- Mirrors `Checker`: what the sequences of one body are checked under, and which code each of their numbers names.
 use Rattle.std.specs.Prelude.{ℕ, List, ◌++◌}
 use Rattle.qw_module.specs.declared.instruction.ValType.{ValType}
 use Rattle.qw_module.specs.declared.instruction.Instr.{Instr}

@@ -1,4 +1,4 @@
--- The typing rules of `Typing`, computed from the first instruction on (WebAssembly Core Specification 1.0, appendix
+-- Mirrors `Checker::sequence`: the typing rules of `Typing`, computed from the first instruction on (WebAssembly Core Specification 1.0, appendix
 -- "Validation Algorithm").
 use Rattle.std.specs.Prelude.{ℕ, ◌^◌, nat_lt, nat_le, Bool, true, false, ◌&&◌, if◌then◌else◌, List, [], ◌∷◌, ◌++◌, reverse, Option, Some, None, slice_get}
 use Rattle.std.specs.Option.{option_map, option_and_then}

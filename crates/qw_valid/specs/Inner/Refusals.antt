@@ -1,4 +1,4 @@
--- What the checks of a body answer: that a rule holds, that it doesn't, or that there is no memory left.
+-- Mirrors `Refusal`: what the checks of a body answer: that a rule holds, that it doesn't, or that there is no memory left.
 use Rattle.std.specs.Prelude.{◌≡◌, Bool, true, false, Option, Some, None, Result, Ok, Err}
 use Rattle.qw_valid.specs.declared.checker.Refusal.{Refusal}
 use Rattle.qw_valid.specs.declared.checker.Refusal.TheVariants.{IllTyped, NoMemory}

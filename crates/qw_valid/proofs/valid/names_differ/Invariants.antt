@@ -3,5 +3,5 @@ use Rattle.qw_module.specs.declared.module.Export.{Export}
 use Rattle.qw_module.specs.Validity.{HaveOtherNames}
 use Rattle.qw_valid.proofs.valid.names_differ.Given as goal
 
-abbrev pub invariant-loop-place : goal.invariant-loop-place
-invariant-loop-place l = (i j : ℕ) (d : Export) → i < j → j < l.place → HaveOtherNames (get_or l.exports i d) (get_or l.exports j d)
+abbrev pub invariant-loop-index : goal.invariant-loop-index
+invariant-loop-index l = (i j : ℕ) (d : Export) → i < j → j < l.index → HaveOtherNames (get_or l.exports i d) (get_or l.exports j d)

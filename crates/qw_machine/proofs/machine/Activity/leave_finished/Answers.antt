@@ -1,6 +1,6 @@
 use Rattle.std.proofs.Common.{◌≢◌, ℕ, vec_len, ◌∙◌, sym, ap, refl}
-use Rattle.qw_machine.specs.Machine.{Rooms, point_of, rooms_of}
-use Rattle.qw_machine.proofs.Arrays.{left-entry-point, left-entry-state, left-last, place-unfinished}
+use Rattle.qw_machine.specs.Inner.Machine.{Rooms, point_of, rooms_of}
+use Rattle.qw_machine.proofs.Arrays.{left-entry-point, left-entry-state, left-last, index-unfinished}
 use Rattle.qw_machine.proofs.machine.Activity.leave_finished.Goals as goal
 
 pub returns-then-len-eq0-clause-left : goal.returns-then-len-eq0-clause-left
@@ -21,10 +21,10 @@ loop-self-preserved c = (
 pub returns-clause-left : goal.returns-clause-left
 returns-clause-left c =
     let is = c.loop-self.invariant.1 in
-    let apart : c.loop-self.self.place ≢ vec_len c.index-sequences-self.result = λ e. c.loop-self-test.false (e ∙ sym c.len.ensures) in (
+    let apart : c.loop-self.self.index ≢ vec_len c.index-sequences-self.result = λ e. c.loop-self-test.false (e ∙ sym c.len.ensures) in (
       record {
         point = is;
-        unfinished = place-unfinished c.args.sequences.now c.loop-self.self.sequence c.loop-self.self.place c.index-sequences-self.result is.room.numbered c.index-sequences-self.is apart is.place_in;
+        unfinished = index-unfinished c.args.sequences.now c.loop-self.self.sequence c.loop-self.self.index c.index-sequences-self.result is.room.numbered c.index-sequences-self.is apart is.index_in;
       },
       c.loop-self.invariant.2,
     )

@@ -1,4 +1,4 @@
--- What the machine's arrays stand for, and what they keep from step to step.
+-- Mirrors `Activity` of machine.rt: what its arrays stand for, and what they keep from step to step.
 use Rattle.std.specs.Prelude.{◌≡◌, ℕ, zero, suc, ◌+◌, ◌-◌, ◌<◌, ◌≤◌, Bool, false, List, [], ◌∷◌, ◌++◌, length, take, drop, slice_get, Some}
 use Rattle.qw_module.specs.declared.instruction.ValType.{ValType}
 use Rattle.qw_module.specs.declared.instruction.Instr.{Instr}
@@ -10,16 +10,16 @@ use Rattle.qw_module.specs.Execution.{Context, label, Config, State, settled}
 use Rattle.qw_module.specs.Typing.{Signature, Typed}
 use Rattle.qw_module.specs.Soundness.{AreOf, AreLinked, scope_of}
 
--- what is left of the sequence of a number from a place on, nested
+-- what is left of the sequence of a number from an index on, nested
 abbrev pub code_at : List (List Instr) → ℕ → ℕ → Code
-code_at sequences number place = nested (named_below sequences (length sequences)) (drop place (sequence_at sequences number))
+code_at sequences number index = nested (named_below sequences (length sequences)) (drop index (sequence_at sequences number))
 
 -- Where an instance is in a numbered body: the labels that it is in, the innermost first, the number of the
--- sequence that runs and the place in it, all operands, the last one first, and the locals.
+-- sequence that runs and the index in it, all operands, the last one first, and the locals.
 pub record Point : Type 0 where
   pub labels : List Entry
   pub sequence : ℕ
-  pub place : ℕ
+  pub index : ℕ
   pub operands : List ℕ
   pub locals : List ℕ
 
@@ -45,7 +45,7 @@ contexts_of sequences (entry ∷ entries) below =
 -- the state that a point stands for: finished labels are left
 abbrev pub state_at : List (List Instr) → List ℕ → Point → State
 state_at sequences globals p =
-    settled globals (contexts_of sequences p.labels (under (base_of p.labels) p.operands)) (code_at sequences p.sequence p.place)
+    settled globals (contexts_of sequences p.labels (under (base_of p.labels) p.operands)) (code_at sequences p.sequence p.index)
     (above (base_of p.labels) p.operands) p.locals
 
 -- how many instructions the sequences of numbers below n have
@@ -66,7 +66,7 @@ pub record HasRoom (sequences : List (List Instr)) (rooms : Rooms) (number below
   pub labels : depth + suc number ≤ rooms.labels
 
 -- An entry awaits a sequence that leaves operands of the types `ends` on `operands`, where the locals have these
--- types and the labels take these. Its own operands and what comes on them are at most its place.
+-- types and the labels take these. Its own operands and what comes on them are at most its index.
 pub record IsEntry (sequences : List (List Instr)) (rooms : Rooms) (functions : List Signature) (locals : List ValType) (labels : List (List ValType)) (ends : List ValType) (entry : Entry) (entries : List Entry) (operands : List ℕ) : Type 0 where
   pub own : List ℕ
   pub below : List ℕ
@@ -107,14 +107,14 @@ pub record IsPoint (sequences : List (List Instr)) (rooms : Rooms) (p : Point) :
   pub own_are : AreOf own before
   pub linked : AreLinked functions
   pub locals_are : AreOf p.locals locals
-  pub typed : Typed (scope_of functions locals labels) (code_at sequences p.sequence p.place) before ends
-  pub place_in : p.place ≤ length (sequence_at sequences p.sequence)
-  pub fits : length own ≤ p.place
+  pub typed : Typed (scope_of functions locals labels) (code_at sequences p.sequence p.index) before ends
+  pub index_in : p.index ≤ length (sequence_at sequences p.sequence)
+  pub fits : length own ≤ p.index
   pub room : HasRoom sequences rooms p.sequence (length below) (length p.labels)
   pub entries : AreEntries sequences rooms functions locals p.labels labels ends below
 
 abbrev pub point_of : Activity → Point
-point_of a = record { labels = a.labels.values; sequence = a.sequence; place = a.place; operands = a.operands.values; locals = a.locals.items }
+point_of a = record { labels = a.labels.values; sequence = a.sequence; index = a.index; operands = a.operands.values; locals = a.locals.items }
 
 abbrev pub rooms_of : Activity → Rooms
 rooms_of a = record { operands = a.operands.room; labels = a.labels.room }
@@ -124,18 +124,18 @@ abbrev pub config_at : List (List Instr) → List ℕ → Point → Config
 config_at sequences globals p =
     record {
       globals = globals;
-      code = code_at sequences p.sequence p.place;
+      code = code_at sequences p.sequence p.index;
       operands = above (base_of p.labels) p.operands;
       locals = p.locals;
       contexts = contexts_of sequences p.labels (under (base_of p.labels) p.operands);
     }
 
--- in a block that begins with a sequence of this number, whose branches go to a place of the sequence around it
+-- in a block that begins with a sequence of this number, whose branches go to an index of the sequence around it
 abbrev pub entered : Point → (inner : ℕ) → (takes : Bool) → (target : ℕ) → Point
 entered p inner takes target = record {
-  labels = (record { base = length p.operands; takes = takes; sequence = p.sequence; target = target; after = p.place + 1 }) ∷ p.labels;
+  labels = (record { base = length p.operands; takes = takes; sequence = p.sequence; target = target; after = p.index + 1 }) ∷ p.labels;
   sequence = inner;
-  place = 0;
+  index = 0;
   operands = p.operands;
   locals = p.locals;
 }
@@ -145,18 +145,18 @@ abbrev pub CanJump : ℕ → Point → Type 0
 CanJump index p = (entry : Entry) × (slice_get p.labels index ≡ Some entry) × (entry.base + truth entry.takes ≤ length p.operands)
 
 -- a branch to the label of an index leads from a point to one
-pub record IsJump (index : ℕ) (p q : Point) : Type 0 where
+pub record IsJump (depth : ℕ) (p q : Point) : Type 0 where
   pub entry : Entry
-  pub labels : drop index p.labels ≡ entry ∷ q.labels
+  pub labels : drop depth p.labels ≡ entry ∷ q.labels
   pub sequence : q.sequence ≡ entry.sequence
-  pub place : q.place ≡ entry.target
+  pub index : q.index ≡ entry.target
   pub operands : q.operands ≡ take (truth entry.takes) p.operands ++ under entry.base p.operands
   pub locals : q.locals ≡ p.locals
 
 -- the point runs: it isn't at the end of its sequence
 pub record IsRunning (sequences : List (List Instr)) (rooms : Rooms) (p : Point) : Type 0 where
   pub point : IsPoint sequences rooms p
-  pub unfinished : p.place < length (sequence_at sequences p.sequence)
+  pub unfinished : p.index < length (sequence_at sequences p.sequence)
 
 -- Where the last sequence of a body begins, in the label of the whole body, with these locals (4.4.7, "Invocation").
 abbrev pub first_point : List (List Instr) → (locals : List ℕ) → Point
@@ -166,7 +166,7 @@ first_point sequences locals =
     record {
       labels = (record { base = 0; takes = false; sequence = last; target = end; after = end }) ∷ [];
       sequence = last;
-      place = 0;
+      index = 0;
       operands = [];
       locals = locals;
     }
