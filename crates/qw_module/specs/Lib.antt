@@ -1,3 +1,4 @@
+pub mod Codes
 pub mod Execution
 pub mod Numbers
 pub mod Soundness
