@@ -1,4 +1,5 @@
 pub mod Areas
+pub mod Codes
 pub mod Columns
 pub mod Inner
 pub mod Layout
