@@ -29,7 +29,8 @@ use Rattle.qw_bench.specs.declared.bench.Seat.{Seat}
 use Rattle.qw_bench.specs.Bench.{IsStart, IsStarting, Task, starting}
 use Rattle.qw_bench.specs.Inner.FirstMemory.{IsFirstMemory}
 use Rattle.qw_csv.specs.Loading.{AreLoaded, IsIntegerRow}
-use Rattle.qw_bench.specs.Seats.{HasGrants, IsBench, IsEndOf, area_of, end_of, instance_of, state_in, task_of, world_of}
+use Rattle.qw_bench.specs.Standing.{end_of}
+use Rattle.qw_bench.specs.Inner.Seats.{AreSeats, HasGrants, IsEndOf, area_of, instance_of, standing_of, state_in, task_of, world_of}
 use Rattle.qw_columns.proofs.ColumnLemmas.{few_pages, within_pages}
 use Rattle.qw_bench.proofs.Serving.{start-serving}
 
@@ -183,7 +184,7 @@ module _ (width : ℕ) (rows : List (List Val)) (memory : Octets) (seat : Seat) 
   place_first zero t task = subst (λ (x : Task). x.descriptor ≡ (column_pages width (length rows) + 0) * page) (same_Some (task_of seat) t task) (omega (arith, place))
   place_first (suc k) t task = absurd (none-some t task)
 
-  pub start : IsStart width rows (task_of seat ∷ []) (record { memory = memory.octets; instances = instance_of seat ∷ [] })
+  pub start : IsStart width rows (task_of seat ∷ []) (standing_of memory (seat ∷ [])).shared
   start = record {
     begins = record {
       octets = first.octets;
@@ -198,13 +199,15 @@ module _ (width : ℕ) (rows : List (List Val)) (memory : Octets) (seat : Seat) 
   }
 
   pub bench : GoesWith seat.valid seat.instance → seat.limits.pages ≤ vec_capacity seat.granted →
-      memory.reserved ≡ column_pages width (length rows) + seat.limits.pages → IsBench (record { memory = memory; seats = seat ∷ [] })
+      memory.reserved ≡ column_pages width (length rows) + seat.limits.pages → AreSeats memory (seat ∷ [])
   bench fits room reserved =
       let unasked : length seat.granted.items ≡ 0 = ap length nothing in
       record {
-        table = rows;
-        serving = start-serving width rows (task_of seat ∷ []) (record { memory = memory.octets; instances = instance_of seat ∷ [] }) start.begins;
+        bench = record {
+          table = rows;
+          serving = start-serving width rows (task_of seat ∷ []) (standing_of memory (seat ∷ [])).shared start.begins;
+          room = omega (arith, first.size, reserved, one_page, some_pages);
+        };
         fitting = All-cons (λ (s : Seat). GoesWith s.valid s.instance) seat [] fits (All-nil (λ (s : Seat). GoesWith s.valid s.instance));
         grants = All-cons HasGrants seat [] (record { counted = omega (arith, unasked, one_page); held = omega (arith, one_page, some_pages); room = room }) (All-nil HasGrants);
-        room = omega (arith, first.size, reserved, one_page, some_pages);
       }

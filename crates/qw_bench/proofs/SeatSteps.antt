@@ -23,7 +23,8 @@ use Rattle.qw_bench.specs.declared.bench.Ended.{Ended}
 use Rattle.qw_bench.specs.declared.bench.Ended.TheVariants as ended
 use Rattle.qw_bench.specs.declared.bench.Grant.{Grant}
 use Rattle.qw_bench.specs.declared.bench.Seat.{Seat}
-use Rattle.qw_bench.specs.Seats.{CanBeTold, HasGrants, IsEndOf, IsTold, StaysSeated, area_of, counting, end_of, instance_of, state_in, world_of}
+use Rattle.qw_bench.specs.Standing.{end_of}
+use Rattle.qw_bench.specs.Inner.Seats.{CanBeTold, HasGrants, IsEndOf, IsTold, StaysSeated, area_of, counting, instance_of, state_in, world_of}
 
 -- ---- what a step can be told to have done
 -- tests that agree grant the same requests

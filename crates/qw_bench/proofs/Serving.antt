@@ -27,7 +27,7 @@ use Rattle.qw_map.specs.Layout.{cell_types, column_areas, column_starts, used}
 use Rattle.qw_emit.specs.Compiled.{Answers, bound, page_bound}
 use Rattle.qw_bench.specs.Bench.{AreServing, AreStarting, EachTask, IsAt, IsStarting, Serves, Task}
 use Rattle.qw_machine.specs.Instance.{IsNoRequest}
-use Rattle.qw_bench.specs.Seats.{CanBeTold, IsTold}
+use Rattle.qw_bench.specs.Inner.Seats.{CanBeTold, IsTold}
 use Rattle.qw_columns.proofs.ColumnLemmas.{within_pages}
 use Rattle.qw_map.proofs.ResultLemmas.{results_stay}
 

@@ -1,4 +1,5 @@
 pub mod Bench
+pub mod Codes
 pub mod FirstPage
 pub mod Inner
-pub mod Seats
+pub mod Standing

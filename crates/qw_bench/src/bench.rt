@@ -111,7 +111,7 @@ struct Seat {
 impl Seat {
     ghost use Rattle.qw_map.specs.Turns.{IsWhole, steps_of};
     ghost use Rattle.qw_machine.specs.Instance.{GoesWith};
-    ghost use Rattle.qw_bench.specs.Seats.{HasGrants, IsEndOf, IsTold, StaysSeated, counting, instance_of, state_in, task_of};
+    ghost use Rattle.qw_bench.specs.Inner.Seats.{HasGrants, IsEndOf, IsTold, StaysSeated, counting, instance_of, state_in, task_of};
 
     /// Runs the instance until it ends or has run `quantum` instructions. Answers how many it ran.
     fn turn(&mut self, memory: &mut Linear, quantum: u64) -> u64
@@ -221,22 +221,28 @@ pub struct Bench {
 }
 
 impl Model for Bench {
-    ghost use Rattle.qw_bench.specs.Seats.{IsBench, Standing};
+    ghost use Rattle.qw_bench.specs.Standing.{Standing};
+    ghost use Rattle.qw_bench.specs.Codes.{coded_standing};
 
     ghost Value = { Standing };
 
-    ghost view = { λ b. record { memory = b.memory; seats = b.seats.items } };
+    ghost coded = { coded_standing };
 
-    ghost invariant = { λ b. IsBench (record { memory = b.memory; seats = b.seats.items }) };
+    ghost use Rattle.qw_bench.specs.Inner.Seats.{AreSeats, standing_of};
+
+    ghost view = { λ b. standing_of b.memory b.seats.items };
+
+    ghost invariant = { λ b. AreSeats b.memory b.seats.items };
 }
 
 impl Bench {
     ghost use Rattle.std.specs.List.{AllByRecursion};
+    ghost use Rattle.qw_map.specs.Columns.{column_pages};
     ghost use Rattle.qw_map.specs.Layout.{used};
     ghost use Rattle.qw_map.specs.Turns.{EachInstance, turn, turns};
     ghost use Rattle.qw_bench.specs.Bench.{AreRounds, IsStart, round};
     ghost use Rattle.qw_bench.specs.Inner.Rounds.{steps_left};
-    ghost use Rattle.qw_bench.specs.Seats.{IsBench, end_of, first_task, shared_of, tasks_of};
+    ghost use Rattle.qw_bench.specs.Standing.{IsBench, end_of, first_task};
     ghost use Rattle.qw_bench.specs.Bench.{end_in, ran_in};
 
     /// A bench with one instance of the job over a table, which has the columns that the job's statement
@@ -250,8 +256,9 @@ impl Bench {
         requires columns { AllByRecursion (λ column. column < loaded.now.width) (used job.statement) }
         requires pages { (1 ≤ limits.pages) × (limits.pages ≤ MAX_INSTANCE_PAGES) }
         requires steps { 1 ≤ limits.steps }
-        ensures tasks { IfOk result (λ bench. tasks_of bench ≡ first_task loaded.now.width (length loaded.now.rows) job limits ∷ []) }
-        ensures start { IfOk result (λ bench. IsStart loaded.now.width loaded.now.rows (tasks_of bench) (shared_of bench)) }
+        ensures tasks { IfOk result (λ bench. bench.tasks ≡ first_task loaded.now.width (length loaded.now.rows) job limits ∷ []) }
+        ensures start { IfOk result (λ bench. IsStart loaded.now.width loaded.now.rows bench.tasks bench.shared) }
+        ensures reserved { IfOk result (λ bench. bench.reserved ≡ column_pages loaded.now.width (length loaded.now.rows) + limits.pages) }
     {
         let Job { query, valid } = job;
         let memory = first_memory(alloc, loaded, &query, limits.pages)?;
@@ -283,12 +290,13 @@ impl Bench {
     /// Gives an instance a turn: it runs until it ends or has run `quantum` instructions. Answers how many
     /// it ran.
     pub fn turn(&mut self, i: usize, quantum: u64) -> u64
-        requires there { i < length (shared_of self.old).instances }
+        requires there { i < length self.old.shared.instances }
         requires some { 1 ≤ quantum }
-        ensures turn { shared_of self.new ≡ turn (shared_of self.old) (i, quantum) }
-        ensures tasks { tasks_of self.new ≡ tasks_of self.old }
-        ensures counted { ran_in (shared_of self.new) i ≡ ran_in (shared_of self.old) i + result }
-        ensures none { (result ≡ 0) ↔ IsSome (end_in (shared_of self.old) i) }
+        ensures turn { self.new.shared ≡ turn self.old.shared (i, quantum) }
+        ensures tasks { self.new.tasks ≡ self.old.tasks }
+        ensures reserved { self.new.reserved ≡ self.old.reserved }
+        ensures counted { ran_in self.new.shared i ≡ ran_in self.old.shared i + result }
+        ensures none { (result ≡ 0) ↔ IsSome (end_in self.old.shared i) }
     {
         let seat = &mut self.seats[i];
         seat.turn(&mut self.memory, quantum)
@@ -298,10 +306,11 @@ impl Bench {
     /// round, until all have ended.
     pub fn run_all(&mut self, quantum: u64)
         requires { 1 ≤ quantum }
-        ensures rounds { (ts : List (ℕ × ℕ)) × AreRounds quantum ts (shared_of self.old)
-            × (shared_of self.new ≡ turns ts (shared_of self.old)) }
-        ensures ended { EachInstance (λ instance. IsSome instance.end) (shared_of self.new) }
-        ensures tasks { tasks_of self.new ≡ tasks_of self.old }
+        ensures rounds { (ts : List (ℕ × ℕ)) × AreRounds quantum ts self.old.shared
+            × (self.new.shared ≡ turns ts self.old.shared) }
+        ensures ended { EachInstance (λ instance. IsSome instance.end) self.new.shared }
+        ensures tasks { self.new.tasks ≡ self.old.tasks }
+        ensures reserved { self.new.reserved ≡ self.old.reserved }
     {
         while self.runs() {
             self.round(quantum);
@@ -310,7 +319,7 @@ impl Bench {
 
     /// Whether an instance hasn't ended.
     fn runs(&self) -> bool
-        ensures { result ≡ list_any (λ seat. not (is_some seat.ended)) self.now.seats }
+        ensures { result ≡ list_any (λ instance. not (is_some instance.end)) self.now.shared.instances }
     {
         self.seats.iter().any(|seat| seat.ended.is_none())
     }
@@ -318,10 +327,11 @@ impl Bench {
     /// One round of turns.
     fn round(&mut self, quantum: u64)
         requires { 1 ≤ quantum }
-        ensures turns { shared_of self.new ≡ turns (round quantum (shared_of self.old)) (shared_of self.old) }
-        ensures tasks { tasks_of self.new ≡ tasks_of self.old }
-        ensures falls { round quantum (shared_of self.old) ≢ []
-            → steps_left (shared_of self.new).instances < steps_left (shared_of self.old).instances }
+        ensures turns { self.new.shared ≡ turns (round quantum self.old.shared) self.old.shared }
+        ensures tasks { self.new.tasks ≡ self.old.tasks }
+        ensures reserved { self.new.reserved ≡ self.old.reserved }
+        ensures falls { round quantum self.old.shared ≢ []
+            → steps_left self.new.shared.instances < steps_left self.old.shared.instances }
     {
         for i in 0..self.len() {
             if self.ended(i).is_none() {
@@ -332,7 +342,7 @@ impl Bench {
 
     /// How many instances there are.
     pub fn len(&self) -> usize
-        ensures many { result ≡ length (shared_of self.now).instances }
+        ensures many { result ≡ length self.now.shared.instances }
         ensures kept { IsBench self.now }
     {
         self.seats.len()
@@ -340,47 +350,47 @@ impl Bench {
 
     /// How an instance ended, if it has.
     pub fn ended(&self, i: usize) -> Option<Ended>
-        requires { i < length (shared_of self.now).instances }
-        ensures { end_of result ≡ end_in (shared_of self.now) i }
+        requires { i < length self.now.shared.instances }
+        ensures { end_of result ≡ end_in self.now.shared i }
     {
         self.seats[i].ended
     }
 
     /// How many instructions an instance has run.
     pub fn steps(&self, i: usize) -> u64
-        requires { i < length (shared_of self.now).instances }
-        ensures { result ≡ ran_in (shared_of self.now) i }
+        requires { i < length self.now.shared.instances }
+        ensures { result ≡ ran_in self.now.shared i }
     {
         self.seats[i].ran
     }
 
     /// How many pages an instance holds.
     pub fn pages(&self, i: usize) -> u32
-        requires { i < length (shared_of self.now).instances }
-        ensures { IfSome (slice_get (shared_of self.now).instances i) (λ instance. result ≡ instance.world.held) }
+        requires { i < length self.now.shared.instances }
+        ensures { IfSome (slice_get self.now.shared.instances i) (λ instance. result ≡ instance.world.held) }
     {
         self.seats[i].held
     }
 
     /// The address of an instance's descriptor.
     pub fn descriptor(&self, i: usize) -> u64
-        requires { i < length (tasks_of self.now) }
-        ensures { IfSome (slice_get (tasks_of self.now) i) (λ task. result ≡ task.descriptor) }
+        requires { i < length self.now.tasks }
+        ensures { IfSome (slice_get self.now.tasks i) (λ task. result ≡ task.descriptor) }
     {
         self.seats[i].descriptor
     }
 
     /// The statement that an instance executes.
     pub fn query(&self, i: usize) -> &Query
-        requires { i < length (tasks_of self.now) }
-        ensures { IfSome (slice_get (tasks_of self.now) i) (λ task. result.now ≡ task.statement) }
+        requires { i < length self.now.tasks }
+        ensures { IfSome (slice_get self.now.tasks i) (λ task. result.now ≡ task.statement) }
     {
         &self.seats[i].query
     }
 
     /// The memory that the instances share.
     pub fn memory(&self) -> &Linear
-        ensures memory { result.now.octets ≡ (shared_of self.now).memory }
+        ensures memory { result.now ≡ record { octets = self.now.shared.memory; reserved = self.now.reserved } }
         ensures kept { IsBench self.now }
     {
         &self.memory

@@ -6,7 +6,7 @@ use Rattle.qw_map.specs.Columns.{column_pages}
 use Rattle.qw_map.specs.Layout.{used}
 use Rattle.qw_bench.specs.declared.bench.Seat.{Seat}
 use Rattle.qw_bench.specs.Bench.{CompiledQuery}
-use Rattle.qw_bench.specs.Seats.{IsEndOf, state_in}
+use Rattle.qw_bench.specs.Inner.Seats.{IsEndOf, state_in}
 use Rattle.qw_bench.proofs.BenchStart.{bench, end-begun, start}
 use Rattle.qw_bench.proofs.bench.Bench.new.Goals as goal
 use Rattle.qw_bench.proofs.bench.Bench.new.Goals.{in-Returned, in_default}

@@ -1,6 +1,6 @@
 use Rattle.std.proofs.Common.{ap, ◌+◌, ◌∙◌}
 use Rattle.qw_map.specs.Turns.{turn}
-use Rattle.qw_bench.specs.Seats.{Standing, shared_of, tasks_of}
+use Rattle.qw_bench.specs.Standing.{Standing}
 use Rattle.qw_bench.specs.Bench.{ran_in}
 use Rattle.qw_bench.proofs.BenchTurns.{seat-fits, seat-found, seat-granted, seat-room, seat-told, seat-whole, turned-bench, turned-none, turned-ran, turned-shared, turned-tasks}
 use Rattle.qw_bench.proofs.bench.Bench.turn.Goals as goal
@@ -55,7 +55,7 @@ returns-clause-turn c =
     let seat = c.index_mut-seat.result.now in
     let found = seat-found c.args.self.now c.self.inside.memory seats c.args.i seat c.self.view_is c.requires.there c.index_mut-seat.ensures.value in
     turned-shared c.self.inside.memory seats c.args.i seat found c.args.quantum c.turn.new.self c.turn.new.memory c.turn.ensures.turned
-    ∙ ap (λ (b : Standing). turn (shared_of b) (c.args.i, c.args.quantum)) c.self.view_is
+    ∙ ap (λ (b : Standing). turn b.shared (c.args.i, c.args.quantum)) c.self.view_is
 
 pub returns-clause-tasks : goal.returns-clause-tasks
 returns-clause-tasks c =
@@ -63,7 +63,7 @@ returns-clause-tasks c =
     let seat = c.index_mut-seat.result.now in
     let found = seat-found c.args.self.now c.self.inside.memory seats c.args.i seat c.self.view_is c.requires.there c.index_mut-seat.ensures.value in
     turned-tasks c.self.inside.memory seats c.args.i seat found c.turn.new.self c.turn.ensures.task
-    ∙ ap tasks_of c.self.view_is
+    ∙ ap c.self.view_is.tasks
 
 pub returns-clause-counted : goal.returns-clause-counted
 returns-clause-counted c =
@@ -71,7 +71,7 @@ returns-clause-counted c =
     let seat = c.index_mut-seat.result.now in
     let found = seat-found c.args.self.now c.self.inside.memory seats c.args.i seat c.self.view_is c.requires.there c.index_mut-seat.ensures.value in
     turned-ran c.self.inside.memory seats c.args.i seat found c.turn.new.self c.turn.new.memory c.turn.result c.turn.ensures.counted
-    ∙ ap (λ (b : Standing). ran_in (shared_of b) c.args.i + c.turn.result) c.self.view_is
+    ∙ ap (λ (b : Standing). ran_in b.shared c.args.i + c.turn.result) c.self.view_is
 
 pub returns-clause-none : goal.returns-clause-none
 returns-clause-none c =

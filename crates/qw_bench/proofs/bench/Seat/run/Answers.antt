@@ -1,7 +1,7 @@
 use Rattle.std.proofs.Common.{ℕ, ◌≡◌, Some, refl, subst, arith}
 use Rattle.qw_map.specs.Turns.{steps_of}
 use Rattle.qw_bench.specs.declared.bench.Seat.{Seat}
-use Rattle.qw_bench.specs.Seats.{counting, state_in}
+use Rattle.qw_bench.specs.Inner.Seats.{counting, state_in}
 use Rattle.qw_bench.proofs.SeatSteps.{grew-on, has-grown, may-step, raised-end, raises, ran-on, refused-on, returned, untrapped}
 use Rattle.qw_bench.proofs.bench.Seat.run.Goals as goal
 use Rattle.qw_bench.proofs.bench.Seat.run.Goals.{in-Ran, in-Grew, in-Refused}
