@@ -63,7 +63,7 @@ returns-clause-tasks c =
     let seat = c.index_mut-seat.result.now in
     let found = seat-found c.args.self.now c.self.inside.memory seats c.args.i seat c.self.view_is c.requires.there c.index_mut-seat.ensures.value in
     turned-tasks c.self.inside.memory seats c.args.i seat found c.turn.new.self c.turn.ensures.task
-    ∙ ap c.self.view_is.tasks
+    ∙ ap (λ (b : Standing). b.tasks) c.self.view_is
 
 pub returns-clause-counted : goal.returns-clause-counted
 returns-clause-counted c =
