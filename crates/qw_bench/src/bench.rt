@@ -213,6 +213,13 @@ impl Seat {
     }
 }
 
+/// Whether the instance of one of the seats hasn't ended.
+fn one_runs(seats: &[Seat]) -> bool
+    ensures { result ≡ list_any (λ seat. not (is_some seat.ended)) seats.now }
+{
+    seats.iter().any(|seat| seat.ended.is_none())
+}
+
 /// Instances over one memory, which holds the columns that they read.
 #[derive(Drop)]
 pub struct Bench {
@@ -321,7 +328,7 @@ impl Bench {
     fn runs(&self) -> bool
         ensures { result ≡ list_any (λ instance. not (is_some instance.end)) self.now.shared.instances }
     {
-        self.seats.iter().any(|seat| seat.ended.is_none())
+        one_runs(self.seats.as_slice())
     }
 
     /// One round of turns.

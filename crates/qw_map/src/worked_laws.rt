@@ -92,7 +92,9 @@ pub fn requests_within()
 pub fn worlds_after_requests()
     ensures granted { (w : World) (memory : List ℕ) → w ≡ first_world (64 ∷ []) 3 65536 128 → length memory ≡ 131072
         → world_after w memory (Grows 2 true) ≡ record w {
-            own = (record { start = 65536; size = 65536 }) ∷ (record { start = 131072; size = 131072 }) ∷ []; held = 3 } }
+          own = (record { start = 65536; size = 65536 }) ∷ (record { start = 131072; size = 131072 }) ∷ [];
+          held = 3;
+        } }
     ensures refused { (w : World) (memory : List ℕ) → world_after w memory (Grows 2 false) ≡ record w { refused = Some 2 } }
 {}
 
@@ -102,8 +104,8 @@ pub fn worlds_after_requests()
 #[tactic(auto, unfolding(qw_linear::specs::Memory::number_at))]
 pub fn a_result_row()
     ensures { (memory : ℕ → List ℕ) → memory ≡ (λ null. 0 ∷ 0 ∷ 0 ∷ 0 ∷ 0 ∷ 0 ∷ 0 ∷ 0 ∷ 24 ∷ 0 ∷ 0 ∷ 0 ∷ 24 ∷ 0 ∷ 0 ∷ 0
-            ∷ 1 ∷ 0 ∷ 0 ∷ 0 ∷ 0 ∷ 0 ∷ 0 ∷ 0 ∷ 0 ∷ 0 ∷ 0 ∷ 0 ∷ 0 ∷ 0 ∷ 0 ∷ 0
-            ∷ 7 ∷ 0 ∷ 0 ∷ 0 ∷ 0 ∷ 0 ∷ 0 ∷ 0 ∷ null ∷ 0 ∷ 0 ∷ 0 ∷ 0 ∷ 0 ∷ 0 ∷ 0 ∷ [])
+        ∷ 1 ∷ 0 ∷ 0 ∷ 0 ∷ 0 ∷ 0 ∷ 0 ∷ 0 ∷ 0 ∷ 0 ∷ 0 ∷ 0 ∷ 0 ∷ 0 ∷ 0 ∷ 0
+        ∷ 7 ∷ 0 ∷ 0 ∷ 0 ∷ 0 ∷ 0 ∷ 0 ∷ 0 ∷ null ∷ 0 ∷ 0 ∷ 0 ∷ 0 ∷ 0 ∷ 0 ∷ 0 ∷ [])
         → (rows_at (Integer ∷ []) ((record { start = 0; size = 48 }) ∷ []) (memory 0) 0 ≡ Some ((Num (pos 7) ∷ []) ∷ []))
         × (rows_at (Integer ∷ []) ((record { start = 0; size = 47 }) ∷ []) (memory 0) 0 ≡ None)
         × (rows_at (Integer ∷ []) ((record { start = 0; size = 48 }) ∷ []) (memory 1) 0 ≡ None) }
