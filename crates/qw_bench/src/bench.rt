@@ -381,7 +381,7 @@ impl Bench {
 
     /// The address of an instance's descriptor.
     pub fn descriptor(&self, i: usize) -> u64
-        requires { i < length self.now.tasks }
+        requires { i < length self.now.shared.instances }
         ensures { IfSome (slice_get self.now.tasks i) (λ task. result ≡ task.descriptor) }
     {
         self.seats[i].descriptor
@@ -389,7 +389,7 @@ impl Bench {
 
     /// The statement that an instance executes.
     pub fn query(&self, i: usize) -> &Query
-        requires { i < length self.now.tasks }
+        requires { i < length self.now.shared.instances }
         ensures { IfSome (slice_get self.now.tasks i) (λ task. result.now ≡ task.statement) }
     {
         &self.seats[i].query
