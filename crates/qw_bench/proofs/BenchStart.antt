@@ -52,7 +52,7 @@ starts-below : (width rows : ℕ) (columns : List ℕ) → AllByRecursion (λ co
 starts-below width rows [] narrow = tt
 starts-below width rows (column ∷ columns) (one, narrow) = (within_pages width rows column one, starts-below width rows columns narrow)
 
--- one of them at its place
+-- one of them by its index
 narrow-at : (width : ℕ) (columns : List ℕ) (k column : ℕ) → slice_get columns k ≡ Some column → AllByRecursion (λ column. column < width) columns → column < width
 narrow-at width [] k column found narrow = absurd (none-some column found)
 narrow-at width (c ∷ columns) zero column found narrow = let same : c ≡ column = same_Some c column found in omega (arith, narrow.0)
@@ -121,7 +121,7 @@ end-begun seat last number d begins told = end-by_state seat last (state_in seat
 
 module _ (width : ℕ) (rows : List (List Val)) (memory : Octets) (seat : Seat) (first : IsFirstMemory seat.query width rows memory.octets)
     (loaded : AreLoaded (record { width = width; rows = rows })) (compiled : IsCompiled seat.query seat.valid)
-    (narrow : AllByRecursion (λ column. column < width) (used seat.query)) (place : seat.descriptor ≡ column_pages width (length rows) * page)
+    (narrow : AllByRecursion (λ column. column < width) (used seat.query)) (descriptor_is : seat.descriptor ≡ column_pages width (length rows) * page)
     (many : seat.rows ≡ length rows) (steps : 1 ≤ seat.limits.steps) (some_pages : 1 ≤ seat.limits.pages) (pages : seat.limits.pages ≤ 61628)
     (nothing : seat.granted.items ≡ []) (one_page : seat.held ≡ 1) (unrefused : seat.refused ≡ None) (none : seat.ran ≡ 0)
     (begins : state_in seat ≡ begun seat.valid compiled.shaped.0 seat.descriptor) (end : IsEndOf seat (state_in seat) seat.ended) where
@@ -169,7 +169,7 @@ module _ (width : ℕ) (rows : List (List Val)) (memory : Octets) (seat : Seat) 
         compiled = compiled;
         number = compiled.shaped.0;
         shaped = compiled.shaped.1;
-        ready = rw place ready;
+        ready = rw descriptor_is ready;
         may_hold = some_pages;
         may_run = steps;
         instance = same;
@@ -180,9 +180,9 @@ module _ (width : ℕ) (rows : List (List Val)) (memory : Octets) (seat : Seat) 
   narrow_first zero t task = subst (λ (x : Task). AllByRecursion (λ column. column < width) (used x.statement)) (same_Some (task_of seat) t task) narrow
   narrow_first (suc k) t task = absurd (none-some t task)
 
-  place_first : (k : ℕ) (t : Task) → slice_get (task_of seat ∷ []) k ≡ Some t → t.descriptor ≡ (column_pages width (length rows) + k) * page
-  place_first zero t task = subst (λ (x : Task). x.descriptor ≡ (column_pages width (length rows) + 0) * page) (same_Some (task_of seat) t task) (omega (arith, place))
-  place_first (suc k) t task = absurd (none-some t task)
+  descriptor_first : (k : ℕ) (t : Task) → slice_get (task_of seat ∷ []) k ≡ Some t → t.descriptor ≡ (column_pages width (length rows) + k) * page
+  descriptor_first zero t task = subst (λ (x : Task). x.descriptor ≡ (column_pages width (length rows) + 0) * page) (same_Some (task_of seat) t task) (omega (arith, descriptor_is))
+  descriptor_first (suc k) t task = absurd (none-some t task)
 
   pub start : IsStart width rows (task_of seat ∷ []) (standing_of memory (seat ∷ [])).shared
   start = record {
@@ -191,7 +191,7 @@ module _ (width : ℕ) (rows : List (List Val)) (memory : Octets) (seat : Seat) 
       many = refl;
       starting = starting_first;
       narrow = narrow_first;
-      places = place_first;
+      descriptors = descriptor_first;
       room = omega (arith, first.size, few, one_page, some_pages, pages);
     };
     table = first.columns;

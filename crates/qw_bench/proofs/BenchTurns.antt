@@ -28,7 +28,7 @@ seat-found b memory seats i seat view within is =
     let many : length b.shared.instances ≡ length seats = ap (λ (x : Standing). length x.shared.instances) (sym view) ∙ length-map seats instance_of in
     slice_get-get_or seats i seat (omega arith) ∙ ap Some (sym is)
 
-module _ (memory : Octets) (seats : List Seat) (i : ℕ) (seat : Seat) (found : slice_get seats i ≡ Some seat) where
+module _ {memory : Octets} {seats : List Seat} {i : ℕ} {seat : Seat} (found : slice_get seats i ≡ Some seat) where
   instance_there : slice_get (map instance_of seats) i ≡ Some (instance_of seat)
   instance_there = slice_get-map instance_of seats i ∙ ap (option_map instance_of) found
 

@@ -92,8 +92,8 @@ fn row_at(alloc: Global, memory: &Linear, cells: u64, types: &[Ty]) -> Result<Ro
     ensures { IfOk result (λ row. cells_at memory.now.octets cells types.now ≡ Some row) }
 {
     let mut values = Vec::with_capacity(alloc, types.len())?;
-    for (place, ty) in types.iter().enumerate() {
-        let cell = cells + u64::from(CELL_SIZE) * place as u64;
+    for (index, ty) in types.iter().enumerate() {
+        let cell = cells + u64::from(CELL_SIZE) * index as u64;
         values.push(value_at(memory, cell, *ty))?;
     }
     Ok(Row::new(values))

@@ -30,8 +30,8 @@ seat c = record {
 columns : (c : goal.In_ok-seats) → AllByRecursion (λ column. column < c.args.loaded.now.width) (used c.job.inside.query)
 columns c = subst (λ (job : CompiledQuery). AllByRecursion (λ column. column < c.args.loaded.now.width) (used job.statement)) (sym c.job.view_is) c.requires.columns
 
-place : (c : goal.In_ok-seats) → c.from.result ≡ column_pages c.args.loaded.now.width (length c.args.loaded.now.rows) * page
-place c = omega (arith, c.from.ensures, c.pages_needed.ensures.pages)
+descriptor : (c : goal.In_ok-seats) → c.from.result ≡ column_pages c.args.loaded.now.width (length c.args.loaded.now.rows) * page
+descriptor c = omega (arith, c.from.ensures, c.pages_needed.ensures.pages)
 
 begins : (c : goal.In_ok-seats) → state_in (seat c) ≡ begun c.job.inside.valid c.job.invariant.shaped.0 c.from.result
 begins c =
@@ -51,11 +51,11 @@ pub invariant_of-result : goal.invariant_of-result
 invariant_of-result c =
     rw c.in_ok-seats.ensures.items
     (bench c.args.loaded.now.width c.args.loaded.now.rows c.in_ok-memory.memory (seat c) c.in_ok-memory.ensures.first c.len.ensures.limits c.job.invariant
-    (columns c) (place c) c.len.ensures.rows c.requires.steps c.requires.pages.0 c.requires.pages.1 c.in_ok-granted.ensures.items refl refl refl (begins c) (end c)
+    (columns c) (descriptor c) c.len.ensures.rows c.requires.steps c.requires.pages.0 c.requires.pages.1 c.in_ok-granted.ensures.items refl refl refl (begins c) (end c)
     c.in_ok-instance.ensures.goes_with c.in_ok-granted.ensures.capacity c.in_ok-memory.ensures.reserved)
 
 pub returns-clause-start : goal.returns-clause-start
 returns-clause-start c =
     rw c.in_ok-seats.ensures.items
     (start c.args.loaded.now.width c.args.loaded.now.rows c.in_ok-memory.memory (seat c) c.in_ok-memory.ensures.first c.len.ensures.limits c.job.invariant
-    (columns c) (place c) c.len.ensures.rows c.requires.steps c.requires.pages.0 c.requires.pages.1 c.in_ok-granted.ensures.items refl refl refl (begins c) (end c))
+    (columns c) (descriptor c) c.len.ensures.rows c.requires.steps c.requires.pages.0 c.requires.pages.1 c.in_ok-granted.ensures.items refl refl refl (begins c) (end c))
