@@ -9,9 +9,10 @@ use Rattle.qw_machine.specs.declared.machine.Stepped.{Stepped}
 use Rattle.qw_machine.specs.declared.machine.Stepped.TheVariants as stepped
 use Rattle.qw_module.specs.Execution.{Config, State, Running, Returned}
 use Rattle.qw_module.specs.Step.{Next}
-use Rattle.qw_machine.specs.Machine.{Point, Rooms, IsPoint, IsRunning, state_at, config_at}
+use Rattle.qw_machine.specs.Inner.Machine.{Point, Rooms, IsPoint, IsRunning, state_at, config_at}
 use Rattle.qw_machine.specs.Inner.Executed.{is_over, WentOn, IsExecuted, IsLeft, IsStepped}
-use Rattle.qw_machine.specs.Instance.{end_of, Went}
+use Rattle.qw_machine.specs.Inner.Ended.{run_end_of}
+use Rattle.qw_machine.specs.Instance.{Went}
 use Rattle.qw_module.specs.Validity.{items_of}
 use Rattle.qw_machine.proofs.Points.{code_at-end, left, left-point, left-state}
 use Rattle.qw_machine.proofs.Jumps.{point-is}
@@ -103,7 +104,7 @@ went-on spare c running memory after s t answer leads same is = record {
 pub stepped-over : (sequences : List (List Instr)) (rooms : Rooms) (spare : ℕ) (p q : Point) (memory after : List ℕ) (answer : Stepped) →
     is_over answer ≡ true → IsExecuted sequences rooms spare p memory answer q after → IsStepped sequences rooms spare p memory answer q after
 stepped-over sequences rooms spare p q memory after answer over executed = record {
-  running = over-while (end_of answer) over (IsRunning sequences rooms q);
+  running = over-while (run_end_of answer) over (IsRunning sequences rooms q);
   went = rw over at executed;
 }
 
@@ -115,8 +116,8 @@ stepped-left sequences rooms between spare p q r memory after answer same runs e
     let goes = rw runs at executed in
     let running : IsRunning sequences rooms r = subst (λ (x : Rooms). IsRunning sequences x r) same left.0 in
     record {
-      running = running-while (end_of answer) runs (IsRunning sequences rooms r) running;
-      went = λ globals. rw (state_after-running (end_of answer) runs (state_at sequences globals r))
+      running = running-while (run_end_of answer) runs (IsRunning sequences rooms r) running;
+      went = λ globals. rw (state_after-running (run_end_of answer) runs (state_at sequences globals r))
           (went-on spare (config_at sequences globals p) (config_at sequences globals r) memory after (state_at sequences globals q) (state_at sequences globals r) answer
           (goes.1 globals) (left.1 globals) (state_at-running sequences globals r running.unfinished));
     }

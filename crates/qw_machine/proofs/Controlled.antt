@@ -11,7 +11,7 @@ use Rattle.qw_module.specs.Execution.{Config, Silent, label, settled, arity_of}
 use Rattle.qw_module.specs.Step.{Goes, wants, answered, goes_if_some}
 use Rattle.qw_module.specs.Typing.{Scope, within, types_of, Typed, typed-block, typed-loop, typed-if_else, typed-br, typed-br_if}
 use Rattle.qw_module.specs.Soundness.{AreOf, scope_of}
-use Rattle.qw_machine.specs.Machine.{code_at, Point, contexts_of, state_at, config_at, Rooms, IsPoint, entered, CanJump, IsJump}
+use Rattle.qw_machine.specs.Inner.Machine.{code_at, Point, contexts_of, state_at, config_at, Rooms, IsPoint, entered, CanJump, IsJump}
 use Rattle.qw_machine.specs.Inner.Executed.{IsExecuted}
 use Rattle.qw_module.proofs.Numbered.{named}
 use Rattle.qw_module.proofs.Steps.{by_operand-other}

@@ -7,7 +7,7 @@ use Rattle.qw_module.specs.declared.instruction.Instr.TheVariants as i
 use Rattle.qw_module.specs.declared.module.Module.{Module}
 use Rattle.qw_module.specs.declared.module.Function.{Function}
 use Rattle.qw_machine.specs.declared.machine.Activity.{Activity}
-use Rattle.qw_machine.specs.declared.machine.Instance.{Instance}
+use Rattle.qw_machine.specs.declared.machine.Instance.TheInside.{Inside}
 use Rattle.qw_machine.specs.declared.machine.Stepped.{Stepped}
 use Rattle.qw_machine.specs.declared.machine.Stepped.TheVariants.{Ran}
 use Rattle.qw_machine.specs.declared.machine.RunEnd.{RunEnd}
@@ -15,9 +15,11 @@ use Rattle.qw_machine.specs.declared.machine.RunEnd.TheVariants as end
 use Rattle.qw_module.specs.Syntax.{Code, done, nested, sequence_at, IsNumbered}
 use Rattle.qw_module.specs.Execution.{Config, State, Running, IsOver}
 use Rattle.qw_module.specs.Validity.{items_of, IsValid, IsValidFunction, IsTypedFunction, IsShaped, IsOneI32}
-use Rattle.qw_machine.specs.Machine.{code_at, base_of, above, under, contexts_of, Point, state_at, config_at, IsRunning, point_of, rooms_of}
+use Rattle.qw_machine.specs.Inner.Machine.{code_at, base_of, above, under, contexts_of, Point, state_at, config_at, IsRunning, point_of, rooms_of}
 use Rattle.qw_machine.specs.Inner.Executed.{IsStepped}
-use Rattle.qw_machine.specs.Instance.{end_of, state_after, state_of, WhileRunning, GoesWith, IsLast, Went}
+use Rattle.qw_machine.specs.Inner.Ended.{run_end_of, state_after, WhileRunning}
+use Rattle.qw_machine.specs.Inner.Held.{state_of, IsHeld}
+use Rattle.qw_machine.specs.Instance.{IsLast, Went}
 use Rattle.qw_module.specs.Start.{body_of}
 use Rattle.qw_module.proofs.Numbered.{named}
 use Rattle.qw_machine.proofs.Points.{code_at-instruction}
@@ -47,7 +49,7 @@ state_at-running sequences globals p inside =
     (above (base_of p.labels) p.operands) p.locals (code_at-unfinished sequences p.sequence p.place inside)
 
 -- the arrays of a function of the module
-pub body-array : (m : Module) (number : ℕ) (function : Function) (arrays : List (Vec Instr Global)) → slice_get m.functions.items number ≡ Some function →
+body-array : (m : Module) (number : ℕ) (function : Function) (arrays : List (Vec Instr Global)) → slice_get m.functions.items number ≡ Some function →
     arrays ≡ function.body.sequences.items → items_of arrays ≡ body_of m number
 body-array m number function arrays found same = rw (found) (ap items_of same)
 
@@ -75,38 +77,38 @@ over-is (Some end.Returned) over s = tt
 over-is (Some (end.Raised code)) over s = tt
 over-is (Some end.Trapped) over s = tt
 
-pub over-not-running : (m : Module) (i : Instance) → is_some i.ended ≡ true → (c : Config) → state_of m i ≡ Running c → ⊥
-over-not-running m i over c same =
-    subst IsOver same (over-is i.ended over (state_at (body_of m i.function) i.globals.items (point_of i.activity)))
+pub over-not-running : (i : Inside) → is_some i.ended ≡ true → (c : Config) → state_of i ≡ Running c → ⊥
+over-not-running i over c same =
+    subst IsOver same (over-is i.ended over (state_at (body_of i.valid i.function) i.globals.items (point_of i.activity)))
 
 -- and before that, the instance is at a point that runs
-module _ (m : Module) (i : Instance) (runs : is_some i.ended ≡ false) (fits : GoesWith m i) where
-  pub running-point : IsRunning (body_of m i.function) (rooms_of i.activity) (point_of i.activity)
-  running-point = while-running i.ended runs (IsRunning (body_of m i.function) (rooms_of i.activity) (point_of i.activity)) fits.running
+module _ (i : Inside) (runs : is_some i.ended ≡ false) (fits : IsHeld i) where
+  pub running-point : IsRunning (body_of i.valid i.function) (rooms_of i.activity) (point_of i.activity)
+  running-point = while-running i.ended runs (IsRunning (body_of i.valid i.function) (rooms_of i.activity) (point_of i.activity)) fits.running
 
-  state-running : state_of m i ≡ Running (config_at (body_of m i.function) i.globals.items (point_of i.activity))
-  state-running = state_after-running i.ended runs (state_at (body_of m i.function) i.globals.items (point_of i.activity))
-      ∙ state_at-running (body_of m i.function) i.globals.items (point_of i.activity) running-point.unfinished
+  state-running : state_of i ≡ Running (config_at (body_of i.valid i.function) i.globals.items (point_of i.activity))
+  state-running = state_after-running i.ended runs (state_at (body_of i.valid i.function) i.globals.items (point_of i.activity))
+      ∙ state_at-running (body_of i.valid i.function) i.globals.items (point_of i.activity) running-point.unfinished
 
-  pub last-running : IsLast Ran (state_of m i)
+  pub last-running : IsLast Ran (state_of i)
   last-running = rw state-running tt
 
-  pub not-over : IsOver (state_of m i) → ⊥
+  pub not-over : IsOver (state_of i) → ⊥
   not-over over = subst IsOver state-running over
 
   -- a step of the activity is one of the instance
-  module _ (spare : ℕ) (memory after : List ℕ) (answer : Stepped) (ended : Option RunEnd) (told : ended ≡ end_of answer) (activity : Activity)
-      (is : IsStepped (body_of m i.function) (rooms_of i.activity) spare (point_of i.activity) memory answer (point_of activity) after) where
-    abbrev then : Instance
-    then = record { globals = i.globals; function = i.function; ended = ended; activity = activity }
+  module _ (spare : ℕ) (memory after : List ℕ) (answer : Stepped) (ended : Option RunEnd) (told : ended ≡ run_end_of answer) (activity : Activity)
+      (is : IsStepped (body_of i.valid i.function) (rooms_of i.activity) spare (point_of i.activity) memory answer (point_of activity) after) where
+    abbrev then : Inside
+    then = record { valid = i.valid; globals = i.globals; function = i.function; ended = ended; activity = activity }
 
-    pub went-from : (c : Config) → state_of m i ≡ Running c → Went spare c memory (state_of m then) after answer
+    pub went-from : (c : Config) → state_of i ≡ Running c → Went spare c memory (state_of then) after answer
     went-from c same =
-        let whole : Running (config_at (body_of m i.function) i.globals.items (point_of i.activity)) ≡ Running c = sym state-running ∙ same in
-        let config : config_at (body_of m i.function) i.globals.items (point_of i.activity) ≡ c = cc whole in
-        subst (λ (x : Config). Went spare x memory (state_of m then) after answer) config (rw told (is.went i.globals.items))
+        let whole : Running (config_at (body_of i.valid i.function) i.globals.items (point_of i.activity)) ≡ Running c = sym state-running ∙ same in
+        let config : config_at (body_of i.valid i.function) i.globals.items (point_of i.activity) ≡ c = cc whole in
+        subst (λ (x : Config). Went spare x memory (state_of then) after answer) config (rw told (is.went i.globals.items))
 
-    pub goes-on : rooms_of activity ≡ rooms_of i.activity → GoesWith m then
+    pub goes-on : rooms_of activity ≡ rooms_of i.activity → IsHeld then
     goes-on same = record { shaped = fits.shaped; running = rw (told, same) is.running }
 
 -- ---- the function of a valid and shaped module
@@ -116,6 +118,11 @@ function-read m number function shaped read =
     let there = has_value (slice_get m.functions.items number) (λ (f : Function). IsOneI32 m f.type_index) shaped.run in
     let inside = slice_get_within m.functions.items number there.0 there.1 in
     slice_get_read m.functions.items (length m.functions.items) number function refl inside read
+
+-- so the arrays that hold its body are the body
+pub read-body : (m : Module) (number : ℕ) (function : Function) (arrays : List (Vec Instr Global)) → IsShaped m number → function ≡ get_or m.functions.items number function →
+    arrays ≡ function.body.sequences.items → items_of arrays ≡ body_of m number
+read-body m number function arrays shaped read same = body-array m number function arrays (function-read m number function shaped read) same
 
 -- a function of a valid module is typed
 pub typed-function : (m : Module) (number : ℕ) (function : Function) → IsValid m → slice_get m.functions.items number ≡ Some function →

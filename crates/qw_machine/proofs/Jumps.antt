@@ -11,7 +11,7 @@ use Rattle.qw_module.specs.Syntax.{sequence_at}
 use Rattle.qw_module.specs.Execution.{State, settled, branched}
 use Rattle.qw_module.specs.Typing.{Signature, Typed}
 use Rattle.qw_module.specs.Soundness.{AreOf, AreLinked, scope_of}
-use Rattle.qw_machine.specs.Machine.{code_at, Point, base_of, under, contexts_of, state_at, Rooms, HasRoom, AreEntries, IsPoint, CanJump, IsJump}
+use Rattle.qw_machine.specs.Inner.Machine.{code_at, Point, base_of, under, contexts_of, state_at, Rooms, HasRoom, AreEntries, IsPoint, CanJump, IsJump}
 use Rattle.qw_module.proofs.Sound.{AreOf-append, AreOf-length, AreOf-take}
 use Rattle.qw_machine.proofs.ListFacts.{above-append, under-append}
 use Rattle.qw_machine.proofs.Points.{state_at-split}

@@ -1,11 +1,11 @@
-pub mod Arrays
-pub mod Begins
-pub mod Controlled
-pub mod Instances
-pub mod Jumps
-pub mod ListFacts
-pub mod Operated
-pub mod Points
-pub mod ShapeFacts
-pub mod StackFacts
-pub mod Starts
+mod Arrays
+mod Begins
+mod Controlled
+mod Instances
+mod Jumps
+mod ListFacts
+mod Operated
+mod Points
+mod ShapeFacts
+mod StackFacts
+mod Starts

@@ -1,7 +1,7 @@
 -- Lists cut at a place.
 use Rattle.std.proofs.Common.{◌≡◌, ℕ, zero, suc, ◌+◌, ◌-◌, List, [], ◌∷◌, ◌++◌, length, take, drop, Some, slice_get, sym, ap, ◌∙◌, arith, length-append}
 use Rattle.std.proofs.Math.Seq.{drop-append_seam, take-append_seam}
-use Rattle.qw_machine.specs.Machine.{above, under}
+use Rattle.qw_machine.specs.Inner.Machine.{above, under}
 use Rattle.std.proofs.lemmas.Option.{same_Some, none-some}
 
 -- what begins at a place

@@ -15,7 +15,7 @@ use Rattle.qw_module.specs.Execution.{Config, Silent, Loads, Stores, Grows, Rais
 use Rattle.qw_module.specs.Step.{OpWant, Stuck', Leaves, Reads, Writes, Requests, Throws, op_wants, pushes_local, then_wants, answered, next}
 use Rattle.qw_module.specs.Typing.{Signature, Scope, OpTyped, typed-local_get, typed-local_set, typed-local_tee, typed-const, typed-binary, typed-relation, typed-load, typed-store, typed-grow, typed-call, Typed, typed-op}
 use Rattle.qw_module.specs.Soundness.{AreOf, AreLinked, scope_of}
-use Rattle.qw_machine.specs.Machine.{code_at, Point, contexts_of, state_at, config_at, Rooms, IsPoint}
+use Rattle.qw_machine.specs.Inner.Machine.{code_at, Point, contexts_of, state_at, config_at, Rooms, IsPoint}
 use Rattle.qw_machine.specs.Inner.Executed.{IsExecuted, CanOperate, IsDone}
 use Rattle.qw_module.proofs.Sound.{AreOf-length, OpWantTyped, op_wants-typed, linked_is}
 use Rattle.qw_module.proofs.TypedOperands.{HasFor, has_for}

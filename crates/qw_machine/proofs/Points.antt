@@ -12,7 +12,7 @@ use Rattle.qw_module.specs.Syntax.{Code, done, nested, sequence_at, NamesBelow, 
 use Rattle.qw_module.specs.Execution.{label, settled}
 use Rattle.qw_module.specs.Typing.{Signature, Typed}
 use Rattle.qw_module.specs.Soundness.{AreOf, AreLinked, scope_of}
-use Rattle.qw_machine.specs.Machine.{code_at, Point, base_of, contexts_of, state_at, config_at, instructions_below, Rooms, HasRoom, AreEntries, IsPoint, entered}
+use Rattle.qw_machine.specs.Inner.Machine.{code_at, Point, base_of, contexts_of, state_at, config_at, instructions_below, Rooms, HasRoom, AreEntries, IsPoint, entered}
 use Rattle.qw_module.proofs.Numbered.{named, named-at}
 use Rattle.qw_module.proofs.Sound.{AreOf-append, AreOf-length, done_types}
 use Rattle.qw_machine.proofs.ListFacts.{drop-get, above-append, under-append}

@@ -17,9 +17,9 @@ use Rattle.qw_module.specs.Execution.{label, settled}
 use Rattle.qw_module.specs.Typing.{Signature, Typed, typed-done}
 use Rattle.qw_module.specs.Soundness.{AreOf, AreLinked, scope_of}
 use Rattle.qw_module.specs.Validity.{code_of_body, sequences_of, imported_signatures, IsValid, IsTypedFunction, IsShaped, IsOneI32, TakesOneI32}
-use Rattle.qw_machine.specs.Machine.{code_at, state_at, IsPoint, IsRunning, Rooms, first_point, whole_room, instructions_below, point_of, rooms_of}
+use Rattle.qw_machine.specs.Inner.Machine.{code_at, state_at, IsPoint, IsRunning, Rooms, first_point, whole_room, instructions_below, point_of, rooms_of}
 use Rattle.qw_machine.specs.Inner.Executed.{IsLeft}
-use Rattle.qw_machine.specs.Instance.{state_of, GoesWith}
+use Rattle.qw_machine.specs.Inner.Held.{state_of, IsHeld}
 use Rattle.qw_module.specs.Start.{body_of, begun}
 use Rattle.qw_machine.proofs.Points.{code_at-first, code_at-end}
 use Rattle.qw_valid.proofs.Imported.{linked_imports}
@@ -142,15 +142,15 @@ module _ (m : Module) (number : ℕ) (function : Function) (valid : IsValid m) (
   pub started-state : (rooms : Rooms) (globals : Vec ℕ Memory) (activity : Activity) (ended : Option RunEnd) (runs : Bool) → ended ≡ first_end runs →
       globals.items ≡ map (λ (global : Global). constant global.init) m.globals.items →
       IsLeft (body_of m number) rooms (first_point (body_of m number) (argument ∷ replicate (length function.locals.items) 0)) runs (point_of activity) →
-      state_of m (record { globals = globals; function = number; ended = ended; activity = activity }) ≡ begun m number argument
+      state_of (record { valid = m; globals = globals; function = number; ended = ended; activity = activity }) ≡ begun m number argument
   started-state rooms globals activity ended true told are left = rw told (sym (left.1 globals.items) ∙ begun-is globals.items are)
   started-state rooms globals activity ended false told are left = rw told (sym (left globals.items) ∙ begun-is globals.items are)
 
-  pub started-goes : (rooms : Rooms) (globals : Vec ℕ Memory) (activity : Activity) (ended : Option RunEnd) (runs : Bool) → ended ≡ first_end runs → rooms_of activity ≡ rooms →
+  pub started-held : (rooms : Rooms) (globals : Vec ℕ Memory) (activity : Activity) (ended : Option RunEnd) (runs : Bool) → ended ≡ first_end runs → rooms_of activity ≡ rooms →
       IsLeft (body_of m number) rooms (first_point (body_of m number) (argument ∷ replicate (length function.locals.items) 0)) runs (point_of activity) →
-      GoesWith m (record { globals = globals; function = number; ended = ended; activity = activity })
-  started-goes rooms globals activity ended true told same left = rw told (record {
+      IsHeld (record { valid = m; globals = globals; function = number; ended = ended; activity = activity })
+  started-held rooms globals activity ended true told same left = rw told (record {
     shaped = shaped;
     running = subst (λ (r : Rooms). IsRunning (body_of m number) r (point_of activity)) (sym same) left.0;
   })
-  started-goes rooms globals activity ended false told same left = rw told (record { shaped = shaped; running = tt })
+  started-held rooms globals activity ended false told same left = rw told (record { shaped = shaped; running = tt })

@@ -1,45 +1,17 @@
--- Instances of valid modules: the state that one stands for, and what a step of it answers.
-use Rattle.std.specs.Prelude.{◌≡◌, ℕ, nat_le, true, false, List, Option, Some, None}
+-- An instance as its host sees it, and what a step of it answers.
+use Rattle.std.specs.Prelude.{◌≡◌, ℕ, nat_le, true, false, List, Some}
 use Rattle.qw_module.specs.declared.module.Module.{Module}
-use Rattle.qw_machine.specs.declared.machine.Instance.{Instance}
-use Rattle.qw_machine.specs.declared.machine.RunEnd.{RunEnd}
-use Rattle.qw_machine.specs.declared.machine.RunEnd.TheVariants as end
 use Rattle.qw_machine.specs.declared.machine.Stepped.{Stepped}
 use Rattle.qw_machine.specs.declared.machine.Stepped.TheVariants.{Ran, Grew, Refused}
 use Rattle.qw_machine.specs.declared.machine.Stepped.TheVariants as stepped
 use Rattle.qw_linear.specs.Memory.{pages_of}
 use Rattle.qw_module.specs.Execution.{Config, State, Running, Returned, Raised, Trapped, Event, Grows}
 use Rattle.qw_module.specs.Step.{next}
-use Rattle.qw_module.specs.Start.{body_of}
-use Rattle.qw_module.specs.Validity.{IsShaped}
-use Rattle.qw_machine.specs.Machine.{state_at, IsRunning, point_of, rooms_of}
 
--- how the run has ended by what a step came to, if it has
-abbrev pub end_of : Stepped → Option RunEnd
-end_of stepped.Returned = Some end.Returned
-end_of (stepped.Raised code) = Some (end.Raised code)
-end_of stepped.Trapped = Some end.Trapped
-end_of _ = None
-
--- the state of a run that has ended so; of one that goes on, the one given
-abbrev pub state_after : Option RunEnd → State → State
-state_after None state = state
-state_after (Some end.Returned) state = Returned
-state_after (Some (end.Raised code)) state = Raised code
-state_after (Some end.Trapped) state = Trapped
-
--- the state that an instance of a module stands for
-abbrev pub state_of : Module → Instance → State
-state_of m i = state_after i.ended (state_at (body_of m i.function) i.globals.items (point_of i.activity))
-
-abbrev pub WhileRunning : Option RunEnd → Type 0 → Type 0
-WhileRunning None P = P
-WhileRunning (Some _) P = Unit {0}
-
--- The instance goes with this module: it calls its `run`, and while it runs, it is typed and has room.
-pub record GoesWith (m : Module) (i : Instance) : Type 0 where
-  pub shaped : IsShaped m i.function
-  pub running : WhileRunning i.ended (IsRunning (body_of m i.function) (rooms_of i.activity) (point_of i.activity))
+-- A call of a module's `run`: the module, and the state that the call is in (4.2.12, 4.2.13).
+pub record Called : Type 0 where
+  pub program : Module
+  pub state : State
 
 -- what is told of a state alone
 abbrev pub IsLast : Stepped → State → Type 0

@@ -5,9 +5,9 @@ ghost use Rattle.std.specs.Prelude.{◌≡◌, ℕ, ◌∷◌, ◌++◌, ◌+◌
 ghost use Rattle.qw_module.specs.Numbers.{constant, truth};
 ghost use Rattle.qw_module.specs.Syntax.{IsNumbered, sequence_at};
 ghost use Rattle.qw_linear.specs.Memory.{page};
-ghost use Rattle.qw_machine.specs.Machine.{CanJump, IsJump, IsPoint, entered, first_point, instructions_below, whole_room, point_of, rooms_of, under};
+ghost use Rattle.qw_machine.specs.Inner.Machine.{CanJump, IsJump, IsPoint, entered, first_point, instructions_below, whole_room, point_of, rooms_of, under};
 ghost use Rattle.qw_machine.specs.Inner.Executed.{IsExecuted, IsLeft, IsStepped};
-ghost use Rattle.qw_machine.specs.Instance.{end_of};
+ghost use Rattle.qw_machine.specs.Inner.Ended.{run_end_of};
 ghost use Rattle.qw_module.specs.Validity.{IsShaped, IsValid, items_of};
 
 use crate::operators::{operate, value_of};
@@ -15,10 +15,11 @@ use crate::shape::shaped_run;
 use crate::stack::Stack;
 use qw_linear::linear::Linear;
 use qw_module::instruction::{Instr, ValType};
-use qw_module::module::{self, Module};
+use qw_module::module;
 use qw_types::NoMemory;
 use qw_valid::valid::ValidModule;
 use std::alloc::Global;
+use std::marker::Model;
 use thiserror::Error;
 
 /// What a step came to.
@@ -39,7 +40,7 @@ pub enum Stepped {
 impl Stepped {
     /// How the run has ended, if no step follows.
     fn end(self) -> Option<RunEnd>
-        ensures { result ≡ end_of self }
+        ensures { result ≡ run_end_of self }
     {
         match self {
             Stepped::Ran | Stepped::Grew { .. } | Stepped::Refused { .. } => None,
@@ -248,9 +249,11 @@ impl Activity {
     }
 }
 
-/// An instance of a module whose `run` was called. Which module it goes with is the caller's to know.
+/// A valid module whose `run` was called, and where the call is. Contracts see a [`Called`](specs/Instance): the module
+/// and the state.
 #[derive(Drop)]
 pub struct Instance {
+    valid: ValidModule,
     /// The values of the module's globals (4.2.9). A configuration has them, though no instruction reads one yet.
     globals: Vec<u64>,
     /// The number of the module's own function that is `run`.
@@ -260,8 +263,23 @@ pub struct Instance {
     activity: Activity,
 }
 
+impl Model for Instance {
+    ghost use Rattle.qw_machine.specs.Instance.{Called};
+    ghost use Rattle.qw_machine.specs.Inner.CalledCode.{called_code};
+
+    ghost Value = { Called };
+
+    ghost coded = { called_code };
+
+    ghost use Rattle.qw_machine.specs.Inner.Held.{called, IsHeld};
+
+    ghost view = { called };
+
+    ghost invariant = { IsHeld };
+}
+
 impl Instance {
-    ghost use Rattle.qw_machine.specs.Instance.{GoesWith, IsLast, Went, state_of};
+    ghost use Rattle.qw_machine.specs.Instance.{IsLast, Went};
     ghost use Rattle.qw_module.specs.Start.{begun};
     ghost use Rattle.qw_module.specs.Execution.{IsOver, Config, Running};
 
@@ -270,30 +288,29 @@ impl Instance {
     /// # Errors
     ///
     /// `NotShaped` exactly where the module hasn't the shape that is executed, and `NoMemory` for want of memory.
-    pub fn new(alloc: Global, valid: &ValidModule, argument: u32) -> Result<Self, InstanceFault>
-        ensures begun { (number : ℕ) → IsShaped valid.now number → IfOk result (λ instance. state_of valid.now instance ≡ begun valid.now number argument) }
-        ensures goes_with { IfOk result (GoesWith valid.now) }
-        ensures not_shaped { (result ≡ Err InstanceFault.NotShaped) ↔ ((number : ℕ) → IsShaped valid.now number → ⊥) }
+    pub fn new(alloc: Global, valid: ValidModule, argument: u32) -> Result<Self, InstanceFault>
+        ensures begun { (number : ℕ) → IsShaped valid number
+            → IfOk result (λ instance. instance ≡ record { program = valid; state = begun valid number argument }) }
+        ensures not_shaped { (result ≡ Err InstanceFault.NotShaped) ↔ ((number : ℕ) → IsShaped valid number → ⊥) }
     {
-        let module = valid.module();
-        let Some(number) = shaped_run(module) else {
+        let Some(number) = shaped_run(valid.module()) else {
             return Err(InstanceFault::NotShaped);
         };
-        Instance::call(alloc, module, number, argument).map_err(|_| InstanceFault::NoMemory)
+        Instance::call(alloc, valid, number, argument).map_err(|_| InstanceFault::NoMemory)
     }
 
-    fn call(alloc: Global, module: &Module, number: usize, argument: u32) -> Result<Self, NoMemory>
-        requires valid { IsValid «module».now }
-        requires shaped { IsShaped «module».now number }
-        ensures begun { IfOk result (λ instance. state_of «module».now instance ≡ begun «module».now number argument) }
-        ensures goes_with { IfOk result (GoesWith «module».now) }
+    fn call(alloc: Global, valid: ValidModule, number: usize, argument: u32) -> Result<Self, NoMemory>
+        requires { IsShaped valid number }
+        ensures { IfOk result (λ instance. instance ≡ record { program = valid; state = begun valid number argument }) }
     {
+        let module = valid.module();
         let function = &module.functions[number];
         let sequences = function.body.sequences.as_slice();
         let globals = initial_values(alloc, &module.globals)?;
         let mut activity = Activity::begin(alloc, sequences, &function.locals, argument)?;
         let runs = activity.leave_finished(sequences);
         Ok(Instance {
+            valid,
             globals,
             function: number,
             ended: if runs { None } else { Some(RunEnd::Returned) },
@@ -304,7 +321,7 @@ impl Instance {
     /// How the run has ended: what its last step came to, or `Returned` where `run` has no instructions. It is
     /// `Ran` as long as the run goes on, also where a step was a request.
     pub fn last(&self) -> Stepped
-        ensures { (m : Module) → GoesWith m self.now → IsLast result (state_of m self.now) }
+        ensures { IsLast result self.now.state }
     {
         match self.ended {
             None => Stepped::Ran,
@@ -316,20 +333,18 @@ impl Instance {
 
     /// Executes one instruction, and leaves what it finishes. A request is granted exactly where it is for at most `spare`
     /// pages. After `Returned`, `Raised` or `Trapped` nothing changes any more, and the answer is the same again.
-    pub fn step(&mut self, valid: &ValidModule, memory: &mut Linear, spare: u32) -> Stepped
-        requires goes_with { GoesWith valid.now self.old }
-        requires room { length memory.old.octets + spare * page ≤ memory.old.reserved * page }
-        ensures step { (c : Config) → state_of valid.now self.old ≡ Running c
-            → Went spare c memory.old.octets (state_of valid.now self.new) memory.new.octets result }
-        ensures over { IsOver (state_of valid.now self.old)
-            → (self.new ≡ self.old) × (memory.new ≡ memory.old) × IsLast result (state_of valid.now self.old) }
+    pub fn step(&mut self, memory: &mut Linear, spare: u32) -> Stepped
+        requires { length memory.old.octets + spare * page ≤ memory.old.reserved * page }
+        ensures step { (c : Config) → self.old.state ≡ Running c
+            → Went spare c memory.old.octets self.new.state memory.new.octets result }
+        ensures over { IsOver self.old.state → (self.new ≡ self.old) × (memory.new ≡ memory.old) × IsLast result self.old.state }
+        ensures program { self.new.program ≡ self.old.program }
         ensures reserved { memory.new.reserved ≡ memory.old.reserved }
-        ensures goes_with { GoesWith valid.now self.new }
     {
         if self.ended.is_some() {
             return self.last();
         }
-        let function = &valid.module().functions[self.function];
+        let function = &self.valid.module().functions[self.function];
         let stepped = self.activity.step(&function.body.sequences, memory, spare);
         self.ended = stepped.end();
         stepped

@@ -1,5 +1,6 @@
 pub mod Numbered
 pub mod Outcomes
 pub mod Sound
+pub mod StateCode
 pub mod Steps
 pub mod TypedOperands

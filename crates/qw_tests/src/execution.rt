@@ -1,5 +1,3 @@
-ghost use Rattle.qw_machine.specs.Instance.{GoesWith};
-
 use qw_linear::linear::Linear;
 use qw_machine::machine::{Instance, Stepped};
 use qw_module::instruction::{Binary, Const, Instr, MemArg, Op, Relation, Sign, Store, ValType};
@@ -95,15 +93,12 @@ fn raises(alloc: Global) -> Result<Module, AllocError> {
 }
 
 /// Steps until one doesn't answer `Ran`. Answers that, and how many steps were taken.
-fn last_step(instance: &mut Instance, valid: &ValidModule, memory: &mut Linear) -> (Stepped, u64)
-    requires { GoesWith valid.now instance.old }
-    ensures { GoesWith valid.now instance.new }
-{
+fn last_step(instance: &mut Instance, memory: &mut Linear) -> (Stepped, u64) {
     let mut steps = 0u64;
     while steps < 100_000_000 {
         steps += 1;
         let spare = memory.reserved() - memory.size();
-        let stepped = instance.step(valid, memory, spare);
+        let stepped = instance.step(memory, spare);
         if stepped != Stepped::Ran {
             return (stepped, steps);
         }
@@ -116,8 +111,8 @@ fn sums_in_a_loop(rt: HostRuntime) -> Result<(), Fail> {
     let valid = validate(rt.alloc(), sums(rt.alloc())?)?;
     let mut memory = Linear::new(rt.alloc(), 1)?;
     memory.grow(1).unwrap();
-    let mut instance = Instance::new(rt.alloc(), &valid, 64)?;
-    let (stepped, steps) = last_step(&mut instance, &valid, &mut memory);
+    let mut instance = Instance::new(rt.alloc(), valid, 64)?;
+    let (stepped, steps) = last_step(&mut instance, &mut memory);
     assert_eq!(rt; stepped, Stepped::Returned);
     // A turn is the eleven instructions of the loop's sequence and `loop`, which each branch to it begins again;
     // the three after the loop come once.
@@ -131,7 +126,7 @@ fn asks_for_pages(rt: HostRuntime) -> Result<(), Fail> {
     let valid = validate(rt.alloc(), asks(rt.alloc())?)?;
     let mut memory = Linear::new(rt.alloc(), 2)?;
     memory.grow(1).unwrap();
-    let mut instance = Instance::new(rt.alloc(), &valid, 64)?;
+    let mut instance = Instance::new(rt.alloc(), valid, 64)?;
     let answers = [
         (Stepped::Grew { at: 1, pages: 1 }, 3u64),
         (Stepped::Refused { pages: 1 }, 4),
@@ -139,7 +134,7 @@ fn asks_for_pages(rt: HostRuntime) -> Result<(), Fail> {
     ];
     for answer in answers {
         assert_eq!(rt; instance.last(), Stepped::Ran);
-        assert_eq!(rt; last_step(&mut instance, &valid, &mut memory), answer);
+        assert_eq!(rt; last_step(&mut instance, &mut memory), answer);
     }
     assert_eq!(rt; memory.size(), 2);
     assert_eq!(rt; memory.load32(64), Some(1));
@@ -151,10 +146,10 @@ fn asks_for_pages(rt: HostRuntime) -> Result<(), Fail> {
 fn raises_a_code(rt: HostRuntime) -> Result<(), Fail> {
     let valid = validate(rt.alloc(), raises(rt.alloc())?)?;
     let mut memory = Linear::new(rt.alloc(), 0)?;
-    let mut instance = Instance::new(rt.alloc(), &valid, 3)?;
+    let mut instance = Instance::new(rt.alloc(), valid, 3)?;
     let raised = Stepped::Raised(3);
-    assert_eq!(rt; last_step(&mut instance, &valid, &mut memory), (raised, 2));
-    assert_eq!(rt; last_step(&mut instance, &valid, &mut memory), (raised, 1));
+    assert_eq!(rt; last_step(&mut instance, &mut memory), (raised, 2));
+    assert_eq!(rt; last_step(&mut instance, &mut memory), (raised, 1));
     assert_eq!(rt; instance.last(), raised);
     Ok(())
 }

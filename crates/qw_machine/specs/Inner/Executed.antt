@@ -12,8 +12,9 @@ use Rattle.qw_module.specs.Numbers.{values_of, type_of_binary, type_of_relation}
 use Rattle.qw_linear.specs.Memory.{most_pages, number_at, with_number, grown_by, pages_of}
 use Rattle.qw_module.specs.Execution.{Config, State, Running, Returned, Event, refusal}
 use Rattle.qw_module.specs.Step.{OpWant, Stuck', Leaves, Reads, Writes, Requests, Throws, next}
-use Rattle.qw_machine.specs.Machine.{Point, Rooms, IsPoint, IsRunning, config_at, state_at}
-use Rattle.qw_machine.specs.Instance.{end_of, state_after, WhileRunning, IsAnswer, Went}
+use Rattle.qw_machine.specs.Inner.Machine.{Point, Rooms, IsPoint, IsRunning, config_at, state_at}
+use Rattle.qw_machine.specs.Inner.Ended.{run_end_of, state_after, WhileRunning}
+use Rattle.qw_machine.specs.Instance.{IsAnswer, Went}
 
 -- There are the operands that an operator takes, values of their types where it reads them by these, an address, a number of
 -- pages or a code below 2^32 where it takes one, and the local that it names.
@@ -56,7 +57,7 @@ IsDone (Throws code) locals memory spare answer operands_after locals_after memo
 
 -- after this answer nothing runs any more
 abbrev pub is_over : Stepped → Bool
-is_over answer = is_some (end_of answer)
+is_over answer = is_some (run_end_of answer)
 
 -- The step of a configuration, where so many pages may be had, leads to a state, and its event is answered as that of
 -- a step that goes on.
@@ -69,7 +70,7 @@ pub record WentOn (spare : ℕ) (c : Config) (before : List ℕ) (state : State)
 abbrev pub IsExecuted : List (List Instr) → Rooms → (spare : ℕ) → (p : Point) → (memory : List ℕ) → Stepped → (q : Point) → (after : List ℕ) → Type 0
 IsExecuted sequences rooms spare p memory answer q after =
     MatchBool (is_over answer)
-    ((globals : List ℕ) → Went spare (config_at sequences globals p) memory (state_after (end_of answer) (state_at sequences globals q)) after answer)
+    ((globals : List ℕ) → Went spare (config_at sequences globals p) memory (state_after (run_end_of answer) (state_at sequences globals q)) after answer)
     (IsPoint sequences rooms q × ((globals : List ℕ) → WentOn spare (config_at sequences globals p) memory (state_at sequences globals q) after answer))
 
 -- Finished labels were left: the point q runs on, or `run` was left.
@@ -79,5 +80,5 @@ IsLeft sequences rooms p false q = (globals : List ℕ) → state_at sequences g
 
 -- A step from a point went to the point q, or ended the run, as its configuration does.
 pub record IsStepped (sequences : List (List Instr)) (rooms : Rooms) (spare : ℕ) (p : Point) (memory : List ℕ) (answer : Stepped) (q : Point) (after : List ℕ) : Type 0 where
-  pub running : WhileRunning (end_of answer) (IsRunning sequences rooms q)
-  pub went : (globals : List ℕ) → Went spare (config_at sequences globals p) memory (state_after (end_of answer) (state_at sequences globals q)) after answer
+  pub running : WhileRunning (run_end_of answer) (IsRunning sequences rooms q)
+  pub went : (globals : List ℕ) → Went spare (config_at sequences globals p) memory (state_after (run_end_of answer) (state_at sequences globals q)) after answer

@@ -1,5 +1,5 @@
 use Rattle.std.proofs.Common.{◌≡◌}
-use Rattle.qw_machine.specs.Machine.{instructions_below}
+use Rattle.qw_machine.specs.Inner.Machine.{instructions_below}
 use Rattle.qw_module.specs.Validity.{items_of}
 use Rattle.qw_machine.proofs.machine.instructions.Given as goal
 

@@ -1,9 +1,5 @@
 use Rattle.std.proofs.Common.{◌-◌}
-use Rattle.qw_machine.specs.Instance.{GoesWith}
 use Rattle.qw_tests.proofs.execution.last_step.Given as goal
-
-abbrev pub invariant-loop-steps : goal.invariant-loop-steps
-invariant-loop-steps l = GoesWith l.valid l.instance
 
 abbrev pub decreases-loop-steps : goal.decreases-loop-steps
 decreases-loop-steps l = 100000000 - l.steps

@@ -3,7 +3,7 @@ use Rattle.std.proofs.lemmas.List.{take_at}
 use Rattle.qw_machine.proofs.Arrays.{instruction-array, place-small}
 use Rattle.qw_machine.proofs.Operated.{operator-ready, executed-operator}
 use Rattle.qw_machine.proofs.Controlled.{operand-room, executed-block, executed-loop, executed-if, executed-else, if-operand, can-jump-br, executed-br, br_if-operand, can-jump-br_if, executed-br_if, executed-br_if-not}
-use Rattle.qw_machine.specs.Machine.{rooms_of, point_of}
+use Rattle.qw_machine.specs.Inner.Machine.{rooms_of, point_of}
 use Rattle.qw_module.specs.Validity.{items_of}
 use Rattle.qw_machine.proofs.machine.Activity.execute.Goals as goal
 use Rattle.qw_machine.proofs.machine.Activity.execute.Goals.{then-pop-ne0, else-pop-ne0}

@@ -1,5 +1,5 @@
 use Rattle.std.proofs.Common.{◌≢◌, ℕ, vec_len, ◌∙◌, sym, ap, refl}
-use Rattle.qw_machine.specs.Machine.{Rooms, point_of, rooms_of}
+use Rattle.qw_machine.specs.Inner.Machine.{Rooms, point_of, rooms_of}
 use Rattle.qw_machine.proofs.Arrays.{left-entry-point, left-entry-state, left-last, place-unfinished}
 use Rattle.qw_machine.proofs.machine.Activity.leave_finished.Goals as goal
 

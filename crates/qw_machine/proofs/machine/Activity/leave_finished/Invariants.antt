@@ -1,5 +1,5 @@
 use Rattle.std.proofs.Common.{◌≡◌, ℕ, List, length}
-use Rattle.qw_machine.specs.Machine.{IsPoint, point_of, rooms_of, state_at}
+use Rattle.qw_machine.specs.Inner.Machine.{IsPoint, point_of, rooms_of, state_at}
 use Rattle.qw_module.specs.Validity.{items_of}
 use Rattle.qw_machine.proofs.machine.Activity.leave_finished.Given as goal
 

@@ -1,5 +1,5 @@
 use Rattle.std.proofs.Common.{is_some, ◌∙◌, ap, sym}
-use Rattle.qw_machine.specs.Machine.{rooms_of, point_of}
+use Rattle.qw_machine.specs.Inner.Machine.{rooms_of, point_of}
 use Rattle.qw_module.specs.Validity.{items_of}
 use Rattle.qw_machine.proofs.Arrays.{stepped-over, stepped-left, stepped-returned}
 use Rattle.qw_machine.proofs.machine.Activity.step.Goals as goal

@@ -1,8 +1,7 @@
-use Rattle.std.proofs.Common.{◌≡◌, ℕ, ◌∙◌, ap, sym, refl, Result, Ok, Err, is_ok}
+use Rattle.std.proofs.Common.{◌≡◌, ℕ, sym, subst, Result, Ok, Err, is_ok}
 use Rattle.std.specs.Prelude.{IfOk, MatchResult}
 use Rattle.std.proofs.lemmas.Bool.{false≢true}
-use Rattle.qw_machine.specs.declared.machine.Instance.{Instance}
-use Rattle.qw_machine.specs.Instance.{state_of}
+use Rattle.qw_machine.specs.Instance.{Called}
 use Rattle.qw_module.specs.Start.{begun}
 use Rattle.qw_machine.proofs.ShapeFacts.{shape-unique}
 use Rattle.qw_machine.proofs.machine.Instance.new.Goals as goal
@@ -14,13 +13,10 @@ kept (Ok x) after P Q R told same follows p = rw told (follows x p)
 kept (Err e) (Ok x) P Q R told same follows p = absurd (false≢true (sym same))
 kept (Err e) (Err f) P Q R told same follows p = tt
 
-pub returns-in_default-clause-not_shaped : goal.returns-in_default-clause-not_shaped
-returns-in_default-clause-not_shaped c = (λ e. rw c.module-module.ensures.«module» at c.in_default.ensures, λ none. refl)
-
 pub returns-clause-begun : goal.returns-clause-begun
 returns-clause-begun c = λ number shaped.
-    let m = c.args.valid.now in
-    let found = rw c.module-module.ensures.«module» at c.in-Some.ensures in
-    let same = shape-unique m c.module-module.ensures.valid.names c.in-Some.number number found shaped in
-    kept c.call.result c.map_err.result _ (λ (i : Instance). state_of m i ≡ begun m number c.args.argument) _ c.map_err.ensures.cases c.map_err.ensures.variant
-    (λ i state. state ∙ ap (λ (n : ℕ). begun m n c.args.argument) same) (rw c.module-module.ensures.«module» at c.call.ensures.begun)
+    let m = c.args.valid in
+    let found = rw c.module.ensures.«module» at c.in-Some.ensures in
+    let same = shape-unique m c.module.ensures.valid.names c.in-Some.number number found shaped in
+    kept c.call.result c.map_err.result _ (λ (i : Called). i ≡ record { program = m; state = begun m number c.args.argument }) _ c.map_err.ensures.cases c.map_err.ensures.variant
+    (λ i is. subst (λ (n : ℕ). i ≡ record { program = m; state = begun m n c.args.argument }) same is) c.call.ensures
