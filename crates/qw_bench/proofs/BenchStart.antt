@@ -18,7 +18,8 @@ use Rattle.qw_module.specs.Start.{begun, body_of}
 use Rattle.qw_machine.specs.declared.machine.Stepped.{Stepped}
 use Rattle.qw_machine.specs.declared.machine.Stepped.TheVariants.{Ran}
 use Rattle.qw_machine.specs.declared.machine.Stepped.TheVariants as came
-use Rattle.qw_machine.specs.Instance.{GoesWith, IsLast}
+use Rattle.qw_machine.specs.Instance.{Called, IsLast}
+use Rattle.qw_module.specs.declared.module.Module.{Module}
 use Rattle.qw_map.specs.Columns.{Holds, HoldsColumn, column_pages, column_start}
 use Rattle.qw_emit.specs.Compiled.{IsCompiled, IsReady}
 use Rattle.qw_map.specs.Layout.{column_areas, column_starts, first_world, used}
@@ -115,16 +116,16 @@ end-by_state seat last Returned begun told = (λ is. tt, λ not. absurd (not (la
 end-by_state seat last (Raised code) begun told = absurd begun
 end-by_state seat last Trapped begun told = absurd begun
 
-pub end-begun : (seat : Seat) (last : Stepped) (number d : ℕ) → state_in seat ≡ begun seat.valid number d → IsLast last (state_in seat) →
+pub end-begun : (seat : Seat) (last : Stepped) (program : Module) (number d : ℕ) → state_in seat ≡ begun program number d → IsLast last (state_in seat) →
     (last ≡ came.Returned → IsEndOf seat (state_in seat) (Some ended.Done)) × (last ≢ came.Returned → IsEndOf seat (state_in seat) None)
-end-begun seat last number d begins told = end-by_state seat last (state_in seat) (subst IsBegun (sym begins) (begun-is _ _ (code_of (body_of seat.valid number)))) told
+end-begun seat last program number d begins told = end-by_state seat last (state_in seat) (subst IsBegun (sym begins) (begun-is _ _ (code_of (body_of program number)))) told
 
 module _ (width : ℕ) (rows : List (List Val)) (memory : Octets) (seat : Seat) (first : IsFirstMemory seat.query width rows memory.octets)
-    (loaded : AreLoaded (record { width = width; rows = rows })) (compiled : IsCompiled seat.query seat.valid)
+    (loaded : AreLoaded (record { width = width; rows = rows })) (program : Module) (compiled : IsCompiled seat.query program)
     (narrow : AllByRecursion (λ column. column < width) (used seat.query)) (descriptor_is : seat.descriptor ≡ column_pages width (length rows) * page)
     (many : seat.rows ≡ length rows) (steps : 1 ≤ seat.limits.steps) (some_pages : 1 ≤ seat.limits.pages) (pages : seat.limits.pages ≤ 61628)
     (nothing : seat.granted.items ≡ []) (one_page : seat.held ≡ 1) (unrefused : seat.refused ≡ None) (none : seat.ran ≡ 0)
-    (begins : state_in seat ≡ begun seat.valid compiled.shaped.0 seat.descriptor) (end : IsEndOf seat (state_in seat) seat.ended) where
+    (made : seat.instance ≡ record { program = program; state = begun program compiled.shaped.0 seat.descriptor }) (end : IsEndOf seat (state_in seat) seat.ended) where
   abbrev starts : List ℕ
   starts = column_starts seat.query (length rows)
 
@@ -146,9 +147,15 @@ module _ (width : ℕ) (rows : List (List Val)) (memory : Octets) (seat : Seat) 
     fresh = first.fresh;
   }
 
+  program_is : seat.instance.program ≡ program
+  program_is = ap (λ (i : Called). i.program) made
+
+  begins : state_in seat ≡ begun seat.instance.program compiled.shaped.0 seat.descriptor
+  begins = ap (λ (i : Called). i.state) made ∙ ap (λ (m : Module). begun m compiled.shaped.0 seat.descriptor) (sym program_is)
+
   same : instance_of seat ≡ starting compiled.shaped.0 (length rows) (task_of seat)
   same =
-      let from : State = begun seat.valid compiled.shaped.0 seat.descriptor in
+      let from : State = begun seat.instance.program compiled.shaped.0 seat.descriptor in
       let world : World = first_world starts (length rows) seat.descriptor seat.limits.pages in
       let first_page : Area = record { start = seat.descriptor; size = page } in
       let world_is : world_of seat ≡ world =
@@ -166,9 +173,9 @@ module _ (width : ℕ) (rows : List (List Val)) (memory : Octets) (seat : Seat) 
   starting_first : (k : ℕ) (t : Task) (i : Instance) → slice_get (task_of seat ∷ []) k ≡ Some t → slice_get (instance_of seat ∷ []) k ≡ Some i → IsStarting rows memory.octets t i
   starting_first zero t i task found = subst (λ (x : Task). IsStarting rows memory.octets x i) (same_Some (task_of seat) t task)
       (subst (IsStarting rows memory.octets (task_of seat)) (same_Some (instance_of seat) i found) (record {
-        compiled = compiled;
+        compiled = rw program_is compiled;
         number = compiled.shaped.0;
-        shaped = compiled.shaped.1;
+        shaped = rw program_is compiled.shaped.1;
         ready = rw descriptor_is ready;
         may_hold = some_pages;
         may_run = steps;
@@ -198,9 +205,9 @@ module _ (width : ℕ) (rows : List (List Val)) (memory : Octets) (seat : Seat) 
     size = first.size;
   }
 
-  pub bench : GoesWith seat.valid seat.instance → seat.limits.pages ≤ vec_capacity seat.granted →
+  pub bench : seat.limits.pages ≤ vec_capacity seat.granted →
       memory.reserved ≡ column_pages width (length rows) + seat.limits.pages → AreSeats memory (seat ∷ [])
-  bench fits room reserved =
+  bench room reserved =
       let unasked : length seat.granted.items ≡ 0 = ap length nothing in
       record {
         bench = record {
@@ -208,6 +215,5 @@ module _ (width : ℕ) (rows : List (List Val)) (memory : Octets) (seat : Seat) 
           serving = start-serving width rows (task_of seat ∷ []) (standing_of memory (seat ∷ [])).shared start.begins;
           room = omega (arith, first.size, reserved, one_page, some_pages);
         };
-        fitting = All-cons (λ (s : Seat). GoesWith s.valid s.instance) seat [] fits (All-nil (λ (s : Seat). GoesWith s.valid s.instance));
         grants = All-cons HasGrants seat [] (record { counted = omega (arith, unasked, one_page); held = omega (arith, one_page, some_pages); room = room }) (All-nil HasGrants);
       }

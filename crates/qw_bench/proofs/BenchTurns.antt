@@ -6,7 +6,6 @@ use Rattle.std.proofs.Math.Seq.{map-set_same}
 use Rattle.std.proofs.lemmas.List.{length-map, map-set}
 use Rattle.std.proofs.lemmas.List.Elements.{All-get_or, All-set}
 use Rattle.std.proofs.lemmas.Option.{get_or_from_slice_get, slice_get-get_or, slice_get-map, slice_get_within}
-use Rattle.qw_machine.specs.Instance.{GoesWith}
 use Rattle.qw_linear.specs.Linear.{Octets}
 use Rattle.qw_linear.specs.Memory.{page}
 use Rattle.qw_map.specs.Turns.{Instance, IsWhole, may_ask, steps_of, turn, turn_at, with_instance}
@@ -67,11 +66,6 @@ module _ {memory : Octets} {seats : List Seat} {i : ℕ} {seat : Seat} (found : 
     pub seat-whole : IsWhole (instance_of seat)
     seat-whole = (kept.bench.serving.serving i (task_of seat) (instance_of seat) task_there instance_there).whole
 
-    pub seat-fits : GoesWith seat.valid seat.instance
-    seat-fits =
-        let at = All-get_or (λ (s : Seat). GoesWith s.valid s.instance) seats i seat (slice_get_within seats i seat found) kept.fitting in
-        subst (λ (s : Seat). GoesWith s.valid s.instance) (get_or_from_slice_get seats i seat seat found) at
-
     pub seat-granted : HasGrants seat
     seat-granted =
         let at = All-get_or HasGrants seats i seat (slice_get_within seats i seat found) kept.grants in
@@ -100,10 +94,10 @@ module _ {memory : Octets} {seats : List Seat} {i : ℕ} {seat : Seat} (found : 
         omega (arith, changed, sum, asks, reserved, kept.bench.room)
 
     pub turned-bench : (quantum : ℕ) (new : Seat) (after : Octets) → (instance_of new, after.octets) ≡ steps_of quantum (instance_of seat) memory.octets →
-        task_of new ≡ task_of seat → GoesWith new.valid new.instance → HasGrants new → after.reserved ≡ memory.reserved →
+        task_of new ≡ task_of seat → HasGrants new → after.reserved ≡ memory.reserved →
         length after.octets + (new.limits.pages - new.held) * page ≡ length memory.octets + (seat.limits.pages - seat.held) * page →
         AreSeats after (slice_set seats i new)
-    turned-bench quantum new after is same fits granted reserved asks = record {
+    turned-bench quantum new after is same granted reserved asks = record {
       bench = record {
         table = kept.bench.table;
         serving = rw (turned-tasks new same)
@@ -111,7 +105,6 @@ module _ {memory : Octets} {seats : List Seat} {i : ℕ} {seat : Seat} (found : 
             (turns-serving kept.bench.table (map task_of seats) (standing_of memory seats).shared ((i, quantum) ∷ []) kept.bench.serving));
         room = turned-room new after reserved asks;
       };
-      fitting = All-set (λ (s : Seat). GoesWith s.valid s.instance) seats i new fits kept.fitting;
       grants = All-set HasGrants seats i new granted kept.grants;
     }
 

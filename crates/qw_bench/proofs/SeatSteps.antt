@@ -6,11 +6,10 @@ use Rattle.std.proofs.lemmas.Bool.{le-leb, lt-leb, leb-true, leb-false, cases_Bo
 use Rattle.std.proofs.lemmas.List.{map-append, length_push}
 use Rattle.qw_linear.specs.Linear.{Octets}
 use Rattle.qw_linear.specs.Memory.{page}
-use Rattle.qw_machine.specs.declared.machine.Instance.{Instance}
 use Rattle.qw_machine.specs.declared.machine.Stepped.{Stepped}
 use Rattle.qw_machine.specs.declared.machine.Stepped.TheVariants.{Ran, Grew, Refused}
 use Rattle.qw_machine.specs.declared.machine.Stepped.TheVariants as came
-use Rattle.qw_machine.specs.Instance.{GoesWith, IsAnswer, IsNoRequest, Went}
+use Rattle.qw_machine.specs.Instance.{Called, IsAnswer, IsNoRequest, Went}
 use Rattle.qw_module.specs.Execution.{Config, State, Running, Returned, Raised, Trapped, Event, Silent, Loads, Stores, Grows, Raises, Traps, pages_gained}
 use Rattle.qw_module.specs.Step.{Next, next, Want, Stuck, Goes, Asks, Puts, AsksPages, Signals, answered, wants}
 use Rattle.qw_map.specs.Areas.{Area, World, grants, world_after}
@@ -129,7 +128,7 @@ step-on i m k now memory c made is unended running led =
 pub record HasRun (before : Seat) (m0 : Octets) (k : ℕ) (now : Seat) (memory : Octets) : Type 0 where
   pub ran : (counting now k, memory.octets) ≡ steps_of k (counting before 0) m0.octets
   pub seated : StaysSeated before now
-  pub goes_with : GoesWith now.valid now.instance
+  pub program : now.instance.program ≡ before.instance.program
   pub runs : IsEndOf now (state_in now) None
   pub unended : now.ended ≡ None
   pub grants : HasGrants now
@@ -152,14 +151,14 @@ may-step before m0 k budget now memory has within room =
     omega arith
 
 -- a step of a seat's instance that led to another instance and memory, with this answer
-pub record IsTaken (before : Seat) (m0 : Octets) (k : ℕ) (now : Seat) (memory : Octets) (i : Instance) (after : Octets) (answer : Stepped) : Type 0 where
+pub record IsTaken (before : Seat) (m0 : Octets) (k : ℕ) (now : Seat) (memory : Octets) (i : Called) (after : Octets) (answer : Stepped) : Type 0 where
   pub has : HasRun before m0 k now memory
   pub below : now.ran + k < now.limits.steps
   pub tells : IsTold (counting before 0) m0.octets
   pub led : (c : Config) → state_in now ≡ Running c →
       Went (now.limits.pages - now.held) c memory.octets (state_in (record now { instance = i })) after.octets answer
 
-module _ {before : Seat} {m0 : Octets} {k : ℕ} {now : Seat} {memory : Octets} {i : Instance} {after : Octets} {answer : Stepped}
+module _ {before : Seat} {m0 : Octets} {k : ℕ} {now : Seat} {memory : Octets} {i : Called} {after : Octets} {answer : Stepped}
     (taken : IsTaken before m0 k now memory i after answer) where
   abbrev pub new_state : State
   new_state = state_in (record now { instance = i })
@@ -208,14 +207,14 @@ module _ {before : Seat} {m0 : Octets} {k : ℕ} {now : Seat} {memory : Octets} 
       ap (λ (x : t.Instance). (x, after.octets)) same ∙ stepped
 
   -- no request: nothing else changes
-  pub ran-on : answer ≡ Ran → GoesWith now.valid i → after.reserved ≡ memory.reserved → HasRun before m0 (k + 1) (record now { instance = i }) after
-  ran-on is fits reserved =
+  pub ran-on : answer ≡ Ran → i.program ≡ now.instance.program → after.reserved ≡ memory.reserved → HasRun before m0 (k + 1) (record now { instance = i }) after
+  ran-on is same_program reserved =
       let still = plainly new_state (subst (λ (a : Stepped). IsAnswer a memory.octets step.event new_state) is step.answered) in
       let same = stays-without (world_of now) memory.octets step.event still.0 in
       record {
         ran = more (record now { instance = i }) refl (sym same.0) refl refl;
         seated = ap (λ (seat : Seat). record seat { instance = i }) taken.has.seated;
-        goes_with = fits;
+        program = same_program ∙ taken.has.program;
         runs = still.1;
         unended = taken.has.unended;
         grants = record { counted = taken.has.grants.counted; held = taken.has.grants.held; room = taken.has.grants.room };
@@ -259,11 +258,11 @@ module _ {before : Seat} {m0 : Octets} {k : ℕ} {now : Seat} {memory : Octets} 
       subst (λ (e : Event). length after.octets ≡ length memory.octets + pages_gained e * page) asked.0 step.longer in
       record { event_is = asked.0; goes_on = asked.1; some = told.0; fits = leb-true (now.held + pages) now.limits.pages given; longer = longer }
 
-  pub grew-on : (at pages first : ℕ) (got : Vec Grant Global) (final : Seat) → answer ≡ Grew at pages → GoesWith now.valid i → after.reserved ≡ memory.reserved →
+  pub grew-on : (at pages first : ℕ) (got : Vec Grant Global) (final : Seat) → answer ≡ Grew at pages → i.program ≡ now.instance.program → after.reserved ≡ memory.reserved →
       final ≡ record now { instance = i; granted = got; held = now.held + pages } → length after.octets ≡ (first + pages) * page →
       got.items ≡ now.granted.items ++ record { at = first; pages = pages } ∷ [] → vec_capacity got ≡ vec_capacity now.granted →
       HasRun before m0 (k + 1) final after
-  grew-on at pages first got final is fits reserved final_is last_pages items capacity =
+  grew-on at pages first got final is same_program reserved final_is last_pages items capacity =
       let it = has-grown at pages is in
       let next : first * page ≡ length memory.octets = omega (arith, it.longer, last_pages) in
       let seat : Seat = record now { instance = i; granted = got; held = now.held + pages } in
@@ -279,7 +278,7 @@ module _ {before : Seat} {m0 : Octets} {k : ℕ} {now : Seat} {memory : Octets} 
       subst (λ (x : Seat). HasRun before m0 (k + 1) x after) (sym final_is) (record {
         ran = more seat refl world_is refl refl;
         seated = ap (λ (x : Seat). record x { instance = i; granted = got; held = now.held + pages }) taken.has.seated;
-        goes_with = fits;
+        program = same_program ∙ taken.has.program;
         runs = rw it.goes_on.1 tt;
         unended = taken.has.unended;
         grants = record {
@@ -291,16 +290,16 @@ module _ {before : Seat} {m0 : Octets} {k : ℕ} {now : Seat} {memory : Octets} 
         reserved = reserved ∙ taken.has.reserved;
       })
 
-  pub refused-on : (pages : ℕ) → answer ≡ Refused pages → GoesWith now.valid i → after.reserved ≡ memory.reserved →
+  pub refused-on : (pages : ℕ) → answer ≡ Refused pages → i.program ≡ now.instance.program → after.reserved ≡ memory.reserved →
       HasRun before m0 (k + 1) (record now { instance = i; refused = Some pages }) after
-  refused-on pages is fits reserved =
+  refused-on pages is same_program reserved =
       let asked = refused pages new_state (subst (λ (a : Stepped). IsAnswer a memory.octets step.event new_state) is step.answered) in
       let longer : length after.octets ≡ length memory.octets + 0 * page =
       subst (λ (e : Event). length after.octets ≡ length memory.octets + pages_gained e * page) asked.0 step.longer in
       record {
         ran = more (record now { instance = i; refused = Some pages }) refl (ap (world_after (world_of now) memory.octets) (sym asked.0)) refl refl;
         seated = ap (λ (x : Seat). record x { instance = i; refused = Some pages }) taken.has.seated;
-        goes_with = fits;
+        program = same_program ∙ taken.has.program;
         runs = rw asked.1.1 tt;
         unended = taken.has.unended;
         grants = record { counted = taken.has.grants.counted; held = taken.has.grants.held; room = taken.has.grants.room };

@@ -2,3 +2,4 @@
 pub mod FirstMemory
 pub mod Rounds
 pub mod Seats
+pub mod StandingCode

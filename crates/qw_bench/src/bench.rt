@@ -90,7 +90,6 @@ struct Grant {
 #[derive(Drop)]
 struct Seat {
     query: Query,
-    valid: ValidModule,
     instance: Instance,
     /// How many rows the columns have that it reads.
     rows: usize,
@@ -110,19 +109,16 @@ struct Seat {
 
 impl Seat {
     ghost use Rattle.qw_map.specs.Turns.{IsWhole, steps_of};
-    ghost use Rattle.qw_machine.specs.Instance.{GoesWith};
     ghost use Rattle.qw_bench.specs.Inner.Seats.{HasGrants, IsEndOf, IsTold, StaysSeated, counting, instance_of, state_in, task_of};
 
     /// Runs the instance until it ends or has run `quantum` instructions. Answers how many it ran.
     fn turn(&mut self, memory: &mut Linear, quantum: u64) -> u64
-        requires goes_with { GoesWith self.old.valid self.old.instance }
         requires whole { IsWhole (instance_of self.old) }
         requires told { IsTold (instance_of self.old) memory.old.octets }
         requires grants { HasGrants self.old }
         requires room { length memory.old.octets + (self.old.limits.pages - self.old.held) * page ≤ memory.old.reserved * page }
         ensures turned { (instance_of self.new, memory.new.octets) ≡ steps_of quantum (instance_of self.old) memory.old.octets }
         ensures task { task_of self.new ≡ task_of self.old }
-        ensures goes_with { GoesWith self.new.valid self.new.instance }
         ensures grants { HasGrants self.new }
         ensures asks { length memory.new.octets + (self.new.limits.pages - self.new.held) * page
             ≡ length memory.old.octets + (self.old.limits.pages - self.old.held) * page }
@@ -146,7 +142,6 @@ impl Seat {
 
     /// Executes up to `budget` instructions, and answers how many. They aren't counted yet.
     fn run(&mut self, memory: &mut Linear, budget: u64) -> u64
-        requires goes_with { GoesWith self.old.valid self.old.instance }
         requires runs { IsEndOf self.old (state_in self.old) None }
         requires unended { self.old.ended ≡ None }
         requires steps { self.old.ran + budget ≤ self.old.limits.steps }
@@ -155,7 +150,7 @@ impl Seat {
         requires room { length memory.old.octets + (self.old.limits.pages - self.old.held) * page ≤ memory.old.reserved * page }
         ensures ran { (counting self.new result, memory.new.octets) ≡ steps_of budget (counting self.old 0) memory.old.octets }
         ensures seated { StaysSeated self.old self.new }
-        ensures goes_with { GoesWith self.new.valid self.new.instance }
+        ensures program { self.new.instance.program ≡ self.old.instance.program }
         ensures end { IsEndOf self.new (state_in self.new) self.new.ended }
         ensures grants { HasGrants self.new }
         ensures asks { length memory.new.octets + (self.new.limits.pages - self.new.held) * page
@@ -167,7 +162,7 @@ impl Seat {
     {
         for taken in 0..budget {
             let spare = self.limits.pages - self.held;
-            match self.instance.step(&self.valid, memory, spare) {
+            match self.instance.step(memory, spare) {
                 Stepped::Ran => {}
                 Stepped::Grew { pages, .. } => self.note_grant(memory, pages),
                 Stepped::Refused { pages } => self.refused = Some(pages),
@@ -229,11 +224,11 @@ pub struct Bench {
 
 impl Model for Bench {
     ghost use Rattle.qw_bench.specs.Standing.{Standing};
-    ghost use Rattle.qw_bench.specs.Codes.{coded_standing};
+    ghost use Rattle.qw_bench.specs.Inner.StandingCode.{standing_code};
 
     ghost Value = { Standing };
 
-    ghost coded = { coded_standing };
+    ghost coded = { standing_code };
 
     ghost use Rattle.qw_bench.specs.Inner.Seats.{AreSeats, standing_of};
 
@@ -270,7 +265,7 @@ impl Bench {
         let Job { query, valid } = job;
         let memory = first_memory(alloc, loaded, &query, limits.pages)?;
         let descriptor = PAGE as u32 * pages_needed(loaded);
-        let instance = first_instance(alloc, &valid, descriptor)?;
+        let instance = first_instance(alloc, valid, descriptor)?;
         let ended = match instance.last() {
             Stepped::Returned => Some(Ended::Done),
             _ => None,
@@ -279,7 +274,6 @@ impl Bench {
         let seats = vec![in alloc;
             Seat {
                 query,
-                valid,
                 instance,
                 rows: loaded.len(),
                 descriptor: u64::from(descriptor),

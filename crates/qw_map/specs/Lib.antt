@@ -1,5 +1,4 @@
 pub mod Areas
-pub mod Codes
 pub mod Columns
 pub mod Inner
 pub mod Layout

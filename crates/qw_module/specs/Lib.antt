@@ -1,4 +1,3 @@
-pub mod Codes
 pub mod Execution
 pub mod Numbers
 pub mod Soundness

@@ -7,7 +7,6 @@ use Rattle.qw_module.specs.Execution.{Config, State, Running, Returned, Raised, 
 use Rattle.qw_map.specs.Areas.{Area, World, GoesOn, grants}
 use Rattle.qw_module.specs.Step.{Next, next}
 use Rattle.qw_map.specs.Turns.{Instance, end_at, steps_of}
-use Rattle.qw_machine.specs.Instance.{GoesWith, state_of}
 use Rattle.qw_map.specs.Layout.{column_starts, column_areas}
 use Rattle.qw_bench.specs.declared.bench.Ended.{Ended}
 use Rattle.qw_bench.specs.declared.bench.Ended.TheVariants as ended
@@ -20,7 +19,7 @@ use Rattle.qw_bench.specs.Standing.{IsBench, Standing, end_of}
 abbrev pub task_of : Seat → Task
 task_of seat = record {
   statement = seat.query;
-  program = seat.valid;
+  program = seat.instance.program;
   descriptor = seat.descriptor;
   pages = seat.limits.pages;
   steps = seat.limits.steps;
@@ -28,7 +27,7 @@ task_of seat = record {
 
 -- the state of the instance of a seat
 abbrev pub state_in : Seat → State
-state_in seat = state_of seat.valid seat.instance
+state_in seat = seat.instance.state
 
 -- the area of the pages that were granted
 abbrev pub area_of : Grant → Area
@@ -110,8 +109,7 @@ standing_of memory seats = record {
   reserved = memory.reserved;
 }
 
--- What the fields of a bench keep: each instance goes with its module, and each seat has room for its grants.
+-- What the fields of a bench keep: each seat has room for its grants.
 pub record AreSeats (memory : Octets) (seats : List Seat) : Type 0 where
   pub bench : IsBench (standing_of memory seats)
-  pub fitting : All (λ (seat : Seat). GoesWith seat.valid seat.instance) seats
   pub grants : All HasGrants seats

@@ -2,7 +2,7 @@ use Rattle.std.proofs.Common.{◌≡◌, Some, ap, slice_get, ◌+◌, ◌∙◌
 use Rattle.qw_map.specs.Turns.{turn}
 use Rattle.qw_bench.specs.Standing.{Standing}
 use Rattle.qw_bench.specs.Bench.{ran_in}
-use Rattle.qw_bench.proofs.BenchTurns.{seat-fits, seat-found, seat-granted, seat-room, seat-told, seat-whole, turned-bench, turned-none, turned-ran, turned-shared, turned-tasks}
+use Rattle.qw_bench.proofs.BenchTurns.{seat-found, seat-granted, seat-room, seat-told, seat-whole, turned-bench, turned-none, turned-ran, turned-shared, turned-tasks}
 use Rattle.qw_bench.proofs.bench.Bench.turn.Goals as goal
 use Rattle.qw_bench.proofs.bench.Bench.turn.Goals.{After-index_mut-seat}
 
@@ -11,11 +11,6 @@ found : (c : After-index_mut-seat) → slice_get c.self.inside.seats.items c.arg
 found c =
     seat-found c.args.self.now c.self.inside.memory c.self.inside.seats.items c.args.i c.index_mut-seat.result.now c.self.view_is c.requires.there
     c.index_mut-seat.ensures.value
-
-pub turn-requires-clause-goes_with : goal.turn-requires-clause-goes_with
-turn-requires-clause-goes_with c =
-    let there = found (goal.at.turn-requires-clause-goes_with c).After-index_mut-seat in
-    seat-fits there c.self.invariant
 
 pub turn-requires-clause-whole : goal.turn-requires-clause-whole
 turn-requires-clause-whole c =
@@ -41,7 +36,7 @@ pub invariant_of-self : goal.invariant_of-self
 invariant_of-self c =
     let there = found (goal.at.invariant_of-self c).After-index_mut-seat in
     let e = c.turn.ensures in
-    turned-bench there c.self.invariant c.args.quantum c.turn.new.self c.turn.new.memory e.turned e.task e.goes_with e.grants e.reserved e.asks
+    turned-bench there c.self.invariant c.args.quantum c.turn.new.self c.turn.new.memory e.turned e.task e.grants e.reserved e.asks
 
 pub returns-clause-turn : goal.returns-clause-turn
 returns-clause-turn c =

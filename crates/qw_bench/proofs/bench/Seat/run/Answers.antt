@@ -73,12 +73,12 @@ loop-taken-preserved c =
     let step = taken (goal.at.loop-taken-preserved c).After-step in
     let e = c.step.ensures in
     elim c.match-step.branch [
-      | in-Ran w ↦ rw w.self-is (ran-on step w.in-Ran.is e.goes_with e.reserved)
+      | in-Ran w ↦ rw w.self-is (ran-on step w.in-Ran.is e.program e.reserved)
       | in-Grew w ↦
           let noted = w.note_grant.ensures in
           rw w.self-is (grew-on step w.in-Grew.at w.in-Grew.pages noted.granted.0 w.note_grant.new.self.granted w.note_grant.new.self
-          w.in-Grew.is e.goes_with e.reserved noted.seat noted.granted.1 noted.granted.2 noted.capacity)
-      | in-Refused w ↦ rw w.self-is (refused-on step w.in-Refused.pages w.in-Refused.is e.goes_with e.reserved)
+          w.in-Grew.is e.program e.reserved noted.seat noted.granted.1 noted.granted.2 noted.capacity)
+      | in-Refused w ↦ rw w.self-is (refused-on step w.in-Refused.pages w.in-Refused.is e.program e.reserved)
     ]
 
 pub returns-clause-ran : goal.returns-clause-ran

@@ -1,20 +1,20 @@
--- How the logic stores instances that share a memory, so that a model's value may hold them. Nothing here says what they mean.
+-- A code of instances that share a memory: what tells the values of a model apart where one of them holds such instances.
 use Rattle.std.specs.Prelude.{◌≡◌, ℕ, List, ◌⊎◌, Option, Some, None, refl}
 use Rattle.std.specs.Coded.{Coded, code_by, coded×, coded⊎, coded_ℕ, coded_list, coded_option}
 use Rattle.std.proofs.Common.{inl, inr}
-use Rattle.qw_module.specs.Codes.{coded_state}
+use Rattle.qw_module.proofs.StateCode.{state_code}
 use Rattle.qw_module.specs.Execution.{State}
 use Rattle.qw_map.specs.Areas.{Area, World}
 use Rattle.qw_map.specs.Turns.{Done, Exception, Pages, Steps, Trap, End, Instance, Shared}
 
-abbrev coded_areas : Coded (List Area)
-coded_areas =
+abbrev areas_code : Coded (List Area)
+areas_code =
     coded_list (code_by (ℕ × ℕ) (coded× coded_ℕ coded_ℕ) (λ a. (a.start, a.size)) (λ p. record { start = p.0; size = p.1 }) (λ _. refl))
 
-abbrev coded_world : Coded World
-coded_world =
+abbrev world_code : Coded World
+world_code =
     code_by (List Area × (List Area × (ℕ × (ℕ × Option ℕ))))
-    (coded× coded_areas (coded× coded_areas (coded× coded_ℕ (coded× coded_ℕ (coded_option coded_ℕ)))))
+    (coded× areas_code (coded× areas_code (coded× coded_ℕ (coded× coded_ℕ (coded_option coded_ℕ)))))
     (λ w. (w.mapped, (w.own, (w.held, (w.limit, w.refused)))))
     (λ p. record { mapped = p.0; own = p.1.0; held = p.1.1.0; limit = p.1.1.1.0; refused = p.1.1.1.1 })
     (λ _. refl)
@@ -41,23 +41,23 @@ end-restored (Exception code) = refl
 end-restored (Steps limit) = refl
 end-restored (Pages held asked limit) = refl
 
-abbrev coded_end : Coded End
-coded_end =
+abbrev end_code : Coded End
+end_code =
     code_by (Option (Option ℕ) ⊎ (ℕ ⊎ (ℕ × (ℕ × ℕ))))
     (coded⊎ (coded_option (coded_option coded_ℕ)) (coded⊎ coded_ℕ (coded× coded_ℕ (coded× coded_ℕ coded_ℕ))))
     parts_of end_from end-restored
 
-abbrev coded_instance : Coded Instance
-coded_instance =
+abbrev instance_code : Coded Instance
+instance_code =
     code_by (State × (World × (ℕ × (ℕ × Option End))))
-    (coded× coded_state (coded× coded_world (coded× coded_ℕ (coded× coded_ℕ (coded_option coded_end)))))
+    (coded× state_code (coded× world_code (coded× coded_ℕ (coded× coded_ℕ (coded_option end_code)))))
     (λ i. (i.state, (i.world, (i.most_steps, (i.ran, i.end)))))
     (λ p. record { state = p.0; world = p.1.0; most_steps = p.1.1.0; ran = p.1.1.1.0; end = p.1.1.1.1 })
     (λ _. refl)
 
-abbrev pub coded_shared : Coded Shared
-coded_shared =
-    code_by (List ℕ × List Instance) (coded× (coded_list coded_ℕ) (coded_list coded_instance))
+abbrev pub shared_code : Coded Shared
+shared_code =
+    code_by (List ℕ × List Instance) (coded× (coded_list coded_ℕ) (coded_list instance_code))
     (λ s. (s.memory, s.instances))
     (λ p. record { memory = p.0; instances = p.1 })
     (λ _. refl)
