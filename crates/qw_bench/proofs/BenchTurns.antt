@@ -21,18 +21,21 @@ use Rattle.qw_bench.specs.Bench.{ran_in, end_in}
 use Rattle.qw_bench.proofs.Serving.{serving-told, turns-serving}
 
 -- the seat of a number
+pub record Sits (memory : Octets) (seats : List Seat) (i : ℕ) (seat : Seat) : Type 0 where
+  pub there : slice_get seats i ≡ Some seat
+
 pub seat-found : (b : Standing) (memory : Octets) (seats : List Seat) (i : ℕ) (seat : Seat) → standing_of memory seats ≡ b →
-    i < length b.shared.instances → seat ≡ get_or seats i seat → slice_get seats i ≡ Some seat
+    i < length b.shared.instances → seat ≡ get_or seats i seat → Sits memory seats i seat
 seat-found b memory seats i seat view within is =
     let many : length b.shared.instances ≡ length seats = ap (λ (x : Standing). length x.shared.instances) (sym view) ∙ length-map seats instance_of in
-    slice_get-get_or seats i seat (omega arith) ∙ ap Some (sym is)
+    record { there = slice_get-get_or seats i seat (omega arith) ∙ ap Some (sym is) }
 
-module _ {memory : Octets} {seats : List Seat} {i : ℕ} {seat : Seat} (found : slice_get seats i ≡ Some seat) where
+module _ {memory : Octets} {seats : List Seat} {i : ℕ} {seat : Seat} (sits : Sits memory seats i seat) where
   instance_there : slice_get (map instance_of seats) i ≡ Some (instance_of seat)
-  instance_there = slice_get-map instance_of seats i ∙ ap (option_map instance_of) found
+  instance_there = slice_get-map instance_of seats i ∙ ap (option_map instance_of) sits.there
 
   task_there : slice_get (map task_of seats) i ≡ Some (task_of seat)
-  task_there = slice_get-map task_of seats i ∙ ap (option_map task_of) found
+  task_there = slice_get-map task_of seats i ∙ ap (option_map task_of) sits.there
 
   turned_at : (quantum : ℕ) → turn (standing_of memory seats).shared (i, quantum)
       ≡ with_instance (standing_of memory seats).shared i (steps_of quantum (instance_of seat) memory.octets)
@@ -50,7 +53,7 @@ module _ {memory : Octets} {seats : List Seat} {i : ℕ} {seat : Seat} (found : 
       ∙ sym (turned_at quantum)
 
   pub turned-tasks : (new : Seat) → task_of new ≡ task_of seat → map task_of (slice_set seats i new) ≡ map task_of seats
-  turned-tasks new same = map-set_same task_of seats i new seat (same ∙ ap task_of (sym (get_or_from_slice_get seats i seat seat found)))
+  turned-tasks new same = map-set_same task_of seats i new seat (same ∙ ap task_of (sym (get_or_from_slice_get seats i seat seat sits.there)))
 
   pub turned-ran : (new : Seat) (after : Octets) (result : ℕ) → new.ran ≡ seat.ran + result →
       ran_in (standing_of after (slice_set seats i new)).shared i ≡ ran_in (standing_of memory seats).shared i + result
@@ -68,8 +71,8 @@ module _ {memory : Octets} {seats : List Seat} {i : ℕ} {seat : Seat} (found : 
 
     pub seat-granted : HasGrants seat
     seat-granted =
-        let at = All-get_or HasGrants seats i seat (slice_get_within seats i seat found) kept.grants in
-        subst HasGrants (get_or_from_slice_get seats i seat seat found) at
+        let at = All-get_or HasGrants seats i seat (slice_get_within seats i seat sits.there) kept.grants in
+        subst HasGrants (get_or_from_slice_get seats i seat seat sits.there) at
 
     -- the memory has room for what its instance may still ask for
     pub seat-room : length memory.octets + (seat.limits.pages - seat.held) * page ≤ memory.reserved * page

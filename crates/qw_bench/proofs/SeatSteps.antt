@@ -264,11 +264,11 @@ module _ {before : Seat} {m0 : Octets} {k : ℕ} {now : Seat} {memory : Octets} 
       HasRun before m0 (k + 1) final after
   grew-on at pages first got final is same_program reserved final_is last_pages items capacity =
       let it = has-grown at pages is in
-      let next : first * page ≡ length memory.octets = omega (arith, it.longer, last_pages) in
+      let begins : first * page ≡ length memory.octets = omega (arith, it.longer, last_pages) in
       let seat : Seat = record now { instance = i; granted = got; held = now.held + pages } in
       let areas : map area_of got.items ≡ map area_of now.granted.items ++ record { start = length memory.octets; size = pages * page } ∷ [] =
       ap (map area_of) items ∙ map-append area_of now.granted.items (record { at = first; pages = pages } ∷ [])
-      ∙ ap (λ (start : ℕ). map area_of now.granted.items ++ record { start = start; size = pages * page } ∷ []) next in
+      ∙ ap (λ (start : ℕ). map area_of now.granted.items ++ record { start = start; size = pages * page } ∷ []) begins in
       let first_page : Area = record { start = now.descriptor; size = page } in
       let world : world_of seat ≡ world_after (world_of now) memory.octets (Grows pages true) =
       ap (λ (own : List Area). record (world_of now) { own = first_page ∷ own; held = now.held + pages }) areas in

@@ -50,13 +50,13 @@ cells-none memory types cells there = begin (cells_at memory cells types) refl t
 next-cell : (memory : List ℕ) (types : List Ty) (cells k : ℕ) (values : List Val) (d : Ty) → k < length types → (read : AreCells memory types cells k values) →
     AreParts (cell_at memory (cells + 16 * k) (get_or types k d)) (cells_at memory (cells + 16 * (k + 1)) (drop (k + 1) types)) read.rest
 next-cell memory types cells k values d within read =
-    let next : cells + 16 * k + 16 ≡ cells + 16 * (k + 1) = omega arith in
+    let behind : cells + 16 * k + 16 ≡ cells + 16 * (k + 1) = omega arith in
     let next : suc k ≡ k + 1 = omega arith in
     let cut : drop k types ≡ get_or types k d ∷ drop (k + 1) types = rw next at (drop-cons types k d within) in
     let all : before (cell_at memory (cells + 16 * k) (get_or types k d)) (cells_at memory (cells + 16 * k + 16) (drop (k + 1) types)) ≡ Some read.rest =
     subst (λ (tys : List Ty). cells_at memory (cells + 16 * k) tys ≡ Some read.rest) cut read.left in
     parts_of (cell_at memory (cells + 16 * k) (get_or types k d)) (cells_at memory (cells + 16 * (k + 1)) (drop (k + 1) types)) read.rest
-    (subst (λ (at : ℕ). before (cell_at memory (cells + 16 * k) (get_or types k d)) (cells_at memory at (drop (k + 1) types)) ≡ Some read.rest) next all)
+    (subst (λ (at : ℕ). before (cell_at memory (cells + 16 * k) (get_or types k d)) (cells_at memory at (drop (k + 1) types)) ≡ Some read.rest) behind all)
 
 pub cells-more : (memory : List ℕ) (types : List Ty) (cells k : ℕ) (values : List Val) (value : Val) (d : Ty) → k < length types →
     cell_at memory (cells + 16 * k) (get_or types k d) ≡ Some value → AreCells memory types cells k values → AreCells memory types cells (k + 1) (values ++ value ∷ [])
