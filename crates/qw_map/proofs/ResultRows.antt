@@ -151,3 +151,8 @@ head-inside types own memory descriptor there = ⊎_elim
     (λ inside. inside)
     (λ outside. absurd (false≢true (rw outside at there)))
     (cases_Bool (lies_in_one own descriptor 24))
+
+-- it lies in the memory that the own areas lie in
+pub head-within : (types : List Ty) (own : List Area) (memory : List ℕ) (descriptor : ℕ) → AllByRecursion (LiesWithin (length memory)) own →
+    IsSome (rows_at types own memory descriptor) → descriptor + 24 ≤ length memory
+head-within types own memory descriptor inside there = lies-within own (length memory) descriptor 24 inside (head-inside types own memory descriptor there)
