@@ -4,6 +4,7 @@ use Rattle.std.specs.Prelude.{IfSome}
 use Rattle.std.specs.List.{AllByRecursion}
 use Rattle.std.specs.Option.{option_and_then, option_map_or}
 use Rattle.std.proofs.lemmas.Option.{none-some, same_Some, slice_get_within}
+use Rattle.qw_types.specs.declared.value.Ty.{Ty}
 use Rattle.qw_types.specs.declared.value.Val.{Val}
 use Rattle.qw_linear.specs.Memory.{page}
 use Rattle.qw_map.specs.Areas.{Area}
@@ -56,10 +57,10 @@ module _ (b : Standing) (i : ℕ) (is : IsDone b i) where
       let at = subst (IsAt table b.shared.memory is.task one.number is.instance) is.done (served-at table b.shared.memory is.task is.instance one) in
       record { bag = at.2.0; outcome_is = at.2.1; rows_are = at.2.2 }
 
-  pub descriptor-is : (d : ℕ) → IfSome (slice_get b.tasks i) (λ (task : Task). d ≡ task.descriptor) → d ≡ is.task.descriptor
+  descriptor-is : (d : ℕ) → IfSome (slice_get b.tasks i) (λ (task : Task). d ≡ task.descriptor) → d ≡ is.task.descriptor
   descriptor-is d told = rw is.task_found at told
 
-  pub statement-is : (statement : Statement) → IfSome (slice_get b.tasks i) (λ (task : Task). statement ≡ task.statement) → statement ≡ is.task.statement
+  statement-is : (statement : Statement) → IfSome (slice_get b.tasks i) (λ (task : Task). statement ≡ task.statement) → statement ≡ is.task.statement
   statement-is statement told = rw is.task_found at told
 
   module _ (kept : IsBench b) where
@@ -69,21 +70,39 @@ module _ (b : Standing) (i : ℕ) (is : IsDone b i) where
         (kept.serving.safe.separate.inside i is.instance is.instance_found)
 
     -- what it has lies in the memory
-    pub own-inside : AllByRecursion (LiesWithin (length b.shared.memory)) (own_in b i)
+    own-inside : AllByRecursion (LiesWithin (length b.shared.memory)) (own_in b i)
     own-inside = rw own_found inside
 
-    pub descriptor-small : is.task.descriptor < 2 ^ 32
+    descriptor-small : is.task.descriptor < 2 ^ 32
     descriptor-small =
         let first = (serves kept.table kept.serving).first_page in
         let within : AllByRecursion (LiesWithin (length b.shared.memory)) (record { start = is.task.descriptor; size = page } ∷ first.0) = rw first.1 at inside in
         let ends : is.task.descriptor + page ≤ length b.shared.memory = within.0 in
         omega (arith, kept.serving.safe.separate.room, ends)
 
-    pub rows-there : IsSome (rows_at (cell_types is.task.statement) (own_in b i) b.shared.memory is.task.descriptor)
+    rows-there : IsSome (rows_at (cell_types is.task.statement) (own_in b i) b.shared.memory is.task.descriptor)
     rows-there = rw (own_found, (answer kept.table kept.serving).rows_are) refl
 
-  pub rows-are : (rows : List (List Val)) → rows_at (cell_types is.task.statement) (own_in b i) b.shared.memory is.task.descriptor ≡ Some rows → rows_in b i ≡ Some rows
+  rows-are : (rows : List (List Val)) → rows_at (cell_types is.task.statement) (own_in b i) b.shared.memory is.task.descriptor ≡ Some rows → rows_in b i ≡ Some rows
   rows-are rows read = rw (is.task_found, is.instance_found) (rw own_found at read)
+
+  -- what was told of a bench leads to its rows
+  pub record Leads (types : List Ty) (memory : List ℕ) (descriptor : ℕ) : Type 0 where
+    pub small : descriptor < 2 ^ 32
+    pub inside : AllByRecursion (LiesWithin (length memory)) (own_in b i)
+    pub there : IsSome (rows_at types (own_in b i) memory descriptor)
+    pub reads : (rows : List (List Val)) → rows_at types (own_in b i) memory descriptor ≡ Some rows → rows_in b i ≡ Some rows
+
+  pub leads : IsBench b → (types : List Ty) (memory : List ℕ) (descriptor : ℕ) (statement : Statement) → types ≡ cell_types statement →
+      IfSome (slice_get b.tasks i) (λ (task : Task). statement ≡ task.statement) → memory ≡ b.shared.memory →
+      IfSome (slice_get b.tasks i) (λ (task : Task). descriptor ≡ task.descriptor) → Leads types memory descriptor
+  leads kept types memory descriptor statement types_are asked memory_is begins =
+      rw (types_are, statement-is statement asked, memory_is, descriptor-is descriptor begins) (record {
+        small = descriptor-small kept;
+        inside = own-inside kept;
+        there = rows-there kept;
+        reads = rows-are;
+      })
 
   pub rows-answer : (rows : List (List Val)) → rows_in b i ≡ Some rows → (table : List (List Val)) → AreServing table b.tasks b.shared →
       IfSome (slice_get b.tasks i) (λ (task : Task). outcome task.statement table ≡ Rows rows)

@@ -52,13 +52,13 @@ module _ (w : World) (memory : List ℕ) where
       (λ goes_on. more goes_on.0 (let e : (0, 1) ∷ (1, 1) ∷ [] ≡ (0, 1) ∷ (1, 1) ∷ goes_on.0 = goes_on.1 in cc) goes_on.2)
       (begins 1 ((0, 1) ∷ (1, 1) ∷ []) start h)
 
-  zero_one : 1 ≡ 0 → ⊥
+  zero_one : ◌≡◌ {A = ℕ} 1 0 → ⊥
   zero_one same = cc
 
   turned : AreRounds 1 ((1, 1) ∷ (0, 1) ∷ (1, 1) ∷ []) start → ⊥
   turned h = ⊎_elim
       (λ over. no_rounds (0, 1) ((1, 1) ∷ []) over.0)
-      (λ goes_on. zero_one (let e : (1, 1) ∷ (0, 1) ∷ (1, 1) ∷ [] ≡ (0, 1) ∷ (1, 1) ∷ goes_on.0 = goes_on.1 in let p : (1, 1) ≡ (0, 1) = cc in ap (λ (p : ℕ × ℕ). p.0) p))
+      (λ goes_on. zero_one (let e : (1, 1) ∷ (0, 1) ∷ (1, 1) ∷ [] ≡ (0, 1) ∷ (1, 1) ∷ goes_on.0 = goes_on.1 in let p : ◌≡◌ {A = ℕ × ℕ} (1, 1) (0, 1) = cc in ap (λ (p : ℕ × ℕ). p.0) p))
       (begins 1 ((1, 1) ∷ (0, 1) ∷ (1, 1) ∷ []) start h)
 
 pub returns : goal.returns
