@@ -1,4 +1,4 @@
-use Rattle.std.proofs.Common.{◌≡◌, ℕ, List, [], ◌∷◌, ◌++◌, ◌⊎◌, inl, inr, ⊎_elim, refl, ap, subst, None}
+use Rattle.std.proofs.Common.{◌≡◌, ℕ, List, [], ◌∷◌, ◌++◌, ◌⊎◌, inl, inr, ⊎_elim, refl, ap, None}
 use Rattle.qw_module.specs.declared.instruction.Const.TheVariants.{I32}
 use Rattle.qw_module.specs.declared.instruction.Op.TheVariants.{Const}
 use Rattle.qw_module.specs.Execution.{Running}

@@ -1,4 +1,4 @@
-use Rattle.std.proofs.Common.{◌+◌, ◌≤◌, length, arith, refl}
+use Rattle.std.proofs.Common.{◌+◌, arith, refl}
 use Rattle.qw_linear.proofs.AccessFacts.{loaded-inside}
 use Rattle.qw_map.proofs.ResultRows.{head-within}
 use Rattle.qw_sink.proofs.results.rows_of.Goals as goal
