@@ -18,7 +18,8 @@ use Rattle.qw_module.specs.Start.{begun, body_of}
 use Rattle.qw_machine.specs.declared.machine.Stepped.{Stepped}
 use Rattle.qw_machine.specs.declared.machine.Stepped.TheVariants.{Ran}
 use Rattle.qw_machine.specs.declared.machine.Stepped.TheVariants as came
-use Rattle.qw_machine.specs.Instance.{GoesWith, IsLast}
+use Rattle.qw_machine.specs.Instance.{Called, IsLast}
+use Rattle.qw_module.specs.declared.module.Module.{Module}
 use Rattle.qw_map.specs.Columns.{Holds, HoldsColumn, column_pages, column_start}
 use Rattle.qw_emit.specs.Compiled.{IsCompiled, IsReady}
 use Rattle.qw_map.specs.Layout.{column_areas, column_starts, first_world, used}
@@ -29,7 +30,8 @@ use Rattle.qw_bench.specs.declared.bench.Seat.{Seat}
 use Rattle.qw_bench.specs.Bench.{IsStart, IsStarting, Task, starting}
 use Rattle.qw_bench.specs.Inner.FirstMemory.{IsFirstMemory}
 use Rattle.qw_csv.specs.Loading.{AreLoaded, IsIntegerRow}
-use Rattle.qw_bench.specs.Seats.{HasGrants, IsBench, IsEndOf, area_of, end_of, instance_of, state_in, task_of, world_of}
+use Rattle.qw_bench.specs.Standing.{end_of}
+use Rattle.qw_bench.specs.Inner.Seats.{AreSeats, HasGrants, IsEndOf, area_of, instance_of, standing_of, state_in, task_of, world_of}
 use Rattle.qw_columns.proofs.ColumnLemmas.{few_pages, within_pages}
 use Rattle.qw_bench.proofs.Serving.{start-serving}
 
@@ -51,7 +53,7 @@ starts-below : (width rows : ℕ) (columns : List ℕ) → AllByRecursion (λ co
 starts-below width rows [] narrow = tt
 starts-below width rows (column ∷ columns) (one, narrow) = (within_pages width rows column one, starts-below width rows columns narrow)
 
--- one of them at its place
+-- one of them by its index
 narrow-at : (width : ℕ) (columns : List ℕ) (k column : ℕ) → slice_get columns k ≡ Some column → AllByRecursion (λ column. column < width) columns → column < width
 narrow-at width [] k column found narrow = absurd (none-some column found)
 narrow-at width (c ∷ columns) zero column found narrow = let same : c ≡ column = same_Some c column found in omega (arith, narrow.0)
@@ -114,16 +116,16 @@ end-by_state seat last Returned begun told = (λ is. tt, λ not. absurd (not (la
 end-by_state seat last (Raised code) begun told = absurd begun
 end-by_state seat last Trapped begun told = absurd begun
 
-pub end-begun : (seat : Seat) (last : Stepped) (number d : ℕ) → state_in seat ≡ begun seat.valid number d → IsLast last (state_in seat) →
+pub end-begun : (seat : Seat) (last : Stepped) (program : Module) (number d : ℕ) → state_in seat ≡ begun program number d → IsLast last (state_in seat) →
     (last ≡ came.Returned → IsEndOf seat (state_in seat) (Some ended.Done)) × (last ≢ came.Returned → IsEndOf seat (state_in seat) None)
-end-begun seat last number d begins told = end-by_state seat last (state_in seat) (subst IsBegun (sym begins) (begun-is _ _ (code_of (body_of seat.valid number)))) told
+end-begun seat last program number d begins told = end-by_state seat last (state_in seat) (subst IsBegun (sym begins) (begun-is _ _ (code_of (body_of program number)))) told
 
 module _ (width : ℕ) (rows : List (List Val)) (memory : Octets) (seat : Seat) (first : IsFirstMemory seat.query width rows memory.octets)
-    (loaded : AreLoaded (record { width = width; rows = rows })) (compiled : IsCompiled seat.query seat.valid)
-    (narrow : AllByRecursion (λ column. column < width) (used seat.query)) (place : seat.descriptor ≡ column_pages width (length rows) * page)
+    (loaded : AreLoaded (record { width = width; rows = rows })) (program : Module) (compiled : IsCompiled seat.query program)
+    (narrow : AllByRecursion (λ column. column < width) (used seat.query)) (descriptor_is : seat.descriptor ≡ column_pages width (length rows) * page)
     (many : seat.rows ≡ length rows) (steps : 1 ≤ seat.limits.steps) (some_pages : 1 ≤ seat.limits.pages) (pages : seat.limits.pages ≤ 61628)
     (nothing : seat.granted.items ≡ []) (one_page : seat.held ≡ 1) (unrefused : seat.refused ≡ None) (none : seat.ran ≡ 0)
-    (begins : state_in seat ≡ begun seat.valid compiled.shaped.0 seat.descriptor) (end : IsEndOf seat (state_in seat) seat.ended) where
+    (made : seat.instance ≡ record { program = program; state = begun program compiled.shaped.0 seat.descriptor }) (end : IsEndOf seat (state_in seat) seat.ended) where
   abbrev starts : List ℕ
   starts = column_starts seat.query (length rows)
 
@@ -145,9 +147,15 @@ module _ (width : ℕ) (rows : List (List Val)) (memory : Octets) (seat : Seat) 
     fresh = first.fresh;
   }
 
+  program_is : seat.instance.program ≡ program
+  program_is = ap (λ (i : Called). i.program) made
+
+  begins : state_in seat ≡ begun seat.instance.program compiled.shaped.0 seat.descriptor
+  begins = ap (λ (i : Called). i.state) made ∙ ap (λ (m : Module). begun m compiled.shaped.0 seat.descriptor) (sym program_is)
+
   same : instance_of seat ≡ starting compiled.shaped.0 (length rows) (task_of seat)
   same =
-      let from : State = begun seat.valid compiled.shaped.0 seat.descriptor in
+      let from : State = begun seat.instance.program compiled.shaped.0 seat.descriptor in
       let world : World = first_world starts (length rows) seat.descriptor seat.limits.pages in
       let first_page : Area = record { start = seat.descriptor; size = page } in
       let world_is : world_of seat ≡ world =
@@ -165,10 +173,10 @@ module _ (width : ℕ) (rows : List (List Val)) (memory : Octets) (seat : Seat) 
   starting_first : (k : ℕ) (t : Task) (i : Instance) → slice_get (task_of seat ∷ []) k ≡ Some t → slice_get (instance_of seat ∷ []) k ≡ Some i → IsStarting rows memory.octets t i
   starting_first zero t i task found = subst (λ (x : Task). IsStarting rows memory.octets x i) (same_Some (task_of seat) t task)
       (subst (IsStarting rows memory.octets (task_of seat)) (same_Some (instance_of seat) i found) (record {
-        compiled = compiled;
+        compiled = rw program_is compiled;
         number = compiled.shaped.0;
-        shaped = compiled.shaped.1;
-        ready = rw place ready;
+        shaped = rw program_is compiled.shaped.1;
+        ready = rw descriptor_is ready;
         may_hold = some_pages;
         may_run = steps;
         instance = same;
@@ -179,32 +187,33 @@ module _ (width : ℕ) (rows : List (List Val)) (memory : Octets) (seat : Seat) 
   narrow_first zero t task = subst (λ (x : Task). AllByRecursion (λ column. column < width) (used x.statement)) (same_Some (task_of seat) t task) narrow
   narrow_first (suc k) t task = absurd (none-some t task)
 
-  place_first : (k : ℕ) (t : Task) → slice_get (task_of seat ∷ []) k ≡ Some t → t.descriptor ≡ (column_pages width (length rows) + k) * page
-  place_first zero t task = subst (λ (x : Task). x.descriptor ≡ (column_pages width (length rows) + 0) * page) (same_Some (task_of seat) t task) (omega (arith, place))
-  place_first (suc k) t task = absurd (none-some t task)
+  descriptor_first : (k : ℕ) (t : Task) → slice_get (task_of seat ∷ []) k ≡ Some t → t.descriptor ≡ (column_pages width (length rows) + k) * page
+  descriptor_first zero t task = subst (λ (x : Task). x.descriptor ≡ (column_pages width (length rows) + 0) * page) (same_Some (task_of seat) t task) (omega (arith, descriptor_is))
+  descriptor_first (suc k) t task = absurd (none-some t task)
 
-  pub start : IsStart width rows (task_of seat ∷ []) (record { memory = memory.octets; instances = instance_of seat ∷ [] })
+  pub start : IsStart width rows (task_of seat ∷ []) (standing_of memory (seat ∷ [])).shared
   start = record {
     begins = record {
       octets = first.octets;
       many = refl;
       starting = starting_first;
       narrow = narrow_first;
-      places = place_first;
+      descriptors = descriptor_first;
       room = omega (arith, first.size, few, one_page, some_pages, pages);
     };
     table = first.columns;
     size = first.size;
   }
 
-  pub bench : GoesWith seat.valid seat.instance → seat.limits.pages ≤ vec_capacity seat.granted →
-      memory.reserved ≡ column_pages width (length rows) + seat.limits.pages → IsBench (record { memory = memory; seats = seat ∷ [] })
-  bench fits room reserved =
+  pub bench : seat.limits.pages ≤ vec_capacity seat.granted →
+      memory.reserved ≡ column_pages width (length rows) + seat.limits.pages → AreSeats memory (seat ∷ [])
+  bench room reserved =
       let unasked : length seat.granted.items ≡ 0 = ap length nothing in
       record {
-        table = rows;
-        serving = start-serving width rows (task_of seat ∷ []) (record { memory = memory.octets; instances = instance_of seat ∷ [] }) start.begins;
-        fitting = All-cons (λ (s : Seat). GoesWith s.valid s.instance) seat [] fits (All-nil (λ (s : Seat). GoesWith s.valid s.instance));
+        bench = record {
+          table = rows;
+          serving = start-serving width rows (task_of seat ∷ []) (standing_of memory (seat ∷ [])).shared start.begins;
+          room = omega (arith, first.size, reserved, one_page, some_pages);
+        };
         grants = All-cons HasGrants seat [] (record { counted = omega (arith, unasked, one_page); held = omega (arith, one_page, some_pages); room = room }) (All-nil HasGrants);
-        room = omega (arith, first.size, reserved, one_page, some_pages);
       }

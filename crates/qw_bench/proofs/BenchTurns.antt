@@ -6,7 +6,6 @@ use Rattle.std.proofs.Math.Seq.{map-set_same}
 use Rattle.std.proofs.lemmas.List.{length-map, map-set}
 use Rattle.std.proofs.lemmas.List.Elements.{All-get_or, All-set}
 use Rattle.std.proofs.lemmas.Option.{get_or_from_slice_get, slice_get-get_or, slice_get-map, slice_get_within}
-use Rattle.qw_machine.specs.Instance.{GoesWith}
 use Rattle.qw_linear.specs.Linear.{Octets}
 use Rattle.qw_linear.specs.Memory.{page}
 use Rattle.qw_map.specs.Turns.{Instance, IsWhole, may_ask, steps_of, turn, turn_at, with_instance}
@@ -16,74 +15,73 @@ use Rattle.qw_bench.specs.declared.bench.Ended.{Ended}
 use Rattle.qw_bench.specs.declared.bench.Ended.TheVariants as ended
 use Rattle.qw_bench.specs.declared.bench.Seat.{Seat}
 use Rattle.qw_bench.specs.Bench.{AreServing}
-use Rattle.qw_bench.specs.Seats.{HasGrants, IsBench, IsTold, Standing, end_of, instance_of, shared_of, task_of}
+use Rattle.qw_bench.specs.Standing.{Standing, end_of}
+use Rattle.qw_bench.specs.Inner.Seats.{AreSeats, HasGrants, IsTold, instance_of, standing_of, task_of}
 use Rattle.qw_bench.specs.Bench.{ran_in, end_in}
 use Rattle.qw_bench.proofs.Serving.{serving-told, turns-serving}
 
 -- the seat of a number
-pub seat-found : (b : Standing) (memory : Octets) (seats : List Seat) (i : ℕ) (seat : Seat) → record { memory = memory; seats = seats } ≡ b →
-    i < length (map instance_of b.seats) → seat ≡ get_or seats i seat → slice_get seats i ≡ Some seat
-seat-found b memory seats i seat view within is =
-    let many : length (map instance_of b.seats) ≡ length seats = ap (λ (x : Standing). length (map instance_of x.seats)) (sym view) ∙ length-map seats instance_of in
-    slice_get-get_or seats i seat (omega arith) ∙ ap Some (sym is)
+pub record Sits (memory : Octets) (seats : List Seat) (i : ℕ) (seat : Seat) : Type 0 where
+  pub there : slice_get seats i ≡ Some seat
 
-module _ (memory : Octets) (seats : List Seat) (i : ℕ) (seat : Seat) (found : slice_get seats i ≡ Some seat) where
+pub seat-found : (b : Standing) (memory : Octets) (seats : List Seat) (i : ℕ) (seat : Seat) → standing_of memory seats ≡ b →
+    i < length b.shared.instances → seat ≡ get_or seats i seat → Sits memory seats i seat
+seat-found b memory seats i seat view within is =
+    let many : length b.shared.instances ≡ length seats = ap (λ (x : Standing). length x.shared.instances) (sym view) ∙ length-map seats instance_of in
+    record { there = slice_get-get_or seats i seat (omega arith) ∙ ap Some (sym is) }
+
+module _ {memory : Octets} {seats : List Seat} {i : ℕ} {seat : Seat} (sits : Sits memory seats i seat) where
   instance_there : slice_get (map instance_of seats) i ≡ Some (instance_of seat)
-  instance_there = slice_get-map instance_of seats i ∙ ap (option_map instance_of) found
+  instance_there = slice_get-map instance_of seats i ∙ ap (option_map instance_of) sits.there
 
   task_there : slice_get (map task_of seats) i ≡ Some (task_of seat)
-  task_there = slice_get-map task_of seats i ∙ ap (option_map task_of) found
+  task_there = slice_get-map task_of seats i ∙ ap (option_map task_of) sits.there
 
-  turned_at : (quantum : ℕ) → turn (shared_of (record { memory = memory; seats = seats })) (i, quantum)
-      ≡ with_instance (shared_of (record { memory = memory; seats = seats })) i (steps_of quantum (instance_of seat) memory.octets)
-  turned_at quantum = ap (turn_at (shared_of (record { memory = memory; seats = seats })) i quantum) instance_there
+  turned_at : (quantum : ℕ) → turn (standing_of memory seats).shared (i, quantum)
+      ≡ with_instance (standing_of memory seats).shared i (steps_of quantum (instance_of seat) memory.octets)
+  turned_at quantum = ap (turn_at (standing_of memory seats).shared i quantum) instance_there
 
   -- the instance that was given a turn
   turned_there : (x : Instance) → slice_get (slice_set (map instance_of seats) i x) i ≡ Some x
   turned_there x = slice_get-set_same (map instance_of seats) i x (slice_get_within (map instance_of seats) i (instance_of seat) instance_there)
 
   pub turned-shared : (quantum : ℕ) (new : Seat) (after : Octets) → (instance_of new, after.octets) ≡ steps_of quantum (instance_of seat) memory.octets →
-      shared_of (record { memory = after; seats = slice_set seats i new }) ≡ turn (shared_of (record { memory = memory; seats = seats })) (i, quantum)
+      (standing_of after (slice_set seats i new)).shared ≡ turn (standing_of memory seats).shared (i, quantum)
   turned-shared quantum new after is =
       ap (λ (instances : List Instance). record { memory = after.octets; instances = instances }) (map-set instance_of seats i new)
-      ∙ ap (with_instance (shared_of (record { memory = memory; seats = seats })) i) is
+      ∙ ap (with_instance (standing_of memory seats).shared i) is
       ∙ sym (turned_at quantum)
 
   pub turned-tasks : (new : Seat) → task_of new ≡ task_of seat → map task_of (slice_set seats i new) ≡ map task_of seats
-  turned-tasks new same = map-set_same task_of seats i new seat (same ∙ ap task_of (sym (get_or_from_slice_get seats i seat seat found)))
+  turned-tasks new same = map-set_same task_of seats i new seat (same ∙ ap task_of (sym (get_or_from_slice_get seats i seat seat sits.there)))
 
   pub turned-ran : (new : Seat) (after : Octets) (result : ℕ) → new.ran ≡ seat.ran + result →
-      ran_in (shared_of (record { memory = after; seats = slice_set seats i new })) i ≡ ran_in (shared_of (record { memory = memory; seats = seats })) i + result
+      ran_in (standing_of after (slice_set seats i new)).shared i ≡ ran_in (standing_of memory seats).shared i + result
   turned-ran new after result count =
       let now : slice_get (map instance_of (slice_set seats i new)) i ≡ Some (instance_of new) =
       ap (λ (instances : List Instance). slice_get instances i) (map-set instance_of seats i new) ∙ turned_there (instance_of new) in
       rw (now, instance_there) count
 
-  pub end-is : end_in (shared_of (record { memory = memory; seats = seats })) i ≡ (instance_of seat).end
+  pub end-is : end_in (standing_of memory seats).shared i ≡ (instance_of seat).end
   end-is = rw instance_there refl
 
-  module _ (kept : IsBench (record { memory = memory; seats = seats })) where
+  module _ (kept : AreSeats memory seats) where
     pub seat-whole : IsWhole (instance_of seat)
-    seat-whole = (kept.serving.serving i (task_of seat) (instance_of seat) task_there instance_there).whole
-
-    pub seat-fits : GoesWith seat.valid seat.instance
-    seat-fits =
-        let at = All-get_or (λ (s : Seat). GoesWith s.valid s.instance) seats i seat (slice_get_within seats i seat found) kept.fitting in
-        subst (λ (s : Seat). GoesWith s.valid s.instance) (get_or_from_slice_get seats i seat seat found) at
+    seat-whole = (kept.bench.serving.serving i (task_of seat) (instance_of seat) task_there instance_there).whole
 
     pub seat-granted : HasGrants seat
     seat-granted =
-        let at = All-get_or HasGrants seats i seat (slice_get_within seats i seat found) kept.grants in
-        subst HasGrants (get_or_from_slice_get seats i seat seat found) at
+        let at = All-get_or HasGrants seats i seat (slice_get_within seats i seat sits.there) kept.grants in
+        subst HasGrants (get_or_from_slice_get seats i seat seat sits.there) at
 
     -- the memory has room for what its instance may still ask for
     pub seat-room : length memory.octets + (seat.limits.pages - seat.held) * page ≤ memory.reserved * page
     seat-room =
         let asks : seat.limits.pages - seat.held ≤ may_ask (map instance_of seats) = asks_within (map instance_of seats) i (instance_of seat) instance_there in
-        omega (arith, kept.room, asks)
+        omega (arith, kept.bench.room, asks)
 
     pub seat-told : IsTold (instance_of seat) memory.octets
-    seat-told = serving-told kept.table (map task_of seats) (shared_of (record { memory = memory; seats = seats })) kept.serving i (task_of seat) (instance_of seat)
+    seat-told = serving-told kept.bench.table (map task_of seats) (standing_of memory seats).shared kept.bench.serving i (task_of seat) (instance_of seat)
         task_there instance_there
 
     -- what the seats may ask for after a turn of one
@@ -96,25 +94,26 @@ module _ (memory : Octets) (seats : List Seat) (i : ℕ) (seat : Seat) (found : 
         asks_changed (map instance_of seats) i (instance_of seat) (instance_of new) instance_there in
         let sum : may_ask (map instance_of (slice_set seats i new)) ≡ may_ask (slice_set (map instance_of seats) i (instance_of new)) =
         ap may_ask (map-set instance_of seats i new) in
-        omega (arith, changed, sum, asks, reserved, kept.room)
+        omega (arith, changed, sum, asks, reserved, kept.bench.room)
 
     pub turned-bench : (quantum : ℕ) (new : Seat) (after : Octets) → (instance_of new, after.octets) ≡ steps_of quantum (instance_of seat) memory.octets →
-        task_of new ≡ task_of seat → GoesWith new.valid new.instance → HasGrants new → after.reserved ≡ memory.reserved →
+        task_of new ≡ task_of seat → HasGrants new → after.reserved ≡ memory.reserved →
         length after.octets + (new.limits.pages - new.held) * page ≡ length memory.octets + (seat.limits.pages - seat.held) * page →
-        IsBench (record { memory = after; seats = slice_set seats i new })
-    turned-bench quantum new after is same fits granted reserved asks = record {
-      table = kept.table;
-      serving = rw (turned-tasks new same)
-          (subst (AreServing kept.table (map task_of seats)) (sym (turned-shared quantum new after is))
-          (turns-serving kept.table (map task_of seats) (shared_of (record { memory = memory; seats = seats })) ((i, quantum) ∷ []) kept.serving));
-      fitting = All-set (λ (s : Seat). GoesWith s.valid s.instance) seats i new fits kept.fitting;
+        AreSeats after (slice_set seats i new)
+    turned-bench quantum new after is same granted reserved asks = record {
+      bench = record {
+        table = kept.bench.table;
+        serving = rw (turned-tasks new same)
+            (subst (AreServing kept.bench.table (map task_of seats)) (sym (turned-shared quantum new after is))
+            (turns-serving kept.bench.table (map task_of seats) (standing_of memory seats).shared ((i, quantum) ∷ []) kept.bench.serving));
+        room = turned-room new after reserved asks;
+      };
       grants = All-set HasGrants seats i new granted kept.grants;
-      room = turned-room new after reserved asks;
     }
 
   -- no instruction was run exactly where the instance had ended
   pub turned-none : (result : ℕ) → (IsSome seat.ended → result ≡ 0) → (seat.ended ≡ None → 1 ≤ result) →
-      (result ≡ 0) ↔ IsSome (end_in (shared_of (record { memory = memory; seats = seats })) i)
+      (result ≡ 0) ↔ IsSome (end_in (standing_of memory seats).shared i)
   turned-none result over progress = rw end-is (by_end seat.ended over progress)
     where
       by_end : (o : Option Ended) → (IsSome o → result ≡ 0) → (o ≡ None → 1 ≤ result) → (result ≡ 0) ↔ IsSome (end_of o)

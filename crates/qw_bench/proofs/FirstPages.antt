@@ -40,9 +40,9 @@ octet_apart memory after at number k is apart = rw is (⊎_elim
     (λ above. with_number-above memory at 4 number k above)
     apart)
 
-number_apart : (memory after : List ℕ) (at number place : ℕ) → after ≡ with_number memory at 4 number → (place + 4 ≤ at) ⊎ (at + 4 ≤ place) →
-    number_at after place 4 ≡ number_at memory place 4
-number_apart memory after at number place is apart = rw is (number_at-apart memory at 4 number place 4 apart)
+number_apart : (memory after : List ℕ) (at number address : ℕ) → after ≡ with_number memory at 4 number → (address + 4 ≤ at) ⊎ (at + 4 ≤ address) →
+    number_at after address 4 ≡ number_at memory address 4
+number_apart memory after at number address is apart = rw is (number_at-apart memory at 4 number address 4 apart)
 
 same_length : (memory after : List ℕ) (at number : ℕ) → after ≡ with_number memory at 4 number → length after ≡ length memory
 same_length memory after at number is = ap length is ∙ length-with_number memory at 4 number
@@ -50,34 +50,34 @@ same_length memory after at number is = ap length is ∙ length-with_number memo
 still : (memory after : List ℕ) (at number : ℕ) → after ≡ with_number memory at 4 number → AreOctets memory → AreOctets after
 still memory after at number is octets = rw is (AreOctets-with_number memory octets at 4 number)
 
--- What is said of the first columns, where the descriptor is at an address: their values' places, and how many rows they have.
+-- What is said of the first columns, where the descriptor is at an address: their values' addresses, and how many rows they have.
 -- The other octets are as they were.
 pub record AreEntries (before after : List ℕ) (d : ℕ) (starts : List ℕ) (rows count : ℕ) : Type 0 where
   pub values : (k start : ℕ) → k < count → slice_get starts k ≡ Some start → number_at after (d + entry_offset k) 4 ≡ start
   pub rows_are : (k : ℕ) → k < count → number_at after (d + entry_offset k + 12) 4 ≡ rows
   pub between : (k r : ℕ) → k < count → 4 ≤ r → r < 12 → get_or after (d + entry_offset k + r) 0 ≡ get_or before (d + entry_offset k + r) 0
-  pub outside : (place : ℕ) → (place < d + 64) ⊎ (d + entry_offset count ≤ place) → get_or after place 0 ≡ get_or before place 0
+  pub outside : (address : ℕ) → (address < d + 64) ⊎ (d + entry_offset count ≤ address) → get_or after address 0 ≡ get_or before address 0
 
 pub entries_none : (before : List ℕ) (d : ℕ) (starts : List ℕ) (rows : ℕ) → AreEntries before before d starts rows 0
 entries_none before d starts rows = record {
   values = λ k start lt is. absurd (omega arith);
   rows_are = λ k lt. absurd (omega arith);
   between = λ k r lt low high. refl;
-  outside = λ place h. refl;
+  outside = λ address h. refl;
 }
 
 -- one more column
 module _ (before m0 m1 m2 : List ℕ) (d start rows count : ℕ) (starts : List ℕ)
     (is1 : m1 ≡ with_number m0 (d + 16 * count + 64) 4 start) (is2 : m2 ≡ with_number m1 (d + 16 * count + 76) 4 rows) where
   -- an octet of neither number
-  octet_kept : (place : ℕ) → (place < d + 16 * count + 64) ⊎ (d + 16 * count + 68 ≤ place) → (place < d + 16 * count + 76) ⊎ (d + 16 * count + 80 ≤ place)
-      → get_or m2 place 0 ≡ get_or m0 place 0
-  octet_kept place one two =
-      octet_apart m1 m2 (d + 16 * count + 76) rows place is2 (⊎_elim (λ h. inl h) (λ h. inr (omega arith)) two)
-      ∙ octet_apart m0 m1 (d + 16 * count + 64) start place is1 (⊎_elim (λ h. inl h) (λ h. inr (omega arith)) one)
+  octet_kept : (address : ℕ) → (address < d + 16 * count + 64) ⊎ (d + 16 * count + 68 ≤ address) → (address < d + 16 * count + 76) ⊎ (d + 16 * count + 80 ≤ address)
+      → get_or m2 address 0 ≡ get_or m0 address 0
+  octet_kept address one two =
+      octet_apart m1 m2 (d + 16 * count + 76) rows address is2 (⊎_elim (λ h. inl h) (λ h. inr (omega arith)) two)
+      ∙ octet_apart m0 m1 (d + 16 * count + 64) start address is1 (⊎_elim (λ h. inl h) (λ h. inr (omega arith)) one)
 
-  earlier : (place : ℕ) → place < d + 16 * count + 64 → get_or m2 place 0 ≡ get_or m0 place 0
-  earlier place lt = octet_kept place (inl lt) (inl (omega arith))
+  earlier : (address : ℕ) → address < d + 16 * count + 64 → get_or m2 address 0 ≡ get_or m0 address 0
+  earlier address lt = octet_kept address (inl lt) (inl (omega arith))
 
   pub entries_more : count < length starts → start ≡ get_or starts count 0 → start < 2 ^ 32 → rows < 2 ^ 32 → d + 16 * count + 80 ≤ length m0
       → AreEntries before m0 d starts rows count → AreEntries before m2 d starts rows (count + 1)
@@ -88,7 +88,7 @@ module _ (before m0 m1 m2 : List ℕ) (d start rows count : ℕ) (starts : List 
 
       values : (k s : ℕ) → k < count + 1 → slice_get starts k ≡ Some s → number_at m2 (d + entry_offset k) 4 ≡ s
       values k s lt is = ⊎_elim
-          (λ (low : k < count). number_at-same m2 m0 (d + entry_offset k) 4 (λ place a b. earlier place (omega arith)) ∙ h.values k s low is)
+          (λ (low : k < count). number_at-same m2 m0 (d + entry_offset k) 4 (λ address a b. earlier address (omega arith)) ∙ h.values k s low is)
           (λ (high : count ≤ k).
           let same : k ≡ count = omega arith in
           let found = slice_get-get_or starts count 0 there in
@@ -100,7 +100,7 @@ module _ (before m0 m1 m2 : List ℕ) (d start rows count : ℕ) (starts : List 
 
       rows_are : (k : ℕ) → k < count + 1 → number_at m2 (d + entry_offset k + 12) 4 ≡ rows
       rows_are k lt = ⊎_elim
-          (λ (low : k < count). number_at-same m2 m0 (d + entry_offset k + 12) 4 (λ place a b. earlier place (omega arith)) ∙ h.rows_are k low)
+          (λ (low : k < count). number_at-same m2 m0 (d + entry_offset k + 12) 4 (λ address a b. earlier address (omega arith)) ∙ h.rows_are k low)
           (λ (high : count ≤ k).
           let at : d + entry_offset k + 12 ≡ d + 16 * count + 76 = omega arith in
           rw at (read_back m1 m2 (d + 16 * count + 76) rows is2 (omega (arith, long)) fits))
@@ -112,18 +112,18 @@ module _ (before m0 m1 m2 : List ℕ) (d start rows count : ℕ) (starts : List 
           (λ (past : count ≤ k). octet_kept (d + entry_offset k + r) (inr (omega arith)) (inl (omega arith)) ∙ h.outside (d + entry_offset k + r) (inr (omega arith)))
           (cases_lt k count)
 
-      outside : (place : ℕ) → (place < d + 64) ⊎ (d + entry_offset (count + 1) ≤ place) → get_or m2 place 0 ≡ get_or before place 0
-      outside place (inl low) = earlier place (omega arith) ∙ h.outside place (inl low)
-      outside place (inr high) = octet_kept place (inr (omega arith)) (inr (omega arith)) ∙ h.outside place (inr (omega arith))
+      outside : (address : ℕ) → (address < d + 64) ⊎ (d + entry_offset (count + 1) ≤ address) → get_or m2 address 0 ≡ get_or before address 0
+      outside address (inl low) = earlier address (omega arith) ∙ h.outside address (inl low)
+      outside address (inr high) = octet_kept address (inr (omega arith)) (inr (omega arith)) ∙ h.outside address (inr (omega arith))
 
 -- the whole descriptor
 module _ (d rows : ℕ) (starts memory m1 m2 m3 : List ℕ) (is1 : m1 ≡ with_number memory d 4 (d + entry_offset (length starts)))
     (is2 : m2 ≡ with_number m1 (d + 4) 4 (d + page)) (entries : AreEntries m2 m3 d starts rows (length starts)) where
   -- an octet of neither number of the head
-  head_kept : (place : ℕ) → (place < d) ⊎ (d + 8 ≤ place) → get_or m2 place 0 ≡ get_or memory place 0
-  head_kept place apart =
-      octet_apart m1 m2 (d + 4) (d + page) place is2 (⊎_elim (λ h. inl (omega arith)) (λ h. inr (omega arith)) apart)
-      ∙ octet_apart memory m1 d (d + entry_offset (length starts)) place is1 (⊎_elim (λ h. inl h) (λ h. inr (omega arith)) apart)
+  head_kept : (address : ℕ) → (address < d) ⊎ (d + 8 ≤ address) → get_or m2 address 0 ≡ get_or memory address 0
+  head_kept address apart =
+      octet_apart m1 m2 (d + 4) (d + page) address is2 (⊎_elim (λ h. inl (omega arith)) (λ h. inr (omega arith)) apart)
+      ∙ octet_apart memory m1 d (d + entry_offset (length starts)) address is1 (⊎_elim (λ h. inl h) (λ h. inr (omega arith)) apart)
 
   pub same-below : SameBelow memory m3 d
   same-below k lt = entries.outside k (inl (omega arith)) ∙ head_kept k (inl lt)
@@ -138,16 +138,16 @@ module _ (d rows : ℕ) (starts memory m1 m2 m3 : List ℕ) (is1 : m1 ≡ with_n
     -- a number between those of a column
     zero_between : (k r : ℕ) → k < length starts → 4 ≤ r → r + 4 ≤ 12 → number_at m3 (d + entry_offset k + r) 4 ≡ 0
     zero_between k r lt low high = number_at-zeros m3 (d + entry_offset k + r) 4 (λ j below.
-        let place : d + entry_offset k + r + j ≡ d + entry_offset k + (r + j) = omega arith in
+        let sum : d + entry_offset k + r + j ≡ d + entry_offset k + (r + j) = omega arith in
         let offset : d + entry_offset k + (r + j) ≡ d + (entry_offset k + (r + j)) = omega arith in
-        rw place (entries.between k (r + j) lt (omega arith) (omega arith) ∙ rw offset (blank_kept (entry_offset k + (r + j)) (omega arith) (omega arith))))
+        rw sum (entries.between k (r + j) lt (omega arith) (omega arith) ∙ rw offset (blank_kept (entry_offset k + (r + j)) (omega arith) (omega arith))))
 
     pub fresh : IsFresh m3 d starts rows
     fresh = record {
-      free = number_at-same m3 m2 d 4 (λ place a b. entries.outside place (inl (omega arith)))
+      free = number_at-same m3 m2 d 4 (λ address a b. entries.outside address (inl (omega arith)))
           ∙ number_apart m1 m2 (d + 4) (d + page) d is2 (inl (omega arith))
           ∙ read_back memory m1 d (d + entry_offset (length starts)) is1 (omega arith) (omega arith);
-      page_end = number_at-same m3 m2 (d + 4) 4 (λ place a b. entries.outside place (inl (omega arith)))
+      page_end = number_at-same m3 m2 (d + 4) 4 (λ address a b. entries.outside address (inl (omega arith)))
           ∙ read_back m1 m2 (d + 4) (d + page) is2 (omega (arith, long)) small;
       no_results = λ k low high. entries.outside (d + k) (inl (omega arith)) ∙ blank_kept k low (omega arith);
       values = λ k start is. entries.values k start (slice_get_within starts k start is) is;

@@ -1,6 +1,6 @@
-pub mod BenchStart
-pub mod BenchTurns
+mod BenchStart
+mod BenchTurns
 pub mod FirstPages
-pub mod Rounds
-pub mod SeatSteps
+mod Rounds
+mod SeatSteps
 pub mod Serving

@@ -5,7 +5,7 @@ use Rattle.std.specs.List.{list_any}
 use Rattle.std.specs.Option.{option_and_then}
 use Rattle.std.proofs.lemmas.Bool.{cases_Bool, false≢true}
 use Rattle.std.proofs.Math.Nat.{eq-or-lt_of_le}
-use Rattle.std.proofs.lemmas.List.{append-nil, length-map, map-append}
+use Rattle.std.proofs.lemmas.List.{append-nil, map-append}
 use Rattle.std.proofs.lemmas.Option.{none-some, same_Some, slice_get_within}
 use Rattle.qw_map.specs.Turns.{End, Instance, Shared, EachInstance, IsWhole, steps_of, turn, turns, with_instance}
 use Rattle.qw_map.proofs.TurnFacts.{slice_get-set_same}
@@ -17,7 +17,8 @@ use Rattle.qw_bench.specs.Inner.Rounds.{steps_left}
 use Rattle.qw_bench.specs.Bench as rounds
 use Rattle.qw_bench.proofs.SeatSteps.{is_some-end_of}
 use Rattle.qw_bench.proofs.Serving.{each-whole, there}
-use Rattle.qw_bench.specs.Seats.{IsBench, Standing, end_of, instance_of, shared_of, tasks_of}
+use Rattle.qw_bench.specs.Standing.{IsBench, Standing, end_of}
+use Rattle.qw_bench.specs.Inner.Seats.{instance_of}
 
 -- turns after turns
 pub turns-append : (xs ys : List (ℕ × ℕ)) (s : Shared) → turns (xs ++ ys) s ≡ turns ys (turns xs s)
@@ -86,13 +87,13 @@ rounding-turn quantum s k now i found below unended more so_far =
     subst (λ (n : ℕ). IsRounding quantum s n (turn now (k, quantum))) (sym (add-one k)) next
 
 -- the instances of a bench are whole, whatever turns they were given
-pub whole-now : (b : Standing) → IsBench b → (ts : List (ℕ × ℕ)) (now : Shared) → now ≡ turns ts (shared_of b) → EachInstance IsWhole now
-whole-now b kept ts now is = subst (EachInstance IsWhole) (sym is) (turns-whole (shared_of b) ts (each-whole kept.table (tasks_of b) (shared_of b) kept.serving))
+pub whole-now : (b : Standing) → IsBench b → (ts : List (ℕ × ℕ)) (now : Shared) → now ≡ turns ts b.shared → EachInstance IsWhole now
+whole-now b kept ts now is = subst (EachInstance IsWhole) (sym is) (turns-whole b.shared ts (each-whole kept.table b.tasks b.shared kept.serving))
 
-pub next-below : (b : Standing) → IsBench b → (quantum k : ℕ) (now : Shared) (i : Instance) → IsRounding quantum (shared_of b) k now → slice_get now.instances k ≡ Some i →
+pub next-below : (b : Standing) → IsBench b → (quantum k : ℕ) (now : Shared) (i : Instance) → IsRounding quantum b.shared k now → slice_get now.instances k ≡ Some i →
     is_some (end_in now k) ≡ false → i.ran < i.most_steps
 next-below b kept quantum k now i so_far found unended =
-    let whole = whole-now b kept (round_below quantum (shared_of b) k) now so_far.state k i found in
+    let whole = whole-now b kept (round_below quantum b.shared k) now so_far.state k i found in
     let none : is_some i.end ≡ false = rw found at unended in
     (unended-runs i whole none i.state refl).2
 
@@ -101,27 +102,27 @@ end-test : (s : Shared) (k : ℕ) (o : Option Ended) (test : Bool) → end_of o 
 end-test s k o test told is = ap (λ (e : Option End). is_some e) (sym told) ∙ is_some-end_of o ∙ is
 
 -- the next instance of a bench had its turn, as it hadn't ended
-pub turned-next : (b : Standing) → IsBench b → (quantum k result : ℕ) (self new : Standing) (o : Option Ended) → IsRounding quantum (shared_of b) k (shared_of self) →
-    k < length (shared_of b).instances → end_of o ≡ end_in (shared_of self) k → is_some o ≡ false → shared_of new ≡ turn (shared_of self) (k, quantum) →
-    ran_in (shared_of new) k ≡ ran_in (shared_of self) k + result → (result ≡ 0 → IsSome (end_in (shared_of self) k)) →
-    IsRounding quantum (shared_of b) (k + 1) (shared_of new)
+pub turned-next : (b : Standing) → IsBench b → (quantum k result : ℕ) (self new : Standing) (o : Option Ended) → IsRounding quantum b.shared k self.shared →
+    k < length b.shared.instances → end_of o ≡ end_in self.shared k → is_some o ≡ false → new.shared ≡ turn self.shared (k, quantum) →
+    ran_in new.shared k ≡ ran_in self.shared k + result → (result ≡ 0 → IsSome (end_in self.shared k)) →
+    IsRounding quantum b.shared (k + 1) new.shared
 turned-next b kept quantum k result self new o so_far within told is turned counted none =
-    let now = shared_of self in
+    let now = self.shared in
     let unended = end-test now k o false told is in
     let i = there now.instances k (omega (arith, so_far.many)) in
     let below = next-below b kept quantum k now i.0 so_far i.1 unended in
     let some : 1 ≤ result = one result (λ zeroth. false≢true (sym unended ∙ none zeroth)) in
     let more : ran_in now k < ran_in (turn now (k, quantum)) k = rw (← turned) (omega (arith, counted)) in
-    rw turned (rounding-turn quantum (shared_of b) k now i.0 i.1 below unended more so_far)
+    rw turned (rounding-turn quantum b.shared k now i.0 i.1 below unended more so_far)
   where
     one : (n : ℕ) → (n ≡ 0 → ⊥) → 1 ≤ n
     one zero some = absurd (some refl)
     one (suc n) some = omega arith
 
 -- it had ended
-pub passed-next : (quantum k : ℕ) (s : Shared) (self : Standing) (o : Option Ended) → IsRounding quantum s k (shared_of self) →
-    end_of o ≡ end_in (shared_of self) k → is_some o ≡ true → IsRounding quantum s (k + 1) (shared_of self)
-passed-next quantum k s self o so_far told is = rounding-ended quantum s k (shared_of self) (end-test (shared_of self) k o true told is) so_far
+pub passed-next : (quantum k : ℕ) (s : Shared) (self : Standing) (o : Option Ended) → IsRounding quantum s k self.shared →
+    end_of o ≡ end_in self.shared k → is_some o ≡ true → IsRounding quantum s (k + 1) self.shared
+passed-next quantum k s self o so_far told is = rounding-ended quantum s k self.shared (end-test self.shared k o true told is) so_far
 
 -- ---- all rounds
 -- rounds led from s to this state, and go on with what follows from it
@@ -137,29 +138,33 @@ rounded-more quantum s now new so_far is = record {
   goes_on = λ rest h. rw append_assoc (so_far.goes_on (round quantum now ++ rest) (rounds.first now rest (rw (← is) h)));
 }
 
--- the tests over the seats
-any-none : (seats : List Seat) → list_any (λ (seat : Seat). not (is_some seat.ended)) seats ≡ false → (k : ℕ) (i : Instance) → slice_get (map instance_of seats) k ≡ Some i → is_some i.end ≡ true
+-- the test over the seats is one over their instances
+pub seats-open : (seats : List Seat) → list_any (λ (seat : Seat). not (is_some seat.ended)) seats ≡ list_any (λ (i : Instance). not (is_some i.end)) (map instance_of seats)
+seats-open [] = refl
+seats-open (seat ∷ seats) = rw (is_some-end_of seat.ended, seats-open seats) refl
+
+any-none : (instances : List Instance) → list_any (λ (i : Instance). not (is_some i.end)) instances ≡ false → (k : ℕ) (i : Instance) → slice_get instances k ≡ Some i → is_some i.end ≡ true
 any-none [] none k i found = absurd (none-some i found)
-any-none (seat ∷ seats) none zero i found = ⊎_elim
-    (λ some. ap (λ (x : Instance). is_some x.end) (sym (same_Some (instance_of seat) i found)) ∙ is_some-end_of seat.ended ∙ some)
+any-none (first ∷ instances) none zero i found = ⊎_elim
+    (λ some. ap (λ (x : Instance). is_some x.end) (sym (same_Some first i found)) ∙ some)
     (λ open_end. absurd (false≢true (sym (rw open_end at none))))
-    (cases_Bool (is_some seat.ended))
-any-none (seat ∷ seats) none (suc k) i found = ⊎_elim
-    (λ some. any-none seats (rw some at none) k i found)
+    (cases_Bool (is_some first.end))
+any-none (first ∷ instances) none (suc k) i found = ⊎_elim
+    (λ some. any-none instances (rw some at none) k i found)
     (λ open_end. absurd (false≢true (sym (rw open_end at none))))
-    (cases_Bool (is_some seat.ended))
+    (cases_Bool (is_some first.end))
 
-record IsOpen (seats : List Seat) : Type 0 where
+record IsOpen (instances : List Instance) : Type 0 where
   k : ℕ
-  within : k < length seats
-  unended : is_some (option_and_then (λ (x : Instance). x.end) (slice_get (map instance_of seats) k)) ≡ false
+  within : k < length instances
+  unended : is_some (option_and_then (λ (x : Instance). x.end) (slice_get instances k)) ≡ false
 
-any-some : (seats : List Seat) → list_any (λ (seat : Seat). not (is_some seat.ended)) seats ≡ true → IsOpen seats
+any-some : (instances : List Instance) → list_any (λ (i : Instance). not (is_some i.end)) instances ≡ true → IsOpen instances
 any-some [] some = absurd (false≢true some)
-any-some (seat ∷ seats) some = ⊎_elim
-    (λ ended. let further = any-some seats (rw ended at some) in record { k = suc further.k; within = omega (arith, further.within); unended = further.unended })
-    (λ open_end. record { k = 0; within = omega arith; unended = is_some-end_of seat.ended ∙ open_end })
-    (cases_Bool (is_some seat.ended))
+any-some (first ∷ instances) some = ⊎_elim
+    (λ ended. let further = any-some instances (rw ended at some) in record { k = suc further.k; within = omega (arith, further.within); unended = further.unended })
+    (λ open_end. record { k = 0; within = omega arith; unended = open_end })
+    (cases_Bool (is_some first.end))
 
 -- which instances have a turn in a round
 unended-none : (s : Shared) (n : ℕ) → ((k : ℕ) → k < n → is_some (end_in s k) ≡ true) → unended_below s n ≡ []
@@ -192,16 +197,14 @@ unended-some s (suc n) k below unended none =
     below_suc : (k n : ℕ) → k < suc n → k ≤ n
     below_suc k n h = omega arith
 
-pub all-ended : (b : Standing) → list_any (λ (seat : Seat). not (is_some seat.ended)) b.seats ≡ false → EachInstance (λ i. IsSome i.end) (shared_of b)
-all-ended b none k i found = any-none b.seats none k i found
+pub all-ended : (s : Shared) → list_any (λ (i : Instance). not (is_some i.end)) s.instances ≡ false → EachInstance (λ i. IsSome i.end) s
+all-ended s none k i found = any-none s.instances none k i found
 
-pub no-round : (b : Standing) (quantum : ℕ) → list_any (λ (seat : Seat). not (is_some seat.ended)) b.seats ≡ false → round quantum (shared_of b) ≡ []
-no-round b quantum none = ap (map (λ (i : ℕ). (i, quantum))) (unended-none (shared_of b) (length (shared_of b).instances)
-    (λ k below. let i = there (shared_of b).instances k below in rw i.1 (any-none b.seats none k i.0 i.1)))
+pub no-round : (s : Shared) (quantum : ℕ) → list_any (λ (i : Instance). not (is_some i.end)) s.instances ≡ false → round quantum s ≡ []
+no-round s quantum none = ap (map (λ (i : ℕ). (i, quantum))) (unended-none s (length s.instances)
+    (λ k below. let i = there s.instances k below in rw i.1 (any-none s.instances none k i.0 i.1)))
 
-pub some-round : (b : Standing) (quantum : ℕ) → list_any (λ (seat : Seat). not (is_some seat.ended)) b.seats ≡ true → round quantum (shared_of b) ≢ []
-some-round b quantum some none =
-    let left = any-some b.seats some in
-    let within : left.k < length (shared_of b).instances = rw (length-map b.seats instance_of) left.within in
-    unended-some (shared_of b) (length (shared_of b).instances) left.k within left.unended
-    (empty-map quantum (unended_below (shared_of b) (length (shared_of b).instances)) none)
+pub some-round : (s : Shared) (quantum : ℕ) → list_any (λ (i : Instance). not (is_some i.end)) s.instances ≡ true → round quantum s ≢ []
+some-round s quantum some none =
+    let left = any-some s.instances some in
+    unended-some s (length s.instances) left.k left.within left.unended (empty-map quantum (unended_below s (length s.instances)) none)

@@ -6,11 +6,10 @@ use Rattle.std.proofs.lemmas.Bool.{le-leb, lt-leb, leb-true, leb-false, cases_Bo
 use Rattle.std.proofs.lemmas.List.{map-append, length_push}
 use Rattle.qw_linear.specs.Linear.{Octets}
 use Rattle.qw_linear.specs.Memory.{page}
-use Rattle.qw_machine.specs.declared.machine.Instance.{Instance}
 use Rattle.qw_machine.specs.declared.machine.Stepped.{Stepped}
 use Rattle.qw_machine.specs.declared.machine.Stepped.TheVariants.{Ran, Grew, Refused}
 use Rattle.qw_machine.specs.declared.machine.Stepped.TheVariants as came
-use Rattle.qw_machine.specs.Instance.{GoesWith, IsAnswer, IsNoRequest, Went}
+use Rattle.qw_machine.specs.Instance.{Called, IsAnswer, IsNoRequest, Went}
 use Rattle.qw_module.specs.Execution.{Config, State, Running, Returned, Raised, Trapped, Event, Silent, Loads, Stores, Grows, Raises, Traps, pages_gained}
 use Rattle.qw_module.specs.Step.{Next, next, Want, Stuck, Goes, Asks, Puts, AsksPages, Signals, answered, wants}
 use Rattle.qw_map.specs.Areas.{Area, World, grants, world_after}
@@ -23,7 +22,8 @@ use Rattle.qw_bench.specs.declared.bench.Ended.{Ended}
 use Rattle.qw_bench.specs.declared.bench.Ended.TheVariants as ended
 use Rattle.qw_bench.specs.declared.bench.Grant.{Grant}
 use Rattle.qw_bench.specs.declared.bench.Seat.{Seat}
-use Rattle.qw_bench.specs.Seats.{CanBeTold, HasGrants, IsEndOf, IsTold, StaysSeated, area_of, counting, end_of, instance_of, state_in, world_of}
+use Rattle.qw_bench.specs.Standing.{end_of}
+use Rattle.qw_bench.specs.Inner.Seats.{CanBeTold, HasGrants, IsEndOf, IsTold, StaysSeated, area_of, counting, instance_of, state_in, world_of}
 
 -- ---- what a step can be told to have done
 -- tests that agree grant the same requests
@@ -128,7 +128,7 @@ step-on i m k now memory c made is unended running led =
 pub record HasRun (before : Seat) (m0 : Octets) (k : ℕ) (now : Seat) (memory : Octets) : Type 0 where
   pub ran : (counting now k, memory.octets) ≡ steps_of k (counting before 0) m0.octets
   pub seated : StaysSeated before now
-  pub goes_with : GoesWith now.valid now.instance
+  pub program : now.instance.program ≡ before.instance.program
   pub runs : IsEndOf now (state_in now) None
   pub unended : now.ended ≡ None
   pub grants : HasGrants now
@@ -150,10 +150,16 @@ may-step before m0 k budget now memory has within room =
     let most : now.limits.steps ≡ before.limits.steps = ap (λ (seat : Seat). seat.limits.steps) has.seated in
     omega arith
 
-module _ (before : Seat) (m0 : Octets) (k : ℕ) (now : Seat) (memory : Octets) (has : HasRun before m0 k now memory)
-    (below : now.ran + k < now.limits.steps) (tells : IsTold (counting before 0) m0.octets) (i : Instance) (after : Octets) (answer : Stepped)
-    (led : (c : Config) → state_in now ≡ Running c →
-    Went (now.limits.pages - now.held) c memory.octets (state_in (record now { instance = i })) after.octets answer) where
+-- a step of a seat's instance that led to another instance and memory, with this answer
+pub record IsTaken (before : Seat) (m0 : Octets) (k : ℕ) (now : Seat) (memory : Octets) (i : Called) (after : Octets) (answer : Stepped) : Type 0 where
+  pub has : HasRun before m0 k now memory
+  pub below : now.ran + k < now.limits.steps
+  pub tells : IsTold (counting before 0) m0.octets
+  pub led : (c : Config) → state_in now ≡ Running c →
+      Went (now.limits.pages - now.held) c memory.octets (state_in (record now { instance = i })) after.octets answer
+
+module _ {before : Seat} {m0 : Octets} {k : ℕ} {now : Seat} {memory : Octets} {i : Called} {after : Octets} {answer : Stepped}
+    (taken : IsTaken before m0 k now memory i after answer) where
   abbrev pub new_state : State
   new_state = state_in (record now { instance = i })
 
@@ -170,19 +176,19 @@ module _ (before : Seat) (m0 : Octets) (k : ℕ) (now : Seat) (memory : Octets) 
 
   pub step : IsMade
   step =
-      let c = running now (state_in now) has.runs in
-      let w : Went (now.limits.pages - now.held) c.0 memory.octets new_state after.octets answer = led c.0 c.1 in
+      let c = running now (state_in now) taken.has.runs in
+      let w : Went (now.limits.pages - now.held) c.0 memory.octets new_state after.octets answer = taken.led c.0 c.1 in
       let n : Next = record { event = w.event; state = new_state; memory = after.octets } in
       let made : next (grants (world_of now)) c.0 memory.octets ≡ Some n =
       sym (answered-alike (λ pages. nat_le pages (now.limits.pages - now.held)) (grants (world_of now)) memory.octets (wants c.0)
-      (λ pages. spare-grants (world_of now) pages has.grants.held)) ∙ w.made in
+      (λ pages. spare-grants (world_of now) pages taken.has.grants.held)) ∙ w.made in
       record {
         c = c.0;
         running = c.1;
         event = w.event;
         made = made;
         told = subst (λ (p : t.Instance × List ℕ). p.0.state ≡ Running c.0 → next (grants p.0.world) c.0 p.1 ≡ Some n → CanBeTold p.0.world n.event n.state)
-            (sym has.ran) (tells k c.0 n) c.1 made;
+            (sym taken.has.ran) (taken.tells k c.0 n) c.1 made;
         answered = w.answered;
         longer = length_grows (grants (world_of now)) c.0 memory.octets n made;
         given = granted (grants (world_of now)) memory.octets (wants c.0) n (outcome (grants (world_of now)) memory.octets (wants c.0) n made);
@@ -192,28 +198,28 @@ module _ (before : Seat) (m0 : Octets) (k : ℕ) (now : Seat) (memory : Octets) 
   more : (final : Seat) → state_in final ≡ new_state → world_of final ≡ world_after (world_of now) memory.octets step.event → final.ran ≡ now.ran →
       final.limits.steps ≡ now.limits.steps → (counting final (k + 1), after.octets) ≡ steps_of (k + 1) (counting before 0) m0.octets
   more final state world ran most =
-      let unended : (counting now k).end ≡ None = rw (step.running, lt-leb now.limits.steps (now.ran + k) below) refl in
+      let unended : (counting now k).end ≡ None = rw (step.running, lt-leb now.limits.steps (now.ran + k) taken.below) refl in
       let count : final.ran + (k + 1) ≡ now.ran + k + 1 = omega arith in
       let stepped = step-on (counting before 0) m0.octets k (counting now k) memory.octets step.c
-      (record { event = step.event; state = new_state; memory = after.octets }) has.ran unended step.running step.made in
+      (record { event = step.event; state = new_state; memory = after.octets }) taken.has.ran unended step.running step.made in
       let same = instance_at-same (state_in final) new_state (world_of final) (world_after (world_of now) memory.octets step.event)
       final.limits.steps now.limits.steps (final.ran + (k + 1)) (now.ran + k + 1) state world most count in
       ap (λ (x : t.Instance). (x, after.octets)) same ∙ stepped
 
   -- no request: nothing else changes
-  pub ran-on : answer ≡ Ran → GoesWith now.valid i → after.reserved ≡ memory.reserved → HasRun before m0 (k + 1) (record now { instance = i }) after
-  ran-on is fits reserved =
+  pub ran-on : answer ≡ Ran → i.program ≡ now.instance.program → after.reserved ≡ memory.reserved → HasRun before m0 (k + 1) (record now { instance = i }) after
+  ran-on is same_program reserved =
       let still = plainly new_state (subst (λ (a : Stepped). IsAnswer a memory.octets step.event new_state) is step.answered) in
       let same = stays-without (world_of now) memory.octets step.event still.0 in
       record {
         ran = more (record now { instance = i }) refl (sym same.0) refl refl;
-        seated = ap (λ (seat : Seat). record seat { instance = i }) has.seated;
-        goes_with = fits;
+        seated = ap (λ (seat : Seat). record seat { instance = i }) taken.has.seated;
+        program = same_program ∙ taken.has.program;
         runs = still.1;
-        unended = has.unended;
-        grants = record { counted = has.grants.counted; held = has.grants.held; room = has.grants.room };
-        asks = omega (arith, step.longer, same.1, has.asks);
-        reserved = reserved ∙ has.reserved;
+        unended = taken.has.unended;
+        grants = record { counted = taken.has.grants.counted; held = taken.has.grants.held; room = taken.has.grants.room };
+        asks = omega (arith, step.longer, same.1, taken.has.asks);
+        reserved = reserved ∙ taken.has.reserved;
       }
     where
       plainly : (s : State) → IsAnswer Ran memory.octets step.event s → IsNoRequest step.event × IsEndOf (record now { instance = i }) s None
@@ -252,17 +258,17 @@ module _ (before : Seat) (m0 : Octets) (k : ℕ) (now : Seat) (memory : Octets) 
       subst (λ (e : Event). length after.octets ≡ length memory.octets + pages_gained e * page) asked.0 step.longer in
       record { event_is = asked.0; goes_on = asked.1; some = told.0; fits = leb-true (now.held + pages) now.limits.pages given; longer = longer }
 
-  pub grew-on : (at pages first : ℕ) (got : Vec Grant Global) (final : Seat) → answer ≡ Grew at pages → GoesWith now.valid i → after.reserved ≡ memory.reserved →
+  pub grew-on : (at pages first : ℕ) (got : Vec Grant Global) (final : Seat) → answer ≡ Grew at pages → i.program ≡ now.instance.program → after.reserved ≡ memory.reserved →
       final ≡ record now { instance = i; granted = got; held = now.held + pages } → length after.octets ≡ (first + pages) * page →
       got.items ≡ now.granted.items ++ record { at = first; pages = pages } ∷ [] → vec_capacity got ≡ vec_capacity now.granted →
       HasRun before m0 (k + 1) final after
-  grew-on at pages first got final is fits reserved final_is last_pages items capacity =
+  grew-on at pages first got final is same_program reserved final_is last_pages items capacity =
       let it = has-grown at pages is in
-      let place : first * page ≡ length memory.octets = omega (arith, it.longer, last_pages) in
+      let begins : first * page ≡ length memory.octets = omega (arith, it.longer, last_pages) in
       let seat : Seat = record now { instance = i; granted = got; held = now.held + pages } in
       let areas : map area_of got.items ≡ map area_of now.granted.items ++ record { start = length memory.octets; size = pages * page } ∷ [] =
       ap (map area_of) items ∙ map-append area_of now.granted.items (record { at = first; pages = pages } ∷ [])
-      ∙ ap (λ (start : ℕ). map area_of now.granted.items ++ record { start = start; size = pages * page } ∷ []) place in
+      ∙ ap (λ (start : ℕ). map area_of now.granted.items ++ record { start = start; size = pages * page } ∷ []) begins in
       let first_page : Area = record { start = now.descriptor; size = page } in
       let world : world_of seat ≡ world_after (world_of now) memory.octets (Grows pages true) =
       ap (λ (own : List Area). record (world_of now) { own = first_page ∷ own; held = now.held + pages }) areas in
@@ -271,34 +277,34 @@ module _ (before : Seat) (m0 : Octets) (k : ℕ) (now : Seat) (memory : Octets) 
       let many : length got.items ≡ length now.granted.items + 1 = ap length items ∙ length_push now.granted.items (record { at = first; pages = pages }) in
       subst (λ (x : Seat). HasRun before m0 (k + 1) x after) (sym final_is) (record {
         ran = more seat refl world_is refl refl;
-        seated = ap (λ (x : Seat). record x { instance = i; granted = got; held = now.held + pages }) has.seated;
-        goes_with = fits;
+        seated = ap (λ (x : Seat). record x { instance = i; granted = got; held = now.held + pages }) taken.has.seated;
+        program = same_program ∙ taken.has.program;
         runs = rw it.goes_on.1 tt;
-        unended = has.unended;
+        unended = taken.has.unended;
         grants = record {
-          counted = omega (arith, has.grants.counted, many, it.some);
+          counted = omega (arith, taken.has.grants.counted, many, it.some);
           held = it.fits;
-          room = omega (arith, has.grants.room, capacity);
+          room = omega (arith, taken.has.grants.room, capacity);
         };
-        asks = omega (arith, it.longer, it.fits, has.asks);
-        reserved = reserved ∙ has.reserved;
+        asks = omega (arith, it.longer, it.fits, taken.has.asks);
+        reserved = reserved ∙ taken.has.reserved;
       })
 
-  pub refused-on : (pages : ℕ) → answer ≡ Refused pages → GoesWith now.valid i → after.reserved ≡ memory.reserved →
+  pub refused-on : (pages : ℕ) → answer ≡ Refused pages → i.program ≡ now.instance.program → after.reserved ≡ memory.reserved →
       HasRun before m0 (k + 1) (record now { instance = i; refused = Some pages }) after
-  refused-on pages is fits reserved =
+  refused-on pages is same_program reserved =
       let asked = refused pages new_state (subst (λ (a : Stepped). IsAnswer a memory.octets step.event new_state) is step.answered) in
       let longer : length after.octets ≡ length memory.octets + 0 * page =
       subst (λ (e : Event). length after.octets ≡ length memory.octets + pages_gained e * page) asked.0 step.longer in
       record {
         ran = more (record now { instance = i; refused = Some pages }) refl (ap (world_after (world_of now) memory.octets) (sym asked.0)) refl refl;
-        seated = ap (λ (x : Seat). record x { instance = i; refused = Some pages }) has.seated;
-        goes_with = fits;
+        seated = ap (λ (x : Seat). record x { instance = i; refused = Some pages }) taken.has.seated;
+        program = same_program ∙ taken.has.program;
         runs = rw asked.1.1 tt;
-        unended = has.unended;
-        grants = record { counted = has.grants.counted; held = has.grants.held; room = has.grants.room };
-        asks = omega (arith, longer, has.asks);
-        reserved = reserved ∙ has.reserved;
+        unended = taken.has.unended;
+        grants = record { counted = taken.has.grants.counted; held = taken.has.grants.held; room = taken.has.grants.room };
+        asks = omega (arith, longer, taken.has.asks);
+        reserved = reserved ∙ taken.has.reserved;
       }
 
   -- The run has ended: it takes no step more. What it has and the memory's size are as before its last step.

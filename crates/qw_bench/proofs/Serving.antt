@@ -27,17 +27,17 @@ use Rattle.qw_map.specs.Layout.{cell_types, column_areas, column_starts, used}
 use Rattle.qw_emit.specs.Compiled.{Answers, bound, page_bound}
 use Rattle.qw_bench.specs.Bench.{AreServing, AreStarting, EachTask, IsAt, IsStarting, Serves, Task}
 use Rattle.qw_machine.specs.Instance.{IsNoRequest}
-use Rattle.qw_bench.specs.Seats.{CanBeTold, IsTold}
+use Rattle.qw_bench.specs.Inner.Seats.{CanBeTold, IsTold}
 use Rattle.qw_columns.proofs.ColumnLemmas.{within_pages}
 use Rattle.qw_map.proofs.ResultLemmas.{results_stay}
 
--- what is there at a place of a list
+-- what is there at an index of a list
 pub there : {A : Type 0} (xs : List A) (k : ℕ) → k < length xs → (x : A) × (slice_get xs k ≡ Some x)
 there [] k within = absurd (omega arith)
 there (x ∷ xs) zero within = (x, refl)
 there (x ∷ xs) (suc k) within = there xs k (omega arith)
 
--- what a list contains is there at a place
+-- what a list contains is there at an index
 found-at : {A : Type 0} (xs : List A) (x : A) → Contains xs x → (k : ℕ) × (slice_get xs k ≡ Some x)
 found-at xs x (k, within, is) = (k, slice_get-get_or xs k x within ∙ ap Some is)
 
@@ -55,8 +55,8 @@ module _ {A B : Type 0} (P : B → Type 0) (f : A → B) where
 starts-found : (statement : Statement) (rows column : ℕ) → Contains (used statement) column →
     (k : ℕ) × (slice_get (used statement) k ≡ Some column) × (slice_get (column_starts statement rows) k ≡ Some (column_start rows column))
 starts-found statement rows column contains =
-    let place = found-at (used statement) column contains in
-    (place.0, place.1, slice_get-map (column_start rows) (used statement) place.0 ∙ ap (option_map (column_start rows)) place.1)
+    let index = found-at (used statement) column contains in
+    (index.0, index.1, slice_get-map (column_start rows) (used statement) index.0 ∙ ap (option_map (column_start rows)) index.1)
 
 -- ---- what others leave
 answers_stay : (statement : Statement) (rows : List (List Val)) (d : ℕ) (b : Moment) (after : List ℕ) → Others b.world b.memory after → (s : State) →
@@ -226,7 +226,7 @@ starts-serving rows memory t i first = rw first.instance (record {
 record IsFirst (width : ℕ) (rows : List (List Val)) (memory : List ℕ) (k : ℕ) (i : Instance) : Type 0 where
   t : Task
   begins : IsStarting rows memory t i
-  place : t.descriptor ≡ (column_pages width (length rows) + k) * page
+  descriptor_is : t.descriptor ≡ (column_pages width (length rows) + k) * page
   narrow : AllByRecursion (λ column. column < width) (used t.statement)
 
 first_of : (width : ℕ) (rows : List (List Val)) (tasks : List Task) (s : Shared) → AreStarting width rows tasks s → (k : ℕ) (i : Instance) → slice_get s.instances k ≡ Some i →
@@ -234,7 +234,7 @@ first_of : (width : ℕ) (rows : List (List Val)) (tasks : List Task) (s : Share
 first_of width rows tasks s start k i found =
     let within : k < length tasks = omega (arith, slice_get_within s.instances k i found, start.many) in
     let t = there tasks k within in
-    record { t = t.0; begins = start.starting k t.0 i t.1 found; place = start.places k t.0 t.1; narrow = start.narrow k t.0 t.1 }
+    record { t = t.0; begins = start.starting k t.0 i t.1 found; descriptor_is = start.descriptors k t.0 t.1; narrow = start.narrow k t.0 t.1 }
 
 -- first pages of different numbers lie apart
 pages-apart : (pages j k : ℕ) → j ≢ k → ((pages + j) * page + page ≤ (pages + k) * page) ⊎ ((pages + k) * page + page ≤ (pages + j) * page)
@@ -243,7 +243,7 @@ pages-apart pages j k differ = ⊎_elim
     (λ not. inr (omega (arith, differ, not.1)))
     (leb_tells (suc j) k)
 
--- columns that end before a place, as areas
+-- columns that end before an address, as areas
 areas-inside : (rows octets : ℕ) (starts : List ℕ) (end : ℕ) → end ≤ octets → AllByRecursion (λ start. start + 4 * rows ≤ end) starts →
     AllByRecursion (LiesWithin octets) (column_areas starts rows)
 areas-inside rows octets [] end within below = tt
@@ -274,8 +274,8 @@ start-separate width rows tasks s start = record {
       let pages = column_pages width (length rows) in
       rw (f.begins.instance, g.begins.instance) (
         (
-          subst (λ (a : ℕ). (a + page ≤ g.t.descriptor) ⊎ (g.t.descriptor + page ≤ a)) (sym f.place)
-              (subst (λ (b : ℕ). ((pages + j) * page + page ≤ b) ⊎ (b + page ≤ (pages + j) * page)) (sym g.place) (pages-apart pages j k differ)),
+          subst (λ (a : ℕ). (a + page ≤ g.t.descriptor) ⊎ (g.t.descriptor + page ≤ a)) (sym f.descriptor_is)
+              (subst (λ (b : ℕ). ((pages + j) * page + page ≤ b) ⊎ (b + page ≤ (pages + j) * page)) (sym g.descriptor_is) (pages-apart pages j k differ)),
           tt,
         ),
         tt,
@@ -283,7 +283,7 @@ start-separate width rows tasks s start = record {
   columns_apart = λ j k one other found found_other.
       let f = first_of width rows tasks s start j one found in
       let g = first_of width rows tasks s start k other found_other in
-      let behind : column_pages width (length rows) * page ≤ f.t.descriptor = omega (arith, f.place) in
+      let behind : column_pages width (length rows) * page ≤ f.t.descriptor = omega (arith, f.descriptor_is) in
       rw (f.begins.instance, g.begins.instance)
       (columns-before width (length rows) f.t.descriptor (used g.t.statement) behind g.narrow, tt);
   room = start.room;

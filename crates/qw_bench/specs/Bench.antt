@@ -59,7 +59,7 @@ pub record AreStarting (width : ℕ) (rows : List (List Val)) (tasks : List Task
   pub many : length s.instances ≡ length tasks
   pub starting : EachTask (IsStarting rows s.memory) tasks s
   pub narrow : (k : ℕ) (t : Task) → slice_get tasks k ≡ Some t → AllByRecursion (λ column. column < width) (used t.statement)
-  pub places : (k : ℕ) (t : Task) → slice_get tasks k ≡ Some t → t.descriptor ≡ (column_pages width (length rows) + k) * page
+  pub descriptors : (k : ℕ) (t : Task) → slice_get tasks k ≡ Some t → t.descriptor ≡ (column_pages width (length rows) + k) * page
   pub room : length s.memory + may_ask s.instances * page ≤ most_pages * page
 
 -- The start over a table of so many columns: they are all there and take the first pages, and the first pages of the

@@ -1,4 +1,13 @@
 pub mod Bench
 pub mod FirstPage
 pub mod Inner
-pub mod Seats
+pub mod Standing
+pub use Rattle.qw_emit.specs.Compiled
+pub use Rattle.qw_linear.specs.Memory
+pub use Rattle.qw_map.specs.Areas
+pub use Rattle.qw_map.specs.Columns
+pub use Rattle.qw_map.specs.Layout
+pub use Rattle.qw_map.specs.Turns
+pub use Rattle.qw_module.specs.Execution
+pub use Rattle.qw_module.specs.Syntax
+pub use Rattle.qw_module.specs.Validity

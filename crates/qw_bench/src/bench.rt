@@ -90,7 +90,6 @@ struct Grant {
 #[derive(Drop)]
 struct Seat {
     query: Query,
-    valid: ValidModule,
     instance: Instance,
     /// How many rows the columns have that it reads.
     rows: usize,
@@ -110,19 +109,16 @@ struct Seat {
 
 impl Seat {
     ghost use Rattle.qw_map.specs.Turns.{IsWhole, steps_of};
-    ghost use Rattle.qw_machine.specs.Instance.{GoesWith};
-    ghost use Rattle.qw_bench.specs.Seats.{HasGrants, IsEndOf, IsTold, StaysSeated, counting, instance_of, state_in, task_of};
+    ghost use Rattle.qw_bench.specs.Inner.Seats.{HasGrants, IsEndOf, IsTold, StaysSeated, counting, instance_of, state_in, task_of};
 
     /// Runs the instance until it ends or has run `quantum` instructions. Answers how many it ran.
     fn turn(&mut self, memory: &mut Linear, quantum: u64) -> u64
-        requires goes_with { GoesWith self.old.valid self.old.instance }
         requires whole { IsWhole (instance_of self.old) }
         requires told { IsTold (instance_of self.old) memory.old.octets }
         requires grants { HasGrants self.old }
         requires room { length memory.old.octets + (self.old.limits.pages - self.old.held) * page ≤ memory.old.reserved * page }
         ensures turned { (instance_of self.new, memory.new.octets) ≡ steps_of quantum (instance_of self.old) memory.old.octets }
         ensures task { task_of self.new ≡ task_of self.old }
-        ensures goes_with { GoesWith self.new.valid self.new.instance }
         ensures grants { HasGrants self.new }
         ensures asks { length memory.new.octets + (self.new.limits.pages - self.new.held) * page
             ≡ length memory.old.octets + (self.old.limits.pages - self.old.held) * page }
@@ -146,7 +142,6 @@ impl Seat {
 
     /// Executes up to `budget` instructions, and answers how many. They aren't counted yet.
     fn run(&mut self, memory: &mut Linear, budget: u64) -> u64
-        requires goes_with { GoesWith self.old.valid self.old.instance }
         requires runs { IsEndOf self.old (state_in self.old) None }
         requires unended { self.old.ended ≡ None }
         requires steps { self.old.ran + budget ≤ self.old.limits.steps }
@@ -155,7 +150,7 @@ impl Seat {
         requires room { length memory.old.octets + (self.old.limits.pages - self.old.held) * page ≤ memory.old.reserved * page }
         ensures ran { (counting self.new result, memory.new.octets) ≡ steps_of budget (counting self.old 0) memory.old.octets }
         ensures seated { StaysSeated self.old self.new }
-        ensures goes_with { GoesWith self.new.valid self.new.instance }
+        ensures program { self.new.instance.program ≡ self.old.instance.program }
         ensures end { IsEndOf self.new (state_in self.new) self.new.ended }
         ensures grants { HasGrants self.new }
         ensures asks { length memory.new.octets + (self.new.limits.pages - self.new.held) * page
@@ -167,7 +162,7 @@ impl Seat {
     {
         for taken in 0..budget {
             let spare = self.limits.pages - self.held;
-            match self.instance.step(&self.valid, memory, spare) {
+            match self.instance.step(memory, spare) {
                 Stepped::Ran => {}
                 Stepped::Grew { pages, .. } => self.note_grant(memory, pages),
                 Stepped::Refused { pages } => self.refused = Some(pages),
@@ -213,6 +208,13 @@ impl Seat {
     }
 }
 
+/// Whether the instance of one of the seats hasn't ended.
+fn one_runs(seats: &[Seat]) -> bool
+    ensures { result ≡ list_any (λ seat. not (is_some seat.ended)) seats.now }
+{
+    seats.iter().any(|seat| seat.ended.is_none())
+}
+
 /// Instances over one memory, which holds the columns that they read.
 #[derive(Drop)]
 pub struct Bench {
@@ -221,22 +223,28 @@ pub struct Bench {
 }
 
 impl Model for Bench {
-    ghost use Rattle.qw_bench.specs.Seats.{IsBench, Standing};
+    ghost use Rattle.qw_bench.specs.Standing.{Standing};
+    ghost use Rattle.qw_bench.specs.Inner.StandingCode.{standing_code};
 
     ghost Value = { Standing };
 
-    ghost view = { λ b. record { memory = b.memory; seats = b.seats.items } };
+    ghost coded = { standing_code };
 
-    ghost invariant = { λ b. IsBench (record { memory = b.memory; seats = b.seats.items }) };
+    ghost use Rattle.qw_bench.specs.Inner.Seats.{AreSeats, standing_of};
+
+    ghost view = { λ b. standing_of b.memory b.seats.items };
+
+    ghost invariant = { λ b. AreSeats b.memory b.seats.items };
 }
 
 impl Bench {
     ghost use Rattle.std.specs.List.{AllByRecursion};
+    ghost use Rattle.qw_map.specs.Columns.{column_pages};
     ghost use Rattle.qw_map.specs.Layout.{used};
     ghost use Rattle.qw_map.specs.Turns.{EachInstance, turn, turns};
     ghost use Rattle.qw_bench.specs.Bench.{AreRounds, IsStart, round};
     ghost use Rattle.qw_bench.specs.Inner.Rounds.{steps_left};
-    ghost use Rattle.qw_bench.specs.Seats.{IsBench, end_of, first_task, shared_of, tasks_of};
+    ghost use Rattle.qw_bench.specs.Standing.{IsBench, end_of, first_task};
     ghost use Rattle.qw_bench.specs.Bench.{end_in, ran_in};
 
     /// A bench with one instance of the job over a table, which has the columns that the job's statement
@@ -250,13 +258,14 @@ impl Bench {
         requires columns { AllByRecursion (λ column. column < loaded.now.width) (used job.statement) }
         requires pages { (1 ≤ limits.pages) × (limits.pages ≤ MAX_INSTANCE_PAGES) }
         requires steps { 1 ≤ limits.steps }
-        ensures tasks { IfOk result (λ bench. tasks_of bench ≡ first_task loaded.now.width (length loaded.now.rows) job limits ∷ []) }
-        ensures start { IfOk result (λ bench. IsStart loaded.now.width loaded.now.rows (tasks_of bench) (shared_of bench)) }
+        ensures tasks { IfOk result (λ bench. bench.tasks ≡ first_task loaded.now.width (length loaded.now.rows) job limits ∷ []) }
+        ensures start { IfOk result (λ bench. IsStart loaded.now.width loaded.now.rows bench.tasks bench.shared) }
+        ensures reserved { IfOk result (λ bench. bench.reserved ≡ column_pages loaded.now.width (length loaded.now.rows) + limits.pages) }
     {
         let Job { query, valid } = job;
         let memory = first_memory(alloc, loaded, &query, limits.pages)?;
         let descriptor = PAGE as u32 * pages_needed(loaded);
-        let instance = first_instance(alloc, &valid, descriptor)?;
+        let instance = first_instance(alloc, valid, descriptor)?;
         let ended = match instance.last() {
             Stepped::Returned => Some(Ended::Done),
             _ => None,
@@ -265,7 +274,6 @@ impl Bench {
         let seats = vec![in alloc;
             Seat {
                 query,
-                valid,
                 instance,
                 rows: loaded.len(),
                 descriptor: u64::from(descriptor),
@@ -283,12 +291,13 @@ impl Bench {
     /// Gives an instance a turn: it runs until it ends or has run `quantum` instructions. Answers how many
     /// it ran.
     pub fn turn(&mut self, i: usize, quantum: u64) -> u64
-        requires there { i < length (shared_of self.old).instances }
+        requires there { i < length self.old.shared.instances }
         requires some { 1 ≤ quantum }
-        ensures turn { shared_of self.new ≡ turn (shared_of self.old) (i, quantum) }
-        ensures tasks { tasks_of self.new ≡ tasks_of self.old }
-        ensures counted { ran_in (shared_of self.new) i ≡ ran_in (shared_of self.old) i + result }
-        ensures none { (result ≡ 0) ↔ IsSome (end_in (shared_of self.old) i) }
+        ensures turn { self.new.shared ≡ turn self.old.shared (i, quantum) }
+        ensures tasks { self.new.tasks ≡ self.old.tasks }
+        ensures reserved { self.new.reserved ≡ self.old.reserved }
+        ensures counted { ran_in self.new.shared i ≡ ran_in self.old.shared i + result }
+        ensures none { (result ≡ 0) ↔ IsSome (end_in self.old.shared i) }
     {
         let seat = &mut self.seats[i];
         seat.turn(&mut self.memory, quantum)
@@ -298,10 +307,11 @@ impl Bench {
     /// round, until all have ended.
     pub fn run_all(&mut self, quantum: u64)
         requires { 1 ≤ quantum }
-        ensures rounds { (ts : List (ℕ × ℕ)) × AreRounds quantum ts (shared_of self.old)
-            × (shared_of self.new ≡ turns ts (shared_of self.old)) }
-        ensures ended { EachInstance (λ instance. IsSome instance.end) (shared_of self.new) }
-        ensures tasks { tasks_of self.new ≡ tasks_of self.old }
+        ensures rounds { (ts : List (ℕ × ℕ)) × AreRounds quantum ts self.old.shared
+            × (self.new.shared ≡ turns ts self.old.shared) }
+        ensures ended { EachInstance (λ instance. IsSome instance.end) self.new.shared }
+        ensures tasks { self.new.tasks ≡ self.old.tasks }
+        ensures reserved { self.new.reserved ≡ self.old.reserved }
     {
         while self.runs() {
             self.round(quantum);
@@ -310,18 +320,19 @@ impl Bench {
 
     /// Whether an instance hasn't ended.
     fn runs(&self) -> bool
-        ensures { result ≡ list_any (λ seat. not (is_some seat.ended)) self.now.seats }
+        ensures { result ≡ list_any (λ instance. not (is_some instance.end)) self.now.shared.instances }
     {
-        self.seats.iter().any(|seat| seat.ended.is_none())
+        one_runs(self.seats.as_slice())
     }
 
     /// One round of turns.
     fn round(&mut self, quantum: u64)
         requires { 1 ≤ quantum }
-        ensures turns { shared_of self.new ≡ turns (round quantum (shared_of self.old)) (shared_of self.old) }
-        ensures tasks { tasks_of self.new ≡ tasks_of self.old }
-        ensures falls { round quantum (shared_of self.old) ≢ []
-            → steps_left (shared_of self.new).instances < steps_left (shared_of self.old).instances }
+        ensures turns { self.new.shared ≡ turns (round quantum self.old.shared) self.old.shared }
+        ensures tasks { self.new.tasks ≡ self.old.tasks }
+        ensures reserved { self.new.reserved ≡ self.old.reserved }
+        ensures falls { round quantum self.old.shared ≢ []
+            → steps_left self.new.shared.instances < steps_left self.old.shared.instances }
     {
         for i in 0..self.len() {
             if self.ended(i).is_none() {
@@ -332,7 +343,7 @@ impl Bench {
 
     /// How many instances there are.
     pub fn len(&self) -> usize
-        ensures many { result ≡ length (shared_of self.now).instances }
+        ensures many { result ≡ length self.now.shared.instances }
         ensures kept { IsBench self.now }
     {
         self.seats.len()
@@ -340,47 +351,47 @@ impl Bench {
 
     /// How an instance ended, if it has.
     pub fn ended(&self, i: usize) -> Option<Ended>
-        requires { i < length (shared_of self.now).instances }
-        ensures { end_of result ≡ end_in (shared_of self.now) i }
+        requires { i < length self.now.shared.instances }
+        ensures { end_of result ≡ end_in self.now.shared i }
     {
         self.seats[i].ended
     }
 
     /// How many instructions an instance has run.
     pub fn steps(&self, i: usize) -> u64
-        requires { i < length (shared_of self.now).instances }
-        ensures { result ≡ ran_in (shared_of self.now) i }
+        requires { i < length self.now.shared.instances }
+        ensures { result ≡ ran_in self.now.shared i }
     {
         self.seats[i].ran
     }
 
     /// How many pages an instance holds.
     pub fn pages(&self, i: usize) -> u32
-        requires { i < length (shared_of self.now).instances }
-        ensures { IfSome (slice_get (shared_of self.now).instances i) (λ instance. result ≡ instance.world.held) }
+        requires { i < length self.now.shared.instances }
+        ensures { IfSome (slice_get self.now.shared.instances i) (λ instance. result ≡ instance.world.held) }
     {
         self.seats[i].held
     }
 
     /// The address of an instance's descriptor.
     pub fn descriptor(&self, i: usize) -> u64
-        requires { i < length (tasks_of self.now) }
-        ensures { IfSome (slice_get (tasks_of self.now) i) (λ task. result ≡ task.descriptor) }
+        requires { i < length self.now.shared.instances }
+        ensures { IfSome (slice_get self.now.tasks i) (λ task. result ≡ task.descriptor) }
     {
         self.seats[i].descriptor
     }
 
     /// The statement that an instance executes.
     pub fn query(&self, i: usize) -> &Query
-        requires { i < length (tasks_of self.now) }
-        ensures { IfSome (slice_get (tasks_of self.now) i) (λ task. result.now ≡ task.statement) }
+        requires { i < length self.now.shared.instances }
+        ensures { IfSome (slice_get self.now.tasks i) (λ task. result.now ≡ task.statement) }
     {
         &self.seats[i].query
     }
 
     /// The memory that the instances share.
     pub fn memory(&self) -> &Linear
-        ensures memory { result.now.octets ≡ (shared_of self.now).memory }
+        ensures memory { result.now ≡ record { octets = self.now.shared.memory; reserved = self.now.reserved } }
         ensures kept { IsBench self.now }
     {
         &self.memory

@@ -29,8 +29,8 @@ pub fn begin_page(memory: &mut Linear, descriptor: u32, starts: &[u32], rows: u3
         descriptor + PAGE_END_OFFSET,
         descriptor + PAGE as u32,
     );
-    for (place, start) in starts.iter().enumerate() {
-        let entry = descriptor + ENTRY_SIZE * place as u32;
+    for (index, start) in starts.iter().enumerate() {
+        let entry = descriptor + ENTRY_SIZE * index as u32;
         put(memory, entry + HEAD_SIZE, *start);
         put(memory, entry + (HEAD_SIZE + ENTRY_ROWS_OFFSET), rows);
     }

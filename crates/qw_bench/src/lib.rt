@@ -3,8 +3,10 @@
 //! - [`bench::Bench`]: the memory with its columns and instances; a turn is exactly the turn of `qw_map`'s definitions.
 //! - [`first_page`]: the descriptor, on an instance's first page.
 //! - [`bench_laws`]: what holds of instances after any turns.
+//! - [`worked_laws`]: a case with numbers.
 #![tactic(auto)]
 
 pub mod bench;
 pub mod bench_laws;
 pub mod first_page;
+pub mod worked_laws;

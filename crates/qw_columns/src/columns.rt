@@ -58,12 +58,12 @@ pub fn place(loaded: &Loaded, memory: &mut Linear)
 {
     memory.grow(pages_needed(loaded)).unwrap();
     for column in 0..loaded.width() {
-        place_column(loaded, memory, column);
+        write_column(loaded, memory, column);
     }
 }
 
 /// Writes one column, and changes nothing below it.
-fn place_column(loaded: &Loaded, memory: &mut Linear, column: usize)
+fn write_column(loaded: &Loaded, memory: &mut Linear, column: usize)
     requires column { column < loaded.now.width }
     requires room { column_start (length loaded.now.rows) column + integer_size * length loaded.now.rows ≤ length memory.old.octets }
     ensures holds { HoldsColumn memory.new.octets (column_start (length loaded.now.rows) column) column loaded.now.rows }

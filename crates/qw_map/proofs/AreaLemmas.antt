@@ -1,5 +1,5 @@
 -- Areas of a memory: which are apart, and which a step leaves as they were.
-use Rattle.std.proofs.Common.{◌≡◌, ℕ, ◌+◌, ◌-◌, ◌*◌, ◌≤◌, nat_le, Bool, true, IsTrue, List, [], ◌∷◌, ◌++◌, length, inl, inr, refl, sym, ◌∙◌, ⊎_elim, arith, append_assoc}
+use Rattle.std.proofs.Common.{◌≡◌, ℕ, ◌+◌, ◌-◌, ◌*◌, ◌≤◌, nat_le, Bool, true, IsTrue, List, [], ◌∷◌, ◌++◌, length, inl, inr, Option, Some, refl, sym, ◌∙◌, ⊎_elim, arith, append_assoc}
 use Rattle.std.specs.List.{AllByRecursion}
 use Rattle.std.proofs.lemmas.Bool.{cases_Bool, leb-true, false≢true, and_parts}
 use Rattle.std.proofs.lemmas.List.{append-nil}
@@ -115,8 +115,8 @@ pub record Gains (octets more : ℕ) (w after : World) : Type 0 where
   pub behind : AllByRecursion (LiesBehind octets more) gained
   pub asks_is : more + (after.limit - after.held) * page ≡ octets + (w.limit - w.held) * page
 
-Gains-nothing : (octets more : ℕ) (w : World) → more ≡ octets → Gains octets more w w
-Gains-nothing octets more w same = record {
+Gains-nothing : (octets more : ℕ) (w : World) (refused : Option ℕ) → more ≡ octets → Gains octets more w (record w { refused = refused })
+Gains-nothing octets more w refused same = record {
   longer = omega arith;
   mapped_is = refl;
   limit_is = refl;
@@ -128,12 +128,12 @@ Gains-nothing octets more w same = record {
 
 pub outcome-gains : (w : World) (g : ℕ → Bool) (m : List ℕ) (want : Want) (t : Next) → Outcome g m want t →
     ((asked : ℕ) → g asked ≡ true → w.held + asked ≤ w.limit) → Gains (length m) (length t.memory) w (world_after w m t.event)
-outcome-gains w _ _ _ _ (went g m s) within = Gains-nothing (length m) (length m) w refl
-outcome-gains w _ _ _ _ (read g m address width make room) within = Gains-nothing (length m) (length m) w refl
-outcome-gains w _ _ _ _ (read_outside g m address width make outside) within = Gains-nothing (length m) (length m) w refl
+outcome-gains w _ _ _ _ (went g m s) within = Gains-nothing (length m) (length m) w w.refused refl
+outcome-gains w _ _ _ _ (read g m address width make room) within = Gains-nothing (length m) (length m) w w.refused refl
+outcome-gains w _ _ _ _ (read_outside g m address width make outside) within = Gains-nothing (length m) (length m) w w.refused refl
 outcome-gains w _ _ _ _ (put g m address width value s room) within =
-    Gains-nothing (length m) (length (with_number m address width value)) w (length-with_number m address width value)
-outcome-gains w _ _ _ _ (put_outside g m address width value s outside) within = Gains-nothing (length m) (length m) w refl
+    Gains-nothing (length m) (length (with_number m address width value)) w w.refused (length-with_number m address width value)
+outcome-gains w _ _ _ _ (put_outside g m address width value s outside) within = Gains-nothing (length m) (length m) w w.refused refl
 outcome-gains w _ _ _ _ (was_granted g m pages make is room) within =
     let longer : length (grown_by pages m) ≡ length m + pages * page = length-grown_by pages m in
     let fits : w.held + pages ≤ w.limit = within pages is in
@@ -146,16 +146,8 @@ outcome-gains w _ _ _ _ (was_granted g m pages make is room) within =
       behind = ((omega arith, omega arith), tt);
       asks_is = omega arith;
     }
-outcome-gains w _ _ _ _ (was_refused g m pages make is) within = record {
-  longer = omega arith;
-  mapped_is = refl;
-  limit_is = refl;
-  gained = [];
-  own_is = sym (append-nil w.own);
-  behind = tt;
-  asks_is = omega arith;
-}
-outcome-gains w _ _ _ _ (raised g m code) within = Gains-nothing (length m) (length m) w refl
+outcome-gains w _ _ _ _ (was_refused g m pages make is) within = Gains-nothing (length m) (length m) w (Some pages) refl
+outcome-gains w _ _ _ _ (raised g m code) within = Gains-nothing (length m) (length m) w w.refused refl
 
 -- each area that lay in the memory, and each that was added, lies in it now
 pub inside-gains : (octets more : ℕ) (w after : World) → Gains octets more w after → AllByRecursion (LiesWithin octets) (w.mapped ++ w.own) →

@@ -109,11 +109,11 @@ length-integers (suc n) = ap suc (length-integers n)
 abbrev pub value_of_bits : ℕ → Val
 value_of_bits bits = Num (cast_signed w64 bits)
 
--- The cells from a place up to `at`, the last first: these bits, none null.
+-- The cells from an address up to `at`, the last first: these bits, none null.
 unfoldable pub Cells : (m : List ℕ) (from : ℕ) (done : List ℕ) (at : ℕ) → Type 0
 Cells m from [] at = at ≡ from
 Cells m from (bits ∷ done) at =
-    (place : ℕ) × (at ≡ place + 16) × (number_at m place 8 ≡ bits) × (number_at m (place + 8) 1 ≡ 0) × (is_integer (cast_signed w64 bits) ≡ true) × Cells m from done place
+    (cell : ℕ) × (at ≡ cell + 16) × (number_at m cell 8 ≡ bits) × (number_at m (cell + 8) 1 ≡ 0) × (is_integer (cast_signed w64 bits) ≡ true) × Cells m from done cell
 
 pub Cells-from : (m : List ℕ) (from : ℕ) (done : List ℕ) (at : ℕ) → Cells m from done at → at ≡ from + 16 * length done
 unfolding Cells

@@ -1,11 +1,12 @@
 pub mod AccessLemmas
 pub mod AreaLemmas
 pub mod Chains
-pub mod NoTrap
+mod NoTrap
 pub mod OpenRuns
 pub mod ResultLemmas
 pub mod ResultRows
 pub mod RunRules
 pub mod Separate
+pub mod SharedCode
 pub mod TurnFacts
 pub mod TurnSteps

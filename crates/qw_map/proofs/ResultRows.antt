@@ -50,13 +50,13 @@ cells-none memory types cells there = begin (cells_at memory cells types) refl t
 next-cell : (memory : List ℕ) (types : List Ty) (cells k : ℕ) (values : List Val) (d : Ty) → k < length types → (read : AreCells memory types cells k values) →
     AreParts (cell_at memory (cells + 16 * k) (get_or types k d)) (cells_at memory (cells + 16 * (k + 1)) (drop (k + 1) types)) read.rest
 next-cell memory types cells k values d within read =
-    let place : cells + 16 * k + 16 ≡ cells + 16 * (k + 1) = omega arith in
+    let behind : cells + 16 * k + 16 ≡ cells + 16 * (k + 1) = omega arith in
     let next : suc k ≡ k + 1 = omega arith in
     let cut : drop k types ≡ get_or types k d ∷ drop (k + 1) types = rw next at (drop-cons types k d within) in
     let all : before (cell_at memory (cells + 16 * k) (get_or types k d)) (cells_at memory (cells + 16 * k + 16) (drop (k + 1) types)) ≡ Some read.rest =
     subst (λ (tys : List Ty). cells_at memory (cells + 16 * k) tys ≡ Some read.rest) cut read.left in
     parts_of (cell_at memory (cells + 16 * k) (get_or types k d)) (cells_at memory (cells + 16 * (k + 1)) (drop (k + 1) types)) read.rest
-    (subst (λ (at : ℕ). before (cell_at memory (cells + 16 * k) (get_or types k d)) (cells_at memory at (drop (k + 1) types)) ≡ Some read.rest) place all)
+    (subst (λ (at : ℕ). before (cell_at memory (cells + 16 * k) (get_or types k d)) (cells_at memory at (drop (k + 1) types)) ≡ Some read.rest) behind all)
 
 pub cells-more : (memory : List ℕ) (types : List Ty) (cells k : ℕ) (values : List Val) (value : Val) (d : Ty) → k < length types →
     cell_at memory (cells + 16 * k) (get_or types k d) ≡ Some value → AreCells memory types cells k values → AreCells memory types cells (k + 1) (values ++ value ∷ [])
@@ -151,3 +151,8 @@ head-inside types own memory descriptor there = ⊎_elim
     (λ inside. inside)
     (λ outside. absurd (false≢true (rw outside at there)))
     (cases_Bool (lies_in_one own descriptor 24))
+
+-- it lies in the memory that the own areas lie in
+pub head-within : (types : List Ty) (own : List Area) (memory : List ℕ) (descriptor : ℕ) → AllByRecursion (LiesWithin (length memory)) own →
+    IsSome (rows_at types own memory descriptor) → descriptor + 24 ≤ length memory
+head-within types own memory descriptor inside there = lies-within own (length memory) descriptor 24 inside (head-inside types own memory descriptor there)

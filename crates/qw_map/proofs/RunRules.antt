@@ -93,27 +93,27 @@ module _ (pages : ℕ) (Q : Moment → Type 0) (w : World) where
   pub go : {M : List ℕ → Type 0} {k n : ℕ} {t s : State} → IsKept w M → Silently k t s → Reaches pages Q w M n s → Reaches pages Q w M (more k n) t
   go {M} {k} {n} {t} {s} kept silently reaches = go_on M kept k n t s silently.leads reaches
 
-  -- a load from a place, where M says what is there
-  pub load : {M : List ℕ → Type 0} {n : ℕ} {c : Config} {address width : ℕ} {make : ℕ → State} → IsKept w M → (place value : ℕ) →
-      wants c ≡ Asks address width make → address ≡ place → lies_in_one (w.mapped ++ w.own) place width ≡ true →
-      ((memory : List ℕ) → M memory → (place + width ≤ length memory) × (number_at memory place width ≡ value)) →
+  -- a load from an address, where M says what is there
+  pub load : {M : List ℕ → Type 0} {n : ℕ} {c : Config} {address width : ℕ} {make : ℕ → State} → IsKept w M → (target value : ℕ) →
+      wants c ≡ Asks address width make → address ≡ target → lies_in_one (w.mapped ++ w.own) target width ≡ true →
+      ((memory : List ℕ) → M memory → (target + width ≤ length memory) × (number_at memory target width ≡ value)) →
       Reaches pages Q w M n (make value) → Reaches pages Q w M (suc n) (Running c)
-  load {M} {n} {c} {address} {width} {make} kept place value wanted is inside there reaches = record {
+  load {M} {n} {c} {address} {width} {make} kept target value wanted is inside there reaches = record {
     steps = λ memory h. inr (λ before others.
         let now = kept.keeps memory before others h in
         let found = there before now in
-        rw (wanted, is, le-leb (place + width) (length before) found.0) (inside, rw found.1 (reaches.steps before now)));
+        rw (wanted, is, le-leb (target + width) (length before) found.0) (inside, rw found.1 (reaches.steps before now)));
   }
 
-  -- a store to a place, after which M' holds
-  pub store : {M : List ℕ → Type 0} {n : ℕ} {c : Config} {address width value : ℕ} {s : State} → IsKept w M → (M' : List ℕ → Type 0) (place : ℕ) →
-      wants c ≡ Puts address width value s → address ≡ place → lies_in_one w.own place width ≡ true →
-      ((memory : List ℕ) → M memory → (place + width ≤ length memory) × M' (with_number memory place width value)) →
+  -- a store to an address, after which M' holds
+  pub store : {M : List ℕ → Type 0} {n : ℕ} {c : Config} {address width value : ℕ} {s : State} → IsKept w M → (M' : List ℕ → Type 0) (target : ℕ) →
+      wants c ≡ Puts address width value s → address ≡ target → lies_in_one w.own target width ≡ true →
+      ((memory : List ℕ) → M memory → (target + width ≤ length memory) × M' (with_number memory target width value)) →
       Reaches pages Q w M' n s → Reaches pages Q w M (suc n) (Running c)
-  store {M} {n} {c} {address} {width} {value} {s} kept M' place wanted is inside there reaches = record {
+  store {M} {n} {c} {address} {width} {value} {s} kept M' target wanted is inside there reaches = record {
     steps = λ memory h. inr (λ before others.
         let found = there before (kept.keeps memory before others h) in
-        rw (wanted, is, le-leb (place + width) (length before) found.0) (inside, reaches.steps (with_number before place width value) found.1));
+        rw (wanted, is, le-leb (target + width) (length before) found.0) (inside, reaches.steps (with_number before target width value) found.1));
   }
 
   -- A request for pages, after which the run goes on. Where it is granted, the new area starts at the memory's end, of which only
@@ -154,5 +154,5 @@ module _ (pages : ℕ) (Q : Moment → Type 0) (w : World) where
 pub number_at-kept : (before after : List ℕ) (area : Area) (at width : ℕ) → SameIn before after area →
     area.start ≤ at → at + width ≤ area.start + area.size → number_at after at width ≡ number_at before at width
 number_at-kept before after area at width same low high = number_at-moved after before at at width
-    (λ k below. let place : area.start + (at + k - area.start) ≡ at + k = omega arith in
-    subst (λ (i : ℕ). get_or after i 0 ≡ get_or before i 0) place (same (at + k - area.start) (omega arith)))
+    (λ k below. let same_address : area.start + (at + k - area.start) ≡ at + k = omega arith in
+    subst (λ (i : ℕ). get_or after i 0 ≡ get_or before i 0) same_address (same (at + k - area.start) (omega arith)))

@@ -4,7 +4,7 @@ use Rattle.std.specs.List.{list_any, AllByRecursion}
 use Rattle.qw_linear.specs.Memory.{page, most_pages, AreOctets}
 use Rattle.qw_module.specs.Execution.{State, Running, Returned, Raised, Trapped, Event, Silent, Loads, Stores, Grows, Raises, Traps}
 
--- an area of the memory: its first place, and how many octets it has
+-- an area of the memory: its first address, and how many octets it has
 pub record Area : Type 0 where
   pub start : ℕ
   pub size : ℕ

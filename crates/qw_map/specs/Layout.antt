@@ -32,7 +32,7 @@ cell_types statement = map (λ column. Integer) statement.columns
 
 -- ---- the descriptor
 
--- where what the descriptor says of a column begins, by the column's place among those that are used, and where the
+-- where what the descriptor says of a column begins, by the column's index among those that are used, and where the
 -- descriptor of so many columns ends
 abbrev pub entry_offset : ℕ → ℕ
 entry_offset k = 64 + 16 * k

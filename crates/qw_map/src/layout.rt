@@ -52,12 +52,12 @@ pub const CELL_OFFSET: u32 = 8;
 /// Octets of a cell.
 pub const CELL_SIZE: u32 = 16;
 
-/// Where a column's entry begins in the descriptor, by the column's place among those that are used.
-pub fn entry_offset(place: u32) -> u32
-    requires { place ≤ most_columns }
-    ensures { result ≡ layout.entry_offset place }
+/// Where a column's entry begins in the descriptor, by the column's index among those that are used.
+pub fn entry_offset(index: u32) -> u32
+    requires { index ≤ most_columns }
+    ensures { result ≡ layout.entry_offset index }
 {
-    HEAD_SIZE + ENTRY_SIZE * place
+    HEAD_SIZE + ENTRY_SIZE * index
 }
 
 /// The octets of a result row of so many cells.
@@ -75,7 +75,7 @@ fn is_used(query: &Query, column: usize) -> bool
     column == query.tested() || query.columns().contains(&column)
 }
 
-/// The columns that a statement uses, each once, in the order of the table. So they have places in the
+/// The columns that a statement uses, each once, in the order of the table. So they have indices in the
 /// descriptor, from 0 on.
 ///
 /// # Errors

@@ -3,7 +3,8 @@
 //! - [`layout`]: where the columns begin, and where the parts of a descriptor and of a result row stand.
 //! - [`turn_laws`]: what holds of instances that share one memory, for every list of turns.
 //! - [`result_laws`]: result rows stay whatever others do.
-//! - `specs/Map`: areas of the memory, and what an instance and others may do there.
+//! - [`worked_laws`]: cases with numbers.
+//! - `specs/Areas`: areas of the memory, and what an instance and others may do there.
 //! - `specs/Runs`: open runs, and how an instance behaves in all of them.
 //! - `specs/Turns`: several instances over one memory, their turns and their ends.
 //! - `specs/Columns`, `specs/Layout`: columns, the descriptor and result rows in memory.
@@ -12,3 +13,4 @@
 pub mod layout;
 pub mod result_laws;
 pub mod turn_laws;
+pub mod worked_laws;

@@ -1,2 +1,2 @@
-pub mod Received
-pub mod SinkLemmas
+mod Received
+mod SinkLemmas

@@ -9,7 +9,7 @@ ghost use Rattle.qw_map.specs.Areas.{Area};
 ghost use Rattle.qw_map.specs.Turns.{Done, LiesWithin};
 ghost use Rattle.qw_map.specs.Layout.{cell_at, cell_types, cells_at, rows_at, rows_from};
 ghost use Rattle.qw_bench.specs.Bench.{AreServing, end_in};
-ghost use Rattle.qw_bench.specs.Seats.{rows_in, shared_of, tasks_of};
+ghost use Rattle.qw_bench.specs.Standing.{rows_in};
 
 use qw_bench::bench::Bench;
 use qw_linear::linear::Linear;
@@ -20,10 +20,10 @@ use std::alloc::Global;
 
 /// The result rows of an instance that is done. The error is want of memory.
 pub fn received(alloc: Global, bench: &Bench, i: usize) -> Result<Vec<Row>, NoMemory>
-    requires { end_in (shared_of bench.now) i ≡ Some Done }
+    requires { end_in bench.now.shared i ≡ Some Done }
     ensures rows { IfOk result (λ rows. rows_in bench.now i ≡ Some rows.items) }
-    ensures answer { IfOk result (λ rows. (table : List (List Val)) → AreServing table (tasks_of bench.now) (shared_of bench.now)
-        → IfSome (slice_get (tasks_of bench.now) i) (λ task. outcome task.statement table ≡ Rows rows.items)) }
+    ensures answer { IfOk result (λ rows. (table : List (List Val)) → AreServing table bench.now.tasks bench.now.shared
+        → IfSome (slice_get bench.now.tasks i) (λ task. outcome task.statement table ≡ Rows rows.items)) }
 {
     let types = types_of(alloc, bench.query(i))?;
     rows_of(alloc, bench.memory(), bench.descriptor(i), types.as_slice())
@@ -92,8 +92,8 @@ fn row_at(alloc: Global, memory: &Linear, cells: u64, types: &[Ty]) -> Result<Ro
     ensures { IfOk result (λ row. cells_at memory.now.octets cells types.now ≡ Some row) }
 {
     let mut values = Vec::with_capacity(alloc, types.len())?;
-    for (place, ty) in types.iter().enumerate() {
-        let cell = cells + u64::from(CELL_SIZE) * place as u64;
+    for (index, ty) in types.iter().enumerate() {
+        let cell = cells + u64::from(CELL_SIZE) * index as u64;
         values.push(value_at(memory, cell, *ty))?;
     }
     Ok(Row::new(values))

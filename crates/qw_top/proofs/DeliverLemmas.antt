@@ -26,7 +26,7 @@ use Rattle.qw_csv.specs.Loading.{Contents}
 use Rattle.qw_top.specs.Notes.{read_fault_line, want_of_memory_line}
 use Rattle.qw_top.specs.Output.{TookFront, with_text}
 use Rattle.qw_bench.specs.Bench.{end_in}
-use Rattle.qw_bench.specs.Seats.{Standing, shared_of}
+use Rattle.qw_bench.specs.Standing.{Standing}
 use Rattle.qw_top.specs.Inner.Stages.{FilesStop, HasAsked, IsReport, Ran, Stops, Writes}
 use Rattle.qw_top.specs.Inner.Stop.{octets_of, refusal_status}
 use Rattle.qw_top.specs.Top.{AreNames, Explains, Files, FilesExplain, HasQuery, IsFault, IsSettled, Names}
@@ -160,7 +160,7 @@ pub Ran-one : (schema : List Table) (b : Standing) → Ran schema b → IsOneTab
 Ran-one schema b ran = rw ran.one ran.integers
 
 -- a bench that has run a statement wasn't stopped at a limit of instructions
-pub no_steps : (schema : List Table) (b : Standing) (limit : ℕ) → Ran schema b → Some (Steps limit) ≡ end_in (shared_of b) 0 → ⊥
+pub no_steps : (schema : List Table) (b : Standing) (limit : ℕ) → Ran schema b → Some (Steps limit) ≡ end_in b.shared 0 → ⊥
 no_steps schema b limit ran is =
     let shown = HasRun-shows ran.table ran.rows ran.statement b ran.run in
     let same : ran.run.end ≡ Steps limit = let e = is ∙ ran.run.ended in cc in

@@ -13,13 +13,13 @@ use Rattle.qw_types.specs.declared.value.Ty.TheVariants.{Integer}
 use Rattle.qw_types.specs.declared.value.Val.{Val}
 use Rattle.qw_linear.specs.Memory.{number_at}
 use Rattle.qw_map.specs.Areas.{Area, lies_in_one}
+use Rattle.qw_map.specs.Turns.{Instance}
 use Rattle.qw_meaning.specs.Statement.{Statement}
 use Rattle.qw_map.specs.Layout.{before, cell_at, cell_types, cells_at, row_at, row_size, rows_at, rows_from}
-use Rattle.qw_bench.specs.declared.bench.Seat.{Seat}
 use Rattle.qw_sink.specs.declared.sink.Head.{Head}
 use Rattle.qw_sink.specs.declared.sink.Kind.TheVariants.{Number}
 use Rattle.qw_bench.specs.Bench.{Task}
-use Rattle.qw_bench.specs.Seats.{Standing, rows_in, task_of, tasks_of, world_of}
+use Rattle.qw_bench.specs.Standing.{Standing, rows_in}
 use Rattle.qw_sink.specs.Sink.{AreRowsOf}
 use Rattle.qw_top.specs.Top.{head_of, header_of, kind_of}
 use Rattle.qw_top.specs.Inner.Inputs.{AreColumnsOf}
@@ -53,15 +53,16 @@ row_widths types own memory (suc count) at rows is =
     let cells = before-some (row_at types own memory at) (rows_from types own memory count (number_at memory at 4)) rows is in
     rw cells.4 (All-cons (λ (row : List Val). length row ≡ length types) cells.0 cells.1 (row_width types own memory at cells.0 cells.2) (row_widths types own memory count (number_at memory at 4) cells.1 cells.3))
 
-widths_in : (seats : List Seat) (seat : Seat) (memory : List ℕ) (rows : List (List Val)) → slice_get seats 0 ≡ Some seat →
-    option_and_then (λ (seat : Seat). rows_at (cell_types seat.query) (world_of seat).own memory seat.descriptor) (slice_get seats 0) ≡ Some rows → All (λ row. length row ≡ length (cell_types seat.query)) rows
-widths_in [] seat memory rows first is = cc
-widths_in (other ∷ seats) seat memory rows first is =
-    let same : other ≡ seat = cc in
-    let types = cell_types other.query in
-    let own = (world_of other).own in
-    let found = guarded (lies_in_one own other.descriptor 24) (rows_from types own memory (number_at memory (other.descriptor + 16) 8) (number_at memory (other.descriptor + 8) 4)) rows is in
-    rw (← same) (row_widths types own memory (number_at memory (other.descriptor + 16) 8) (number_at memory (other.descriptor + 8) 4) rows found)
+widths_in : (task : Option Task) (instance : Option Instance) (memory : List ℕ) (rows : List (List Val)) (statement : Statement) → IsSomeAnd task (λ t. t.statement ≡ statement) →
+    option_and_then (λ (t : Task). option_and_then (λ (i : Instance). rows_at (cell_types t.statement) i.world.own memory t.descriptor) instance) task ≡ Some rows →
+    All (λ row. length row ≡ length (cell_types statement)) rows
+widths_in None instance memory rows statement same is = absurd same
+widths_in (Some t) None memory rows statement same is = absurd (none-some rows is)
+widths_in (Some t) (Some i) memory rows statement same is =
+    let types = cell_types t.statement in
+    let own = i.world.own in
+    let found = guarded (lies_in_one own t.descriptor 24) (rows_from types own memory (number_at memory (t.descriptor + 16) 8) (number_at memory (t.descriptor + 8) 4)) rows is in
+    rw (← same) (row_widths types own memory (number_at memory (t.descriptor + 16) 8) (number_at memory (t.descriptor + 8) 4) rows found)
 
 -- ---- the header
 
@@ -108,21 +109,16 @@ header-more columns places i column within lt is =
 
 -- ---- both
 
-first_seat : (seats : List Seat) (statement : Statement) → IsSomeAnd (slice_get (map task_of seats) 0) (λ task. task.statement ≡ statement) → (seat : Seat) × (slice_get seats 0 ≡ Some seat) × (seat.query ≡ statement)
-first_seat [] statement task = absurd task
-first_seat (seat ∷ seats) statement task = (seat, refl, task)
-
 -- the result rows of an instance are rows of its statement's header
-pub rows_in-header : (b : Standing) (table : Table) (rows : List (List Val)) (statement : Statement) → IsSomeAnd (slice_get (tasks_of b) 0) (λ task. task.statement ≡ statement) →
+pub rows_in-header : (b : Standing) (table : Table) (rows : List (List Val)) (statement : Statement) → IsSomeAnd (slice_get b.tasks 0) (λ task. task.statement ≡ statement) →
     AreColumnsOf table statement → rows_in b 0 ≡ Some rows → AreRowsOf (header_of table statement) rows
 rows_in-header b table rows statement task columns is =
-    let seat = first_seat b.seats statement task in
-    let cells : length (cell_types seat.0.query) ≡ length statement.columns =
-    length-map seat.0.query.columns (λ column. Integer) ∙ ap (λ (s : Statement). length s.columns) seat.2 in
+    let cells : length (cell_types statement) ≡ length statement.columns = length-map statement.columns (λ column. Integer) in
     let width = cells ∙ sym (length-header table.columns statement.columns columns.1) in
     record {
       kinds = header-kinds table.columns statement.columns columns.1;
-      widths = subst (λ width. All (λ (row : List Val). length row ≡ width) rows) width (widths_in b.seats seat.0 b.memory.octets rows seat.1 is);
+      widths = subst (λ width. All (λ (row : List Val). length row ≡ width) rows) width
+          (widths_in (slice_get b.tasks 0) (slice_get b.shared.instances 0) b.shared.memory rows statement task is);
     }
 
 -- the statement that is asked for by a bench is that of its task

@@ -13,7 +13,7 @@ use Rattle.qw_top.specs.declared.status.Status.TheVariants.{Done, WordsRefused, 
 use Rattle.qw_bench.specs.Bench.{AreRounds, IsStart, end_in}
 use Rattle.qw_top.specs.Notes.{read_fault_line, want_of_memory_line}
 use Rattle.qw_top.specs.Output.{TookFront, with_text}
-use Rattle.qw_bench.specs.Seats.{Standing, first_task, rows_in, shared_of, tasks_of}
+use Rattle.qw_bench.specs.Standing.{Standing, first_task, rows_in}
 use Rattle.qw_sink.specs.Sink.{report_of_rows, report_of_pages}
 use Rattle.qw_top.specs.Top.{AreNames, Files, HasQuery, Names, IsNamed, header_of}
 
@@ -28,14 +28,14 @@ pub record Asks (files : Files) (words : List (List ℕ)) (table : Table) (rows 
 pub record HasRun (width : ℕ) (rows : List (List Val)) (statement : Statement) (b : Standing) : Type 0 where
   pub program : Module
   pub compiled : IsCompiled statement program
-  pub tasks : tasks_of b ≡ first_task width (length rows) (record { statement = statement; program = program }) default_limits ∷ []
+  pub tasks : b.tasks ≡ first_task width (length rows) (record { statement = statement; program = program }) default_limits ∷ []
   pub start : Shared
-  pub began : IsStart width rows (tasks_of b) start
+  pub began : IsStart width rows b.tasks start
   pub given : List (ℕ × ℕ)
   pub rounds : AreRounds quantum given start
-  pub turned : shared_of b ≡ turns given start
+  pub turned : b.shared ≡ turns given start
   pub end : End
-  pub ended : end_in (shared_of b) 0 ≡ Some end
+  pub ended : end_in b.shared 0 ≡ Some end
 
 -- What is reported of an end: the rows that stand in the bench's memory, which are those of the statement's meaning; or the
 -- pages. There is no other end.

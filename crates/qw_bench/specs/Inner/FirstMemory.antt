@@ -1,4 +1,4 @@
--- The memory of a bench as it begins.
+-- The memory of a bench as it begins: mirrors `first_memory`.
 use Rattle.std.specs.Prelude.{◌≡◌, ℕ, ◌+◌, ◌*◌, List, length}
 use Rattle.qw_types.specs.declared.value.Val.{Val}
 use Rattle.qw_linear.specs.Memory.{page, AreOctets}

@@ -1,4 +1,4 @@
--- How far rounds of turns have come.
+-- How far rounds of turns have come: mirrors the measure of `Bench::run_all`.
 use Rattle.std.specs.Prelude.{ℕ, ◌+◌, ◌-◌, List, [], ◌∷◌}
 use Rattle.qw_map.specs.Turns.{Instance}
 

@@ -2,7 +2,6 @@
 
 ghost use Rattle.std.specs.Prelude.{◌≡◌, ◌+◌, ◌≤◌, ℕ, length, IfOk};
 ghost use Rattle.qw_map.specs.Columns.{column_pages};
-ghost use Rattle.qw_machine.specs.Instance.{GoesWith, state_of};
 ghost use Rattle.qw_module.specs.Start.{begun};
 ghost use Rattle.qw_module.specs.Validity.{IsShaped};
 ghost use Rattle.qw_bench.specs.Inner.FirstMemory.{IsFirstMemory};
@@ -59,13 +58,12 @@ pub(super) fn first_memory(
 /// [`NoMemory`] where it does not fit memory, and nowhere else.
 pub(super) fn first_instance(
     alloc: Global,
-    valid: &ValidModule,
+    valid: ValidModule,
     descriptor: u32,
 ) -> Result<Instance, NoMemory>
-    requires { (number : ℕ) × IsShaped valid.now number }
-    ensures begun { (number : ℕ) → IsShaped valid.now number
-        → IfOk result (λ instance. state_of valid.now instance ≡ begun valid.now number descriptor) }
-    ensures goes_with { IfOk result (GoesWith valid.now) }
+    requires { (number : ℕ) × IsShaped valid number }
+    ensures { (number : ℕ) → IsShaped valid number
+        → IfOk result (λ instance. instance ≡ record { program = valid; state = begun valid number descriptor }) }
 {
     match Instance::new(alloc, valid, descriptor) {
         Ok(instance) => Ok(instance),

@@ -1,4 +1,4 @@
--- Steps of open runs, counted: what proofs about emitted code stand on.
+-- Steps of open runs, counted: what proofs about emitted code stand on. It mirrors no function.
 use Rattle.std.specs.Prelude.{ℕ, ◌⊎◌, List, Option, Some, zero, suc, None}
 use Rattle.qw_module.specs.Execution.{State, Running, Returned, Raised, Trapped, Event, Grows, Config}
 use Rattle.qw_map.specs.Areas.{World, IsFine, AsksWithin, Others, grants}

@@ -1,4 +1,4 @@
--- What a writer of lines has written.
+-- What a writer of lines has written: mirrors `write_rows` and `write_line`.
 use Rattle.std.specs.Prelude.{◌≡◌, ℕ, List, false, Some}
 use Rattle.std.specs.declared.vec.Vec.{Vec}
 use Rattle.std.specs.declared.alloc.Global.{Global}

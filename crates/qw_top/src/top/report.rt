@@ -6,7 +6,7 @@ ghost use Rattle.qw_types.specs.declared.value.Val.{Val};
 ghost use Rattle.qw_map.specs.Turns.{Done};
 ghost use Rattle.qw_bench.specs.Bench.{end_in};
 ghost use Rattle.qw_top.specs.Delivered.{ShowsEnd, status_of};
-ghost use Rattle.qw_bench.specs.Seats.{rows_in, shared_of, tasks_of};
+ghost use Rattle.qw_bench.specs.Standing.{rows_in};
 ghost use Rattle.qw_sink.specs.Sink.{report_of_rows};
 ghost use Rattle.qw_top.specs.Inner.Stages.{IsReport, Ran, Writes};
 ghost use Rattle.qw_top.specs.Top.{head_of, header_of};
@@ -73,9 +73,9 @@ fn report_of(alloc: Global, run: &Turned) -> Result<Report, NoMemory>
 
 /// The report of the rows of a bench whose instance is done.
 fn rows_report(alloc: Global, table: &Table, bench: &Bench) -> Result<Vec<u8>, NoMemory>
-    requires done { end_in (shared_of bench.now) 0 ≡ Some Done }
-    requires columns { IsSomeAnd (slice_get (tasks_of bench.now) 0) (λ task. AreColumnsOf table.now task.statement) }
-    ensures { IfOk result (λ text. IfSome (slice_get (tasks_of bench.now) 0) (λ task. (bag : List (List Val))
+    requires done { end_in bench.now.shared 0 ≡ Some Done }
+    requires columns { IsSomeAnd (slice_get bench.now.tasks 0) (λ task. AreColumnsOf table.now task.statement) }
+    ensures { IfOk result (λ text. IfSome (slice_get bench.now.tasks 0) (λ task. (bag : List (List Val))
         → rows_in bench.now 0 ≡ Some bag → text.items ≡ report_of_rows 1 (header_of table.now task.statement) bag)) }
 {
     let rows = received(alloc, bench, 0)?;

@@ -2,27 +2,27 @@ use Rattle.std.proofs.Common.{◌≡◌, ◌+◌, ◌*◌, ◌≤◌, ◌∙◌,
 use Rattle.qw_bench.proofs.FirstPages.{entries_more, entries_none, fresh, same-below}
 use Rattle.qw_bench.proofs.first_page.begin_page.Goals as goal
 
-pub loop-place-init : goal.loop-place-init
-loop-place-init c = record {
+pub loop-index-init : goal.loop-index-init
+loop-index-init c = record {
   entries = entries_none c.put-2.new.memory.octets c.args.descriptor c.args.starts.now c.args.rows;
   octets = λ h. c.put-2.ensures.octets (c.put.ensures.octets h);
   len = c.put-2.ensures.len ∙ c.put.ensures.len;
   reserved = c.put-2.ensures.reserved ∙ c.put.ensures.reserved;
 }
 
-pub loop-place-preserved : goal.loop-place-preserved
-loop-place-preserved c =
+pub loop-index-preserved : goal.loop-index-preserved
+loop-index-preserved c =
     let d = c.args.descriptor in
-    let n = c.loop-place.place in
-    let memory = c.loop-place.memory.octets in
-    let room : d + 16 * n + 80 ≤ length memory = omega (arith, c.loop-place.invariant.len, c.requires.inside, c.requires.few) in
+    let n = c.loop-index.index in
+    let memory = c.loop-index.memory.octets in
+    let room : d + 16 * n + 80 ≤ length memory = omega (arith, c.loop-index.invariant.len, c.requires.inside, c.requires.few) in
     record {
-      entries = entries_more c.put-2.new.memory.octets memory c.put-in-loop-place.new.memory.octets c.put-in-loop-place-2.new.memory.octets d _ c.args.rows n
-          c.args.starts.now c.put-in-loop-place.ensures.stored c.put-in-loop-place-2.ensures.stored c.loop-place-test.true refl (omega (arith, c.type_inv.starts n))
-          (omega arith) room c.loop-place.invariant.entries;
-      octets = λ h. c.put-in-loop-place-2.ensures.octets (c.put-in-loop-place.ensures.octets (c.loop-place.invariant.octets h));
-      len = c.put-in-loop-place-2.ensures.len ∙ c.put-in-loop-place.ensures.len ∙ c.loop-place.invariant.len;
-      reserved = c.put-in-loop-place-2.ensures.reserved ∙ c.put-in-loop-place.ensures.reserved ∙ c.loop-place.invariant.reserved;
+      entries = entries_more c.put-2.new.memory.octets memory c.put-in-loop-index.new.memory.octets c.put-in-loop-index-2.new.memory.octets d _ c.args.rows n
+          c.args.starts.now c.put-in-loop-index.ensures.stored c.put-in-loop-index-2.ensures.stored c.loop-index-test.true refl (omega (arith, c.type_inv.starts n))
+          (omega arith) room c.loop-index.invariant.entries;
+      octets = λ h. c.put-in-loop-index-2.ensures.octets (c.put-in-loop-index.ensures.octets (c.loop-index.invariant.octets h));
+      len = c.put-in-loop-index-2.ensures.len ∙ c.put-in-loop-index.ensures.len ∙ c.loop-index.invariant.len;
+      reserved = c.put-in-loop-index-2.ensures.reserved ∙ c.put-in-loop-index.ensures.reserved ∙ c.loop-index.invariant.reserved;
     }
 
 pub returns-clause-fresh : goal.returns-clause-fresh
@@ -32,9 +32,9 @@ returns-clause-fresh c =
     let starts = c.args.starts.now in
     let first : d + 0 ≡ d = omega arith in
     let stored = rw first at c.put.ensures.stored in
-    let all : c.loop-place.place ≡ length starts = omega arith in
-    fresh d c.args.rows starts memory c.put.new.memory.octets c.put-2.new.memory.octets c.loop-place.memory.octets stored c.put-2.ensures.stored
-    (rw all at c.loop-place.invariant.entries) c.requires.few c.requires.small c.requires.inside c.requires.blank
+    let all : c.loop-index.index ≡ length starts = omega arith in
+    fresh d c.args.rows starts memory c.put.new.memory.octets c.put-2.new.memory.octets c.loop-index.memory.octets stored c.put-2.ensures.stored
+    (rw all at c.loop-index.invariant.entries) c.requires.few c.requires.small c.requires.inside c.requires.blank
 
 pub returns-clause-below : goal.returns-clause-below
 returns-clause-below c =
@@ -43,6 +43,6 @@ returns-clause-below c =
     let starts = c.args.starts.now in
     let first : d + 0 ≡ d = omega arith in
     let stored = rw first at c.put.ensures.stored in
-    let all : c.loop-place.place ≡ length starts = omega arith in
-    same-below d c.args.rows starts memory c.put.new.memory.octets c.put-2.new.memory.octets c.loop-place.memory.octets stored c.put-2.ensures.stored
-    (rw all at c.loop-place.invariant.entries)
+    let all : c.loop-index.index ≡ length starts = omega arith in
+    same-below d c.args.rows starts memory c.put.new.memory.octets c.put-2.new.memory.octets c.loop-index.memory.octets stored c.put-2.ensures.stored
+    (rw all at c.loop-index.invariant.entries)

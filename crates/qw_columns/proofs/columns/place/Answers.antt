@@ -20,18 +20,18 @@ loop-column-init c =
       reserved = refl;
     }
 
-pub place_column-requires-clause-room : goal.place_column-requires-clause-room
-place_column-requires-clause-room c =
+pub write_column-requires-clause-room : goal.write_column-requires-clause-room
+write_column-requires-clause-room c =
     let room = within_pages c.args.loaded.now.width (length c.args.loaded.now.rows) c.loop-column.column (rw c.width-column-end.ensures at c.loop-column-test.true) in
     rw (c.loop-column.invariant.len) room
 
 pub loop-column-preserved : goal.loop-column-preserved
 loop-column-preserved c = record {
-  holds = columns_more c.loop-column.memory.octets c.place_column.new.memory.octets c.args.loaded.now.rows c.loop-column.column c.place_column.ensures.below
-      c.place_column.ensures.len c.loop-column.invariant.holds c.place_column.ensures.holds;
-  octets = c.place_column.ensures.octets c.loop-column.invariant.octets;
-  len = c.place_column.ensures.len ∙ c.loop-column.invariant.len;
-  reserved = c.place_column.ensures.reserved ∙ c.loop-column.invariant.reserved;
+  holds = columns_more c.loop-column.memory.octets c.write_column.new.memory.octets c.args.loaded.now.rows c.loop-column.column c.write_column.ensures.below
+      c.write_column.ensures.len c.loop-column.invariant.holds c.write_column.ensures.holds;
+  octets = c.write_column.ensures.octets c.loop-column.invariant.octets;
+  len = c.write_column.ensures.len ∙ c.loop-column.invariant.len;
+  reserved = c.write_column.ensures.reserved ∙ c.loop-column.invariant.reserved;
 }
 
 pub returns-clause-holds : goal.returns-clause-holds

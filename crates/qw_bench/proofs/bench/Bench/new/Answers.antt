@@ -1,12 +1,13 @@
-use Rattle.std.proofs.Common.{◌≡◌, ◌<◌, ◌*◌, length, None, refl, sym, ap, ◌∙◌, subst, arith}
+use Rattle.std.proofs.Common.{ℕ, ◌≡◌, ◌<◌, ◌*◌, length, None, refl, sym, ap, ◌∙◌, subst, arith}
 use Rattle.std.specs.List.{AllByRecursion}
 use Rattle.qw_linear.specs.Memory.{page}
+use Rattle.qw_machine.specs.Instance.{Called}
 use Rattle.qw_module.specs.Start.{begun}
 use Rattle.qw_map.specs.Columns.{column_pages}
 use Rattle.qw_map.specs.Layout.{used}
 use Rattle.qw_bench.specs.declared.bench.Seat.{Seat}
 use Rattle.qw_bench.specs.Bench.{CompiledQuery}
-use Rattle.qw_bench.specs.Seats.{IsEndOf, state_in}
+use Rattle.qw_bench.specs.Inner.Seats.{IsEndOf, state_in}
 use Rattle.qw_bench.proofs.BenchStart.{bench, end-begun, start}
 use Rattle.qw_bench.proofs.bench.Bench.new.Goals as goal
 use Rattle.qw_bench.proofs.bench.Bench.new.Goals.{in-Returned, in_default}
@@ -15,7 +16,6 @@ use Rattle.qw_bench.proofs.bench.Bench.new.Goals.{in-Returned, in_default}
 abbrev seat : goal.In_ok-seats → Seat
 seat c = record {
   query = c.job.inside.query;
-  valid = c.job.inside.valid;
   instance = c.in_ok-instance.instance;
   rows = c.len.result;
   descriptor = c.from.result;
@@ -30,18 +30,19 @@ seat c = record {
 columns : (c : goal.In_ok-seats) → AllByRecursion (λ column. column < c.args.loaded.now.width) (used c.job.inside.query)
 columns c = subst (λ (job : CompiledQuery). AllByRecursion (λ column. column < c.args.loaded.now.width) (used job.statement)) (sym c.job.view_is) c.requires.columns
 
-place : (c : goal.In_ok-seats) → c.from.result ≡ column_pages c.args.loaded.now.width (length c.args.loaded.now.rows) * page
-place c = omega (arith, c.from.ensures, c.pages_needed.ensures.pages)
+descriptor : (c : goal.In_ok-seats) → c.from.result ≡ column_pages c.args.loaded.now.width (length c.args.loaded.now.rows) * page
+descriptor c = omega (arith, c.from.ensures, c.pages_needed.ensures.pages)
 
-begins : (c : goal.In_ok-seats) → state_in (seat c) ≡ begun c.job.inside.valid c.job.invariant.shaped.0 c.from.result
-begins c =
+made : (c : goal.In_ok-seats) → (seat c).instance ≡ record { program = c.job.inside.valid; state = begun c.job.inside.valid c.job.invariant.shaped.0 c.from.result }
+made c =
     let shaped = c.job.invariant.shaped in
-    c.in_ok-instance.ensures.begun shaped.0 shaped.1 ∙ ap (begun c.job.inside.valid shaped.0) (sym c.from.ensures)
+    c.in_ok-instance.ensures shaped.0 shaped.1
+    ∙ ap (λ (d : ℕ). record { program = c.job.inside.valid; state = begun c.job.inside.valid shaped.0 d }) (sym c.from.ensures)
 
 end : (c : goal.In_ok-seats) → IsEndOf (seat c) (state_in (seat c)) c.match-last.ended
 end c =
-    let told = c.last.ensures c.job.inside.valid c.in_ok-instance.ensures.goes_with in
-    let ends = end-begun (seat c) c.last.result c.job.invariant.shaped.0 c.from.result (begins c) told in
+    let begins = ap (λ (i : Called). i.state) (made c) in
+    let ends = end-begun (seat c) c.last.result c.job.inside.valid c.job.invariant.shaped.0 c.from.result begins c.last.ensures in
     elim c.match-last.branch [
       | in-Returned w ↦ rw w.ended-is (ends.0 w.in-Returned.is)
       | in_default w ↦ rw w.ended-is (ends.1 w.in_default.not-Returned)
@@ -50,12 +51,12 @@ end c =
 pub invariant_of-result : goal.invariant_of-result
 invariant_of-result c =
     rw c.in_ok-seats.ensures.items
-    (bench c.args.loaded.now.width c.args.loaded.now.rows c.in_ok-memory.memory (seat c) c.in_ok-memory.ensures.first c.len.ensures.limits c.job.invariant
-    (columns c) (place c) c.len.ensures.rows c.requires.steps c.requires.pages.0 c.requires.pages.1 c.in_ok-granted.ensures.items refl refl refl (begins c) (end c)
-    c.in_ok-instance.ensures.goes_with c.in_ok-granted.ensures.capacity c.in_ok-memory.ensures.reserved)
+    (bench c.args.loaded.now.width c.args.loaded.now.rows c.in_ok-memory.memory (seat c) c.in_ok-memory.ensures.first c.len.ensures.limits c.job.inside.valid c.job.invariant
+    (columns c) (descriptor c) c.len.ensures.rows c.requires.steps c.requires.pages.0 c.requires.pages.1 c.in_ok-granted.ensures.items refl refl refl (made c) (end c)
+    c.in_ok-granted.ensures.capacity c.in_ok-memory.ensures.reserved)
 
 pub returns-clause-start : goal.returns-clause-start
 returns-clause-start c =
     rw c.in_ok-seats.ensures.items
-    (start c.args.loaded.now.width c.args.loaded.now.rows c.in_ok-memory.memory (seat c) c.in_ok-memory.ensures.first c.len.ensures.limits c.job.invariant
-    (columns c) (place c) c.len.ensures.rows c.requires.steps c.requires.pages.0 c.requires.pages.1 c.in_ok-granted.ensures.items refl refl refl (begins c) (end c))
+    (start c.args.loaded.now.width c.args.loaded.now.rows c.in_ok-memory.memory (seat c) c.in_ok-memory.ensures.first c.len.ensures.limits c.job.inside.valid c.job.invariant
+    (columns c) (descriptor c) c.len.ensures.rows c.requires.steps c.requires.pages.0 c.requires.pages.1 c.in_ok-granted.ensures.items refl refl refl (made c) (end c))

@@ -1,6 +1,6 @@
 use Rattle.std.proofs.Common.{sym, subst, arith}
 use Rattle.qw_map.specs.Turns.{Instance}
-use Rattle.qw_bench.specs.Seats.{IsTold}
+use Rattle.qw_bench.specs.Inner.Seats.{IsTold}
 use Rattle.qw_bench.proofs.SeatSteps.{counting-none, turned-at_limit, turned-ended, turned-none, turned-on, unended-seat}
 use Rattle.qw_bench.proofs.bench.Seat.turn.Goals as goal
 use Rattle.qw_bench.proofs.bench.Seat.turn.Goals.{else-is_none-via-then-is_none+else-self, else-is_none-via-else-is_none}

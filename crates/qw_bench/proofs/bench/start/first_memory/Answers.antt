@@ -36,9 +36,9 @@ pub begin_page-requires-clause-blank : goal.begin_page-requires-clause-blank
 begin_page-requires-clause-blank c =
     let before = c.place.new.memory.octets in
     let grown : c.grow.new.self ≡ record { octets = grown_by 1 before; reserved = c.place.new.memory.reserved } = rw c.unwrap.ensures at c.grow.ensures.grown in
-    let place : length before ≡ 65536 * c.pages_needed-column_pages.result = omega (arith, c.place.ensures.len, c.pages_needed-column_pages.ensures.pages) in
+    let end : length before ≡ 65536 * c.pages_needed-column_pages.result = omega (arith, c.place.ensures.len, c.pages_needed-column_pages.ensures.pages) in
     subst (λ (m : Octets). IsBlank m.octets (65536 * c.pages_needed-column_pages.result)) (sym grown)
-    (subst (IsBlank (grown_by 1 before)) place (blank-grown 1 before))
+    (subst (IsBlank (grown_by 1 before)) end (blank-grown 1 before))
 
 pub returns-clause-first : goal.returns-clause-first
 returns-clause-first c =
@@ -49,14 +49,14 @@ returns-clause-first c =
     let statement = c.args.query.now in
     let begun = c.begin_page.ensures in
     let grown : c.grow.new.self ≡ record { octets = grown_by 1 before; reserved = c.place.new.memory.reserved } = rw c.unwrap.ensures at c.grow.ensures.grown in
-    let place : 65536 * c.pages_needed-column_pages.result ≡ column_pages width (length rows) * page = omega (arith, c.pages_needed-column_pages.ensures.pages) in
+    let end : 65536 * c.pages_needed-column_pages.result ≡ column_pages width (length rows) * page = omega (arith, c.pages_needed-column_pages.ensures.pages) in
     let starts : c.as_slice-2.result.now ≡ map (column_start (length rows)) (used statement) =
     c.as_slice-2.ensures.value ∙ c.in_ok-starts.ensures ∙ ap (λ (n : ℕ). map (column_start n) c.as_slice.result.now) c.len.ensures.rows
     ∙ ap (map (column_start (length rows))) (c.as_slice.ensures.value ∙ c.in_ok-columns.ensures) in
     first-memory statement width rows before after c.place.ensures.holds c.place.ensures.octets c.place.ensures.len
-    (subst (λ (d : ℕ). SameBelow (grown_by 1 before) after d) place (subst (λ (m : Octets). SameBelow m.octets after (65536 * c.pages_needed-column_pages.result)) grown begun.below))
+    (subst (λ (d : ℕ). SameBelow (grown_by 1 before) after d) end (subst (λ (m : Octets). SameBelow m.octets after (65536 * c.pages_needed-column_pages.result)) grown begun.below))
     (begun.len ∙ ap (λ (m : Octets). length m.octets) grown)
     (subst (λ (m : Octets). AreOctets m.octets → AreOctets after) grown begun.octets)
-    (subst (λ (d : ℕ). IsFresh after d (map (column_start (length rows)) (used statement)) (length rows)) place
+    (subst (λ (d : ℕ). IsFresh after d (map (column_start (length rows)) (used statement)) (length rows)) end
     (subst (λ (n : ℕ). IsFresh after (65536 * c.pages_needed-column_pages.result) (map (column_start (length rows)) (used statement)) n) c.len-2.ensures.rows
     (subst (λ (xs : List ℕ). IsFresh after (65536 * c.pages_needed-column_pages.result) xs c.len-2.result) starts begun.fresh)))

@@ -1,5 +1,5 @@
 use Rattle.std.proofs.Common.{[], ◌∷◌, ◌∙◌, ap, length}
-use Rattle.qw_bench.specs.Seats.{first_task}
+use Rattle.qw_bench.specs.Standing.{first_task}
 use Rattle.qw_top.specs.Limits.{default_limits}
 use Rattle.qw_top.proofs.RunLemmas.{HasRun-from}
 use Rattle.qw_top.proofs.top.run.finished.Goals as goal

@@ -1,7 +1,7 @@
 use Rattle.std.proofs.Common.{◌≡◌, length}
 use Rattle.qw_linear.specs.Memory.{AreOctets, SameBelow}
 use Rattle.qw_columns.proofs.ColumnLemmas.{HoldsFirst}
-use Rattle.qw_columns.proofs.columns.place_column.Given as goal
+use Rattle.qw_columns.proofs.columns.write_column.Given as goal
 
 abbrev pub invariant-loop-row : goal.invariant-loop-row
 invariant-loop-row l = record {

@@ -1,36 +1,25 @@
--- What a bench stands for: one memory, and the instances that share it.
-use Rattle.std.specs.Prelude.{◌≡◌, ℕ, ◌+◌, ◌*◌, ◌<◌, ◌≤◌, List, ◌∷◌, length, map, All, Option, Some, None, slice_get}
-use Rattle.std.specs.Option.{option_and_then}
+-- What the fields of `Bench` and of its seats stand for: mirrors `Seat::turn`, `Seat::run` and `Bench`.
+use Rattle.std.specs.Prelude.{◌≡◌, ℕ, ◌+◌, ◌*◌, ◌<◌, ◌≤◌, List, ◌∷◌, length, map, All, Option, Some, None}
 use Rattle.std.specs.Vec.{vec_capacity}
-use Rattle.qw_types.specs.declared.value.Val.{Val}
 use Rattle.qw_linear.specs.Memory.{page}
 use Rattle.qw_linear.specs.Linear.{Octets}
 use Rattle.qw_module.specs.Execution.{Config, State, Running, Returned, Raised, Trapped, Event, Grows}
 use Rattle.qw_map.specs.Areas.{Area, World, GoesOn, grants}
 use Rattle.qw_module.specs.Step.{Next, next}
-use Rattle.qw_map.specs.Turns.{Done, Pages, Steps, End, Instance, Shared, end_at, steps_of, may_ask}
-use Rattle.qw_machine.specs.Instance.{GoesWith, state_of}
-use Rattle.qw_map.specs.Columns.{column_pages}
-use Rattle.qw_map.specs.Layout.{cell_types, column_starts, column_areas, rows_at}
+use Rattle.qw_map.specs.Turns.{Instance, end_at, steps_of}
+use Rattle.qw_map.specs.Layout.{column_starts, column_areas}
 use Rattle.qw_bench.specs.declared.bench.Ended.{Ended}
 use Rattle.qw_bench.specs.declared.bench.Ended.TheVariants as ended
 use Rattle.qw_bench.specs.declared.bench.Grant.{Grant}
-use Rattle.qw_bench.specs.declared.bench.Limits.{Limits}
 use Rattle.qw_bench.specs.declared.bench.Seat.{Seat}
-use Rattle.qw_bench.specs.Bench.{AreServing, CompiledQuery, Task}
-
--- the end that is meant
-abbrev pub end_of : Option Ended → Option End
-end_of None = None
-end_of (Some ended.Done) = Some Done
-end_of (Some (ended.Pages held asked limit)) = Some (Pages held asked limit)
-end_of (Some (ended.Steps limit)) = Some (Steps limit)
+use Rattle.qw_bench.specs.Bench.{Task}
+use Rattle.qw_bench.specs.Standing.{IsBench, Standing, end_of}
 
 -- what the instance of a seat is to do
 abbrev pub task_of : Seat → Task
 task_of seat = record {
   statement = seat.query;
-  program = seat.valid;
+  program = seat.instance.program;
   descriptor = seat.descriptor;
   pages = seat.limits.pages;
   steps = seat.limits.steps;
@@ -38,7 +27,7 @@ task_of seat = record {
 
 -- the state of the instance of a seat
 abbrev pub state_in : Seat → State
-state_in seat = state_of seat.valid seat.instance
+state_in seat = seat.instance.state
 
 -- the area of the pages that were granted
 abbrev pub area_of : Grant → Area
@@ -112,36 +101,15 @@ IsTold i memory = (quantum : ℕ) (c : Config) (t : Next) → (steps_of quantum 
     next (grants (steps_of quantum i memory).0.world) c (steps_of quantum i memory).1 ≡ Some t →
     CanBeTold (steps_of quantum i memory).0.world t.event t.state
 
--- a bench: its memory and its seats
-pub record Standing : Type 0 where
-  pub memory : Octets
-  pub seats : List Seat
-
-abbrev pub shared_of : Standing → Shared
-shared_of b = record { memory = b.memory.octets; instances = map instance_of b.seats }
-
-abbrev pub tasks_of : Standing → List Task
-tasks_of b = map task_of b.seats
-
--- the first task on a bench over a table of so many columns and rows: its first page follows the pages of the columns
-abbrev pub first_task : (width rows : ℕ) → CompiledQuery → Limits → Task
-first_task width rows job limits = record {
-  statement = job.statement;
-  program = job.program;
-  descriptor = column_pages width rows * page;
-  pages = limits.pages;
-  steps = limits.steps;
+-- what a bench of this memory and these seats stands for
+abbrev pub standing_of : Octets → List Seat → Standing
+standing_of memory seats = record {
+  shared = record { memory = memory.octets; instances = map instance_of seats };
+  tasks = map task_of seats;
+  reserved = memory.reserved;
 }
 
--- the result rows of the instance of a number
-abbrev pub rows_in : Standing → ℕ → Option (List (List Val))
-rows_in b i = option_and_then (λ (seat : Seat). rows_at (cell_types seat.query) (world_of seat).own b.memory.octets seat.descriptor) (slice_get b.seats i)
-
--- What every bench keeps: its instances serve their tasks over a table, each goes with its module, and memory and seats have
--- room for all pages that may still be asked for.
-pub record IsBench (b : Standing) : Type 0 where
-  pub table : List (List Val)
-  pub serving : AreServing table (tasks_of b) (shared_of b)
-  pub fitting : All (λ (seat : Seat). GoesWith seat.valid seat.instance) b.seats
-  pub grants : All HasGrants b.seats
-  pub room : length b.memory.octets + may_ask (shared_of b).instances * page ≤ b.memory.reserved * page
+-- What the fields of a bench keep: each seat has room for its grants.
+pub record AreSeats (memory : Octets) (seats : List Seat) : Type 0 where
+  pub bench : IsBench (standing_of memory seats)
+  pub grants : All HasGrants seats

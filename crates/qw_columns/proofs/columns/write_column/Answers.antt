@@ -5,7 +5,7 @@ use Rattle.std.proofs.lemmas.Int.{to_z-of_z}
 use Rattle.qw_linear.proofs.AccessFacts.{stored-inside}
 use Rattle.qw_linear.proofs.MemoryFacts.{AreOctets-with_number, length-with_number, with_number-below}
 use Rattle.qw_columns.proofs.ColumnLemmas.{holds_all, holds_more, holds_none}
-use Rattle.qw_columns.proofs.columns.place_column.Goals as goal
+use Rattle.qw_columns.proofs.columns.write_column.Goals as goal
 
 pub loop-row-init : goal.loop-row-init
 loop-row-init c = record {

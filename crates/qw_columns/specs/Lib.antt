@@ -1,0 +1,2 @@
+pub use Rattle.qw_linear.specs.Memory
+pub use Rattle.qw_map.specs.Columns
