@@ -4,6 +4,7 @@ ghost use Rattle.std.specs.Prelude.{◌≡◌, ℕ, List, [], ◌∷◌, length,
 ghost use Rattle.qw_linear.specs.Memory.{number_at, with_number, loaded, stored, grown_by, pages_of};
 
 /// Numbers are little endian: the octets 2, 3, 4, 5 stand for 2 + 3 * 256 + 4 * 65536 + 5 * 16777216.
+#[tactic(auto, unfolding(crate::specs::Memory::number_at))]
 pub fn number_of_octets()
     ensures one { number_at (1 ∷ 2 ∷ 3 ∷ 4 ∷ 5 ∷ []) 1 1 ≡ 2 }
     ensures two { number_at (1 ∷ 2 ∷ 3 ∷ 4 ∷ 5 ∷ []) 1 2 ≡ 770 }
@@ -13,6 +14,7 @@ pub fn number_of_octets()
 
 /// A number is put low octet first, as far as it fits its width: of 66051, which is 3 + 2 * 256 + 1 * 65536, the third octet
 /// is left out where two are written.
+#[tactic(auto, unfolding(crate::specs::Memory::with_number))]
 pub fn octets_of_a_number()
     ensures three { with_number (9 ∷ 9 ∷ 9 ∷ 9 ∷ 9 ∷ []) 1 3 66051 ≡ 9 ∷ 3 ∷ 2 ∷ 1 ∷ 9 ∷ [] }
     ensures two { with_number (9 ∷ 9 ∷ 9 ∷ 9 ∷ 9 ∷ []) 1 2 66051 ≡ 9 ∷ 3 ∷ 2 ∷ 9 ∷ 9 ∷ [] }
@@ -20,6 +22,7 @@ pub fn octets_of_a_number()
 {}
 
 /// A load of two octets from the last two of a memory reads them, and one from the last reads nothing; a store too.
+#[tactic(auto, unfolding(crate::specs::Memory::number_at, crate::specs::Memory::with_number))]
 pub fn accesses_at_the_end()
     ensures loaded { loaded (1 ∷ 2 ∷ 3 ∷ []) 1 2 ≡ Some 770 }
     ensures not_loaded { loaded (1 ∷ 2 ∷ 3 ∷ []) 2 2 ≡ None }
