@@ -11,14 +11,13 @@ use super::locals::{VALUE, value_of_other};
 use qw_map::layout::used_columns;
 use qw_meaning::query::{Comparison, Query};
 use qw_types::NoMemory;
-use qw_types::schema::MAX_COLUMNS;
 use std::alloc::Global;
 use std::marker::Model;
 
-/// What the code of a statement depends on: the place of the compared column among those that are used, the places of the
+/// What the code of a statement depends on: the index of the compared column among those that are used, the indices of the
 /// others, for each cell of a result row the local that holds its value, the comparison and the literal.
 #[derive(Debug, Drop)]
-pub struct Plan {
+pub struct ScanShape {
     tested: u32,
     others: Vec<u32>,
     cells: Vec<u32>,
@@ -26,9 +25,9 @@ pub struct Plan {
     literal: i64,
 }
 
-impl Model for Plan {
+impl Model for ScanShape {
     ghost use Rattle.qw_emit.specs.Inner.Emit.{Scan};
-    ghost use Rattle.qw_emit.specs.Inner.Plan.{IsPlan};
+    ghost use Rattle.qw_emit.specs.Inner.ScanShape.{IsScanShape};
 
     ghost Value = { Scan };
 
@@ -40,7 +39,7 @@ impl Model for Plan {
       literal = p.literal;
     } };
 
-    ghost invariant = { λ p. IsPlan (record {
+    ghost invariant = { λ p. IsScanShape (record {
       tested = p.tested;
       others = p.others.items;
       cells = p.cells.items;
@@ -49,25 +48,25 @@ impl Model for Plan {
     }) };
 }
 
-impl Plan {
+impl ScanShape {
     /// What the code of this statement depends on.
     pub fn new(alloc: Global, query: &Query) -> Result<Self, NoMemory>
-        ensures plan { IfOk result (λ plan. plan ≡ emit.scan_of query.now) }
-        ensures limits { IfOk result (λ plan. IsStatement query.now) }
+        ensures shape { IfOk result (λ shape. shape ≡ emit.scan_of query.now) }
+        ensures limits { IfOk result (λ shape. IsStatement query.now) }
     {
         let used = used_columns(alloc, query)?;
         let others = other_columns(alloc, &used, query.tested())?;
         let cells = cell_locals(alloc, query.tested(), &others, query.columns())?;
-        Ok(Plan {
+        Ok(ScanShape {
             tested: index_in(&used, query.tested()),
-            others: places_of(alloc, &used, &others)?,
+            others: indices_of(alloc, &used, &others)?,
             cells,
             comparison: query.comparison(),
             literal: query.literal(),
         })
     }
 
-    /// The place of the compared column among those that are used.
+    /// The index of the compared column among those that are used.
     pub fn tested(&self) -> u32
         ensures tested { result ≡ self.now.tested }
         ensures few { result ≤ most_columns }
@@ -75,11 +74,11 @@ impl Plan {
         self.tested
     }
 
-    /// The places of the other columns.
+    /// The indices of the other columns.
     pub fn others(&self) -> &[u32]
         ensures others { result.now ≡ self.now.others }
         ensures few { length result.now ≤ most_columns }
-        ensures small { AllByRecursion (λ place. place ≤ most_columns) result.now }
+        ensures small { AllByRecursion (λ index. index ≤ most_columns) result.now }
     {
         self.others.as_slice()
     }
@@ -107,19 +106,19 @@ impl Plan {
     }
 }
 
-/// The first place of a column in a list.
-fn first_place(columns: &[usize], column: usize) -> Option<usize>
+/// The first index of a column in a list.
+fn first_index(columns: &[usize], column: usize) -> Option<usize>
     ensures { result ≡ position (λ c. c == column) columns.now }
 {
     columns.iter().position(|c| *c == column)
 }
 
-/// The first place of a column in a list, or its length.
+/// The first index of a column in a list, or its length.
 fn index_in(columns: &[usize], column: usize) -> u32
     requires { length columns.now ≤ most_columns }
     ensures { result ≡ emit.index_in columns.now column }
 {
-    first_place(columns, column).unwrap_or(columns.len()) as u32
+    first_index(columns, column).unwrap_or(columns.len()) as u32
 }
 
 /// The columns beside the compared one.
@@ -134,13 +133,13 @@ fn other_columns(alloc: Global, used: &[usize], tested: usize) -> Result<Vec<usi
     Ok(others)
 }
 
-/// The places of columns among those that are used.
-fn places_of(alloc: Global, used: &[usize], columns: &[usize]) -> Result<Vec<u32>, NoMemory>
+/// The indices of columns among those that are used.
+fn indices_of(alloc: Global, used: &[usize], columns: &[usize]) -> Result<Vec<u32>, NoMemory>
     requires { length used.now ≤ most_columns }
-    ensures { IfOk result (λ places. places.items ≡ map (emit.index_in used.now) columns.now) }
+    ensures { IfOk result (λ indices. indices.items ≡ map (emit.index_in used.now) columns.now) }
 {
-    let places = columns.iter().map(|c| index_in(used, *c)).collect(alloc)?;
-    Ok(places)
+    let indices = columns.iter().map(|c| index_in(used, *c)).collect(alloc)?;
+    Ok(indices)
 }
 
 /// The local that holds the value of a column, by the compared column and the others.

@@ -11,9 +11,9 @@ use Rattle.qw_meaning.specs.Statement.{Statement, IsStatement}
 use Rattle.qw_meaning.specs.declared.query.Comparison.{Comparison}
 use Rattle.qw_emit.specs.Inner.Emit.{Scan, value_local, value_of_other, index_in, other_columns, local_of, scan_of}
 use Rattle.qw_map.specs.Layout.{used, is_used}
-use Rattle.qw_emit.specs.Inner.Plan.{IsPlan}
+use Rattle.qw_emit.specs.Inner.ScanShape.{IsScanShape}
 
--- the first place where a test passes, or the length where there is none
+-- the first index where a test passes, or the length where there is none
 pub first_or_length : {X : Type 0} (p : X → Bool) (xs : List X) → unwrap_or (position p xs) (length xs) ≡ position_or_len p xs
 first_or_length p xs = ⊎_elim
     (λ there. rw there refl)
@@ -23,7 +23,7 @@ first_or_length p xs = ⊎_elim
     rw none same)
     (cases_Bool (ltb (position_or_len p xs) (length xs)))
 
--- a place is at most the length
+-- an index is at most the length
 pub index_in-small : (xs : List ℕ) (x : ℕ) → index_in xs x ≤ length xs
 index_in-small xs x = prefix_len-le-length (λ y. not (y == x)) xs
 
@@ -39,17 +39,17 @@ pub length-other_columns : (statement : Statement) → length (other_columns sta
 length-other_columns statement =
     omega (arith, length-filter_le (λ column. not (column == statement.tested)) (used statement), length-used statement)
 
--- places in a list of at most so many
-pub places_small : (columns : List ℕ) (xs : List ℕ) (most : ℕ) → length columns ≤ most →
-    AllByRecursion (λ place. place ≤ most) (map (index_in columns) xs)
-places_small columns [] most few = tt
-places_small columns (x ∷ xs) most few = (omega (arith, index_in-small columns x), places_small columns xs most few)
+-- indices in a list of at most so many
+pub indices_small : (columns : List ℕ) (xs : List ℕ) (most : ℕ) → length columns ≤ most →
+    AllByRecursion (λ index. index ≤ most) (map (index_in columns) xs)
+indices_small columns [] most few = tt
+indices_small columns (x ∷ xs) most few = (omega (arith, index_in-small columns x), indices_small columns xs most few)
 
 -- so it keeps its limits
-pub IsPlan-scan_of : (statement : Statement) → IsStatement statement → FitsSigned w64 statement.literal → IsPlan (scan_of statement)
-IsPlan-scan_of statement limits literal = record {
+pub IsScanShape-scan_of : (statement : Statement) → IsStatement statement → FitsSigned w64 statement.literal → IsScanShape (scan_of statement)
+IsScanShape-scan_of statement limits literal = record {
   tested = le_trans (index_in-small (used statement) statement.tested) (length-used statement);
-  others = places_small (used statement) (other_columns statement) most_columns (length-used statement);
+  others = indices_small (used statement) (other_columns statement) most_columns (length-used statement);
   few = rw (length-map (other_columns statement) (index_in (used statement))) (length-other_columns statement);
   cells = rw (length-map statement.columns (local_of statement)) limits.few;
   literal = literal;

@@ -1,4 +1,4 @@
--- Where the columns that a statement uses stand among those, and the other columns among theirs.
+-- The indices of columns among those that a statement uses, and among the others of these.
 use Rattle.std.proofs.Common.{◌≡◌, ℕ, zero, suc, ◌+◌, ◌<◌, ◌≤◌, ◌≢◌, ⊎_elim, Bool, true, false, List, [], ◌∷◌, length, Option, Some, None, refl, sym, ap, ◌∙◌, arith, one-add}
 use Rattle.std.specs.Prelude.{◌==◌, not, filter, slice_get}
 use Rattle.std.specs.List.{AllByRecursion, list_any, range_with_len}
@@ -35,7 +35,7 @@ any-range c a (suc n) low high = ⊎_elim
 index-further : (x c : ℕ) (xs : List ℕ) → (x == c) ≡ false → index_in (x ∷ xs) c ≡ suc (index_in xs c)
 index-further x c xs not_here = rw not_here (one-add (index_in xs c))
 
--- the element at a number's first place is the number
+-- the element at a number's first index is the number
 pub index-there : (c : ℕ) (xs : List ℕ) → is_among c xs ≡ true → slice_get xs (index_in xs c) ≡ Some c
 index-there c [] h = cc
 index-there c (x ∷ xs) h = ⊎_elim
@@ -89,20 +89,20 @@ module _ (statement : Statement) (is : IsStatement statement) where
   pub columns-used : AllByRecursion (λ column. is_among column (used statement) ≡ true) statement.columns
   columns-used = all_used statement.columns is.selected (λ c h. h)
 
-  -- a used column's place
-  pub place-below : (column : ℕ) → is_among column (used statement) ≡ true → index_in (used statement) column < length (used statement)
-  place-below column there = slice_get_within (used statement) (index_in (used statement) column) column (index-there column (used statement) there)
+  -- a used column's index
+  pub index-below : (column : ℕ) → is_among column (used statement) ≡ true → index_in (used statement) column < length (used statement)
+  index-below column there = slice_get_within (used statement) (index_in (used statement) column) column (index-there column (used statement) there)
 
-  -- the other columns' places are those of used columns
-  pub others-below : (j place : ℕ) → slice_get (scan_of statement).others j ≡ Some place → place < length (used statement)
-  others-below j place there =
+  -- the other columns' indices are those of used columns
+  pub others-below : (j index : ℕ) → slice_get (scan_of statement).others j ≡ Some index → index < length (used statement)
+  others-below j index there =
       let found = got_mapped (slice_get (other_columns statement) j) (sym (slice_get-map (index_in (used statement)) (other_columns statement) j) ∙ there) in
       let among = got-filter (λ column. not (column == statement.tested)) (used statement) j found.0 found.1 in
-      rw (sym found.2) (place-below found.0 among.1)
+      rw (sym found.2) (index-below found.0 among.1)
     where
-      got_mapped : (o : Option ℕ) → option_map (index_in (used statement)) o ≡ Some place → (c : ℕ) × (o ≡ Some c) × (index_in (used statement) c ≡ place)
-      got_mapped None h = absurd (none-some place h)
-      got_mapped (Some c) h = (c, refl, same_Some (index_in (used statement) c) place h)
+      got_mapped : (o : Option ℕ) → option_map (index_in (used statement)) o ≡ Some index → (c : ℕ) × (o ≡ Some c) × (index_in (used statement) c ≡ index)
+      got_mapped None h = absurd (none-some index h)
+      got_mapped (Some c) h = (c, refl, same_Some (index_in (used statement) c) index h)
 
   -- one that is used, and isn't compared, is among the others
   pub other-among : (column : ℕ) → is_among column (used statement) ≡ true → (column == statement.tested) ≡ false → is_among column (other_columns statement) ≡ true
