@@ -1,5 +1,5 @@
 -- Numbers in memory, over any width: which octets they depend on, and what is read after a number was put.
-use Rattle.std.proofs.Common.{◌≡◌, ℕ, zero, suc, ◌+◌, ◌*◌, ◌/◌, ◌%◌, ◌^◌, ◌<◌, ◌≤◌, List, length, get_or, set, take, drop, ◌⊎◌, inl, inr, ⊎_elim, refl, ap, ap₂, ◌∙◌, arith, length-set, add-one, sym, ◌++◌, [], ◌∷◌, take-append-drop, take-suc-set, drop-set-lt, append_assoc, mul_comm, pow-suc, get_or-set_same, get_or-set_other, get_or-drop, get_or-take, mod-lt, add-zero, mul-suc, add_comm, mul_assoc}
+use Rattle.std.proofs.Common.{◌≡◌, ℕ, zero, suc, ◌+◌, ◌*◌, ◌/◌, ◌%◌, ◌^◌, ◌<◌, ◌≤◌, ◌≢◌, List, length, get_or, set, take, drop, ◌⊎◌, inl, inr, ⊎_elim, refl, ap, ap₂, ◌∙◌, arith, length-set, add-one, sym, ◌++◌, [], ◌∷◌, take-append-drop, take-suc-set, drop-set-lt, append_assoc, mul_comm, pow-suc, get_or-set_same, get_or-set_other, get_or-drop, get_or-take, mod-lt, add-zero, mul-suc, add_comm, mul_assoc}
 use Rattle.std.proofs.lemmas.Nat.{mod-pow-add, pow-add}
 use Rattle.std.proofs.lemmas.Bool.{cases_lt}
 use Rattle.std.proofs.lemmas.List.{get_or_past}
@@ -15,23 +15,22 @@ length-with_number octets at zero number = refl
 length-with_number octets at (suc width) number =
     length-with_number (set octets at (number % 256)) (at + 1) width (number / 256) ∙ length-set octets at (number % 256)
 
--- and each octet below its place
-pub with_number-below : (octets : List ℕ) (at width number k : ℕ) → k < at →
+-- and each octet at none of its own addresses
+with_number-beside : (octets : List ℕ) (at width number k : ℕ) → ((j : ℕ) → j < width → at + j ≢ k) →
     get_or (with_number octets at width number) k 0 ≡ get_or octets k 0
 unfolding with_number
-with_number-below octets at zero number k h = refl
-with_number-below octets at (suc width) number k h =
-    with_number-below (set octets at (number % 256)) (at + 1) width (number / 256) k (omega arith)
+with_number-beside octets at zero number k apart = refl
+with_number-beside octets at (suc width) number k apart =
+    let first : at + 0 ≢ k = apart 0 (omega arith) in
+    with_number-beside (set octets at (number % 256)) (at + 1) width (number / 256) k
+    (λ j within e. let next : at + suc j ≢ k = apart (suc j) (omega arith) in omega arith)
     ∙ get_or-set_other octets at k (number % 256) 0 (λ e. omega arith)
 
--- and each octet after it
-pub with_number-above : (octets : List ℕ) (at width number k : ℕ) → at + width ≤ k →
-    get_or (with_number octets at width number) k 0 ≡ get_or octets k 0
-unfolding with_number
-with_number-above octets at zero number k h = refl
-with_number-above octets at (suc width) number k h =
-    with_number-above (set octets at (number % 256)) (at + 1) width (number / 256) k (omega arith)
-    ∙ get_or-set_other octets at k (number % 256) 0 (λ e. omega arith)
+pub with_number-below : (octets : List ℕ) (at width number k : ℕ) → k < at → get_or (with_number octets at width number) k 0 ≡ get_or octets k 0
+with_number-below octets at width number k h = with_number-beside octets at width number k (λ j within e. omega arith)
+
+pub with_number-above : (octets : List ℕ) (at width number k : ℕ) → at + width ≤ k → get_or (with_number octets at width number) k 0 ≡ get_or octets k 0
+with_number-above octets at width number k h = with_number-beside octets at width number k (λ j within e. omega arith)
 
 -- a number depends on its octets alone, wherever they lie
 pub number_at-moved : (xs ys : List ℕ) (at there width : ℕ) →
