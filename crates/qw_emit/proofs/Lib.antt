@@ -1,20 +1,20 @@
-pub mod Comparisons
-pub mod Nesting
-pub mod Pieces
-pub mod Places
-pub mod PlanLemmas
-pub mod ScanCells
-pub mod ScanCompiled
-pub mod ScanFacts
-pub mod ScanLocals
-pub mod ScanLoop
-pub mod ScanMemory
-pub mod ScanResult
-pub mod ScanRuns
-pub mod ScanStart
-pub mod ScanStatic
-pub mod ScanSteps
-pub mod ScanTable
-pub mod ScanTyped
-pub mod ScanValid
-pub mod ScanWeight
+mod ColumnIndices
+mod Comparisons
+mod Nesting
+mod Pieces
+mod ScanCells
+mod ScanCompiled
+mod ScanFacts
+mod ScanLocals
+mod ScanLoop
+mod ScanMemory
+mod ScanResult
+mod ScanRuns
+mod ScanShapeLemmas
+mod ScanStart
+mod ScanStatic
+mod ScanSteps
+mod ScanTable
+mod ScanTyped
+mod ScanValid
+mod ScanWeight

@@ -6,8 +6,10 @@ use Rattle.qw_module.specs.declared.instruction.Instr.{Instr}
 use Rattle.qw_module.specs.Syntax.{Code, done, nested, NamesBelow}
 use Rattle.qw_module.specs.declared.instruction.ValType.{ValType}
 use Rattle.qw_module.specs.declared.instruction.ValType.TheVariants.{I32, I64}
-use Rattle.qw_emit.specs.Inner.Emit.{read_distances, read_values, write_cells, other_locals}
-use Rattle.qw_emit.specs.Inner.Sequences.{Adds}
+use Rattle.qw_emit.specs.declared.emit.row.Piece.{Piece}
+use Rattle.qw_emit.specs.declared.emit.row.Piece.TheVariants.{Value, Cell}
+use Rattle.qw_emit.specs.Inner.Emit.{read_distances, other_locals}
+use Rattle.qw_emit.specs.Inner.Sequences.{Adds, each}
 
 pub AllByRecursion-append : {X : Type 0} (P : X → Type 0) (xs ys : List X) → AllByRecursion P xs → AllByRecursion P ys → AllByRecursion P (xs ++ ys)
 AllByRecursion-append P [] ys a b = b
@@ -16,6 +18,11 @@ AllByRecursion-append P (x ∷ xs) ys a b = (a.0, AllByRecursion-append P xs ys 
 -- nothing is added
 pub Adds-none : (below : ℕ) (sequence : List Instr) → Adds below sequence sequence (λ named rest. rest)
 Adds-none below sequence = record { added = []; is = sym (append-nil sequence); nests = λ named rest. refl; names = tt }
+
+-- and nothing for no element
+pub Adds-none_each : (below : ℕ) (piece : Piece) (sequence : List Instr) → Adds below sequence sequence (λ named rest. each piece 0 [] rest)
+Adds-none_each below Value sequence = Adds-none below sequence
+Adds-none_each below Cell sequence = Adds-none below sequence
 
 -- one piece after another
 pub Adds-then : {below : ℕ} {a b c : List Instr} {f g h : (ℕ → Code) → Code → Code} → Adds below a b f → Adds below b c g →
@@ -39,31 +46,35 @@ pub Adds-all : {below : ℕ} {none whole : List Instr} {f : (ℕ → Code) → C
 Adds-all {below} {none} {whole} {f} empty adds named =
     ap (nested named) (adds.is ∙ ap (λ (s : List Instr). s ++ adds.added) empty ∙ sym (append-nil adds.added)) ∙ adds.nests named []
 
+-- Code that is made for each element of a list in turn, from a number on: the first element's, then that of the rest.
+pub record IsEach (code : ℕ → List ℕ → Code → Code) : Type 0 where
+  pub none : (j : ℕ) (rest : Code) → code j [] rest ≡ rest
+  pub one : (j x : ℕ) (xs : List ℕ) (rest : Code) → code j (x ∷ xs) rest ≡ code j (x ∷ []) (code (suc j) xs rest)
+
 -- the code of a list's front, and of what follows there
-pub read_values-append : (j k : ℕ) (xs ys : List ℕ) (rest : Code) → j + length xs ≡ k → read_values j xs (read_values k ys rest) ≡ read_values j (xs ++ ys) rest
-read_values-append j k [] ys rest place = let same : k ≡ j = omega arith in rw same refl
-read_values-append j k (x ∷ xs) ys rest place = let next : suc j + length xs ≡ k = omega arith in rw (read_values-append (suc j) k xs ys rest next) refl
+each-append : (code : ℕ → List ℕ → Code → Code) → IsEach code → (j k : ℕ) (xs ys : List ℕ) (rest : Code) → j + length xs ≡ k →
+    code j xs (code k ys rest) ≡ code j (xs ++ ys) rest
+each-append code is j k [] ys rest count = let same : k ≡ j = omega arith in rw same (is.none j (code j ys rest))
+each-append code is j k (x ∷ xs) ys rest count =
+    is.one j x xs (code k ys rest) ∙ ap (code j (x ∷ [])) (each-append code is (suc j) k xs ys rest (omega arith)) ∙ sym (is.one j x (xs ++ ys) rest)
 
-pub write_cells-append : (j k : ℕ) (xs ys : List ℕ) (rest : Code) → j + length xs ≡ k → write_cells j xs (write_cells k ys rest) ≡ write_cells j (xs ++ ys) rest
-write_cells-append j k [] ys rest place = let same : k ≡ j = omega arith in rw same refl
-write_cells-append j k (x ∷ xs) ys rest place = let next : suc j + length xs ≡ k = omega arith in rw (write_cells-append (suc j) k xs ys rest next) refl
+pub read_distances-each : (tested : ℕ) → IsEach (read_distances tested)
+read_distances-each tested = record { none = λ j rest. refl; one = λ j x xs rest. refl }
 
-pub read_distances-append : (tested j k : ℕ) (xs ys : List ℕ) (rest : Code) → j + length xs ≡ k →
-    read_distances tested j xs (read_distances tested k ys rest) ≡ read_distances tested j (xs ++ ys) rest
-read_distances-append tested j k [] ys rest place = let same : k ≡ j = omega arith in rw same refl
-read_distances-append tested j k (x ∷ xs) ys rest place = let next : suc j + length xs ≡ k = omega arith in rw (read_distances-append tested (suc j) k xs ys rest next) refl
+pub piece-each : (piece : Piece) → IsEach (each piece)
+piece-each Value = record { none = λ j rest. refl; one = λ j x xs rest. refl }
+piece-each Cell = record { none = λ j rest. refl; one = λ j x xs rest. refl }
 
--- Code that is made for each element of a list in turn, from one on: what was added for a list's front, and for the next
--- element, is what is added for the longer front.
-pub Adds-next : {below : ℕ} {a b c : List Instr} (code : ℕ → List ℕ → Code → Code) →
-    ((k : ℕ) (front next : List ℕ) (rest : Code) → length front ≡ k → code 0 front (code k next rest) ≡ code 0 (front ++ next) rest) →
+-- what was added for a list's front, and for the next element, is what is added for the longer front
+pub Adds-next : {below : ℕ} {a b c : List Instr} (code : ℕ → List ℕ → Code → Code) → IsEach code →
     (xs : List ℕ) (i : ℕ) → i < length xs → Adds below a b (λ named rest. code 0 (take i xs) rest) →
     Adds below b c (λ named rest. code i (get_or xs i 0 ∷ []) rest) → Adds below a c (λ named rest. code 0 (take (i + 1) xs) rest)
-Adds-next code append xs i within before after =
+Adds-next code is xs i within before after =
     Adds-then before after (λ named rest.
-    let count : length (take i xs) ≡ i = length-take-le i xs (omega arith) in
+    let front : length (take i xs) ≡ i = length-take-le i xs (omega arith) in
+    let count : 0 + length (take i xs) ≡ i = omega arith in
     let more : take (i + 1) xs ≡ take i xs ++ get_or xs i 0 ∷ [] = take_more xs i 0 within in
-    append i (take i xs) (get_or xs i 0 ∷ []) rest count ∙ ap (λ (front : List ℕ). code 0 front rest) (sym more))
+    each-append code is 0 i (take i xs) (get_or xs i 0 ∷ []) rest count ∙ ap (λ (front : List ℕ). code 0 front rest) (sym more))
 
 -- and past the end the front is all
 pub Adds-past : {below : ℕ} {a b : List Instr} (code : ℕ → List ℕ → Code → Code) (xs : List ℕ) (i : ℕ) → length xs ≤ i →
@@ -71,7 +82,7 @@ pub Adds-past : {below : ℕ} {a b : List Instr} (code : ℕ → List ℕ → Co
 Adds-past {below} {a} {b} code xs i past adds =
     subst (λ (front : List ℕ). Adds below a b (λ named rest. code 0 front rest)) (take_all i xs past) adds
 
--- what holds of each element holds of the one at a place
+-- what holds of each element holds of the one at an index
 pub AllByRecursion-at : {X : Type 0} (P : X → Type 0) (xs : List X) (i : ℕ) (d : X) → i < length xs → AllByRecursion P xs → P (get_or xs i d)
 AllByRecursion-at P [] i d within all = absurd (omega arith)
 AllByRecursion-at P (x ∷ xs) zero d within all = all.0

@@ -19,22 +19,22 @@ use Rattle.qw_emit.proofs.ScanTable.{Table, start_at, word_of, bits_of, distance
 
 module _ (s : Setting) (scan : Scan) (t : Table s scan) where
   -- a value of a used column lies in an area, and is there
-  pub in_columns : (w : World) → w.mapped ≡ s.mapped → (row place : ℕ) → row < t.rows → place < length t.starts →
-      lies_in_one (w.mapped ++ w.own) (start_at t.starts place + 4 * row) 4 ≡ true
-  in_columns w is row place within there = rw is (lies-before s.mapped w.own (start_at t.starts place + 4 * row) 4 (t.inside place row there within))
+  pub in_columns : (w : World) → w.mapped ≡ s.mapped → (row index : ℕ) → row < t.rows → index < length t.starts →
+      lies_in_one (w.mapped ++ w.own) (start_at t.starts index + 4 * row) 4 ≡ true
+  in_columns w is row index within there = rw is (lies-before s.mapped w.own (start_at t.starts index + 4 * row) 4 (t.inside index row there within))
 
-  pub column_there : (end : ℕ) (m : List ℕ) → s.descriptor + page ≤ end → Keeps s end m → (row place : ℕ) → row < t.rows → place < length t.starts →
-      (start_at t.starts place + 4 * row + 4 ≤ length m) × (number_at m (start_at t.starts place + 4 * row) 4 ≡ word_of s scan t row place)
+  pub column_there : (end : ℕ) (m : List ℕ) → s.descriptor + page ≤ end → Keeps s end m → (row index : ℕ) → row < t.rows → index < length t.starts →
+      (start_at t.starts index + 4 * row + 4 ≤ length m) × (number_at m (start_at t.starts index + 4 * row) 4 ≡ word_of s scan t row index)
   unfolding word_of
-  column_there end m first keeps row place within there =
-      (omega (arith, t.below place there, keeps.room), keeps.columns (start_at t.starts place + 4 * row) 4 (t.inside place row there within))
+  column_there end m first keeps row index within there =
+      (omega (arith, t.below index there, keeps.room), keeps.columns (start_at t.starts index + 4 * row) 4 (t.inside index row there within))
 
 module _ (pages : ℕ) (Q : Moment → Type 0) (s : Setting) (scan : Scan) (t : Table s scan) (w : World) (mapped_is : w.mapped ≡ s.mapped)
     (M : List ℕ → Type 0) (kept : IsKept w M) (end : ℕ) (first : s.descriptor + page ≤ end) (keeps : (m : List ℕ) → M m → Keeps s end m)
-    (d p e r l last v n row : ℕ) (within : row < t.rows) (place_is : p ≡ start_at t.starts scan.tested + 4 * row) (rest : Code) (more_steps : ℕ) where
+    (d p e r l last v n row : ℕ) (within : row < t.rows) (address_is : p ≡ start_at t.starts scan.tested + 4 * row) (rest : Code) (more_steps : ℕ) where
   -- the values of the other columns, from the j-th on
   pub values_read : (ks : List ℕ) (j : ℕ) (others : List ℕ) →
-      ((i place : ℕ) → slice_get ks i ≡ Some place → slice_get scan.others (j + i) ≡ Some place) → j + length ks ≡ length scan.others →
+      ((i index : ℕ) → slice_get ks i ≡ Some index → slice_get scan.others (j + i) ≡ Some index) → j + length ks ≡ length scan.others →
       Distances s scan t (length scan.others) others → Values s scan t row j others →
       ((others' : List ℕ) → Distances s scan t (length scan.others) others' → Values s scan t row (length scan.others) others' →
       Reaches pages Q w M more_steps (standing rest [] (locals_of d p e r l last v n others') (in_loop scan))) →
@@ -44,26 +44,26 @@ module _ (pages : ℕ) (Q : Moment → Type 0) (s : Setting) (scan : Scan) (t : 
       let all : j ≡ length scan.others = omega (arith, count) in
       Reaches-more pages Q w more_steps (5 * 0 + more_steps) (omega arith)
       (following others distances (subst (λ (i : ℕ). Values s scan t row i others) all values))
-  values_read (place ∷ ks) j others left count distances values following =
-      let here : slice_get scan.others j ≡ Some place = rw add-zero at (left 0 place refl) in
+  values_read (index ∷ ks) j others left count distances values following =
+      let here : slice_get scan.others j ≡ Some index = rw add-zero at (left 0 index refl) in
       let below : j < length scan.others = omega (arith, count) in
       let room : 1 + 2 * j < length others = omega (arith, distances.count) in
-      let there : place < length t.starts = t.others j place here in
-      let address : ℕ = start_at t.starts place + 4 * row in
-      let others' : List ℕ = set others (1 + 2 * j) (bits_of s scan t row place) in
+      let there : index < length t.starts = t.others j index here in
+      let address : ℕ = start_at t.starts index + 4 * row in
+      let others' : List ℕ = set others (1 + 2 * j) (bits_of s scan t row index) in
       let left' : (i other : ℕ) → slice_get ks i ≡ Some other → slice_get scan.others (suc j + i) ≡ Some other = λ i other found.
       let shifted : suc j + i ≡ j + suc i = omega arith in rw shifted (left (suc i) other found) in
       Reaches-more pages Q w (suc (suc (suc (suc (suc (5 * length ks + more_steps)))))) (5 * suc (length ks) + more_steps) (omega arith)
-      (go pages Q w kept (to_value scan (locals_of d p e r l last v n others) rest j place p (distance s scan t place) address ks refl
-      (distance_there d p e r l last v n others j (distance s scan t place) (omega arith) (distances.each j place below here))
-      (distance-reaches s scan t row place p within there place_is))
-      (load pages Q w kept address (word_of s scan t row place) refl (add-zero address) (in_columns s scan t w mapped_is row place within there)
-      (λ m h. column_there s scan t end m first (keeps m h) row place within there)
-      (go pages Q w kept (value_set scan (locals_of d p e r l last v n others) rest j (bits_of s scan t row place) (locals_of d p e r l last v n others') ks
-      (is_value d p e r l last v n others j room) (value_put d p e r l last v n others j (bits_of s scan t row place)))
+      (go pages Q w kept (to_value scan (locals_of d p e r l last v n others) rest j index p (distance s scan t index) address ks refl
+      (distance_there d p e r l last v n others j (distance s scan t index) (omega arith) (distances.each j index below here))
+      (distance-reaches s scan t row index p within there address_is))
+      (load pages Q w kept address (word_of s scan t row index) refl (add-zero address) (in_columns s scan t w mapped_is row index within there)
+      (λ m h. column_there s scan t end m first (keeps m h) row index within there)
+      (go pages Q w kept (value_set scan (locals_of d p e r l last v n others) rest j (bits_of s scan t row index) (locals_of d p e r l last v n others') ks
+      (is_value d p e r l last v n others j room) (value_put d p e r l last v n others j (bits_of s scan t row index)))
       (values_read ks (suc j) others' left' (omega (arith, count))
-      (Distances-value s scan t (length scan.others) j (bits_of s scan t row place) others distances)
-      (Values-more s scan t row j place others here room values) following))))
+      (Distances-value s scan t (length scan.others) j (bits_of s scan t row index) others distances)
+      (Values-more s scan t row j index others here room values) following))))
 
 -- the locals of these cells hold these bits, each of an INTEGER
 abbrev pub Holds : (locals cells bits : List ℕ) → Type 0

@@ -17,7 +17,7 @@ use Rattle.qw_emit.specs.Inner.Emit.{Scan, IsScan, scan_of, scan_code, local_of}
 use Rattle.qw_map.specs.Layout.{row_size, entry_offset, first_world}
 use Rattle.qw_emit.specs.Compiled.{IsReady, units, page_bound, Answers, IsCompiled}
 use Rattle.qw_map.proofs.Chains.{Chain, integers}
-use Rattle.qw_emit.proofs.PlanLemmas.{length-used}
+use Rattle.qw_emit.proofs.ScanShapeLemmas.{length-used}
 use Rattle.qw_emit.proofs.ScanStatic.{is_valid, is_shaped, is_short, is_light}
 use Rattle.qw_emit.proofs.ScanValid.{links, begun_is, code_is}
 use Rattle.qw_emit.proofs.ScanMemory.{Setting, size_of, number_at-zeros}
@@ -41,8 +41,8 @@ octet-zero m k zero_there = rw zero_there refl
 zeros-from : (m : List ℕ) (d low high : ℕ) → ((k : ℕ) → low ≤ k → k < high → slice_index m (d + k) ≡ 0) →
     (k : ℕ) → d + low ≤ k → k < d + high → number_at m k 1 ≡ 0
 zeros-from m d low high zeros k from to =
-    let place : d + (k - d) ≡ k = omega arith in
-    octet-zero m k (subst (λ (i : ℕ). slice_index m i ≡ 0) place (zeros (k - d) (omega arith) (omega arith)))
+    let back : d + (k - d) ≡ k = omega arith in
+    octet-zero m k (subst (λ (i : ℕ). slice_index m i ≡ 0) back (zeros (k - d) (omega arith) (omega arith)))
 
 module _ (statement : Statement) (is : IsStatement statement) (rows : List (List Val)) (addresses : List ℕ) (d limit : ℕ) (memory : List ℕ)
     (ready : IsReady statement rows addresses d memory) (fits : SFits w64 statement.literal) where

@@ -10,9 +10,9 @@ use Rattle.qw_module.specs.Start.{weight}
 use Rattle.qw_meaning.specs.Statement.{Statement, IsStatement}
 use Rattle.qw_emit.specs.Inner.Emit.{Scan, index_in, other_columns, local_of, scan_of, scan_locals, other_locals, read_distances, read_values, write_cells, scan_code}
 use Rattle.qw_map.specs.Layout.{used}
-use Rattle.qw_emit.proofs.PlanLemmas.{length-other_columns}
+use Rattle.qw_emit.proofs.ScanShapeLemmas.{length-other_columns}
 use Rattle.std.proofs.lemmas.Option.{slice_get_within}
-use Rattle.qw_emit.proofs.Places.{is_among, index-there, columns-used, other-among}
+use Rattle.qw_emit.proofs.ColumnIndices.{is_among, index-there, columns-used, other-among}
 use Rattle.qw_emit.proofs.ScanTyped.{AreValues, value_local_of}
 
 -- the local of a used column's value holds one
@@ -21,10 +21,10 @@ local_is_value : (statement : Statement) → IsStatement statement → (column :
 local_is_value statement limits column among = ⊎_elim
     (λ (compared : (column == statement.tested) ≡ true). rw compared refl)
     (λ (other : (column == statement.tested) ≡ false).
-    let place : ℕ = index_in (other_columns statement) column in
-    let below : place < length (other_columns statement) =
-    slice_get_within (other_columns statement) place column (index-there column (other_columns statement) (other-among statement limits column among other)) in
-    rw other (value_local_of (scan_of statement) place (rw (length-map (other_columns statement) (index_in (used statement))) below)))
+    let index : ℕ = index_in (other_columns statement) column in
+    let below : index < length (other_columns statement) =
+    slice_get_within (other_columns statement) index column (index-there column (other_columns statement) (other-among statement limits column among other)) in
+    rw other (value_local_of (scan_of statement) index (rw (length-map (other_columns statement) (index_in (used statement))) below)))
     (cases_Bool (column == statement.tested))
 
 locals_are_values : (statement : Statement) → IsStatement statement → (columns : List ℕ) → AllByRecursion (λ column. is_among column (used statement) ≡ true) columns →

@@ -7,19 +7,19 @@ use Rattle.qw_emit.specs.Inner.Emit.{distance_of, value_of_other}
 use Rattle.qw_emit.proofs.ScanSteps.{locals_of}
 
 module _ (d p e r l last v n : ℕ) (others : List ℕ) where
-  behind_get : (i place x : ℕ) → place ≡ 8 + i → i < length others → get_or others i 0 ≡ x →
-      slice_get (locals_of d p e r l last v n others) place ≡ Some x
-  behind_get i place x is there found =
-      let eight : place ≡ suc (suc (suc (suc (suc (suc (suc (suc i))))))) = omega arith in
+  behind_get : (i index x : ℕ) → index ≡ 8 + i → i < length others → get_or others i 0 ≡ x →
+      slice_get (locals_of d p e r l last v n others) index ≡ Some x
+  behind_get i index x is there found =
+      let eight : index ≡ suc (suc (suc (suc (suc (suc (suc (suc i))))))) = omega arith in
       rw eight (slice_get-get_or others i 0 there ∙ ap Some found)
 
-  behind_set : (i place x : ℕ) → place ≡ 8 + i → slice_set (locals_of d p e r l last v n others) place x ≡ locals_of d p e r l last v n (set others i x)
-  behind_set i place x is =
-      let eight : place ≡ suc (suc (suc (suc (suc (suc (suc (suc i))))))) = omega arith in
+  behind_set : (i index x : ℕ) → index ≡ 8 + i → slice_set (locals_of d p e r l last v n others) index x ≡ locals_of d p e r l last v n (set others i x)
+  behind_set i index x is =
+      let eight : index ≡ suc (suc (suc (suc (suc (suc (suc (suc i))))))) = omega arith in
       rw eight refl
 
-  behind_there : (i place : ℕ) → place ≡ 8 + i → i < length others → nat_lt place (length (locals_of d p e r l last v n others)) ≡ true
-  behind_there i place is there = lt-ltb place (length (locals_of d p e r l last v n others)) (omega arith)
+  behind_there : (i index : ℕ) → index ≡ 8 + i → i < length others → nat_lt index (length (locals_of d p e r l last v n others)) ≡ true
+  behind_there i index is there = lt-ltb index (length (locals_of d p e r l last v n others)) (omega arith)
 
   pub distance_there : (j x : ℕ) → 2 * j < length others → get_or others (2 * j) 0 ≡ x → slice_get (locals_of d p e r l last v n others) (distance_of j) ≡ Some x
   distance_there j x there found = behind_get (2 * j) (distance_of j) x refl there found

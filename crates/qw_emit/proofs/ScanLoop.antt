@@ -31,7 +31,7 @@ module _ (s : Setting) (scan : Scan) (t : Table s scan) where
   test_of row = relation (rejects scan.comparison) (bits_of s scan t row scan.tested) (cast_unsigned w64 scan.literal)
 
   abbrev pub row_bits : ℕ → List ℕ
-  row_bits row = map (bits_of s scan t row) t.places
+  row_bits row = map (bits_of s scan t row) t.indices
 
   -- the result rows of so many rows from one on
   abbrev pub kept_rows : (row left : ℕ) → List (List Val)
@@ -50,19 +50,19 @@ module _ (s : Setting) (scan : Scan) (t : Table s scan) where
   budget row (suc left) = if test_of row == 0 then keep_steps + budget (suc row) left else 14 + budget (suc row) left
 
   -- the cells' locals hold the row's bits
-  pub cells_hold : (d p e r l last n row : ℕ) (others cells places : List ℕ) → CellsOf scan cells places →
+  pub cells_hold : (d p e r l last n row : ℕ) (others cells indices : List ℕ) → CellsOf scan cells indices →
       length others ≡ 2 * length scan.others → Values s scan t row (length scan.others) others →
-      Holds (locals_of d p e r l last (bits_of s scan t row scan.tested) n others) cells (map (bits_of s scan t row) places)
+      Holds (locals_of d p e r l last (bits_of s scan t row scan.tested) n others) cells (map (bits_of s scan t row) indices)
   cells_hold d p e r l last n row others [] [] of count values = tt
-  cells_hold d p e r l last n row others [] (place ∷ places) of count values = absurd of
+  cells_hold d p e r l last n row others [] (index ∷ indices) of count values = absurd of
   cells_hold d p e r l last n row others (cell ∷ cells) [] of count values = absurd of
-  cells_hold d p e r l last n row others (cell ∷ cells) (place ∷ places) of count values =
-      let there : slice_get (locals_of d p e r l last (bits_of s scan t row scan.tested) n others) cell ≡ Some (bits_of s scan t row place) =
+  cells_hold d p e r l last n row others (cell ∷ cells) (index ∷ indices) of count values =
+      let there : slice_get (locals_of d p e r l last (bits_of s scan t row scan.tested) n others) cell ≡ Some (bits_of s scan t row index) =
       ⊎_elim (λ is. rw (is.0, is.1) refl)
-      (λ is. let below : is.0 < length scan.others = slice_get_within scan.others is.0 place is.2 in
-      rw is.1 (value_there d p e r l last (bits_of s scan t row scan.tested) n others is.0 (bits_of s scan t row place) (omega arith) (values.each is.0 place below is.2)))
+      (λ is. let below : is.0 < length scan.others = slice_get_within scan.others is.0 index is.2 in
+      rw is.1 (value_there d p e r l last (bits_of s scan t row scan.tested) n others is.0 (bits_of s scan t row index) (omega arith) (values.each is.0 index below is.2)))
       of.0 in
-      (there, bits-below s scan t row place, bits-integer s scan t row place, cells_hold d p e r l last n row others cells places of.1 count values)
+      (there, bits-below s scan t row index, bits-integer s scan t row index, cells_hold d p e r l last n row others cells indices of.1 count values)
 
 -- what is put before the last of what was put before
 map-onto : {A B : Type 0} (f : A → B) (xs done : List A) (following : List B) →
@@ -94,7 +94,7 @@ OverIn s pages all b Trapped = ⊥
 abbrev pub Over : (s : Setting) (pages : ℕ) (all : List (List Val)) → Moment → Type 0
 Over s pages all b = OverIn s pages all b b.state
 
--- What the world and the locals are at the loop's start, after so many result rows: the present page's last place for a row,
+-- What the world and the locals are at the loop's start, after so many result rows: the last address for a row in the present page,
 -- and how much of the pages held before is full.
 pub record Going (s : Setting) (scan : Scan) (t : Table s scan) (w : World) (count link row last end : ℕ) (others : List ℕ) : Type 0 where
   pub mapped_is : w.mapped ≡ s.mapped

@@ -26,7 +26,7 @@ pub record Setting : Type 0 where
 abbrev pub size_of : Setting → ℕ
 size_of s = row_size (length s.types)
 
--- How the places lie: the first page and the free octets from `row` to `end` are own, and the latter lie behind the
+-- How the addresses lie: the first page and the free octets from `row` to `end` are own, and the latter lie behind the
 -- descriptor's head.
 pub record Lies (s : Setting) (own : List Area) (row end : ℕ) : Type 0 where
   pub head : (at width : ℕ) → s.descriptor ≤ at → at + width ≤ s.descriptor + page → lies_in_one own at width ≡ true

@@ -21,19 +21,19 @@ use Rattle.qw_map.proofs.AccessLemmas.{lies-first, lies-within}
 use Rattle.qw_map.proofs.Chains.{value_of_bits}
 use Rattle.qw_emit.proofs.Comparisons.{test-compares}
 use Rattle.qw_emit.proofs.Pieces.{AllByRecursion-at}
-use Rattle.qw_emit.proofs.Places.{is_among, index-there, place-below, tested-used, columns-used, others-below, other-among}
+use Rattle.qw_emit.proofs.ColumnIndices.{is_among, index-there, index-below, tested-used, columns-used, others-below, other-among}
 use Rattle.qw_emit.proofs.ScanMemory.{Setting}
 use Rattle.qw_emit.proofs.ScanTable.{Table, CellsOf, word_of, bits_of, bits-number, bits-below}
 use Rattle.qw_emit.proofs.ScanLoop.{test_of, kept_rows}
 
 -- a column's value lies in its area, and the areas lie before the descriptor
-pub column-inside : (starts : List ℕ) (rows place row : ℕ) → place < length starts → row < rows →
-    lies_in_one (column_areas starts rows) (get_or starts place 0 + 4 * row) 4 ≡ true
-column-inside [] rows place row there within = absurd (omega arith)
+pub column-inside : (starts : List ℕ) (rows index row : ℕ) → index < length starts → row < rows →
+    lies_in_one (column_areas starts rows) (get_or starts index 0 + 4 * row) 4 ≡ true
+column-inside [] rows index row there within = absurd (omega arith)
 column-inside (start ∷ starts) rows zero row there within =
     lies-first (record { start = start; size = 4 * rows }) (column_areas starts rows) (start + 4 * row) 4 (omega arith) (omega arith)
-column-inside (start ∷ starts) rows (suc place) row there within =
-    or_right _ _ (column-inside starts rows place row (omega arith) within)
+column-inside (start ∷ starts) rows (suc index) row there within =
+    or_right _ _ (column-inside starts rows index row (omega arith) within)
 
 pub columns-below : (starts : List ℕ) (rows d : ℕ) → AllByRecursion (λ start. start + 4 * rows ≤ d) starts →
     AllByRecursion (λ (area : Area). (0 ≤ area.start) × (area.start + area.size ≤ d)) (column_areas starts rows)
@@ -103,14 +103,14 @@ module _ (statement : Statement) (is : IsStatement statement) (rows : List (List
   the_table = record {
     starts = starts;
     rows = length rows;
-    places = map (index_in (used statement)) statement.columns;
+    indices = map (index_in (used statement)) statement.columns;
     small = omega (arith, ready.inside, ready.whole, ready.size);
-    tested = omega (arith, ready.many, place-below statement is statement.tested (tested-used statement is));
-    others = λ j place there. omega (arith, ready.many, others-below statement is j place there);
+    tested = omega (arith, ready.many, index-below statement is statement.tested (tested-used statement is));
+    others = λ j index there. omega (arith, ready.many, others-below statement is j index there);
     cells = cells-of statement is statement.columns (columns-used statement is);
-    from = λ place there. AllByRecursion-at (λ start. 64 ≤ start) starts place 0 there ready.from;
-    below = λ place there. AllByRecursion-at (λ start. start + 4 * length rows ≤ d) starts place 0 there ready.below;
-    inside = λ place row there within. column-inside starts (length rows) place row there within;
+    from = λ index there. AllByRecursion-at (λ start. 64 ≤ start) starts index 0 there ready.from;
+    below = λ index there. AllByRecursion-at (λ start. start + 4 * length rows ≤ d) starts index 0 there ready.below;
+    inside = λ index row there within. column-inside starts (length rows) index row there within;
     words = λ at. number_at-below memory ready.octets at 4;
   }
 
@@ -123,15 +123,15 @@ module _ (statement : Statement) (is : IsStatement statement) (rows : List (List
       slice_get row column ≡ Some (value_of_bits (bits i column))
   unfolding word_of
   column-value i row there column among =
-      let place : ℕ = index_in (used statement) column in
-      let below : place < length starts = omega (arith, ready.many, place-below statement is column among) in
+      let index : ℕ = index_in (used statement) column in
+      let below : index < length starts = omega (arith, ready.many, index-below statement is column among) in
       let wide : column < length row = all-among (λ c. c < length row) (used statement) (row-typed (used statement) rows ready.typed i row there) column among in
-      let start : slice_get starts place ≡ Some (get_or starts place 0) = slice_get-get_or starts place 0 below in
+      let start : slice_get starts index ≡ Some (get_or starts index 0) = slice_get-get_or starts index 0 below in
       let found = some-number (slice_get row column) (slice_get-some row column wide) in
       let value : value_of rows i column ≡ Some (Num found.0) = rw there found.1 in
-      let stands : StandsAt memory (get_or starts place 0 + 4 * i) (Num found.0) =
-      (ready.columns place (get_or starts place 0) column start (index-there column (used statement) among)).each i (Num found.0) value in
-      found.1 ∙ ap (λ (n : ℤ). Some (Num n)) (sym stands ∙ sym (bits-number the_setting (scan_of statement) the_table i place))
+      let stands : StandsAt memory (get_or starts index 0 + 4 * i) (Num found.0) =
+      (ready.columns index (get_or starts index 0) column start (index-there column (used statement) among)).each i (Num found.0) value in
+      found.1 ∙ ap (λ (n : ℤ). Some (Num n)) (sym stands ∙ sym (bits-number the_setting (scan_of statement) the_table i index))
 
   -- the cells of a row are the values that are selected of it
   row-selected : (i : ℕ) (row : List Val) → slice_get rows i ≡ Some row → (columns : List ℕ) →

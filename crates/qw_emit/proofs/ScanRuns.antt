@@ -22,11 +22,11 @@ more_than_none : (n : ℕ) → n ≢ 0 → (k : ℕ) × (n ≡ suc k)
 more_than_none zero some = absurd (some refl)
 more_than_none (suc k) some = (k, refl)
 
-length-places : (scan : Scan) (cells places : List ℕ) → CellsOf scan cells places → length places ≡ length cells
-length-places scan [] [] of = refl
-length-places scan [] (place ∷ places) of = absurd of
-length-places scan (cell ∷ cells) [] of = absurd of
-length-places scan (cell ∷ cells) (place ∷ places) of = ap suc (length-places scan cells places of.1)
+length-indices : (scan : Scan) (cells indices : List ℕ) → CellsOf scan cells indices → length indices ≡ length cells
+length-indices scan [] [] of = refl
+length-indices scan [] (index ∷ indices) of = absurd of
+length-indices scan (cell ∷ cells) [] of = absurd of
+length-indices scan (cell ∷ cells) (index ∷ indices) of = ap suc (length-indices scan cells indices of.1)
 
 module _ (pages : ℕ) (s : Setting) (scan : Scan) (t : Table s scan) (all : List (List Val)) (types_are : s.types ≡ integers (length scan.cells))
     (narrow : size_of s < page) (few : length all ≤ t.rows) (bound : 2 + length all * size_of s / (page - size_of s) ≤ pages) where
@@ -48,7 +48,7 @@ module _ (pages : ℕ) (s : Setting) (scan : Scan) (t : Table s scan) (all : Lis
         onto found (map value_of_bits (row_bits s scan t i) ∷ kept_rows s scan t (suc i) left) ≡ all →
         Reaches pages (Over s pages all) w (Scanned s w.own found link row end) (write_steps s scan t + budget s scan t (suc i) left)
         (running (store_i32 0 (reads scan)) (row ∷ link ∷ []) (locals_of s.descriptor p e row row last (bits_of s scan t i scan.tested) n others) (in_loop scan))
-    puts w found p e link row last end n others place_is end_place going count room whole =
+    puts w found p e link row last end n others address_is end_is going count room whole =
         let d : ℕ = s.descriptor in
         let Q : Moment → Type 0 = Over s pages all in
         let x : ℕ = bits_of s scan t i scan.tested in
@@ -59,7 +59,7 @@ module _ (pages : ℕ) (s : Setting) (scan : Scan) (t : Table s scan) (all : Lis
         let next : ℕ = budget s scan t (suc i) left in
         let kept : IsKept w (Scanned s w.own found link row end) = Scanned-kept s w going.mapped_is row end lies found link in
         let kept' : IsKept w (Writing s w.own found link row end [] (row + 8)) = Writing-kept s w going.mapped_is row end lies found link (row + 8) [] (omega arith) (omega arith) in
-        let as_bits : length bits ≡ length scan.cells = length-map t.places (bits_of s scan t i) ∙ length-places scan scan.cells t.places t.cells in
+        let as_bits : length bits ≡ length scan.cells = length-map t.indices (bits_of s scan t i) ∙ length-indices scan scan.cells t.indices t.cells in
         let total : length found + suc (length (kept_rows s scan t (suc i) left)) ≡ length all =
         sym (length-onto found (map value_of_bits bits ∷ kept_rows s scan t (suc i) left)) ∙ ap length whole in
         let row_there : onto (map value_of_bits (onto bits [])) [] ≡ map value_of_bits bits = map-onto_all value_of_bits bits in
@@ -72,7 +72,7 @@ module _ (pages : ℕ) (s : Setting) (scan : Scan) (t : Table s scan) (all : Lis
         (λ m h. subst (λ (made : List Val). Scanned s w.own (made ∷ found) row stop end m) row_there
         (Writing-row s w.own row end lies m found link stop (onto bits [])
         (types_are ∙ ap integers (sym (length-onto bits [] ∙ (omega (arith, as_bits))))) refl fit h))
-        (following w (map value_of_bits bits ∷ found) p e row stop last end x (n + 1) others' (omega (arith, place_is)) end_place
+        (following w (map value_of_bits bits ∷ found) p e row stop last end x (n + 1) others' (omega (arith, address_is)) end_is
         (record {
           mapped_is = going.mapped_is;
           unrefused = going.unrefused;
@@ -95,11 +95,11 @@ module _ (pages : ℕ) (s : Setting) (scan : Scan) (t : Table s scan) (all : Lis
         (store pages Q w kept (Writing s w.own found link row end [] (row + 8)) link refl (add-zero link) going.link_own
         (λ m h. Scanned-linked s w.own row end lies m found link fit (omega (arith, going.end_small)) h)
         (values_read pages Q s scan t w going.mapped_is (Writing s w.own found link row end [] (row + 8)) kept' end lies.first (λ m h. h.keeps)
-        d p e row row last x n i within place_is (writes scan) (3 * length scan.cells + more 9 next) scan.others 0 others
-        (λ k place there. let none : 0 + k ≡ k = omega arith in rw none there) (omega arith) going.distances (Values-none s scan t i others)
+        d p e row row last x n i within address_is (writes scan) (3 * length scan.cells + more 9 next) scan.others 0 others
+        (λ k index there. let none : 0 + k ≡ k = omega arith in rw none there) (omega arith) going.distances (Values-none s scan t i others)
         (λ others' distances values.
         cells_written pages Q s scan w going.mapped_is row end lies found link (locals_of d p e row row last x n others') refl (counts scan) (more 9 next) stop fit
-        scan.cells bits 0 [] (row + 8) (cells_hold s scan t d p e row row last n i others' scan.cells t.places t.cells distances.count values)
+        scan.cells bits 0 [] (row + 8) (cells_hold s scan t d p e row row last n i others' scan.cells t.indices t.cells distances.count values)
         (omega arith) (omega (arith, size_same)) (after others' distances))))
 
     -- a row that is kept: it is put into the free octets, where it fits, or into a page that is asked for
@@ -108,7 +108,7 @@ module _ (pages : ℕ) (s : Setting) (scan : Scan) (t : Table s scan) (all : Lis
         test_of s scan t i ≡ 0 → onto found (map value_of_bits (row_bits s scan t i) ∷ kept_rows s scan t (suc i) left) ≡ all →
         Reaches pages (Over s pages all) w (Scanned s w.own found link row end) (24 + (write_steps s scan t + budget s scan t (suc i) left))
         (running (tests scan) (bits_of s scan t i scan.tested ∷ []) (locals_of s.descriptor p e row link last v n others) (in_loop scan))
-    keeps w found p e link row last end v n others place_is end_place going count test whole =
+    keeps w found p e link row last end v n others address_is end_is going count test whole =
         let d : ℕ = s.descriptor in
         let Q : Moment → Type 0 = Over s pages all in
         let M : List ℕ → Type 0 = Scanned s w.own found link row end in
@@ -138,7 +138,7 @@ module _ (pages : ℕ) (s : Setting) (scan : Scan) (t : Table s scan) (all : Lis
         go pages Q w' (Scanned-kept s w' going.mapped_is start (start + page) lies' found link)
         (granted scan d e link n others p row last x (start / page) start last' (ne_eqb (start / page) refusal (λ same. omega (arith, is.1)))
         (omega (arith, whole_pages, is.1, is.2.1)) (omega (arith, size_same, is.1)))
-        (puts w' found p e link start last' (start + page) n others place_is end_place
+        (puts w' found p e link start last' (start + page) n others address_is end_is
         (record {
           mapped_is = going.mapped_is;
           unrefused = going.unrefused;
@@ -160,7 +160,7 @@ module _ (pages : ℕ) (s : Setting) (scan : Scan) (t : Table s scan) (all : Lis
         (λ here.
         Reaches-more pages Q w (more 11 write) (24 + write) (omega arith)
         (go pages Q w kept (fits scan d e link n others p row last v x test here)
-        (puts w found p e link row last end n others place_is end_place going count (ltb-false last row here) whole)))
+        (puts w found p e link row last end n others address_is end_is going count (ltb-false last row here) whole)))
         (cases_Bool (nat_lt last row))
 
     -- one row
@@ -170,7 +170,7 @@ module _ (pages : ℕ) (s : Setting) (scan : Scan) (t : Table s scan) (all : Lis
         Reaches pages (Over s pages all) w (Scanned s w.own found link row end) (budget s scan t i (suc left))
         (at_loop scan (locals_of s.descriptor p e row link last v n others))
     unfolding bits_of
-    turn w found p e link row last end v n others place_is end_place going count whole =
+    turn w found p e link row last end v n others address_is end_is going count whole =
         let d : ℕ = s.descriptor in
         let Q : Moment → Type 0 = Over s pages all in
         let M : List ℕ → Type 0 = Scanned s w.own found link row end in
@@ -179,7 +179,7 @@ module _ (pages : ℕ) (s : Setting) (scan : Scan) (t : Table s scan) (all : Lis
         let lies : Lies s w.own row end = going.lies in
         let kept : IsKept w M = Scanned-kept s w going.mapped_is row end lies found link in
         let more_left : (p == e) ≡ false = ne_eqb p e (λ same. omega arith) in
-        let next : (p + 4) % 2 ^ 32 ≡ p' = omega (arith, place_is, t.below scan.tested t.tested, t.small) in
+        let next : (p + 4) % 2 ^ 32 ≡ p' = omega (arith, address_is, t.below scan.tested t.tested, t.small) in
         let on : (k : ℕ) → Reaches pages Q w M k (running (tests scan) (x ∷ []) (locals_of d p' e row link last v n others) (in_loop scan)) →
         Reaches pages Q w M (more 9 (suc k)) (at_loop scan (locals_of d p e row link last v n others)) = λ k runs.
         go pages Q w kept (to_load scan d e link n others p p' row last v more_left next)
@@ -201,11 +201,11 @@ module _ (pages : ℕ) (s : Setting) (scan : Scan) (t : Table s scan) (all : Lis
 
   -- the loop over all rows from one on
   pub loops : (left i : ℕ) → i + left ≡ t.rows → LoopFrom i left
-  loops zero i all_rows w found p e link row last end v n others place_is end_place going count whole =
+  loops zero i all_rows w found p e link row last end v n others address_is end_is going count whole =
       let over : e ≡ p = omega arith in
       let total : length found + 0 ≡ length all = sym (length-onto found []) ∙ ap length whole in
       subst (λ (a : ℕ). Reaches pages (Over s pages all) w (Scanned s w.own found link row end) 18 (at_loop scan (locals_of s.descriptor a e row link last v n others))) over
       (ends pages s scan t all w found link row last end e v n others going count
       (omega (arith, few, total, count, t.below scan.tested t.tested, t.small)) whole)
-  loops (suc left) i all_rows w found p e link row last end v n others place_is end_place going count whole =
-      turn i left (omega arith) (loops left (suc i) (omega arith)) w found p e link row last end v n others place_is end_place going count whole
+  loops (suc left) i all_rows w found p e link row last end v n others address_is end_is going count whole =
+      turn i left (omega arith) (loops left (suc i) (omega arith)) w found p e link row last end v n others address_is end_is going count whole

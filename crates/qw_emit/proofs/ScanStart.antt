@@ -69,7 +69,7 @@ module _ (s : Setting) (scan : Scan) (t : Table s scan) (limit : ℕ) (fits : en
   module _ (pages : ℕ) (Q : Moment → Type 0) (p e : ℕ) (rest : Code) (more_steps : ℕ) where
     -- the distances of the other columns, from the j-th on
     distances_read : (ks : List ℕ) (j : ℕ) (others : List ℕ) →
-        ((i place : ℕ) → slice_get ks i ≡ Some place → slice_get scan.others (j + i) ≡ Some place) → j + length ks ≡ length scan.others →
+        ((i index : ℕ) → slice_get ks i ≡ Some index → slice_get scan.others (j + i) ≡ Some index) → j + length ks ≡ length scan.others →
         Distances s scan t j others →
         ((others' : List ℕ) → Distances s scan t (length scan.others) others' →
         Reaches pages Q (begins_with s limit) (Begun s scan t (begins_with s limit).own) more_steps (standing rest [] (locals_of s.descriptor p e 0 0 0 0 0 others') in_call)) →
@@ -80,28 +80,28 @@ module _ (s : Setting) (scan : Scan) (t : Table s scan) (limit : ℕ) (fits : en
         let whole : j ≡ length scan.others = omega (arith, count) in
         Reaches-more pages Q (begins_with s limit) more_steps (6 * 0 + more_steps) (omega arith)
         (following others (subst (λ (i : ℕ). Distances s scan t i others) whole distances))
-    distances_read (place ∷ ks) j others left count distances following =
+    distances_read (index ∷ ks) j others left count distances following =
         let w : World = begins_with s limit in
         let d : ℕ = s.descriptor in
-        let here : slice_get scan.others j ≡ Some place = rw add-zero at (left 0 place refl) in
+        let here : slice_get scan.others j ≡ Some index = rw add-zero at (left 0 index refl) in
         let below : j < length scan.others = omega (arith, count) in
-        let there : place < length t.starts = t.others j place here in
+        let there : index < length t.starts = t.others j index here in
         let tested : scan.tested < length t.starts = t.tested in
         let l : List ℕ = locals_of d p e 0 0 0 0 0 others in
-        let others' : List ℕ = set others (2 * j) (distance s scan t place) in
+        let others' : List ℕ = set others (2 * j) (distance s scan t index) in
         let left' : (i other : ℕ) → slice_get ks i ≡ Some other → slice_get scan.others (suc j + i) ≡ Some other = λ i other found.
         let shifted : suc j + i ≡ j + suc i = omega arith in rw shifted (left (suc i) other found) in
         Reaches-more pages Q w (suc (suc (suc (suc (suc (suc (6 * length ks + more_steps))))))) (6 * suc (length ks) + more_steps) (omega arith)
-        (go pages Q w Begun-kept (to_first scan l rest scan.tested j place d ks refl)
-        (load pages Q w Begun-kept (d + entry_offset place) (start_at t.starts place) refl refl (page_loads (d + entry_offset place) 4 (omega arith) (omega arith))
-        (λ m h. (omega (arith, h.scanned.keeps.room), h.values place there))
-        (go pages Q w Begun-kept (to_second scan l rest scan.tested j d (start_at t.starts place) ks refl)
+        (go pages Q w Begun-kept (to_first scan l rest scan.tested j index d ks refl)
+        (load pages Q w Begun-kept (d + entry_offset index) (start_at t.starts index) refl refl (page_loads (d + entry_offset index) 4 (omega arith) (omega arith))
+        (λ m h. (omega (arith, h.scanned.keeps.room), h.values index there))
+        (go pages Q w Begun-kept (to_second scan l rest scan.tested j d (start_at t.starts index) ks refl)
         (load pages Q w Begun-kept (d + entry_offset scan.tested) (start_at t.starts scan.tested) refl refl (page_loads (d + entry_offset scan.tested) 4 (omega arith) (omega arith))
         (λ m h. (omega (arith, h.scanned.keeps.room), h.values scan.tested tested))
-        (go pages Q w Begun-kept (distance_set scan l rest scan.tested j (start_at t.starts place) (start_at t.starts scan.tested) (distance s scan t place)
+        (go pages Q w Begun-kept (distance_set scan l rest scan.tested j (start_at t.starts index) (start_at t.starts scan.tested) (distance s scan t index)
         (locals_of d p e 0 0 0 0 0 others') ks refl (is_distance d p e 0 0 0 0 0 others j (omega (arith, distances.count)))
-        (distance_put d p e 0 0 0 0 0 others j (distance s scan t place)))
-        (distances_read ks (suc j) others' left' (omega (arith, count)) (Distances-more s scan t j place others here below distances) following))))))
+        (distance_put d p e 0 0 0 0 0 others j (distance s scan t index)))
+        (distances_read ks (suc j) others' left' (omega (arith, count)) (Distances-more s scan t j index others here below distances) following))))))
 
   module _ (pages : ℕ) (all : List (List Val)) (types_are : s.types ≡ integers (length scan.cells)) (narrow : size_of s < page)
       (few : length all ≤ t.rows) (bound : 2 + length all * size_of s / (page - size_of s) ≤ pages) (rows_give : kept_rows s scan t 0 t.rows ≡ all) where
@@ -123,7 +123,7 @@ module _ (s : Setting) (scan : Scan) (t : Table s scan) (limit : ℕ) (fits : en
         let low : 64 ≤ start = t.from scan.tested tested in
         let high : start + 4 * t.rows ≤ d = t.below scan.tested tested in
         let before : (start + (2 ^ 32 - 4)) % 2 ^ 32 ≡ p = omega (arith, t.small) in
-        let last_place : (p + t.rows * 4 % 2 ^ 32) % 2 ^ 32 ≡ e = omega (arith, t.small) in
+        let last_address : (p + t.rows * 4 % 2 ^ 32) % 2 ^ 32 ≡ e = omega (arith, t.small) in
         let first_link : (d + 8) % 2 ^ 32 ≡ d + 8 = omega (arith, t.small) in
         let last_row : (d + page + (2 ^ 32 - size_of s)) % 2 ^ 32 ≡ last = omega (arith, t.small) in
         let same = size_same pages s scan t all types_are narrow few bound in
@@ -134,9 +134,9 @@ module _ (s : Setting) (scan : Scan) (t : Table s scan) (limit : ℕ) (fits : en
         (go pages Q w Begun-kept (to_rows scan d others start p before)
         (load pages Q w Begun-kept (d + entry_offset scan.tested + 12) t.rows refl (omega arith) (page_loads (d + entry_offset scan.tested + 12) 4 (omega arith) (omega arith))
         (λ m h. (omega (arith, h.scanned.keeps.room), h.rows_are scan.tested tested))
-        (go pages Q w Begun-kept (to_others scan d others t.rows p e last_place)
+        (go pages Q w Begun-kept (to_others scan d others t.rows p e last_address)
         (distances_read pages Q p e (begins_rows scan) (more 1 (suc (more 2 (suc (more 8 end))))) scan.others 0 others
-        (λ k place there. let from_zero : 0 + k ≡ k = omega arith in rw from_zero there) (omega arith) (Distances-none s scan t others none)
+        (λ k index there. let from_zero : 0 + k ≡ k = omega arith in rw from_zero there) (omega arith) (Distances-none s scan t others none)
         (λ others' distances.
         go pages Q w Begun-kept (to_free scan d others' p e)
         (load pages Q w Begun-kept d row refl (add-zero d) (page_loads d 4 (omega arith) (omega arith))

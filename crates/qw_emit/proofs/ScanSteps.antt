@@ -123,7 +123,7 @@ module _ (scan : Scan) (l : List ℕ) (rest : Code) where
       (p + distance) % 2 ^ 32 ≡ address →
       Silently 3 (standing (read_values j (k ∷ ks) rest) [] l (in_loop scan))
       (running (load_value (set (value_of_other j) (read_values (suc j) ks rest))) (address ∷ []) l (in_loop scan))
-  to_value j k p distance address ks place there sum = record { leads = rw (place, there, sum) refl }
+  to_value j k p distance address ks index there sum = record { leads = rw (index, there, sum) refl }
 
   pub value_set : (j x : ℕ) (l' : List ℕ) (ks : List ℕ) → nat_lt (value_of_other j) (length l) ≡ true → slice_set l (value_of_other j) x ≡ l' →
       Silently 1 (running (set (value_of_other j) (read_values (suc j) ks rest)) (x ∷ []) l (in_loop scan))
@@ -197,11 +197,11 @@ begins_rows scan = get 0 (load_i32 0 (begins_row scan))
 abbrev pub begins_others : Scan → Code
 begins_others scan = read_distances scan.tested 0 scan.others (begins_rows scan)
 
-abbrev pub begins_place : Scan → Code
-begins_place scan = i32 4 (op (o.Binary I32Mul) (op (o.Binary I32Add) (set 2 (begins_others scan))))
+abbrev pub begins_last_address : Scan → Code
+begins_last_address scan = i32 4 (op (o.Binary I32Mul) (op (o.Binary I32Add) (set 2 (begins_others scan))))
 
 abbrev pub begins_values : Scan → Code
-begins_values scan = i32 (2 ^ 32 - 4) (op (o.Binary I32Add) (tee 1 (get 0 (load_i32 (entry_offset scan.tested + 12) (begins_place scan)))))
+begins_values scan = i32 (2 ^ 32 - 4) (op (o.Binary I32Add) (tee 1 (get 0 (load_i32 (entry_offset scan.tested + 12) (begins_last_address scan)))))
 
 module _ (scan : Scan) (d : ℕ) (others : List ℕ) where
   pub to_values :
@@ -211,11 +211,11 @@ module _ (scan : Scan) (d : ℕ) (others : List ℕ) where
 
   pub to_rows : (start p : ℕ) → (start + (2 ^ 32 - 4)) % 2 ^ 32 ≡ p →
       Silently 4 (running (begins_values scan) (start ∷ []) (locals_of d 0 0 0 0 0 0 0 others) in_call)
-      (running (load_i32 (entry_offset scan.tested + 12) (begins_place scan)) (d ∷ p ∷ []) (locals_of d p 0 0 0 0 0 0 others) in_call)
+      (running (load_i32 (entry_offset scan.tested + 12) (begins_last_address scan)) (d ∷ p ∷ []) (locals_of d p 0 0 0 0 0 0 others) in_call)
   to_rows start p before = record { leads = rw (is_local 1 others (omega arith), before) refl }
 
   pub to_others : (rows p e : ℕ) → (p + rows * 4 % 2 ^ 32) % 2 ^ 32 ≡ e →
-      Silently 4 (running (begins_place scan) (rows ∷ p ∷ []) (locals_of d p 0 0 0 0 0 0 others) in_call)
+      Silently 4 (running (begins_last_address scan) (rows ∷ p ∷ []) (locals_of d p 0 0 0 0 0 0 others) in_call)
       (standing (begins_others scan) [] (locals_of d p e 0 0 0 0 0 others) in_call)
   to_others rows p e last = record { leads = rw (is_local 2 others (omega arith), last) refl }
 

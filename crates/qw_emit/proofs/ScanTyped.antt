@@ -52,25 +52,25 @@ distance_there : (ks : List ℕ) (j : ℕ) → j < length ks → slice_get (othe
 distance_there [] j within = absurd (omega arith)
 distance_there (k ∷ ks) zero within = refl
 distance_there (k ∷ ks) (suc j) within =
-    let place : 2 * suc j ≡ suc (suc (2 * j)) = omega arith in
-    rw place (distance_there ks j (omega arith))
+    let twice : 2 * suc j ≡ suc (suc (2 * j)) = omega arith in
+    rw twice (distance_there ks j (omega arith))
 
 value_there : (ks : List ℕ) (j : ℕ) → j < length ks → slice_get (other_locals ks) (suc (2 * j)) ≡ Some I64
 value_there [] j within = absurd (omega arith)
 value_there (k ∷ ks) zero within = refl
 value_there (k ∷ ks) (suc j) within =
-    let place : 2 * suc j ≡ suc (suc (2 * j)) = omega arith in
-    rw place (value_there ks j (omega arith))
+    let twice : 2 * suc j ≡ suc (suc (2 * j)) = omega arith in
+    rw twice (value_there ks j (omega arith))
 
 pub distance_local : (scan : Scan) (j : ℕ) → j < length scan.others → slice_get (I32 ∷ scan_locals scan) (8 + 2 * j) ≡ Some I32
 distance_local scan j within =
-    let place : 8 + 2 * j ≡ suc (suc (suc (suc (suc (suc (suc (suc (2 * j)))))))) = omega arith in
-    rw place (distance_there scan.others j within)
+    let counted : 8 + 2 * j ≡ suc (suc (suc (suc (suc (suc (suc (suc (2 * j)))))))) = omega arith in
+    rw counted (distance_there scan.others j within)
 
 pub value_local_of : (scan : Scan) (j : ℕ) → j < length scan.others → slice_get (I32 ∷ scan_locals scan) (9 + 2 * j) ≡ Some I64
 value_local_of scan j within =
-    let place : 9 + 2 * j ≡ suc (suc (suc (suc (suc (suc (suc (suc (suc (2 * j))))))))) = omega arith in
-    rw place (value_there scan.others j within)
+    let counted : 9 + 2 * j ≡ suc (suc (suc (suc (suc (suc (suc (suc (suc (2 * j))))))))) = omega arith in
+    rw counted (value_there scan.others j within)
 
 distances_typed : (scan : Scan) (tested j : ℕ) (ks : List ℕ) (rest : Code) → j + length ks ≤ length scan.others → Typed (at_call scan) rest [] [] →
     Typed (at_call scan) (read_distances tested j ks rest) [] []

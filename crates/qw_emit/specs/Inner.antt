@@ -1,4 +1,4 @@
 -- What restates code for proofs. No public clause rests on it.
 pub mod Emit
-pub mod Plan
+pub mod ScanShape
 pub mod Sequences

@@ -9,20 +9,20 @@ ghost use Rattle.qw_emit.specs.Inner.Emit as emit;
 mod instructions;
 mod locals;
 mod outer;
-mod plan;
 mod row;
+mod scan_shape;
 mod sequences;
 
 use instructions::{get, i32_const, repeat};
 use locals::LINK;
 use outer::outer_sequence;
-use plan::Plan;
 use qw_map::layout::row_size;
 use qw_meaning::query::Query;
 use qw_module::instruction::ValType;
 use qw_module::module::{Body, Export, ExportKind, FuncType, Function, Import, Limits, Module};
 use qw_types::NoMemory;
 use row::{ask_sequence, raise_sequence, row_sequence};
+use scan_shape::ScanShape;
 use sequences::ROW;
 use std::alloc::Global;
 
@@ -36,18 +36,18 @@ const RAISE_INDEX: u32 = 0;
 const RUN_INDEX: u32 = 1;
 
 /// The body of `run`, inner sequences before those that hold them.
-fn body_of(alloc: Global, plan: &Plan) -> Result<Body, NoMemory>
-    ensures code { IfOk result (λ b. code_of_body b ≡ emit.scan_code plan.now) }
+fn body_of(alloc: Global, shape: &ScanShape) -> Result<Body, NoMemory>
+    ensures code { IfOk result (λ b. code_of_body b ≡ emit.scan_code shape.now) }
     ensures numbered { IfOk result (λ b. IsNumbered (sequences_of b)) }
 {
     let raise = raise_sequence(alloc)?;
     let nothing = Vec::new(alloc);
-    let ask = ask_sequence(alloc, row_size(plan.cells().len()))?;
-    let row = row_sequence(alloc, plan)?;
+    let ask = ask_sequence(alloc, row_size(shape.cells().len()))?;
+    let row = row_sequence(alloc, shape)?;
     let all_rows = vec![in alloc; repeat(ROW)]?;
     let no_row = vec![in alloc; i32_const(0)]?;
     let last_row = vec![in alloc; get(LINK)]?;
-    let outer = outer_sequence(alloc, plan)?;
+    let outer = outer_sequence(alloc, shape)?;
     let sequences = vec![in alloc; raise, nothing, ask, row, all_rows, no_row, last_row, outer]?;
     Ok(Body { sequences })
 }
@@ -56,15 +56,15 @@ fn body_of(alloc: Global, plan: &Plan) -> Result<Body, NoMemory>
 fn push_other_locals(locals: &mut Vec<ValType>, others: &[u32]) -> Result<(), NoMemory>
     ensures { OnOk result (locals.new.items ≡ locals.old.items ++ emit.other_locals others.now) }
 {
-    for _place in others {
+    for _index in others {
         locals.extend_from_slice(&[ValType::I32, ValType::I64])?;
     }
     Ok(())
 }
 
 /// The locals of `run` after its argument.
-fn locals_of(alloc: Global, plan: &Plan) -> Result<Vec<ValType>, NoMemory>
-    ensures { IfOk result (λ locals. locals.items ≡ emit.scan_locals plan.now) }
+fn locals_of(alloc: Global, shape: &ScanShape) -> Result<Vec<ValType>, NoMemory>
+    ensures { IfOk result (λ locals. locals.items ≡ emit.scan_locals shape.now) }
 {
     let mut locals = vec![in alloc;
         ValType::I32,
@@ -75,19 +75,19 @@ fn locals_of(alloc: Global, plan: &Plan) -> Result<Vec<ValType>, NoMemory>
         ValType::I64,
         ValType::I64,
     ]?;
-    push_other_locals(&mut locals, plan.others())?;
+    push_other_locals(&mut locals, shape.others())?;
     Ok(locals)
 }
 
 /// The function `run`, whose type is the module's first.
-fn run_of(alloc: Global, plan: &Plan) -> Result<Function, NoMemory>
-    ensures contents { IfOk result (λ run. emit.contents_of run ≡ (0, emit.scan_locals plan.now, emit.scan_code plan.now)) }
+fn run_of(alloc: Global, shape: &ScanShape) -> Result<Function, NoMemory>
+    ensures contents { IfOk result (λ run. emit.contents_of run ≡ (0, emit.scan_locals shape.now, emit.scan_code shape.now)) }
     ensures numbered { IfOk result (λ run. IsNumbered (sequences_of run.body)) }
 {
     Ok(Function {
         type_index: TYPE_INDEX,
-        locals: locals_of(alloc, plan)?,
-        body: body_of(alloc, plan)?,
+        locals: locals_of(alloc, shape)?,
+        body: body_of(alloc, shape)?,
     })
 }
 
@@ -97,8 +97,8 @@ fn scan_module(alloc: Global, query: &Query) -> Result<Module, NoMemory>
     ensures limits { IfOk result (λ m. IsStatement query.now) }
     ensures literal { IfOk result (λ m. FitsSigned w64 query.now.literal) }
 {
-    let plan = Plan::new(alloc, query)?;
-    let run = run_of(alloc, &plan)?;
+    let shape = ScanShape::new(alloc, query)?;
+    let run = run_of(alloc, &shape)?;
     let signature = FuncType {
         params: vec![in alloc; ValType::I32]?,
         results: Vec::new(alloc),

@@ -1,4 +1,4 @@
 pub mod AccessFacts
 pub mod GrowthFacts
 pub mod MemoryFacts
-pub mod StoreFacts
+mod StoreFacts

@@ -1,10 +1,10 @@
 -- Numbers in memory, over any width: which octets they depend on, and what is read after a number was put.
-use Rattle.std.proofs.Common.{◌≡◌, ℕ, zero, suc, ◌+◌, ◌*◌, ◌/◌, ◌%◌, ◌^◌, ◌<◌, ◌≤◌, List, length, get_or, set, take, drop, ◌⊎◌, inl, inr, ⊎_elim, refl, ap, ap₂, ◌∙◌, arith, length-set, add-one, sym, ◌++◌, [], ◌∷◌, take-append-drop, take-suc-set, drop-set-lt, append_assoc, mul_comm, pow-suc, get_or-set_same, get_or-set_other, get_or-drop, get_or-take, w8, w16, w32, w64, mod-lt, add-zero, mul-suc, add_comm, add_assoc}
+use Rattle.std.proofs.Common.{◌≡◌, ℕ, zero, suc, ◌+◌, ◌*◌, ◌/◌, ◌%◌, ◌^◌, ◌<◌, ◌≤◌, ◌≢◌, List, length, get_or, set, take, drop, ◌⊎◌, inl, inr, ⊎_elim, refl, ap, ap₂, ◌∙◌, arith, length-set, add-one, sym, ◌++◌, [], ◌∷◌, take-append-drop, take-suc-set, drop-set-lt, append_assoc, mul_comm, pow-suc, get_or-set_same, get_or-set_other, get_or-drop, get_or-take, mod-lt, add-zero, mul-suc, add_comm, mul_assoc}
 use Rattle.std.proofs.lemmas.Nat.{mod-pow-add, pow-add}
 use Rattle.std.proofs.lemmas.Bool.{cases_lt}
 use Rattle.std.proofs.lemmas.List.{get_or_past}
 use Rattle.std.proofs.lemmas.List.Elements.{All-set}
-use Rattle.std.specs.Int.{from_le_bytes, byte_at, bytes_low_first}
+use Rattle.std.specs.Int.{byte_at, byte_worth, bytes_low_first, sum_through}
 use native.Mathlib.Nat.{div-div-eq-div-mul}
 use Rattle.qw_linear.specs.Memory.{number_at, with_number, AreOctets}
 
@@ -15,23 +15,22 @@ length-with_number octets at zero number = refl
 length-with_number octets at (suc width) number =
     length-with_number (set octets at (number % 256)) (at + 1) width (number / 256) ∙ length-set octets at (number % 256)
 
--- and each octet below its place
-pub with_number-below : (octets : List ℕ) (at width number k : ℕ) → k < at →
+-- and each octet at none of its own addresses
+with_number-beside : (octets : List ℕ) (at width number k : ℕ) → ((j : ℕ) → j < width → at + j ≢ k) →
     get_or (with_number octets at width number) k 0 ≡ get_or octets k 0
 unfolding with_number
-with_number-below octets at zero number k h = refl
-with_number-below octets at (suc width) number k h =
-    with_number-below (set octets at (number % 256)) (at + 1) width (number / 256) k (omega arith)
+with_number-beside octets at zero number k apart = refl
+with_number-beside octets at (suc width) number k apart =
+    let first : at + 0 ≢ k = apart 0 (omega arith) in
+    with_number-beside (set octets at (number % 256)) (at + 1) width (number / 256) k
+    (λ j within e. let next : at + suc j ≢ k = apart (suc j) (omega arith) in omega arith)
     ∙ get_or-set_other octets at k (number % 256) 0 (λ e. omega arith)
 
--- and each octet after it
-pub with_number-above : (octets : List ℕ) (at width number k : ℕ) → at + width ≤ k →
-    get_or (with_number octets at width number) k 0 ≡ get_or octets k 0
-unfolding with_number
-with_number-above octets at zero number k h = refl
-with_number-above octets at (suc width) number k h =
-    with_number-above (set octets at (number % 256)) (at + 1) width (number / 256) k (omega arith)
-    ∙ get_or-set_other octets at k (number % 256) 0 (λ e. omega arith)
+pub with_number-below : (octets : List ℕ) (at width number k : ℕ) → k < at → get_or (with_number octets at width number) k 0 ≡ get_or octets k 0
+with_number-below octets at width number k h = with_number-beside octets at width number k (λ j within e. omega arith)
+
+pub with_number-above : (octets : List ℕ) (at width number k : ℕ) → at + width ≤ k → get_or (with_number octets at width number) k 0 ≡ get_or octets k 0
+with_number-above octets at width number k h = with_number-beside octets at width number k (λ j within e. omega arith)
 
 -- a number depends on its octets alone, wherever they lie
 pub number_at-moved : (xs ys : List ℕ) (at there width : ℕ) →
@@ -98,40 +97,30 @@ AreOctets-with_number octets are at (suc width) number =
 octet_taken : (octets : List ℕ) (at width k : ℕ) → k < width → get_or (take width (drop at octets)) k 0 ≡ get_or octets (at + k) 0
 octet_taken octets at width k h = get_or-take width (drop at octets) k 0 h ∙ get_or-drop at octets k 0
 
--- the numbers of one, two, four and eight octets are those that `from_le_bytes` reads
-pub number_at-one : (octets : List ℕ) (at : ℕ) → number_at octets at 1 ≡ from_le_bytes w8 (take 1 (drop at octets))
-unfolding number_at
-number_at-one octets at = simp (octet_taken octets at 1 0 (omega arith), add-zero) (omega arith)
+byte_worth-is : (k octet : ℕ) → byte_worth k octet ≡ octet * 256 ^ k
+byte_worth-is zero octet = omega arith
+byte_worth-is (suc k) octet = refl
 
-pub number_at-two : (octets : List ℕ) (at : ℕ) → number_at octets at 2 ≡ from_le_bytes w16 (take 2 (drop at octets))
+-- a number is that of all its octets but the last, and what the last one is worth
+number_at-last : (octets : List ℕ) (at k : ℕ) → number_at octets at (suc k) ≡ number_at octets at k + get_or octets (at + k) 0 * 256 ^ k
 unfolding number_at
-number_at-two octets at = simp (octet_taken octets at 2 0 (omega arith), octet_taken octets at 2 1 (omega arith), add-zero) (omega arith)
+number_at-last octets at zero = let here : at + 0 ≡ at = omega arith in rw here (omega arith)
+number_at-last octets at (suc k) =
+    let octet : ℕ = get_or octets (at + suc k) 0 in
+    let there : at + 1 + k ≡ at + suc k = omega arith in
+    let rest : number_at octets (at + 1) (suc k) ≡ number_at octets (at + 1) k + octet * 256 ^ k = rw there at (number_at-last octets (at + 1) k) in
+    let worth : octet * 256 ^ suc k ≡ 256 * (octet * 256 ^ k) = rw (pow-suc 256 k, ← mul_assoc octet (256 ^ k) 256) (mul_comm (octet * 256 ^ k) 256) in
+    omega (arith, rest, worth)
 
-pub number_at-four : (octets : List ℕ) (at : ℕ) → number_at octets at 4 ≡ from_le_bytes w32 (take 4 (drop at octets))
+-- the number of octets is that which `from_le_bytes` reads of them
+pub number_at-taken : (octets : List ℕ) (at width k : ℕ) → k < width →
+    number_at octets at (suc k) ≡ sum_through (λ i. byte_worth i (get_or (take width (drop at octets)) i 0)) k
 unfolding number_at
-number_at-four octets at = simp (
-  octet_taken octets at 4 0 (omega arith),
-  octet_taken octets at 4 1 (omega arith),
-  octet_taken octets at 4 2 (omega arith),
-  octet_taken octets at 4 3 (omega arith),
-  add-zero,
-  add_assoc,
-) (omega arith)
-
-pub number_at-eight : (octets : List ℕ) (at : ℕ) → number_at octets at 8 ≡ from_le_bytes w64 (take 8 (drop at octets))
-unfolding number_at
-number_at-eight octets at = simp (
-  octet_taken octets at 8 0 (omega arith),
-  octet_taken octets at 8 1 (omega arith),
-  octet_taken octets at 8 2 (omega arith),
-  octet_taken octets at 8 3 (omega arith),
-  octet_taken octets at 8 4 (omega arith),
-  octet_taken octets at 8 5 (omega arith),
-  octet_taken octets at 8 6 (omega arith),
-  octet_taken octets at 8 7 (omega arith),
-  add-zero,
-  add_assoc,
-) (omega arith)
+number_at-taken octets at width zero h = rw (octet_taken octets at width 0 h) (let here : at + 0 ≡ at = omega arith in rw here (omega arith))
+number_at-taken octets at width (suc k) h =
+    number_at-last octets at (suc k)
+    ∙ ap₂ (λ (x y : ℕ). x + y) (number_at-taken octets at width k (omega arith))
+    (ap (λ (octet : ℕ). octet * 256 ^ suc k) (sym (octet_taken octets at width (suc k) h)))
 
 byte_at-higher : (k number : ℕ) → byte_at k (number / 256) ≡ byte_at (suc k) number
 byte_at-higher zero number = refl

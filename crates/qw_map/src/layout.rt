@@ -5,7 +5,7 @@ ghost use Rattle.qw_types.specs.Limits.{most_columns};
 ghost use Rattle.qw_meaning.specs.Statement.{most_items};
 ghost use Rattle.qw_map.specs.Layout as layout;
 
-use qw_meaning::query::{MAX_ITEMS, Query};
+use qw_meaning::query::Query;
 use qw_types::NoMemory;
 use qw_types::schema::MAX_COLUMNS;
 use std::alloc::Global;

@@ -1,1 +1,1 @@
-pub mod PlainLemmas
+mod PlainLemmas

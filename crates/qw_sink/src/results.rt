@@ -14,7 +14,7 @@ ghost use Rattle.qw_bench.specs.Standing.{rows_in};
 use qw_bench::bench::Bench;
 use qw_linear::linear::Linear;
 use qw_map::layout::{CELL_OFFSET, CELL_SIZE, COUNT_OFFSET, FIRST_ROW_OFFSET};
-use qw_meaning::query::{MAX_ITEMS, Query};
+use qw_meaning::query::Query;
 use qw_types::{NoMemory, Row, Ty, Val};
 use std::alloc::Global;
 

@@ -5,6 +5,7 @@
 //! - [`text::Text`]: a text, which contracts see as its octets.
 //! - [`row::Row`]: the values of one row, which contracts see as a list.
 //! - [`schema::Schema`]: the declared tables, each with its columns.
+//! - [`worked_laws`]: worked cases of the definitions, with numbers.
 //!
 //! The limits on counts and the rule that names differ are kept by the types.
 #![tactic(auto)]
@@ -15,6 +16,7 @@ pub mod row;
 pub mod schema;
 pub mod text;
 pub mod value;
+pub mod worked_laws;
 
 pub use memory::NoMemory;
 pub use row::Row;

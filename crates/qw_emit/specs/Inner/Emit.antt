@@ -1,4 +1,4 @@
--- The module of a statement over one table: the code of its function `run`.
+-- Mirrors `module_of` of src/emit.rt and what it calls: the module of a statement over one table, and the code of its `run`.
 use Rattle.std.specs.Prelude.{◌≡◌, ℕ, suc, ◌+◌, ◌-◌, ◌*◌, ◌^◌, ◌==◌, not, if◌then◌else◌, ℤ, List, [], ◌∷◌, length, map, filter, codes, Some, None}
 use Rattle.std.specs.Int.{w64, cast_unsigned}
 use Rattle.std.specs.List.{AllByRecursion, position_or_len}
@@ -28,7 +28,7 @@ use Rattle.qw_meaning.specs.declared.query.Comparison.TheVariants.{Equal, NotEqu
 use Rattle.qw_meaning.specs.Statement.{Statement}
 use Rattle.qw_map.specs.Layout.{used, entry_offset, row_size}
 
--- What the code of a statement depends on: the place of the compared column among those that are used, the places of the
+-- What the code of a statement depends on: the index of the compared column among those that are used, the indices of the
 -- others, for each cell of a result row the local that holds its value, the comparison and the literal.
 pub record Scan : Type 0 where
   pub tested : ℕ
@@ -37,7 +37,7 @@ pub record Scan : Type 0 where
   pub comparison : Comparison
   pub literal : ℤ
 
--- the first place of a number in a list
+-- the first index of a number in a list, or the list's length
 abbrev pub index_in : List ℕ → ℕ → ℕ
 index_in xs x = position_or_len (λ y. y == x) xs
 
@@ -45,17 +45,17 @@ index_in xs x = position_or_len (λ y. y == x) xs
 abbrev pub other_columns : Statement → List ℕ
 other_columns statement = filter (λ column. not (column == statement.tested)) (used statement)
 
--- The locals: the descriptor's address, which is the argument; the place before the compared column's next value, and the
--- place of its last value; the next row's address, the place of the link that it is to be put at, and the last address at
--- which a row fits the page; the compared value; how many rows there are.
+-- The locals: the descriptor's address, which is the argument; the address of the compared value (before the first row, that
+-- of four octets before it), and the address of the last one; the next row's address, the address of the link to it, and the
+-- last address at which a row fits the page; the compared value; how many rows there are.
 abbrev pub descriptor_local : ℕ
 descriptor_local = 0
 
-abbrev pub place_local : ℕ
-place_local = 1
+abbrev pub value_address_local : ℕ
+value_address_local = 1
 
-abbrev pub last_place_local : ℕ
-last_place_local = 2
+abbrev pub last_value_address_local : ℕ
+last_value_address_local = 2
 
 abbrev pub next_row_local : ℕ
 next_row_local = 3
@@ -79,7 +79,7 @@ distance_of j = 8 + 2 * j
 abbrev pub value_of_other : ℕ → ℕ
 value_of_other j = 9 + 2 * j
 
--- the local that holds the value of a column
+-- the index of the local that holds the value of a column
 abbrev pub local_of : Statement → ℕ → ℕ
 local_of statement column =
     if column == statement.tested then value_local else value_of_other (index_in (other_columns statement) column)
@@ -137,11 +137,11 @@ read_distances tested j (k ∷ ks) rest =
     get descriptor_local (load_i32 (entry_offset k) (get descriptor_local (load_i32 (entry_offset tested) (op (o.Binary I32Sub) (set (distance_of j)
     (read_distances tested (suc j) ks rest))))))
 
--- The values of the other columns in the row at the compared value's place, from the j-th on.
+-- The values of the other columns in the compared value's row, from the j-th on.
 abbrev pub read_values : (j : ℕ) → (others : List ℕ) → Code → Code
 read_values j [] rest = rest
 read_values j (k ∷ ks) rest =
-    get place_local (get (distance_of j) (op (o.Binary I32Add) (load_value (set (value_of_other j) (read_values (suc j) ks rest)))))
+    get value_address_local (get (distance_of j) (op (o.Binary I32Add) (load_value (set (value_of_other j) (read_values (suc j) ks rest)))))
 
 -- The cells of the next row, from the i-th on.
 abbrev pub write_cells : (i : ℕ) → (cells : List ℕ) → Code → Code
@@ -163,8 +163,8 @@ ask_page size refused otherwise =
 abbrev pub scan_row : Scan → (ask otherwise : Code) → Code
 scan_row scan ask otherwise =
     let size = row_size (length scan.cells) in
-    get place_local (get last_place_local (op (o.Relation I32Eq) (br_if 1
-    (get place_local (i32 4 (op (o.Binary I32Add) (tee place_local (load_value (tee value_local (i64 (cast_unsigned w64 scan.literal) (op (o.Relation (rejects scan.comparison)) (br_if 0
+    get value_address_local (get last_value_address_local (op (o.Relation I32Eq) (br_if 1
+    (get value_address_local (i32 4 (op (o.Binary I32Add) (tee value_address_local (load_value (tee value_local (i64 (cast_unsigned w64 scan.literal) (op (o.Relation (rejects scan.comparison)) (br_if 0
     (get next_row_local (get last_start_local (op (o.Relation (I32Gt Unsigned)) (if_else None ask otherwise
     (get link_local (get next_row_local (tee link_local (store_i32 0
     (read_values 0 scan.others (write_cells 0 scan.cells
@@ -184,8 +184,8 @@ scan_end none last =
 -- The code of `run` around its loop and the two arms of its last choice.
 abbrev pub scan_frame : Scan → (rows none last : Code) → Code
 scan_frame scan rows none last =
-    get descriptor_local (load_i32 (entry_offset scan.tested) (i32 (2 ^ 32 - 4) (op (o.Binary I32Add) (tee place_local
-    (get descriptor_local (load_i32 (entry_offset scan.tested + 12) (i32 4 (op (o.Binary I32Mul) (op (o.Binary I32Add) (set last_place_local
+    get descriptor_local (load_i32 (entry_offset scan.tested) (i32 (2 ^ 32 - 4) (op (o.Binary I32Add) (tee value_address_local
+    (get descriptor_local (load_i32 (entry_offset scan.tested + 12) (i32 4 (op (o.Binary I32Mul) (op (o.Binary I32Add) (set last_value_address_local
     (read_distances scan.tested 0 scan.others
     (get descriptor_local (load_i32 0 (set next_row_local
     (get descriptor_local (load_i32 4 (i32 (2 ^ 32 - row_size (length scan.cells)) (op (o.Binary I32Add) (set last_start_local

@@ -4,21 +4,19 @@ ghost use Rattle.std.specs.Prelude.{◌≡◌, ◌≤◌};
 ghost use Rattle.qw_types.specs.Limits.{most_columns};
 ghost use Rattle.qw_emit.specs.Inner.Emit as emit;
 
-use qw_types::schema::MAX_COLUMNS;
-
 /// The address of the descriptor: the argument.
 pub const DESCRIPTOR: u32 = 0;
 
-/// The place before the compared column's next value.
-pub const PLACE: u32 = 1;
+/// The address of the compared value; before the first row, four octets before that of the first one.
+pub const VALUE_ADDRESS: u32 = 1;
 
-/// The place of its last value.
-pub const LAST_PLACE: u32 = 2;
+/// The address of the compared column's last value.
+pub const LAST_VALUE_ADDRESS: u32 = 2;
 
 /// The address of the next result row.
 pub const NEXT_ROW: u32 = 3;
 
-/// The place of the link that the next row is to be put at.
+/// The address of the link to the next row.
 pub const LINK: u32 = 4;
 
 /// The last address at which a row fits the page.

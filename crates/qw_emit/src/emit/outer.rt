@@ -17,9 +17,9 @@ use super::instructions::{
     store_i64, tee,
 };
 use super::locals::{
-    COUNT, DESCRIPTOR, LAST_PLACE, LAST_START, LINK, NEXT_ROW, PLACE, distance_of,
+    COUNT, DESCRIPTOR, LAST_START, LAST_VALUE_ADDRESS, LINK, NEXT_ROW, VALUE_ADDRESS, distance_of,
 };
-use super::plan::Plan;
+use super::scan_shape::ScanShape;
 use super::sequences::{ALL_ROWS, LAST_ROW, NO_ROW};
 use qw_map::layout::{
     COUNT_OFFSET, ENTRY_ROWS_OFFSET, FIRST_ROW_OFFSET, FREE_OFFSET, INTEGER_SIZE, LAST_ROW_OFFSET,
@@ -37,25 +37,25 @@ fn minus(number: u32) -> u32
     u32::MAX - number + 1
 }
 
-/// Reads the places before the compared column's first value and of its last.
-fn push_places(sequence: &mut Vec<Instr>, tested: u32) -> Result<(), NoMemory>
+/// Reads the address of the compared column's last value, and that of four octets before its first.
+fn push_addresses(sequence: &mut Vec<Instr>, tested: u32) -> Result<(), NoMemory>
     requires { tested ≤ most_columns }
     ensures { OnOk result (Adds 7 sequence.old.items sequence.new.items (λ named rest.
-        emit.get emit.descriptor_local (emit.load_i32 (layout.entry_offset tested) (emit.i32 (2 ^ 32 - 4) (op (o.Binary I32Add) (emit.tee emit.place_local
-        (emit.get emit.descriptor_local (emit.load_i32 (layout.entry_offset tested + 12) (emit.i32 4 (op (o.Binary I32Mul) (op (o.Binary I32Add) (emit.set emit.last_place_local rest)))))))))))) }
+        emit.get emit.descriptor_local (emit.load_i32 (layout.entry_offset tested) (emit.i32 (2 ^ 32 - 4) (op (o.Binary I32Add) (emit.tee emit.value_address_local
+        (emit.get emit.descriptor_local (emit.load_i32 (layout.entry_offset tested + 12) (emit.i32 4 (op (o.Binary I32Mul) (op (o.Binary I32Add) (emit.set emit.last_value_address_local rest)))))))))))) }
 {
     sequence.extend_from_slice(&[
         get(DESCRIPTOR),
         load(Load::I32, entry_offset(tested)),
         i32_const(minus(INTEGER_SIZE as u32)),
         binary(Binary::I32Add),
-        tee(PLACE),
+        tee(VALUE_ADDRESS),
         get(DESCRIPTOR),
         load(Load::I32, entry_offset(tested) + ENTRY_ROWS_OFFSET),
         i32_const(INTEGER_SIZE as u32),
         binary(Binary::I32Mul),
         binary(Binary::I32Add),
-        set(LAST_PLACE),
+        set(LAST_VALUE_ADDRESS),
     ])?;
     Ok(())
 }
@@ -65,16 +65,16 @@ fn push_distance(
     sequence: &mut Vec<Instr>,
     tested: u32,
     number: u32,
-    place: u32,
+    index: u32,
 ) -> Result<(), NoMemory>
     requires tested { tested ≤ most_columns }
     requires number { number ≤ most_columns }
-    requires place { place ≤ most_columns }
-    ensures { OnOk result (Adds 7 sequence.old.items sequence.new.items (λ named rest. emit.read_distances tested number (place ∷ []) rest)) }
+    requires index { index ≤ most_columns }
+    ensures { OnOk result (Adds 7 sequence.old.items sequence.new.items (λ named rest. emit.read_distances tested number (index ∷ []) rest)) }
 {
     sequence.extend_from_slice(&[
         get(DESCRIPTOR),
-        load(Load::I32, entry_offset(place)),
+        load(Load::I32, entry_offset(index)),
         get(DESCRIPTOR),
         load(Load::I32, entry_offset(tested)),
         binary(Binary::I32Sub),
@@ -87,11 +87,11 @@ fn push_distance(
 fn push_distances(sequence: &mut Vec<Instr>, tested: u32, others: &[u32]) -> Result<(), NoMemory>
     requires tested { tested ≤ most_columns }
     requires few { length others.now ≤ most_columns }
-    requires small { AllByRecursion (λ place. place ≤ most_columns) others.now }
+    requires small { AllByRecursion (λ index. index ≤ most_columns) others.now }
     ensures { OnOk result (Adds 7 sequence.old.items sequence.new.items (λ named rest. emit.read_distances tested 0 others.now rest)) }
 {
-    for (number, place) in others.iter().enumerate() {
-        push_distance(sequence, tested, number as u32, *place)?;
+    for (number, index) in others.iter().enumerate() {
+        push_distance(sequence, tested, number as u32, *index)?;
     }
     Ok(())
 }
@@ -147,14 +147,14 @@ fn push_end(sequence: &mut Vec<Instr>) -> Result<(), NoMemory>
 }
 
 /// The outermost sequence.
-pub fn outer_sequence(alloc: Global, plan: &Plan) -> Result<Vec<Instr>, NoMemory>
-    ensures code { IfOk result (λ v. (named : ℕ → Code) → nested named v.items ≡ emit.scan_frame plan.now (named 4) (named 5) (named 6)) }
+pub fn outer_sequence(alloc: Global, shape: &ScanShape) -> Result<Vec<Instr>, NoMemory>
+    ensures code { IfOk result (λ v. (named : ℕ → Code) → nested named v.items ≡ emit.scan_frame shape.now (named 4) (named 5) (named 6)) }
     ensures names { IfOk result (λ v. AllByRecursion (NamesBelow 7) v.items) }
 {
     let mut sequence = Vec::new(alloc);
-    push_places(&mut sequence, plan.tested())?;
-    push_distances(&mut sequence, plan.tested(), plan.others())?;
-    push_rows(&mut sequence, row_size(plan.cells().len()))?;
+    push_addresses(&mut sequence, shape.tested())?;
+    push_distances(&mut sequence, shape.tested(), shape.others())?;
+    push_rows(&mut sequence, row_size(shape.cells().len()))?;
     push_end(&mut sequence)?;
     Ok(sequence)
 }

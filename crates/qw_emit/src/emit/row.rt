@@ -12,16 +12,17 @@ ghost use Rattle.qw_module.specs.declared.instruction.Sign.TheVariants.{Unsigned
 ghost use Rattle.qw_module.specs.declared.instruction.Op.TheVariants as o;
 ghost use Rattle.qw_module.specs.Syntax.{Code, NamesBelow, nested, op, if_else, br, br_if};
 ghost use Rattle.qw_emit.specs.Inner.Emit as emit;
-ghost use Rattle.qw_emit.specs.Inner.Sequences.{Adds};
+ghost use Rattle.qw_emit.specs.Inner.Sequences.{Adds, each};
 
 use super::RAISE_INDEX;
 use super::instructions::{
     binary, choice, get, i32_const, i64_const, load, relation, set, store_i32, store_i64, tee,
 };
 use super::locals::{
-    COUNT, LAST_PLACE, LAST_START, LINK, NEXT_ROW, PLACE, VALUE, distance_of, value_of_other,
+    COUNT, LAST_START, LAST_VALUE_ADDRESS, LINK, NEXT_ROW, VALUE, VALUE_ADDRESS, distance_of,
+    value_of_other,
 };
-use super::plan::Plan;
+use super::scan_shape::ScanShape;
 use super::sequences::{ASK, NOTHING, RAISE};
 use qw_linear::linear::PAGE;
 use qw_map::layout::{CELL_OFFSET, CELL_SIZE, INTEGER_SIZE, NEXT_OFFSET, row_size};
@@ -32,6 +33,15 @@ use std::alloc::Global;
 
 /// The code that is raised after a request that was refused.
 const OUT_OF_PAGES: u32 = 3;
+
+/// What the loop's body does for each element of a list.
+#[derive(Clone, Copy, Debug)]
+pub enum Piece {
+    /// Reads the value of an other column, by its number among those.
+    Value,
+    /// Writes a cell, by its number in the row, from the local that the element names.
+    Cell,
+}
 
 /// Raises after a request that was refused.
 pub fn raise_sequence(alloc: Global) -> Result<Vec<Instr>, NoMemory>
@@ -79,25 +89,25 @@ fn rejecting(comparison: Comparison) -> Relation
 }
 
 /// Leaves the loop after the last row, and goes to the next. Where its compared value is rejected, the loop begins again.
-fn push_test(sequence: &mut Vec<Instr>, plan: &Plan) -> Result<(), NoMemory>
+fn push_test(sequence: &mut Vec<Instr>, shape: &ScanShape) -> Result<(), NoMemory>
     ensures { OnOk result (Adds 3 sequence.old.items sequence.new.items (λ named rest.
-        emit.get emit.place_local (emit.get emit.last_place_local (op (o.Relation I32Eq) (br_if 1
-        (emit.get emit.place_local (emit.i32 4 (op (o.Binary I32Add) (emit.tee emit.place_local (emit.load_value (emit.tee emit.value_local
-        (emit.i64 (cast_unsigned w64 plan.now.literal) (op (o.Relation (emit.rejects plan.now.comparison)) (br_if 0 rest)))))))))))))) }
+        emit.get emit.value_address_local (emit.get emit.last_value_address_local (op (o.Relation I32Eq) (br_if 1
+        (emit.get emit.value_address_local (emit.i32 4 (op (o.Binary I32Add) (emit.tee emit.value_address_local (emit.load_value (emit.tee emit.value_local
+        (emit.i64 (cast_unsigned w64 shape.now.literal) (op (o.Relation (emit.rejects shape.now.comparison)) (br_if 0 rest)))))))))))))) }
 {
     sequence.extend_from_slice(&[
-        get(PLACE),
-        get(LAST_PLACE),
+        get(VALUE_ADDRESS),
+        get(LAST_VALUE_ADDRESS),
         relation(Relation::I32Eq),
         Instr::BrIf(1),
-        get(PLACE),
+        get(VALUE_ADDRESS),
         i32_const(INTEGER_SIZE as u32),
         binary(Binary::I32Add),
-        tee(PLACE),
+        tee(VALUE_ADDRESS),
         load(Load::I64From32(Sign::Signed), 0),
         tee(VALUE),
-        i64_const(plan.literal()),
-        relation(rejecting(plan.comparison())),
+        i64_const(shape.literal()),
+        relation(rejecting(shape.comparison())),
         Instr::BrIf(0),
     ])?;
     Ok(())
@@ -126,26 +136,15 @@ fn push_room(sequence: &mut Vec<Instr>) -> Result<(), NoMemory>
 fn push_value(sequence: &mut Vec<Instr>, number: u32) -> Result<(), NoMemory>
     requires { number ≤ most_columns }
     ensures { OnOk result (Adds 3 sequence.old.items sequence.new.items (λ named rest.
-        emit.get emit.place_local (emit.get (emit.distance_of number) (op (o.Binary I32Add) (emit.load_value (emit.set (emit.value_of_other number) rest)))))) }
+        emit.get emit.value_address_local (emit.get (emit.distance_of number) (op (o.Binary I32Add) (emit.load_value (emit.set (emit.value_of_other number) rest)))))) }
 {
     sequence.extend_from_slice(&[
-        get(PLACE),
+        get(VALUE_ADDRESS),
         get(distance_of(number)),
         binary(Binary::I32Add),
         load(Load::I64From32(Sign::Signed), 0),
         set(value_of_other(number)),
     ])?;
-    Ok(())
-}
-
-/// Reads the values of the other columns.
-fn push_values(sequence: &mut Vec<Instr>, others: &[u32]) -> Result<(), NoMemory>
-    requires { length others.now ≤ most_columns }
-    ensures { OnOk result (Adds 3 sequence.old.items sequence.new.items (λ named rest. emit.read_values 0 others.now rest)) }
-{
-    for (number, _place) in others.iter().enumerate() {
-        push_value(sequence, number as u32)?;
-    }
     Ok(())
 }
 
@@ -162,13 +161,29 @@ fn push_cell(sequence: &mut Vec<Instr>, number: u32, local: u32) -> Result<(), N
     Ok(())
 }
 
-/// Writes the cells of the row.
-fn push_cells(sequence: &mut Vec<Instr>, locals: &[u32]) -> Result<(), NoMemory>
-    requires { length locals.now ≤ most_items }
-    ensures { OnOk result (Adds 3 sequence.old.items sequence.new.items (λ named rest. emit.write_cells 0 locals.now rest)) }
+/// Does its piece for one element, of this number in its list.
+fn push_piece(
+    sequence: &mut Vec<Instr>,
+    piece: Piece,
+    number: u32,
+    element: u32,
+) -> Result<(), NoMemory>
+    requires { number ≤ most_items }
+    ensures { OnOk result (Adds 3 sequence.old.items sequence.new.items (λ named rest. each piece number (element ∷ []) rest)) }
 {
-    for (number, local) in locals.iter().enumerate() {
-        push_cell(sequence, number as u32, *local)?;
+    match piece {
+        Piece::Value => push_value(sequence, number),
+        Piece::Cell => push_cell(sequence, number, element),
+    }
+}
+
+/// Does the piece for each element of a list, in turn.
+fn push_each(sequence: &mut Vec<Instr>, piece: Piece, elements: &[u32]) -> Result<(), NoMemory>
+    requires { length elements.now ≤ most_items }
+    ensures { OnOk result (Adds 3 sequence.old.items sequence.new.items (λ named rest. each piece 0 elements.now rest)) }
+{
+    for (number, element) in elements.iter().enumerate() {
+        push_piece(sequence, piece, number as u32, *element)?;
     }
     Ok(())
 }
@@ -194,15 +209,15 @@ fn push_count(sequence: &mut Vec<Instr>, size: u32) -> Result<(), NoMemory>
 }
 
 /// The loop's body, which looks at one row of the table.
-pub fn row_sequence(alloc: Global, plan: &Plan) -> Result<Vec<Instr>, NoMemory>
-    ensures code { IfOk result (λ v. (named : ℕ → Code) → nested named v.items ≡ emit.scan_row plan.now (named 2) (named 1)) }
+pub fn row_sequence(alloc: Global, shape: &ScanShape) -> Result<Vec<Instr>, NoMemory>
+    ensures code { IfOk result (λ v. (named : ℕ → Code) → nested named v.items ≡ emit.scan_row shape.now (named 2) (named 1)) }
     ensures names { IfOk result (λ v. AllByRecursion (NamesBelow 3) v.items) }
 {
     let mut sequence = Vec::new(alloc);
-    push_test(&mut sequence, plan)?;
+    push_test(&mut sequence, shape)?;
     push_room(&mut sequence)?;
-    push_values(&mut sequence, plan.others())?;
-    push_cells(&mut sequence, plan.cells())?;
-    push_count(&mut sequence, row_size(plan.cells().len()))?;
+    push_each(&mut sequence, Piece::Value, shape.others())?;
+    push_each(&mut sequence, Piece::Cell, shape.cells())?;
+    push_count(&mut sequence, row_size(shape.cells().len()))?;
     Ok(sequence)
 }

@@ -8,7 +8,7 @@ use Rattle.qw_emit.proofs.emit.body_of.Goals as goal
 pub returns-clause-code : goal.returns-clause-code
 returns-clause-code c =
     ap (λ (sequences : List (Vec Instr)). code_of (map (λ (sequence : Vec Instr). sequence.items) sequences)) c.in_ok-sequences.ensures.items
-    ∙ scan_nests c.args.plan.now c.in_ok-raise.raise.items c.new-nothing.result.items c.in_ok-ask.ask.items c.in_ok-row.row.items c.in_ok-all_rows.all_rows.items c.in_ok-no_row.no_row.items c.in_ok-last_row.last_row.items c.in_ok-outer.outer.items
+    ∙ scan_nests c.args.shape.now c.in_ok-raise.raise.items c.new-nothing.result.items c.in_ok-ask.ask.items c.in_ok-row.row.items c.in_ok-all_rows.all_rows.items c.in_ok-no_row.no_row.items c.in_ok-last_row.last_row.items c.in_ok-outer.outer.items
     c.in_ok-raise.ensures.code
     (λ named. rw c.new-nothing.ensures.items refl)
     (λ named. c.in_ok-ask.ensures.code named ∙ rw (c.row_size.ensures, c.cells.ensures.cells) refl)

@@ -2,5 +2,5 @@ use Rattle.std.proofs.Common.{◌≡◌, ◌++◌, take}
 use Rattle.qw_emit.specs.Inner.Emit.{other_locals}
 use Rattle.qw_emit.proofs.emit.push_other_locals.Given as goal
 
-abbrev pub invariant-loop-place : goal.invariant-loop-place
-invariant-loop-place l = l.locals.items ≡ l.fn.locals.items ++ other_locals (take l._place-index l.others)
+abbrev pub invariant-loop-index : goal.invariant-loop-index
+invariant-loop-index l = l.locals.items ≡ l.fn.locals.items ++ other_locals (take l._index-index l.others)

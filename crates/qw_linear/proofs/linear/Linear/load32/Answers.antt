@@ -1,7 +1,7 @@
-use Rattle.std.proofs.Common.{refl, ◌∙◌}
-use Rattle.qw_linear.proofs.StoreFacts.{loaded-four}
+use Rattle.std.proofs.Common.{w32, refl, ◌∙◌}
+use Rattle.qw_linear.proofs.StoreFacts.{loaded-octets}
 use Rattle.qw_linear.proofs.linear.Linear.load32.Goals as goal
 
 pub returns-clause-loaded : goal.returns-clause-loaded
 returns-clause-loaded c =
-    loaded-four _ _ c.args.at _ (c.in_ok-chunk.ensures.inside.0 refl) c.in_ok-chunk.ensures.octets (c.from.ensures ∙ c.from_le_bytes.ensures)
+    loaded-octets w32 _ _ c.args.at 3 _ refl (c.in_ok-chunk.ensures.inside.0 refl) c.in_ok-chunk.ensures.octets (c.from.ensures ∙ c.from_le_bytes.ensures)

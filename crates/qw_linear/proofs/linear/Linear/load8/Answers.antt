@@ -1,7 +1,7 @@
-use Rattle.std.proofs.Common.{refl, ◌∙◌}
-use Rattle.qw_linear.proofs.StoreFacts.{loaded-one}
+use Rattle.std.proofs.Common.{w8, refl, ◌∙◌}
+use Rattle.qw_linear.proofs.StoreFacts.{loaded-octets}
 use Rattle.qw_linear.proofs.linear.Linear.load8.Goals as goal
 
 pub returns-clause-loaded : goal.returns-clause-loaded
 returns-clause-loaded c =
-    loaded-one _ _ c.args.at _ (c.in_ok-chunk.ensures.inside.0 refl) c.in_ok-chunk.ensures.octets (c.from.ensures ∙ c.from_le_bytes.ensures)
+    loaded-octets w8 _ _ c.args.at 0 _ refl (c.in_ok-chunk.ensures.inside.0 refl) c.in_ok-chunk.ensures.octets (c.from.ensures ∙ c.from_le_bytes.ensures)
