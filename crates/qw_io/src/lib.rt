@@ -13,6 +13,7 @@ mod fault;
 mod file_shelf;
 mod memory_shelf;
 mod memory_sink;
+mod opened_file;
 mod piece;
 mod plain_sink;
 mod shelf;

@@ -1,4 +1,4 @@
-ghost use Rattle.std.specs.Prelude.{◌≡◌, ◌↔◌, ◌⊎◌, ℕ, ◌≤◌, Bool, true, List, Option, length, take, drop, IfOk, OnOk, IsErrOf, IsTrue, ⊤};
+ghost use Rattle.std.specs.Prelude.{◌≡◌, ◌↔◌, ◌⊎◌, ℕ, ◌≤◌, Bool, true, List, Option, length, take, drop, IfOk, IfSome, None, OnOk, IsErrOf, IsTrue, ⊤};
 ghost use Rattle.qw_io.specs.Faults.{IsCounted};
 ghost use Rattle.qw_io.specs.Files.{OfFile};
 
@@ -12,10 +12,13 @@ pub trait Shelf {
     /// How many faults were counted. The count never falls, and stays at 2^64 - 1.
     ghost faults: { Self → ℕ };
 
+    /// The name of the file that the last counted fault was at, where it is told.
+    ghost fault_name: { Self → Option (List ℕ) } = { λ _. None };
+
     /// Whether a call may take memory. Only then may it answer want of memory.
     ghost takes_memory: { Bool } = { true };
 
-    /// Reads octets of the file `name` from place `at` into the front of `into`, and answers how many.
+    /// Reads octets of the file `name` from offset `at` into the front of `into`, and answers how many.
     /// Of what stands behind them in `into` nothing is said, nor of `into` after an `Err`.
     /// `Ok(0)` at an `into` that isn't empty is the end of the file.
     ///
@@ -30,6 +33,10 @@ pub trait Shelf {
         ensures no_memory_is_not { IsErrOf result IoFault.NoMemory → faults self.new ≡ faults self.old }
         ensures memory_is_taken { IsErrOf result IoFault.NoMemory → IsTrue takes_memory }
         ensures ok_is_not { OnOk result (faults self.new ≡ faults self.old) }
+
+        ensures failed_name { IsErrOf result IoFault.Failed → IfSome (fault_name self.new) (λ of. of ≡ name.now) }
+        ensures no_memory_keeps { IsErrOf result IoFault.NoMemory → fault_name self.new ≡ fault_name self.old }
+        ensures ok_keeps { OnOk result (fault_name self.new ≡ fault_name self.old) }
 
         ensures same_files { files self.new ≡ files self.old }
         ensures within { IfOk result (λ n. n ≤ length into.old) }

@@ -1,21 +1,24 @@
-ghost use Rattle.std.specs.Prelude.{◌≡◌, None};
+ghost use Rattle.std.specs.Prelude.{◌≡◌};
 
 use crate::fault::{FaultCount, IoFault};
 use crate::sink::Sink;
 use std::io::Write;
 
-/// A stream of the system, as standard output or standard error. Nothing is told of what it took. A
-/// write that takes no octet is a fault, as is every error of the stream.
+/// A stream of the system, as standard output or standard error. As a sink it tells nothing of what it took; of
+/// a writer that tells its contents, as a vector, the clauses of `put` say it. A write that takes no octet is a
+/// fault, as is every error of the stream.
 #[derive(Drop)]
 pub struct StdSink<W> {
-    stream: W,
+    /// The stream.
+    pub stream: W,
     faults: FaultCount,
 }
 
 impl<W: Write> StdSink<W> {
     /// A sink that writes to the stream, with no fault counted yet.
     pub fn new(stream: W) -> Self
-        ensures { ⟦<StdSink<W> as Sink>⟧.faults result ≡ 0 }
+        ensures stream { result.stream ≡ stream }
+        ensures no_faults { ⟦<StdSink<W> as Sink>⟧.faults result ≡ 0 }
     {
         StdSink {
             stream,
@@ -25,7 +28,9 @@ impl<W: Write> StdSink<W> {
 }
 
 impl<W: Write> Sink for StdSink<W> {
-    ghost use Rattle.std.specs.Prelude.{None, false};
+    ghost use Rattle.std.specs.Prelude.{◌≡◌, ◌≤◌, ◌<◌, None, false, length, take, IfErr, IfOk, OnOk, OnErr, IsErrOf};
+    ghost use Rattle.std.specs.Io.KnownBytes.{Appends, Keeps};
+    ghost use Rattle.qw_io.specs.Faults.{IsCounted};
 
     ghost taken = { λ _. None };
 
@@ -33,7 +38,18 @@ impl<W: Write> Sink for StdSink<W> {
 
     ghost takes_memory = { false };
 
-    fn put(&mut self, piece: &[u8]) -> Result<usize, IoFault> {
+    fn put(&mut self, piece: &[u8]) -> Result<usize, IoFault>
+        ensures never_falls { self.old.faults.count ≤ self.new.faults.count }
+        ensures failed_is_counted { IsErrOf result IoFault.Failed → IsCounted self.old.faults.count self.new.faults.count }
+        ensures only_failed { IfErr result (λ fault. fault ≡ IoFault.Failed) }
+        ensures ok_is_not { OnOk result (self.new.faults ≡ self.old.faults) }
+
+        ensures within { IfOk result (λ n. n ≤ length piece.now) }
+        ensures some { IfOk result (λ n. 0 < length piece.now → 1 ≤ n) }
+        ensures stream_took { IfOk result (λ n. 0 < length piece.now
+            → Appends (W.contents self.old.stream) (W.contents self.new.stream) (take n piece.now)) }
+        ensures fault_took_none { OnErr result (Keeps (W.contents self.old.stream) (W.contents self.new.stream)) }
+    {
         if piece.is_empty() {
             return Ok(0);
         }

@@ -80,7 +80,7 @@ pub queries_stop : (files now : Files) (names : Names) (schema : List Table) (co
 queries_stop files now names schema contents stop same (table, is, wide, held) stops =
     StopsAs-explained files names Queries (IsNoQuery now names.queries schema) names.queries stop
     (λ none. (table, contents.rows, held, subst (λ (s : List Table). IsNoQuery files names.queries s) is (subst (λ (f : Files). IsNoQuery f names.queries schema) same none)))
-    (inr (inr refl))
+    (inr (inr (table, contents.rows, held, refl)))
     stops
 
 -- all was accepted
@@ -164,6 +164,20 @@ pub used_within : (table : Table) (statement : Statement) (width : ℕ) → widt
 unfolding used
 used_within table statement width is (tested, within) =
     rw is (filtered_within statement (length table.columns) (range_with_len 0 most_columns) tested within)
+
+-- ---- kinds of ends
+
+pub settled_is_no_fault : (status : Status) → IsSettled status → IsFault status → ⊥
+settled_is_no_fault ReadFailed s f = s
+settled_is_no_fault WriteFailed s f = s
+settled_is_no_fault NoMemoryLeft s f = s
+settled_is_no_fault _ s f = f
+
+pub executed_is_neither : (status : Status) → (status ≡ Done) ⊎ (status ≡ PageLimitMet) → IsSettled status ⊎ IsFault status → ⊥
+executed_is_neither status (inl is) (inl s) = subst IsSettled is s
+executed_is_neither status (inl is) (inr f) = subst IsFault is f
+executed_is_neither status (inr is) (inl s) = subst IsSettled is s
+executed_is_neither status (inr is) (inr f) = subst IsFault is f
 
 -- ---- told files
 
