@@ -2,7 +2,7 @@ use Rattle.std.proofs.Common.{◌≡◌, refl, ap, ◌∙◌, sym}
 use Rattle.std.proofs.lemmas.Result.{err_from_is_err_and, IfOk-weaker}
 use Rattle.qw_parse.specs.declared.parse.ParseFault.TheVariants.{Refused}
 use Rattle.qw_token.specs.Token.{lexemes}
-use Rattle.qw_parse.specs.Inner.Parser.{selection_of}
+use Rattle.qw_parse.specs.Inner.Parser.{query_specification_at, whole_of}
 use Rattle.qw_parse.specs.Parse.{Means, ReadsQuery}
 use Rattle.qw_parse.specs.Inner.Faults.{parse_fault_of}
 use Rattle.qw_ast.specs.Inner.Views.{selection}
@@ -23,15 +23,15 @@ pub returns-in_default-clause-refused : goal.returns-in_default-clause-refused
 returns-in_default-clause-refused c =
     let items = lexemes c.in_ok-tokens.tokens.items in
     let told = rw c.in_default.is at c.in_ok-query.ensures in
-    let none = told ∙ ap (λ x. selection_of (lexemes x)) c.deref.ensures.value in
+    let none = told ∙ ap (λ x. whole_of query_specification_at (lexemes x)) c.deref.ensures.value in
     λ e. query_is_none c.args.schema.now c.args.text.now items c.in_ok-tokens.ensures.read none
 
 pub resolved-requires : goal.resolved-requires
 resolved-requires c =
     let items = lexemes c.in_ok-tokens.tokens.items in
     let told = rw c.in-Some.is at c.in_ok-query.ensures in
-    let read = sym (told ∙ ap (λ x. selection_of (lexemes x)) c.deref.ensures.value) in
-    some_columns items (selection c.in-Some.query) c.in-Some.query.columns.items read refl
+    let read = sym (told ∙ ap (λ x. whole_of query_specification_at (lexemes x)) c.deref.ensures.value) in
+    some_columns c.args.text.now items (selection c.in-Some.query) c.in-Some.query.columns.items c.in_ok-tokens.ensures.read read refl
 
 pub returns-clause-read : goal.returns-clause-read
 returns-clause-read c =
@@ -40,7 +40,7 @@ returns-clause-read c =
     let items = lexemes c.in_ok-tokens.tokens.items in
     let named = selection c.in-Some.query in
     let told = rw c.in-Some.is at c.in_ok-query.ensures in
-    let read = sym (told ∙ ap (λ x. selection_of (lexemes x)) c.deref.ensures.value) in
+    let read = sym (told ∙ ap (λ x. whole_of query_specification_at (lexemes x)) c.deref.ensures.value) in
     IfOk-weaker c.resolved.result (Means schema named) (ReadsQuery schema text)
     (λ statement. reads_query schema text items named statement c.in_ok-tokens.ensures.read read) c.resolved.ensures.means
 
@@ -49,5 +49,5 @@ returns-clause-refused c =
     let schema = c.args.schema.now in
     let items = lexemes c.in_ok-tokens.tokens.items in
     let told = rw c.in-Some.is at c.in_ok-query.ensures in
-    let read = sym (told ∙ ap (λ x. selection_of (lexemes x)) c.deref.ensures.value) in
+    let read = sym (told ∙ ap (λ x. whole_of query_specification_at (lexemes x)) c.deref.ensures.value) in
     λ e. query_means_none schema c.args.text.now items (selection c.in-Some.query) c.in_ok-tokens.ensures.read read (c.resolved.ensures.refused e)
