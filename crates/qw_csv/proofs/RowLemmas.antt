@@ -66,14 +66,14 @@ value_of-rows (suc count) width zero column numbers d full there wide =
     let room : width ≤ length numbers = omega arith in
     let long : column < length (take width numbers) = omega (arith, length-take-le width numbers room) in
     let same : get_or (take width numbers) column d ≡ get_or numbers column d = get_or-take width numbers column d wide in
-    let place : column ≡ 0 * width + column = omega arith in
+    let index : column ≡ 0 * width + column = omega arith in
     slice_get-map Num (take width numbers) column
-    ∙ rw (slice_get-get_or (take width numbers) column d long, same) (ap (λ (i : ℕ). Some (Num (get_or numbers i d))) place)
+    ∙ rw (slice_get-get_or (take width numbers) column d long, same) (ap (λ (i : ℕ). Some (Num (get_or numbers i d))) index)
 value_of-rows (suc count) width (suc row) column numbers d full there wide =
     let rest : length (drop width numbers) ≡ count * width = omega (arith, length-drop width numbers) in
-    let place : width + (row * width + column) ≡ suc row * width + column = omega arith in
+    let index : width + (row * width + column) ≡ suc row * width + column = omega arith in
     let same : get_or (drop width numbers) (row * width + column) d ≡ get_or numbers (suc row * width + column) d =
-    get_or-drop width numbers (row * width + column) d ∙ ap (λ (i : ℕ). get_or numbers i d) place in
+    get_or-drop width numbers (row * width + column) d ∙ ap (λ (i : ℕ). get_or numbers i d) index in
     value_of-rows count width row column (drop width numbers) d rest (omega arith) wide ∙ ap (λ (n : ℤ). Some (Num n)) same
 
 -- each row is of the table's columns
@@ -135,7 +135,7 @@ fault_after : (table : Table) (bytes : List ℕ) (rows : List (List Val)) (next 
     → Follows table bytes rows next → IsRecordFault table.columns (length rows + 1) next e → IsFirstFault table bytes e
 fault_after table bytes rows next fault.BadHeader f h = absurd h
 fault_after table bytes rows next (fault.FieldCount row) f h = (rows, next, f, h)
-fault_after table bytes rows next (fault.Field row place why) f h = (rows, next, f, h)
+fault_after table bytes rows next (fault.Field row index why) f h = (rows, next, f, h)
 fault_after table bytes rows next fault.TooManyRows f h = (rows, next, f, h)
 fault_after table bytes rows next fault.NoMemory f h = absurd h
 

@@ -248,8 +248,8 @@ fn is_header(columns: &[Column], row: &ByteRecord) -> bool
     if row.len() != columns.len() {
         return false;
     }
-    for (place, column) in columns.iter().enumerate() {
-        if !is_name(field(row, place), column) {
+    for (index, column) in columns.iter().enumerate() {
+        if !is_name(field(row, index), column) {
             return false;
         }
     }
@@ -294,12 +294,12 @@ fn push_row(
     Ok(())
 }
 
-/// The field at a place, counted from 0.
-fn field(row: &ByteRecord, place: usize) -> &[u8]
-    requires { place < length (fields_of row.now) }
-    ensures { result.now ≡ slice_index_or (fields_of row.now) place [] }
+/// The field of an index, counted from 0.
+fn field(row: &ByteRecord, index: usize) -> &[u8]
+    requires { index < length (fields_of row.now) }
+    ensures { result.now ≡ slice_index_or (fields_of row.now) index [] }
 {
-    row.get(place).unwrap()
+    row.get(index).unwrap()
 }
 
 /// The value of a field of an INTEGER column.

@@ -6,13 +6,13 @@ use Rattle.std.specs.List.{AllZip}
 use Rattle.std.proofs.lemmas.Slice.Eq.{bytes_eq-Decides}
 use Rattle.qw_token.specs.Token.{Lexeme, AreTokens}
 use Rattle.qw_token.proofs.TokenRun.{AreTokens-unique}
-use Rattle.qw_ast.specs.Grammar.{Place, symbol, Fills, IsStatement}
-use Rattle.qw_parse.specs.Inner.Parser.{place_at, token_at, fixed_at, behind_at, before_at, both_at, made_at, optional_at, is_end, whole_of}
-use Rattle.qw_parse.proofs.PlaceLemmas.{bind_some, guard_some, cases_option, some_same, TakesOne, place_exactly, Fronts, fronts_append, fronts_split, fronts_whole, fixed_exactly}
+use Rattle.qw_ast.specs.Grammar.{Terminal, symbol, Matches, IsTextOf}
+use Rattle.qw_parse.specs.Inner.Parser.{terminal_at, token_at, fixed_at, behind_at, before_at, both_at, made_at, optional_at, is_end, whole_of}
+use Rattle.qw_parse.proofs.TerminalLemmas.{bind_some, guard_some, cases_option, some_same, TakesOne, terminal_exactly, Fronts, fronts_append, fronts_split, fronts_whole, fixed_exactly}
 
--- The reader reads the form exactly. A w says how the form is filled, and tree w is what is read then. What `Stops` says must
+-- The reader reads the form exactly. A w says which words the form has, and tree w is what is read then. What `Stops` says must
 -- hold of what follows, so that the reader goes no further.
-pub record ReadsExactly {W A : Type 0} (form : W → List Place) (tree : W → A) (Stops : List Lexeme → Type 0) (read : List Lexeme → Option (A × List Lexeme)) : Type 0 where
+pub record ReadsExactly {W A : Type 0} (form : W → List Terminal) (tree : W → A) (Stops : List Lexeme → Type 0) (read : List Lexeme → Option (A × List Lexeme)) : Type 0 where
   pub takes : (ts : List Lexeme) (x : A × List Lexeme) → read ts ≡ Some x → (w : W) × (tree w ≡ x.0) × Fronts (form w) ts x.1
   pub is : (w : W) (ts rest : List Lexeme) → Fronts (form w) ts rest → Stops rest → read ts ≡ Some (tree w, rest)
 
@@ -22,33 +22,33 @@ Anything rest = Unit {0}
 
 -- ---- one token
 
-token_takes : {W A : Type 0} (place : W → Place) (tree : W → A) (find : Lexeme → Option A) → ((t : Lexeme) (a : A) → find t ≡ Some a → (w : W) × (tree w ≡ a) × Fills (place w) t) → (ts : List Lexeme) (x : A × List Lexeme) → token_at find ts ≡ Some x → (w : W) × (tree w ≡ x.0) × Fronts (place w ∷ []) ts x.1
+token_takes : {W A : Type 0} (terminal : W → Terminal) (tree : W → A) (find : Lexeme → Option A) → ((t : Lexeme) (a : A) → find t ≡ Some a → (w : W) × (tree w ≡ a) × Matches (terminal w) t) → (ts : List Lexeme) (x : A × List Lexeme) → token_at find ts ≡ Some x → (w : W) × (tree w ≡ x.0) × Fronts (terminal w ∷ []) ts x.1
 unfolding token_at
-token_takes place tree find found [] x e = absurd cc
-token_takes {A = A} place tree find found (t ∷ ts) x e =
+token_takes terminal tree find found [] x e = absurd cc
+token_takes {A = A} terminal tree find found (t ∷ ts) x e =
     let a = bind_some (find t) (λ y. Some (y, ts)) x e in
     let same = some_same (a.0, ts) x a.2 in
     let w = found t a.0 a.1 in (
       w.0,
       w.1 ∙ ap (λ (y : A × List Lexeme). y.0) same,
-      (ts, record { token = t; parts = refl; fills = w.2 }, ap (λ (y : A × List Lexeme). y.1) same),
+      (ts, record { token = t; parts = refl; matches = w.2 }, ap (λ (y : A × List Lexeme). y.1) same),
     )
 
-token_is : {W A : Type 0} (place : W → Place) (tree : W → A) (find : Lexeme → Option A) → ((w : W) (t : Lexeme) → Fills (place w) t → find t ≡ Some (tree w)) → (w : W) (ts rest : List Lexeme) → TakesOne (Fills (place w)) ts rest → token_at find ts ≡ Some (tree w, rest)
+token_is : {W A : Type 0} (terminal : W → Terminal) (tree : W → A) (find : Lexeme → Option A) → ((w : W) (t : Lexeme) → Matches (terminal w) t → find t ≡ Some (tree w)) → (w : W) (ts rest : List Lexeme) → TakesOne (Matches (terminal w)) ts rest → token_at find ts ≡ Some (tree w, rest)
 unfolding token_at
-token_is place tree find filled w ts rest one = rw (one.parts, filled w one.token one.fills) refl
+token_is terminal tree find matched w ts rest one = rw (one.parts, matched w one.token one.matches) refl
 
--- a place that is filled in one way by what is found
-pub token_exactly : {W A : Type 0} (place : W → Place) (tree : W → A) (find : Lexeme → Option A) → ((t : Lexeme) (a : A) → find t ≡ Some a → (w : W) × (tree w ≡ a) × Fills (place w) t) → ((w : W) (t : Lexeme) → Fills (place w) t → find t ≡ Some (tree w)) → ReadsExactly (λ w. place w ∷ []) tree Anything (token_at find)
-token_exactly {A = A} place tree find found filled = record {
-  takes = token_takes place tree find found;
-  is = λ w ts rest h _. token_is place tree find filled w ts h.0 h.1 ∙ ap (λ (y : List Lexeme). Some (tree w, y)) h.2;
+-- a terminal for what is found in a token
+pub token_exactly : {W A : Type 0} (terminal : W → Terminal) (tree : W → A) (find : Lexeme → Option A) → ((t : Lexeme) (a : A) → find t ≡ Some a → (w : W) × (tree w ≡ a) × Matches (terminal w) t) → ((w : W) (t : Lexeme) → Matches (terminal w) t → find t ≡ Some (tree w)) → ReadsExactly (λ w. terminal w ∷ []) tree Anything (token_at find)
+token_exactly {A = A} terminal tree find found matched = record {
+  takes = token_takes terminal tree find found;
+  is = λ w ts rest h _. token_is terminal tree find matched w ts h.0 h.1 ∙ ap (λ (y : List Lexeme). Some (tree w, y)) h.2;
 }
 
 -- ---- sequences
 
 -- one behind the other
-pub both_exactly : {V W A B : Type 0} {form : V → List Place} {tree : V → A} {Stops : List Lexeme → Type 0} {read : List Lexeme → Option (A × List Lexeme)} {form' : W → List Place} {tree' : W → B} {Stops' : List Lexeme → Type 0} {read' : List Lexeme → Option (B × List Lexeme)}
+pub both_exactly : {V W A B : Type 0} {form : V → List Terminal} {tree : V → A} {Stops : List Lexeme → Type 0} {read : List Lexeme → Option (A × List Lexeme)} {form' : W → List Terminal} {tree' : W → B} {Stops' : List Lexeme → Type 0} {read' : List Lexeme → Option (B × List Lexeme)}
     → ReadsExactly form tree Stops read → ReadsExactly form' tree' Stops' read' → ((w : W) (ts rest : List Lexeme) → Fronts (form' w) ts rest → Stops ts)
     → ReadsExactly (λ (w : V × W). form w.0 ++ form' w.1) (λ (w : V × W). (tree w.0, tree' w.1)) Stops' (both_at read read')
 both_exactly {A = A} {B = B} {form = form} {tree = tree} {read = read} {form' = form'} {tree' = tree'} {read' = read'} first second stops = record {
@@ -67,40 +67,40 @@ both_exactly {A = A} {B = B} {form = form} {tree = tree} {read = read} {form' = 
       rw (first.is w.0 ts parts.0 parts.1 (stops w.1 parts.0 rest parts.2), second.is w.1 parts.0 rest parts.2 ends) refl;
 }
 
--- behind fixed places
-pub behind_exactly : {W A : Type 0} {form : W → List Place} {tree : W → A} {Stops : List Lexeme → Type 0} {read : List Lexeme → Option (A × List Lexeme)} (places : List Place)
-    → ReadsExactly form tree Stops read → ReadsExactly (λ w. places ++ form w) tree Stops (behind_at places read)
-behind_exactly {form = form} {read = read} places first = record {
+-- behind fixed terminals
+pub behind_exactly : {W A : Type 0} {form : W → List Terminal} {tree : W → A} {Stops : List Lexeme → Type 0} {read : List Lexeme → Option (A × List Lexeme)} (terminals : List Terminal)
+    → ReadsExactly form tree Stops read → ReadsExactly (λ w. terminals ++ form w) tree Stops (behind_at terminals read)
+behind_exactly {form = form} {read = read} terminals first = record {
   takes = λ ts x e.
-      let a = bind_some (fixed_at places ts) (λ rest. read rest) x e in
+      let a = bind_some (fixed_at terminals ts) (λ rest. read rest) x e in
       let w = first.takes a.0 x a.2 in
-      (w.0, w.1, fronts_append places (form w.0) ts a.0 x.1 ((fixed_exactly places ts a.0).0 a.1) w.2);
+      (w.0, w.1, fronts_append terminals (form w.0) ts a.0 x.1 ((fixed_exactly terminals ts a.0).0 a.1) w.2);
   is = λ w ts rest h ends.
-      let parts = fronts_split places (form w) ts rest h in
-      rw ((fixed_exactly places ts parts.0).1 parts.1) (first.is w parts.0 rest parts.2 ends);
+      let parts = fronts_split terminals (form w) ts rest h in
+      rw ((fixed_exactly terminals ts parts.0).1 parts.1) (first.is w parts.0 rest parts.2 ends);
 }
 
--- before fixed places
-pub before_exactly : {W A : Type 0} {form : W → List Place} {tree : W → A} {Stops : List Lexeme → Type 0} {read : List Lexeme → Option (A × List Lexeme)} (places : List Place)
-    → ReadsExactly form tree Stops read → ((ts rest : List Lexeme) → Fronts places ts rest → Stops ts) → ReadsExactly (λ w. form w ++ places) tree Anything (before_at read places)
-before_exactly {A = A} {form = form} {tree = tree} {read = read} places first stops = record {
+-- before fixed terminals
+pub before_exactly : {W A : Type 0} {form : W → List Terminal} {tree : W → A} {Stops : List Lexeme → Type 0} {read : List Lexeme → Option (A × List Lexeme)} (terminals : List Terminal)
+    → ReadsExactly form tree Stops read → ((ts rest : List Lexeme) → Fronts terminals ts rest → Stops ts) → ReadsExactly (λ w. form w ++ terminals) tree Anything (before_at read terminals)
+before_exactly {A = A} {form = form} {tree = tree} {read = read} terminals first stops = record {
   takes = λ ts x e.
       let a = bind_some (read ts) _ x e in
-      let b = bind_some (fixed_at places a.0.1) _ x a.2 in
+      let b = bind_some (fixed_at terminals a.0.1) _ x a.2 in
       let same = some_same (a.0.0, b.0) x b.2 in
       let w = first.takes ts a.0 a.1 in (
         w.0,
         w.1 ∙ ap (λ (y : A × List Lexeme). y.0) same,
-        subst (λ (y : A × List Lexeme). Fronts (form w.0 ++ places) ts y.1) same
-            (fronts_append (form w.0) places ts a.0.1 b.0 w.2 ((fixed_exactly places a.0.1 b.0).0 b.1)),
+        subst (λ (y : A × List Lexeme). Fronts (form w.0 ++ terminals) ts y.1) same
+            (fronts_append (form w.0) terminals ts a.0.1 b.0 w.2 ((fixed_exactly terminals a.0.1 b.0).0 b.1)),
       );
   is = λ w ts rest h _.
-      let parts = fronts_split (form w) places ts rest h in
-      rw (first.is w ts parts.0 parts.1 (stops parts.0 rest parts.2), (fixed_exactly places parts.0 rest).1 parts.2) refl;
+      let parts = fronts_split (form w) terminals ts rest h in
+      rw (first.is w ts parts.0 parts.1 (stops parts.0 rest parts.2), (fixed_exactly terminals parts.0 rest).1 parts.2) refl;
 }
 
 -- something made of what is read
-pub made_exactly : {W A B : Type 0} {form : W → List Place} {tree : W → A} {Stops : List Lexeme → Type 0} {read : List Lexeme → Option (A × List Lexeme)} (make : A → B)
+pub made_exactly : {W A B : Type 0} {form : W → List Terminal} {tree : W → A} {Stops : List Lexeme → Type 0} {read : List Lexeme → Option (A × List Lexeme)} (make : A → B)
     → ReadsExactly form tree Stops read → ReadsExactly form (λ w. make (tree w)) Stops (made_at make read)
 made_exactly {A = A} {B = B} {form = form} {read = read} make first = record {
   takes = λ ts x e.
@@ -112,41 +112,41 @@ made_exactly {A = A} {B = B} {form = form} {read = read} make first = record {
 }
 
 -- another word for what is read
-pub same_exactly : {W A : Type 0} {form : W → List Place} {tree : W → A} {Stops : List Lexeme → Type 0} {read : List Lexeme → Option (A × List Lexeme)} (other : W → A)
+pub same_exactly : {W A : Type 0} {form : W → List Terminal} {tree : W → A} {Stops : List Lexeme → Type 0} {read : List Lexeme → Option (A × List Lexeme)} (other : W → A)
     → ((w : W) → tree w ≡ other w) → ReadsExactly form tree Stops read → ReadsExactly form other Stops read
 same_exactly other same first = record {
   takes = λ ts x e. let w = first.takes ts x e in (w.0, sym (same w.0) ∙ w.1, w.2);
   is = λ w ts rest h ends. first.is w ts rest h ends ∙ ap (λ y. Some (y, rest)) (same w);
 }
 
--- ---- a place that may be there
+-- ---- a terminal that may be there
 
-module _ {W A : Type 0} {form : W → List Place} {tree tree' : W → A} {Stops : List Lexeme → Type 0} {read read' : List Lexeme → Option (A × List Lexeme)} (place : Place)
+module _ {W A : Type 0} {form : W → List Terminal} {tree tree' : W → A} {Stops : List Lexeme → Type 0} {read read' : List Lexeme → Option (A × List Lexeme)} (terminal : Terminal)
     (behind_it : ReadsExactly form tree Stops read) (alone : ReadsExactly form tree' Stops read') where
-  abbrev form_if : Bool × W → List Place
-  form_if w = if w.0 then place ∷ form w.1 else form w.1
+  abbrev form_if : Bool × W → List Terminal
+  form_if w = if w.0 then terminal ∷ form w.1 else form w.1
 
   abbrev tree_if : Bool × W → A
   tree_if w = if w.0 then tree w.1 else tree' w.1
 
-  optional_takes : (ts : List Lexeme) (x : A × List Lexeme) → optional_at place read read' ts ≡ Some x → (w : Bool × W) × (tree_if w ≡ x.0) × Fronts (form_if w) ts x.1
+  optional_takes : (ts : List Lexeme) (x : A × List Lexeme) → optional_at terminal read read' ts ≡ Some x → (w : Bool × W) × (tree_if w ≡ x.0) × Fronts (form_if w) ts x.1
   optional_takes ts x e =
-      elim (cases_option (place_at place ts)) [
+      elim (cases_option (terminal_at terminal ts)) [
         | inl none ↦ (let w = alone.takes ts x (rw none at e) in ((false, w.0), w.1, w.2))
-        | inr some ↦ (let w = behind_it.takes some.0 x (rw some.1 at e) in ((true, w.0), w.1, (some.0, (place_exactly place ts some.0).0 some.1, w.2)))
+        | inr some ↦ (let w = behind_it.takes some.0 x (rw some.1 at e) in ((true, w.0), w.1, (some.0, (terminal_exactly terminal ts some.0).0 some.1, w.2)))
       ]
 
-  optional_is : ((w : W) (ts rest : List Lexeme) → Fronts (form w) ts rest → place_at place ts ≡ None) → (w : Bool × W) (ts rest : List Lexeme) → Fronts (form_if w) ts rest → Stops rest → optional_at place read read' ts ≡ Some (tree_if w, rest)
-  optional_is differs (true, w) ts rest h ends = rw ((place_exactly place ts h.0).1 h.1) (behind_it.is w h.0 rest h.2 ends)
+  optional_is : ((w : W) (ts rest : List Lexeme) → Fronts (form w) ts rest → terminal_at terminal ts ≡ None) → (w : Bool × W) (ts rest : List Lexeme) → Fronts (form_if w) ts rest → Stops rest → optional_at terminal read read' ts ≡ Some (tree_if w, rest)
+  optional_is differs (true, w) ts rest h ends = rw ((terminal_exactly terminal ts h.0).1 h.1) (behind_it.is w h.0 rest h.2 ends)
   optional_is differs (false, w) ts rest h ends = rw (differs w ts rest h) (alone.is w ts rest h ends)
 
--- where the form never begins with the place
-pub optional_exactly : {W A : Type 0} {form : W → List Place} {tree tree' : W → A} {Stops : List Lexeme → Type 0} {read read' : List Lexeme → Option (A × List Lexeme)} (place : Place)
-    → ReadsExactly form tree Stops read → ReadsExactly form tree' Stops read' → ((w : W) (ts rest : List Lexeme) → Fronts (form w) ts rest → place_at place ts ≡ None)
-    → ReadsExactly (λ (w : Bool × W). if w.0 then place ∷ form w.1 else form w.1) (λ (w : Bool × W). if w.0 then tree w.1 else tree' w.1) Stops (optional_at place read read')
-optional_exactly place behind_it alone differs = record {
-  takes = optional_takes place behind_it alone;
-  is = optional_is place behind_it alone differs;
+-- where the form never begins with the terminal
+pub optional_exactly : {W A : Type 0} {form : W → List Terminal} {tree tree' : W → A} {Stops : List Lexeme → Type 0} {read read' : List Lexeme → Option (A × List Lexeme)} (terminal : Terminal)
+    → ReadsExactly form tree Stops read → ReadsExactly form tree' Stops read' → ((w : W) (ts rest : List Lexeme) → Fronts (form w) ts rest → terminal_at terminal ts ≡ None)
+    → ReadsExactly (λ (w : Bool × W). if w.0 then terminal ∷ form w.1 else form w.1) (λ (w : Bool × W). if w.0 then tree w.1 else tree' w.1) Stops (optional_at terminal read read')
+optional_exactly terminal behind_it alone differs = record {
+  takes = optional_takes terminal behind_it alone;
+  is = optional_is terminal behind_it alone differs;
 }
 
 -- ---- a statement
@@ -158,7 +158,7 @@ Ends ts = (ts ≡ []) ⊎ Fronts (symbol (codes ";") ∷ []) ts []
 end_takes : (ts : List Lexeme) → is_end ts ≡ true → Ends ts
 unfolding is_end
 end_takes [] e = inl refl
-end_takes (t ∷ []) e = inr ([], record { token = t; parts = refl; fills = (bytes_eq-Decides t.octets (codes ";")).0 e }, refl)
+end_takes (t ∷ []) e = inr ([], record { token = t; parts = refl; matches = (bytes_eq-Decides t.octets (codes ";")).0 e }, refl)
 end_takes (t ∷ u ∷ ts) e = absurd cc
 
 no_end : is_end [] ≡ true
@@ -173,27 +173,27 @@ end_is : (ts : List Lexeme) → Ends ts → is_end ts ≡ true
 end_is ts (inl none) = ap is_end none ∙ no_end
 end_is ts (inr h) =
     let one = h.1 in
-    ap is_end (one.parts ∙ ap (λ (x : List Lexeme). one.token ∷ x) h.2) ∙ one_end one.token one.fills
+    ap is_end (one.parts ∙ ap (λ (x : List Lexeme). one.token ∷ x) h.2) ∙ one_end one.token one.matches
 
 -- the tokens follow the form, with a `;` behind it or none
-abbrev Follows : List Place → List Lexeme → Type 0
-Follows form ts = AllZip Fills form ts ⊎ AllZip Fills (form ++ symbol (codes ";") ∷ []) ts
+abbrev Follows : List Terminal → List Lexeme → Type 0
+Follows form ts = AllZip Matches form ts ⊎ AllZip Matches (form ++ symbol (codes ";") ∷ []) ts
 
-to_follows : (form : List Place) (ts last : List Lexeme) → Fronts form ts last → Ends last → Follows form ts
+to_follows : (form : List Terminal) (ts last : List Lexeme) → Fronts form ts last → Ends last → Follows form ts
 to_follows form ts last h (inl none) = inl ((fronts_whole form ts).0 (subst (Fronts form ts) none h))
 to_follows form ts last h (inr more) =
     inr ((fronts_whole (form ++ symbol (codes ";") ∷ []) ts).0 (fronts_append form (symbol (codes ";") ∷ []) ts last [] h more))
 
-from_follows : (form : List Place) (ts : List Lexeme) → Follows form ts → (last : List Lexeme) × Fronts form ts last × Ends last
+from_follows : (form : List Terminal) (ts : List Lexeme) → Follows form ts → (last : List Lexeme) × Fronts form ts last × Ends last
 from_follows form ts (inl h) = ([], (fronts_whole form ts).1 h, inl refl)
 from_follows form ts (inr h) =
     let parts = fronts_split form (symbol (codes ";") ∷ []) ts [] ((fronts_whole (form ++ symbol (codes ";") ∷ []) ts).1 h) in
     (parts.0, parts.1, inr parts.2)
 
 -- what is read of the whole text is its statement of the form, and what is its statement is read
-pub statement_exactly : {W A : Type 0} {form : W → List Place} {tree : W → A} {read : List Lexeme → Option (A × List Lexeme)}
+pub statement_exactly : {W A : Type 0} {form : W → List Terminal} {tree : W → A} {read : List Lexeme → Option (A × List Lexeme)}
     → ReadsExactly form tree Anything read → (text : List ℕ) (ts : List Lexeme) → AreTokens text ts
-    → ((a : A) → whole_of read ts ≡ Some a → (w : W) × (tree w ≡ a) × IsStatement (form w) text) × ((w : W) → IsStatement (form w) text → whole_of read ts ≡ Some (tree w))
+    → ((a : A) → whole_of read ts ≡ Some a → (w : W) × (tree w ≡ a) × IsTextOf (form w) text) × ((w : W) → IsTextOf (form w) text → whole_of read ts ≡ Some (tree w))
 statement_exactly {form = form} {tree = tree} {read = read} reads text ts are = (
   λ a e.
       let x = bind_some (read ts) _ a e in

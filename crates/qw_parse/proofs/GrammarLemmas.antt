@@ -9,28 +9,28 @@ use Rattle.qw_meaning.specs.declared.query.Comparison.{Comparison}
 use Rattle.qw_meaning.specs.declared.query.Comparison.TheVariants.{Equal, NotEqual, Less, LessOrEqual, Greater, GreaterOrEqual}
 use Rattle.qw_token.specs.Token.{Lexeme}
 use Rattle.qw_types.specs.Digits.{are_digits}
-use Rattle.qw_ast.specs.Grammar.{folded, Place, key_word, regular, symbol, unsigned, Fills, separated, column_definition, column_reference, create_table, comparison_symbol, signed_literal, signed, Source, Selection, table_expression, query_specification}
+use Rattle.qw_ast.specs.Grammar.{folded, Terminal, key_word, regular, symbol, unsigned, Matches, separated, column_definition, column_reference, create_table, comparison_symbol, signed_literal, signed, Source, Selection, table_expression, query_specification}
 use Rattle.qw_parse.specs.declared.parse.form.Item.{Item}
 use Rattle.qw_parse.specs.declared.parse.form.Item.TheVariants.{ColumnDefinition, ColumnReference}
-use Rattle.qw_parse.specs.Inner.Parser.{is_word, is_reserved, fills, regular_of, literal_of, comparison_of, comma, regular_at, unsigned_at, literal_at, comparison_at, column_definition_at, item_at, list_at, table_at, create_table_at, table_expression_at, query_specification_at}
-use Rattle.qw_parse.proofs.PlaceLemmas.{guard_some, other_than, is_word-Decides, not_reserved-Decides}
+use Rattle.qw_parse.specs.Inner.Parser.{is_word, is_reserved, matches, regular_of, literal_of, comparison_of, comma, regular_at, unsigned_at, literal_at, comparison_at, column_definition_at, item_at, list_at, table_at, create_table_at, table_expression_at, query_specification_at}
+use Rattle.qw_parse.proofs.TerminalLemmas.{guard_some, other_than, is_word-Decides, not_reserved-Decides}
 use Rattle.qw_parse.proofs.FormLemmas.{ReadsExactly, Anything, token_exactly, both_exactly, behind_exactly, before_exactly, made_exactly, same_exactly, optional_exactly}
 use Rattle.qw_parse.proofs.ListLemmas.{NoComma, list_exactly}
 
 -- ---- a name
 
-regular_found : (t : Lexeme) (name : List ℕ) → regular_of t ≡ Some name → (w : List ℕ) × (w ≡ name) × Fills (regular w) t
+regular_found : (t : Lexeme) (name : List ℕ) → regular_of t ≡ Some name → (w : List ℕ) × (w ≡ name) × Matches (regular w) t
 regular_found t name e =
     let g = guard_some (is_word t.kind && not (is_reserved (folded t.octets))) (folded t.octets) name e in
     let tests = and_parts (is_word t.kind) (not (is_reserved (folded t.octets))) g.0 in
     (folded t.octets, g.1, ((is_word-Decides t.kind).0 tests.0, refl, (not_reserved-Decides (folded t.octets)).0 tests.1))
 
-regular_filled : (name : List ℕ) (t : Lexeme) → Fills (regular name) t → regular_of t ≡ Some name
-regular_filled name t h = rw (h.0, h.1, (not_reserved-Decides name).1 h.2) refl
+regular_matched : (name : List ℕ) (t : Lexeme) → Matches (regular name) t → regular_of t ≡ Some name
+regular_matched name t h = rw (h.0, h.1, (not_reserved-Decides name).1 h.2) refl
 
 pub regular_exactly : ReadsExactly (λ name. regular name ∷ []) (λ name. name) Anything regular_at
 unfolding regular_at
-regular_exactly = token_exactly regular (λ name. name) regular_of regular_found regular_filled
+regular_exactly = token_exactly regular (λ name. name) regular_of regular_found regular_matched
 
 -- ---- a literal
 
@@ -38,22 +38,22 @@ regular_exactly = token_exactly regular (λ name. name) regular_of regular_found
 abbrev pub Magnitude : Type 0
 Magnitude = (n : ℕ) × (n < 10 ^ 18)
 
-unsigned_found : (t : Lexeme) (z : ℤ) → literal_of t.octets ≡ Some z → (w : Magnitude) × (pos w.0 ≡ z) × Fills (unsigned w.0) t
+unsigned_found : (t : Lexeme) (z : ℤ) → literal_of t.octets ≡ Some z → (w : Magnitude) × (pos w.0 ≡ z) × Matches (unsigned w.0) t
 unsigned_found t z e =
     let n = digits_value 10 t.octets in
     let g = guard_some (are_digits t.octets && ltb n (10 ^ 18)) (pos n) z e in
     let tests = and_parts (are_digits t.octets) (ltb n (10 ^ 18)) g.0 in
     ((n, ltb-true n (10 ^ 18) tests.1), g.1, (tests.0, refl))
 
-unsigned_filled : (w : Magnitude) (t : Lexeme) → Fills (unsigned w.0) t → literal_of t.octets ≡ Some (pos w.0)
-unsigned_filled w t h = rw (h.0, h.1, lt-ltb w.0 (10 ^ 18) w.1) refl
+unsigned_matched : (w : Magnitude) (t : Lexeme) → Matches (unsigned w.0) t → literal_of t.octets ≡ Some (pos w.0)
+unsigned_matched w t h = rw (h.0, h.1, lt-ltb w.0 (10 ^ 18) w.1) refl
 
 unsigned_exactly : ReadsExactly (λ (w : Magnitude). unsigned w.0 ∷ []) (λ (w : Magnitude). pos w.0) Anything unsigned_at
 unfolding unsigned_at
-unsigned_exactly = token_exactly (λ (w : Magnitude). unsigned w.0) (λ (w : Magnitude). pos w.0) (λ (t : Lexeme). literal_of t.octets) unsigned_found unsigned_filled
+unsigned_exactly = token_exactly (λ (w : Magnitude). unsigned w.0) (λ (w : Magnitude). pos w.0) (λ (t : Lexeme). literal_of t.octets) unsigned_found unsigned_matched
 
-no_minus : (n : ℕ) (t : Lexeme) → Fills (unsigned n) t → Fills (symbol (codes "-")) t → ⊥
-no_minus n t fills e = false≢true (subst (λ x. are_digits x ≡ true) e fills.0)
+no_minus : (n : ℕ) (t : Lexeme) → Matches (unsigned n) t → Matches (symbol (codes "-")) t → ⊥
+no_minus n t matches e = false≢true (subst (λ x. are_digits x ≡ true) e matches.0)
 
 literal_exactly : ReadsExactly (λ (w : Bool × Magnitude). signed_literal w.0 w.1.0) (λ (w : Bool × Magnitude). signed w.0 w.1.0) Anything literal_at
 unfolding literal_at
@@ -75,7 +75,7 @@ symbol_or octets a c o e more =
       | inr other ↦ more other
     ]
 
-comparison_found : (t : Lexeme) (c : Comparison) → comparison_of t.octets ≡ Some c → (w : Comparison) × (w ≡ c) × Fills (symbol (comparison_symbol w)) t
+comparison_found : (t : Lexeme) (c : Comparison) → comparison_of t.octets ≡ Some c → (w : Comparison) × (w ≡ c) × Matches (symbol (comparison_symbol w)) t
 comparison_found t c e = (
   c,
   refl,
@@ -108,8 +108,8 @@ unfolding column_definition_at
 column_definition_exactly =
     before_exactly (key_word (codes "INTEGER") ∷ key_word (codes "NOT") ∷ key_word (codes "NULL") ∷ []) regular_exactly (λ ts rest h. tt)
 
--- the places of an item with the name
-abbrev pub item_form : Item → List ℕ → List Place
+-- the terminals of an item with the name
+abbrev pub item_form : Item → List ℕ → List Terminal
 item_form ColumnDefinition name = column_definition name
 item_form ColumnReference name = column_reference name
 
@@ -117,9 +117,9 @@ pub item_exactly : (item : Item) → ReadsExactly (item_form item) (λ name. nam
 item_exactly ColumnDefinition = column_definition_exactly
 item_exactly ColumnReference = regular_exactly
 
-pub some_places : (item : Item) (name : List ℕ) → 0 < length (item_form item name)
-some_places ColumnDefinition name = omega arith
-some_places ColumnReference name = omega arith
+pub some_terminals : (item : Item) (name : List ℕ) → 0 < length (item_form item name)
+some_terminals ColumnDefinition name = omega arith
+some_terminals ColumnReference name = omega arith
 
 -- names, one at least
 abbrev pub Names : Type 0
@@ -130,7 +130,7 @@ same_names [] = refl
 same_names (name ∷ names) = ap (λ x. name ∷ x) (same_names names)
 
 names_exactly : (item : Item) → ReadsExactly (λ (names : Names). separated (map (item_form item) names.0)) (λ (names : Names). names.0) NoComma (list_at (item_at item))
-names_exactly item = same_exactly (λ (names : Names). names.0) (λ names. same_names names.0) (list_exactly (item_exactly item) (some_places item))
+names_exactly item = same_exactly (λ (names : Names). names.0) (λ names. same_names names.0) (list_exactly (item_exactly item) (some_terminals item))
 
 -- ---- CREATE TABLE
 
@@ -140,7 +140,7 @@ table_exactly =
     behind_exactly (key_word (codes "CREATE") ∷ key_word (codes "TABLE") ∷ [])
     (before_exactly (symbol (codes "(") ∷ []) regular_exactly (λ ts rest h. tt))
 
-no_comma : (t : Lexeme) → Fills (symbol (codes ")")) t → Fills comma t → ⊥
+no_comma : (t : Lexeme) → Matches (symbol (codes ")")) t → Matches comma t → ⊥
 no_comma t e f = let both : codes ")" ≡ codes "," = sym e ∙ f in cc
 
 pub create_table_exactly : ReadsExactly (λ (w : List ℕ × Names). create_table w.0 w.1.0) (λ (w : List ℕ × Names). (w.0, w.1.0)) Anything create_table_at
@@ -153,7 +153,7 @@ create_table_exactly =
 
 -- ---- SELECT
 
--- what fills a table expression
+-- the words of a table expression
 abbrev pub SourceWords : Type 0
 SourceWords = List ℕ × (List ℕ × (Comparison × (Bool × Magnitude)))
 
@@ -170,10 +170,10 @@ table_expression_exactly =
     (behind_exactly (key_word (codes "WHERE") ∷ [])
     (both_exactly regular_exactly (both_exactly comparison_exactly literal_exactly (λ w ts rest h. tt)) (λ w ts rest h. tt))) (λ w ts rest h. tt)))
 
-from_is_no_comma : (t : Lexeme) → Fills (key_word (codes "FROM")) t → Fills comma t → ⊥
+from_is_no_comma : (t : Lexeme) → Matches (key_word (codes "FROM")) t → Matches comma t → ⊥
 from_is_no_comma t e f = let both : codes "FROM" ≡ folded (codes ",") = sym e ∙ ap folded f in cc
 
--- what fills a query
+-- the words of a query
 abbrev pub SelectionWords : Type 0
 SelectionWords = Names × SourceWords
 

@@ -4,5 +4,5 @@ pub mod GrammarLemmas
 pub mod ListLemmas
 pub mod LiteralLemmas
 pub mod ParserLemmas
-pub mod PlaceLemmas
+pub mod TerminalLemmas
 pub mod ResolveLemmas

@@ -3,9 +3,9 @@ use Rattle.std.proofs.Common.{◌≡◌, ℕ, zero, suc, ◌<◌, List, [], ◌�
 use Rattle.std.proofs.lemmas.List.{length-map}
 use Rattle.qw_token.specs.declared.token.Token.{Token}
 use Rattle.qw_token.specs.Token.{Lexeme, lexeme, lexemes}
-use Rattle.qw_ast.specs.Grammar.{Place, Fills, behind_commas, separated}
-use Rattle.qw_parse.specs.Inner.Parser.{comma, place_at, behind, further_within, further, list_at}
-use Rattle.qw_parse.proofs.PlaceLemmas.{bind_some, cases_option, none_not_some, some_same, takes_shorter, place_exactly, Fronts, fronts_append, fronts_split, fronts_shorter}
+use Rattle.qw_ast.specs.Grammar.{Terminal, Matches, behind_commas, separated}
+use Rattle.qw_parse.specs.Inner.Parser.{comma, terminal_at, behind, further_within, further, list_at}
+use Rattle.qw_parse.proofs.TerminalLemmas.{bind_some, cases_option, none_not_some, some_same, takes_shorter, terminal_exactly, Fronts, fronts_append, fronts_split, fronts_shorter}
 use Rattle.qw_parse.proofs.FormLemmas.{ReadsExactly, Anything}
 
 pub behind_behind : {A : Type 0} (front more : List A) (o : Option (List A × List Lexeme)) → behind front (behind more o) ≡ behind (front ++ more) o
@@ -16,21 +16,21 @@ behind_some : {A : Type 0} (front : List A) (o : Option (List A × List Lexeme))
 behind_some front None x e = absurd cc
 behind_some front (Some read) x e = (read, refl, some_same (front ++ read.0, read.1) x e)
 
-comma_shorter : (ts after : List Lexeme) → place_at comma ts ≡ Some after → length after < length ts
-comma_shorter ts after e = takes_shorter (Fills comma) ts after ((place_exactly comma ts after).0 e)
+comma_shorter : (ts after : List Lexeme) → terminal_at comma ts ≡ Some after → length after < length ts
+comma_shorter ts after e = takes_shorter (Matches comma) ts after ((terminal_exactly comma ts after).0 e)
 
 module _ {A : Type 0} (read : List Lexeme → Option (A × List Lexeme)) where
   -- ---- what stands behind commas, step by step
 
-  within_end : (most : ℕ) (ts : List Lexeme) → place_at comma ts ≡ None → further_within (suc most) read ts ≡ Some ([], ts)
+  within_end : (most : ℕ) (ts : List Lexeme) → terminal_at comma ts ≡ None → further_within (suc most) read ts ≡ Some ([], ts)
   unfolding further_within
   within_end most ts e = rw e refl
 
-  within_stop : (most : ℕ) (ts after : List Lexeme) → place_at comma ts ≡ Some after → read after ≡ None → further_within (suc most) read ts ≡ None
+  within_stop : (most : ℕ) (ts after : List Lexeme) → terminal_at comma ts ≡ Some after → read after ≡ None → further_within (suc most) read ts ≡ None
   unfolding further_within
   within_stop most ts after e none = rw (e, none) refl
 
-  within_more : (most : ℕ) (ts after : List Lexeme) (x : A × List Lexeme) → place_at comma ts ≡ Some after → read after ≡ Some x → further_within (suc most) read ts ≡ behind (x.0 ∷ []) (further_within most read x.1)
+  within_more : (most : ℕ) (ts after : List Lexeme) (x : A × List Lexeme) → terminal_at comma ts ≡ Some after → read after ≡ Some x → further_within (suc most) read ts ≡ behind (x.0 ∷ []) (further_within most read x.1)
   unfolding further_within
   within_more most ts after x e some = rw (e, some) refl
 
@@ -47,7 +47,7 @@ module _ {A : Type 0} (read : List Lexeme → Option (A × List Lexeme)) where
   within_same shortens zero n ts a b = absurd (omega (arith, a))
   within_same shortens (suc m) zero ts a b = absurd (omega (arith, b))
   within_same shortens (suc m) (suc n) ts a b =
-      elim (cases_option (place_at comma ts)) [
+      elim (cases_option (terminal_at comma ts)) [
         | inl none ↦ within_end m ts none ∙ sym (within_end n ts none)
         | inr found ↦ elim (cases_option (read found.0)) [
           | inl none ↦ within_stop m ts found.0 found.1 none ∙ sym (within_stop n ts found.0 found.1 none)
@@ -62,13 +62,13 @@ module _ {A : Type 0} (read : List Lexeme → Option (A × List Lexeme)) where
 
   -- ---- the loop
 
-  pub further_end : (ts : List Lexeme) → place_at comma ts ≡ None → further read ts ≡ Some ([], ts)
+  pub further_end : (ts : List Lexeme) → terminal_at comma ts ≡ None → further read ts ≡ Some ([], ts)
   further_end ts e = within_end (length ts) ts e
 
-  pub further_stop : (ts after : List Lexeme) → place_at comma ts ≡ Some after → read after ≡ None → further read ts ≡ None
+  pub further_stop : (ts after : List Lexeme) → terminal_at comma ts ≡ Some after → read after ≡ None → further read ts ≡ None
   further_stop ts after e none = within_stop (length ts) ts after e none
 
-  pub further_more : Shortens → (ts after : List Lexeme) (x : A × List Lexeme) → place_at comma ts ≡ Some after → read after ≡ Some x → further read ts ≡ behind (x.0 ∷ []) (further read x.1)
+  pub further_more : Shortens → (ts after : List Lexeme) (x : A × List Lexeme) → terminal_at comma ts ≡ Some after → read after ≡ Some x → further read ts ≡ behind (x.0 ∷ []) (further read x.1)
   further_more shortens ts after x e some =
       let less = comma_shorter ts after e in
       let lesser = shortens after x some in
@@ -84,7 +84,7 @@ module _ {A : Type 0} (read : List Lexeme → Option (A × List Lexeme)) where
   unfolding list_at
   list_none ts e = rw e refl
 
-  pub list_smaller : Shortens → (ts after rest : List Token) (a : A) → place_at comma (lexemes ts) ≡ Some (lexemes after) → read (lexemes after) ≡ Some (a, lexemes rest) → length rest < length ts
+  pub list_smaller : Shortens → (ts after rest : List Token) (a : A) → terminal_at comma (lexemes ts) ≡ Some (lexemes after) → read (lexemes after) ≡ Some (a, lexemes rest) → length rest < length ts
   list_smaller shortens ts after rest a found some =
       omega (
         arith,
@@ -97,18 +97,18 @@ module _ {A : Type 0} (read : List Lexeme → Option (A × List Lexeme)) where
 -- ---- exactly
 
 -- an item that is never of no token takes a token at least
-pub exactly_shortens : {W A : Type 0} {form : W → List Place} {tree : W → A} {Stops : List Lexeme → Type 0} {read : List Lexeme → Option (A × List Lexeme)} → ReadsExactly form tree Stops read → ((w : W) → 0 < length (form w)) → Shortens read
+pub exactly_shortens : {W A : Type 0} {form : W → List Terminal} {tree : W → A} {Stops : List Lexeme → Type 0} {read : List Lexeme → Option (A × List Lexeme)} → ReadsExactly form tree Stops read → ((w : W) → 0 < length (form w)) → Shortens read
 exactly_shortens {form = form} reads some ts x e = let w = reads.takes ts x e in fronts_shorter (form w.0) ts x.1 (some w.0) w.2
 
 -- no comma follows
 abbrev pub NoComma : List Lexeme → Type 0
-NoComma rest = place_at comma rest ≡ None
+NoComma rest = terminal_at comma rest ≡ None
 
-module _ {W A : Type 0} {form : W → List Place} {tree : W → A} {read : List Lexeme → Option (A × List Lexeme)} (reads : ReadsExactly form tree Anything read) where
+module _ {W A : Type 0} {form : W → List Terminal} {tree : W → A} {read : List Lexeme → Option (A × List Lexeme)} (reads : ReadsExactly form tree Anything read) where
   within_takes : (most : ℕ) (ts : List Lexeme) (x : List A × List Lexeme) → further_within most read ts ≡ Some x → (ws : List W) × (map tree ws ≡ x.0) × Fronts (behind_commas (map form ws)) ts x.1
   within_takes zero ts x e = absurd (none_within read ts x e)
   within_takes (suc most) ts x e =
-      elim (cases_option (place_at comma ts)) [
+      elim (cases_option (terminal_at comma ts)) [
         | inl none ↦ (
             let same = some_same ([], ts) x (sym (within_end read most ts none) ∙ e) in
             ([], ap (λ (y : List A × List Lexeme). y.0) same, ap (λ (y : List A × List Lexeme). y.1) same))
@@ -122,7 +122,7 @@ module _ {W A : Type 0} {form : W → List Place} {tree : W → A} {read : List 
                 ap (λ (y : A). y ∷ map tree ws.0) w.1 ∙ ap (λ (y : List A). some.0.0 ∷ y) ws.1 ∙ ap (λ (y : List A × List Lexeme). y.0) more.2,
                 subst (λ (y : List A × List Lexeme). Fronts (behind_commas (map form (w.0 ∷ ws.0))) ts y.1) more.2 (
                   found.0,
-                  (place_exactly comma ts found.0).0 found.1,
+                  (terminal_exactly comma ts found.0).0 found.1,
                   fronts_append (form w.0) (behind_commas (map form ws.0)) found.0 some.0.1 more.0.1 w.2 ws.2,
                 ),
               ))
@@ -133,7 +133,7 @@ module _ {W A : Type 0} {form : W → List Place} {tree : W → A} {read : List 
   further_is shortens [] ts rest h none = ap (further read) h ∙ further_end read rest none
   further_is shortens (w ∷ ws) ts rest h none =
       let parts = fronts_split (form w) (behind_commas (map form ws)) h.0 rest h.2 in
-      further_more read shortens ts h.0 (tree w, parts.0) ((place_exactly comma ts h.0).1 h.1) (reads.is w h.0 parts.0 parts.1 tt)
+      further_more read shortens ts h.0 (tree w, parts.0) ((terminal_exactly comma ts h.0).1 h.1) (reads.is w h.0 parts.0 parts.1 tt)
       ∙ ap (behind (tree w ∷ [])) (further_is shortens ws parts.0 rest parts.2 none)
 
   -- one item at least
@@ -161,7 +161,7 @@ module _ {W A : Type 0} {form : W → List Place} {tree : W → A} {read : List 
       ∙ ap (behind (tree w ∷ [])) (further_is shortens ws parts.0 rest parts.2 none)
 
 -- a list of one item at least, where each has a token
-pub list_exactly : {W A : Type 0} {form : W → List Place} {tree : W → A} {read : List Lexeme → Option (A × List Lexeme)} → ReadsExactly form tree Anything read → ((w : W) → 0 < length (form w))
+pub list_exactly : {W A : Type 0} {form : W → List Terminal} {tree : W → A} {read : List Lexeme → Option (A × List Lexeme)} → ReadsExactly form tree Anything read → ((w : W) → 0 < length (form w))
     → ReadsExactly (λ (ws : (ws : List W) × (0 < length ws)). separated (map form ws.0)) (λ (ws : (ws : List W) × (0 < length ws)). map tree ws.0) NoComma (list_at read)
 list_exactly reads some = record {
   takes = list_takes reads;

@@ -16,11 +16,11 @@ use Rattle.qw_token.specs.declared.token.TokenFault.{TokenFault}
 use Rattle.qw_token.specs.declared.token.TokenFault.TheVariants.{NotUtf8, NotToken}
 use Rattle.qw_token.specs.declared.token.TokenFault.TheVariants as token_faults
 use Rattle.qw_token.specs.Token.{Lexeme, is_word_octet, after_mark, IsWord, HasForm, Reads, AreTokens, StopsAt}
-use Rattle.qw_ast.specs.Grammar.{folded, Place, key_word, regular, symbol, unsigned, Fills, behind_commas, separated, column_definition, create_table, IsStatement, Selection, Selects}
+use Rattle.qw_ast.specs.Grammar.{folded, Terminal, key_word, regular, symbol, unsigned, Matches, behind_commas, separated, column_definition, create_table, IsTextOf, Selection, Selects}
 use Rattle.qw_parse.specs.Inner.Parser.{create_table_at, query_specification_at, whole_of}
 use Rattle.qw_parse.specs.Parse.{integer_column, one_table, Means, ReadsSchema, ReadsQuery}
 use Rattle.qw_parse.specs.Inner.Faults.{parse_fault_of}
-use Rattle.qw_ast.specs.Inner.Views.{names_of}
+use Rattle.qw_ast.specs.Inner.Views.{folded_names}
 use Rattle.qw_token.proofs.TokenRun.{AreTokens-no_stop}
 use Rattle.qw_parse.proofs.FormLemmas.{statement_exactly}
 use Rattle.qw_parse.proofs.GrammarLemmas.{create_table_exactly, SelectionWords, query_specification_exactly}
@@ -29,10 +29,10 @@ use Rattle.qw_parse.proofs.ResolveLemmas.{Means-unique}
 -- ---- the schema
 
 -- the names that are read are those of the statement
-pub definition_is_read : (text : List ℕ) (ts : List Lexeme) (names : List ℕ × List (List ℕ)) → AreTokens text ts → whole_of create_table_at ts ≡ Some names → (0 < length names.1) × IsStatement (create_table names.0 names.1) text
+pub definition_is_read : (text : List ℕ) (ts : List Lexeme) (names : List ℕ × List (List ℕ)) → AreTokens text ts → whole_of create_table_at ts ≡ Some names → (0 < length names.1) × IsTextOf (create_table names.0 names.1) text
 definition_is_read text ts names a e =
     let w = (statement_exactly create_table_exactly text ts a).0 names e in
-    subst (λ (x : List ℕ × List (List ℕ)). (0 < length x.1) × IsStatement (create_table x.0 x.1) text) w.1 (w.0.1.1, w.2)
+    subst (λ (x : List ℕ × List (List ℕ)). (0 < length x.1) × IsTextOf (create_table x.0 x.1) text) w.1 (w.0.1.1, w.2)
 
 reads_schema : (text : List ℕ) (ts : List Lexeme) (names : List ℕ × List (List ℕ)) → AreTokens text ts → whole_of create_table_at ts ≡ Some names → AreColumns (map integer_column names.1) → ReadsSchema text (one_table names.0 names.1)
 reads_schema text ts names a e limits = record {
@@ -155,61 +155,61 @@ Reads-form : (text : List ℕ) (ts : List Lexeme) (rest : List ℕ) → Reads te
 Reads-form text [] rest r = tt
 Reads-form text (t ∷ ts) rest r = (r.1.form, Reads-form r.0 ts rest r.2)
 
-name_is_ascii : (name : List ℕ) (t : Lexeme) → Fills (regular name) t → HasForm t.kind t.octets → IsAscii name
-name_is_ascii name t fills form =
-    let word : IsWord t.octets = subst (λ k. HasForm k t.octets) fills.0 form in
-    subst IsAscii fills.1 (IsAscii-map to_ascii_uppercase t.octets uppercase_ascii (word_is_ascii t.octets word))
+name_is_ascii : (name : List ℕ) (t : Lexeme) → Matches (regular name) t → HasForm t.kind t.octets → IsAscii name
+name_is_ascii name t matches form =
+    let word : IsWord t.octets = subst (λ k. HasForm k t.octets) matches.0 form in
+    subst IsAscii matches.1 (IsAscii-map to_ascii_uppercase t.octets uppercase_ascii (word_is_ascii t.octets word))
 
--- the name at a place is ASCII
-abbrev NameIsAscii : Place → Type 0
+-- the name of a terminal is ASCII
+abbrev NameIsAscii : Terminal → Type 0
 NameIsAscii (key_word word) = Unit {0}
 NameIsAscii (regular name) = IsAscii name
 NameIsAscii (symbol octets) = Unit {0}
 NameIsAscii (unsigned n) = Unit {0}
 
-place_is_ascii : (p : Place) (t : Lexeme) → Fills p t → HasForm t.kind t.octets → NameIsAscii p
-place_is_ascii (key_word word) t fills form = tt
-place_is_ascii (regular name) t fills form = name_is_ascii name t fills form
-place_is_ascii (symbol octets) t fills form = tt
-place_is_ascii (unsigned n) t fills form = tt
+terminal_is_ascii : (p : Terminal) (t : Lexeme) → Matches p t → HasForm t.kind t.octets → NameIsAscii p
+terminal_is_ascii (key_word word) t matches form = tt
+terminal_is_ascii (regular name) t matches form = name_is_ascii name t matches form
+terminal_is_ascii (symbol octets) t matches form = tt
+terminal_is_ascii (unsigned n) t matches form = tt
 
-places_are_ascii : (ps : List Place) (ts : List Lexeme) → AllZip Fills ps ts → HaveForm ts → AllByRecursion NameIsAscii ps
-places_are_ascii [] ts h forms = tt
-places_are_ascii (p ∷ ps) [] h forms = absurd h
-places_are_ascii (p ∷ ps) (t ∷ ts) h forms = (place_is_ascii p t h.0 forms.0, places_are_ascii ps ts h.1 forms.1)
+terminals_are_ascii : (ps : List Terminal) (ts : List Lexeme) → AllZip Matches ps ts → HaveForm ts → AllByRecursion NameIsAscii ps
+terminals_are_ascii [] ts h forms = tt
+terminals_are_ascii (p ∷ ps) [] h forms = absurd h
+terminals_are_ascii (p ∷ ps) (t ∷ ts) h forms = (terminal_is_ascii p t h.0 forms.0, terminals_are_ascii ps ts h.1 forms.1)
 
-all_first : (ps more : List Place) → AllByRecursion NameIsAscii (ps ++ more) → AllByRecursion NameIsAscii ps
+all_first : (ps more : List Terminal) → AllByRecursion NameIsAscii (ps ++ more) → AllByRecursion NameIsAscii ps
 all_first [] more h = tt
 all_first (p ∷ ps) more h = (h.0, all_first ps more h.1)
 
-statement_is_ascii : (form : List Place) (ts : List Lexeme) → HaveForm ts → AllZip Fills form ts ⊎ AllZip Fills (form ++ symbol (codes ";") ∷ []) ts → AllByRecursion NameIsAscii form
-statement_is_ascii form ts forms (inl h) = places_are_ascii form ts h forms
-statement_is_ascii form ts forms (inr h) = all_first form (symbol (codes ";") ∷ []) (places_are_ascii (form ++ symbol (codes ";") ∷ []) ts h forms)
+statement_is_ascii : (form : List Terminal) (ts : List Lexeme) → HaveForm ts → AllZip Matches form ts ⊎ AllZip Matches (form ++ symbol (codes ";") ∷ []) ts → AllByRecursion NameIsAscii form
+statement_is_ascii form ts forms (inl h) = terminals_are_ascii form ts h forms
+statement_is_ascii form ts forms (inr h) = all_first form (symbol (codes ";") ∷ []) (terminals_are_ascii (form ++ symbol (codes ";") ∷ []) ts h forms)
 
-further_are_ascii : (columns : List (List ℕ)) (more : List Place) → AllByRecursion NameIsAscii (behind_commas (map column_definition columns) ++ more) → AllByRecursion IsAscii columns
+further_are_ascii : (columns : List (List ℕ)) (more : List Terminal) → AllByRecursion NameIsAscii (behind_commas (map column_definition columns) ++ more) → AllByRecursion IsAscii columns
 further_are_ascii [] more h = tt
 further_are_ascii (name ∷ names) more h = (h.1.0, further_are_ascii names more h.1.1.1.1.1)
 
-columns_are_ascii : (columns : List (List ℕ)) (more : List Place) → AllByRecursion NameIsAscii (separated (map column_definition columns) ++ more) → AllByRecursion IsAscii columns
+columns_are_ascii : (columns : List (List ℕ)) (more : List Terminal) → AllByRecursion NameIsAscii (separated (map column_definition columns) ++ more) → AllByRecursion IsAscii columns
 columns_are_ascii [] more h = tt
 columns_are_ascii (name ∷ names) more h = (h.0, further_are_ascii names more h.1.1.1.1)
 
-unfolded_are_ascii : (names : List (Bor (List ℕ))) → AllByRecursion IsAscii (names_of names) → AllByRecursion (λ name. IsAscii name.now) names
+unfolded_are_ascii : (names : List (Bor (List ℕ))) → AllByRecursion IsAscii (folded_names names) → AllByRecursion (λ name. IsAscii name.now) names
 unfolded_are_ascii [] h = tt
 unfolded_are_ascii (name ∷ names) h = (IsAscii-unfolded name.now h.0, unfolded_are_ascii names h.1)
 
-pub names_are_ascii : (text : List ℕ) (ts : List Lexeme) (table : List ℕ) (columns : List (Bor (List ℕ))) → AreTokens text ts → whole_of create_table_at ts ≡ Some (folded table, names_of columns) → IsAscii table × AllByRecursion (λ name. IsAscii name.now) columns
+pub names_are_ascii : (text : List ℕ) (ts : List Lexeme) (table : List ℕ) (columns : List (Bor (List ℕ))) → AreTokens text ts → whole_of create_table_at ts ≡ Some (folded table, folded_names columns) → IsAscii table × AllByRecursion (λ name. IsAscii name.now) columns
 names_are_ascii text ts table columns a e =
-    let names = names_of columns in
+    let names = folded_names columns in
     let s = (definition_is_read text ts (folded table, names) a e).1 in
     let all = statement_is_ascii (create_table (folded table) names) s.tokens (Reads-form (after_mark text) s.tokens [] s.are_tokens.reads) s.follows in
     (IsAscii-unfolded table all.1.1.0, unfolded_are_ascii columns (columns_are_ascii names (symbol (codes ")") ∷ []) all.1.1.1.1))
 
-pub some_names : (text : List ℕ) (ts : List Lexeme) (table : List ℕ) (columns : List (Bor (List ℕ))) → AreTokens text ts → whole_of create_table_at ts ≡ Some (table, names_of columns) → 0 < length columns
+pub some_names : (text : List ℕ) (ts : List Lexeme) (table : List ℕ) (columns : List (Bor (List ℕ))) → AreTokens text ts → whole_of create_table_at ts ≡ Some (table, folded_names columns) → 0 < length columns
 some_names text ts table columns a e =
-    omega (arith, (definition_is_read text ts (table, names_of columns) a e).0, length-map columns (λ name. folded name.now))
+    omega (arith, (definition_is_read text ts (table, folded_names columns) a e).0, length-map columns (λ name. folded name.now))
 
-pub some_columns : (text : List ℕ) (ts : List Lexeme) (selection : Selection) (columns : List (Bor (List ℕ))) → AreTokens text ts → whole_of query_specification_at ts ≡ Some selection → selection.columns ≡ names_of columns → 0 < length columns
+pub some_columns : (text : List ℕ) (ts : List Lexeme) (selection : Selection) (columns : List (Bor (List ℕ))) → AreTokens text ts → whole_of query_specification_at ts ≡ Some selection → selection.columns ≡ folded_names columns → 0 < length columns
 some_columns text ts selection columns a e is =
-    let same : length selection.columns ≡ length (names_of columns) = ap (λ (x : List (List ℕ)). length x) is in
+    let same : length selection.columns ≡ length (folded_names columns) = ap (λ (x : List (List ℕ)). length x) is in
     omega (arith, (selects text ts selection a e).some, same, length-map columns (λ name. folded name.now))

@@ -10,7 +10,7 @@ use Rattle.qw_token.specs.declared.token.Kind.{Kind}
 use Rattle.qw_token.specs.declared.token.Kind.TheVariants.{Word}
 use Rattle.qw_types.specs.Digits.{are_digits}
 use Rattle.qw_token.specs.Token.{Lexeme}
-use Rattle.qw_ast.specs.Grammar.{folded, reserved, Place, key_word, regular, symbol, unsigned, Source, Selection}
+use Rattle.qw_ast.specs.Grammar.{folded, reserved, Terminal, key_word, regular, symbol, unsigned, Source, Selection}
 use Rattle.qw_parse.specs.declared.parse.form.Item.{Item}
 use Rattle.qw_parse.specs.declared.parse.form.Item.TheVariants.{ColumnDefinition, ColumnReference}
 use Rattle.qw_meaning.specs.declared.query.Comparison.{Comparison}
@@ -31,19 +31,19 @@ is_word _ = false
 abbrev pub is_reserved : List ℕ → Bool
 is_reserved name = list_any (bytes_eq name) reserved
 
--- whether the token fills the place
-abbrev pub fills : Place → Lexeme → Bool
-fills (key_word word) t = bytes_eq (folded t.octets) word
-fills (regular name) t = is_word t.kind && (bytes_eq (folded t.octets) name && not (is_reserved name))
-fills (symbol octets) t = bytes_eq t.octets octets
-fills (unsigned n) t = are_digits t.octets && nat_eq (digits_value 10 t.octets) n
+-- whether the token matches the terminal
+abbrev pub matches : Terminal → Lexeme → Bool
+matches (key_word word) t = bytes_eq (folded t.octets) word
+matches (regular name) t = is_word t.kind && (bytes_eq (folded t.octets) name && not (is_reserved name))
+matches (symbol octets) t = bytes_eq t.octets octets
+matches (unsigned n) t = are_digits t.octets && nat_eq (digits_value 10 t.octets) n
 
 -- ---- readers of one token
 
--- the tokens behind one that fills the place
-unfoldable pub place_at : Place → List Lexeme → Option (List Lexeme)
-place_at place [] = None
-place_at place (t ∷ ts) = if fills place t then Some ts else None
+-- the tokens behind one that matches the terminal
+unfoldable pub terminal_at : Terminal → List Lexeme → Option (List Lexeme)
+terminal_at terminal [] = None
+terminal_at terminal (t ∷ ts) = if matches terminal t then Some ts else None
 
 -- what is found in the first token, and the tokens behind it
 unfoldable pub token_at : {A : Type 0} → (Lexeme → Option A) → List Lexeme → Option (A × List Lexeme)
@@ -76,20 +76,20 @@ comparison_of octets =
 
 -- ---- ways to put readers together
 
--- the tokens behind some that fill the places
-abbrev pub fixed_at : List Place → List Lexeme → Option (List Lexeme)
+-- the tokens behind some that match the terminals
+abbrev pub fixed_at : List Terminal → List Lexeme → Option (List Lexeme)
 fixed_at [] ts = Some ts
-fixed_at (place ∷ places) ts = place_at place ts >>= (λ rest. fixed_at places rest)
+fixed_at (terminal ∷ terminals) ts = terminal_at terminal ts >>= (λ rest. fixed_at terminals rest)
 
--- what is read behind the places
-abbrev pub behind_at : {A : Type 0} → List Place → (List Lexeme → Option (A × List Lexeme)) → List Lexeme → Option (A × List Lexeme)
-behind_at places read ts = fixed_at places ts >>= (λ rest. read rest)
+-- what is read behind the terminals
+abbrev pub behind_at : {A : Type 0} → List Terminal → (List Lexeme → Option (A × List Lexeme)) → List Lexeme → Option (A × List Lexeme)
+behind_at terminals read ts = fixed_at terminals ts >>= (λ rest. read rest)
 
--- what is read before the places
-abbrev pub before_at : {A : Type 0} → (List Lexeme → Option (A × List Lexeme)) → List Place → List Lexeme → Option (A × List Lexeme)
-before_at read places ts = do
+-- what is read before the terminals
+abbrev pub before_at : {A : Type 0} → (List Lexeme → Option (A × List Lexeme)) → List Terminal → List Lexeme → Option (A × List Lexeme)
+before_at read terminals ts = do
   x ← read ts
-  rest ← fixed_at places x.1
+  rest ← fixed_at terminals x.1
   Some (x.0, rest)
 
 -- what the two read, one behind the other
@@ -105,12 +105,12 @@ made_at make read ts = do
   x ← read ts
   Some (make x.0, x.1)
 
--- what the first reads behind the place, or where that isn't there what the second reads
-abbrev pub optional_at : {A : Type 0} → Place → (List Lexeme → Option (A × List Lexeme)) → (List Lexeme → Option (A × List Lexeme)) → List Lexeme → Option (A × List Lexeme)
-optional_at place first second ts = option_map_or (λ rest. first rest) (place_at place ts) (second ts)
+-- what the first reads behind the terminal, or where that isn't there what the second reads
+abbrev pub optional_at : {A : Type 0} → Terminal → (List Lexeme → Option (A × List Lexeme)) → (List Lexeme → Option (A × List Lexeme)) → List Lexeme → Option (A × List Lexeme)
+optional_at terminal first second ts = option_map_or (λ rest. first rest) (terminal_at terminal ts) (second ts)
 
 -- a comma
-abbrev pub comma : Place
+abbrev pub comma : Terminal
 comma = symbol (codes ",")
 
 -- what is read, behind other items
@@ -124,7 +124,7 @@ further_within zero read ts = None
 further_within (suc most) read ts =
     option_map_or
     (λ after. read after >>= (λ first. behind (first.0 ∷ []) (further_within most read first.1)))
-    (place_at comma ts)
+    (terminal_at comma ts)
     (Some ([], ts))
 
 -- the same for any number: there are fewer items than tokens

@@ -2,9 +2,9 @@
 
 ghost use Rattle.std.specs.Prelude.{◌≡◌, ◌≤ℤ◌, pos, IfOk, IfSome, option_map};
 ghost use Rattle.qw_ast.specs.Grammar.{folded, key_word, symbol};
-ghost use Rattle.qw_parse.specs.Inner.Parser.{place_at, regular_at, unsigned_at, literal_at, comparison_of, comparison_at, is_end, column_definition_at, item_at, list_at, whole_of, table_at, create_table_at, table_expression_at, query_specification_at};
+ghost use Rattle.qw_parse.specs.Inner.Parser.{terminal_at, regular_at, unsigned_at, literal_at, comparison_of, comparison_at, is_end, column_definition_at, item_at, list_at, whole_of, table_at, create_table_at, table_expression_at, query_specification_at};
 ghost use Rattle.qw_token.specs.Token.{lexemes};
-ghost use Rattle.qw_ast.specs.Inner.Views.{definition, names_of, source, selection};
+ghost use Rattle.qw_ast.specs.Inner.Views.{definition, folded_names, source, selection};
 
 use super::literal::literal_of;
 use super::word::{folds_to, is_reserved};
@@ -22,9 +22,9 @@ pub(crate) enum Item {
 }
 
 /// The tokens behind the key word.
-#[tactic(auto, unfolding(crate::specs::Inner::Parser::place_at))]
+#[tactic(auto, unfolding(crate::specs::Inner::Parser::terminal_at))]
 fn key_word<'t, 'a>(tokens: &'t [Token<'a>], word: &[u8]) -> Option<&'t [Token<'a>]>
-    ensures { option_map (λ x. lexemes x.now) result ≡ place_at (key_word word.now) (lexemes tokens.now) }
+    ensures { option_map (λ x. lexemes x.now) result ≡ terminal_at (key_word word.now) (lexemes tokens.now) }
 {
     match tokens {
         [first, rest @ ..] if folds_to(first.octets, word) => Some(rest),
@@ -33,9 +33,9 @@ fn key_word<'t, 'a>(tokens: &'t [Token<'a>], word: &[u8]) -> Option<&'t [Token<'
 }
 
 /// The tokens behind the symbol.
-#[tactic(auto, unfolding(crate::specs::Inner::Parser::place_at))]
+#[tactic(auto, unfolding(crate::specs::Inner::Parser::terminal_at))]
 fn symbol<'t, 'a>(tokens: &'t [Token<'a>], octets: &[u8]) -> Option<&'t [Token<'a>]>
-    ensures { option_map (λ x. lexemes x.now) result ≡ place_at (symbol octets.now) (lexemes tokens.now) }
+    ensures { option_map (λ x. lexemes x.now) result ≡ terminal_at (symbol octets.now) (lexemes tokens.now) }
 {
     match tokens {
         [first, rest @ ..] if first.octets == octets => Some(rest),
@@ -146,7 +146,7 @@ fn list<'t, 'a>(
     kind: Item,
     tokens: &'t [Token<'a>],
 ) -> Result<Option<(Vec<&'a [u8]>, &'t [Token<'a>])>, NoMemory>
-    ensures { IfOk result (λ read. option_map (λ x. (names_of x.0.items, lexemes x.1.now)) read ≡ list_at (item_at kind) (lexemes tokens.now)) }
+    ensures { IfOk result (λ read. option_map (λ x. (folded_names x.0.items, lexemes x.1.now)) read ≡ list_at (item_at kind) (lexemes tokens.now)) }
 {
     let Some((first, mut rest)) = one_item(kind, tokens) else {
         return Ok(None);

@@ -1,4 +1,4 @@
--- Tokens that fill places, one and many, are what is read as them.
+-- Tokens that match terminals, one and many, are what is read as them.
 use Rattle.std.proofs.Common.{◌≡◌, ℕ, zero, suc, get_or, ◌<◌, ◌≤◌, Bool, true, false, cond, ◌&&◌, not, List, [], ◌∷◌, ◌++◌, length, Option, Some, None, refl, sym, ap, subst, ◌∙◌, arith, inl, inr}
 use Rattle.std.specs.Prelude.{◌⊎◌, ◌↔◌, Contains, nat_eq}
 use Rattle.std.specs.Bool.{Decides}
@@ -13,8 +13,8 @@ use Rattle.qw_token.specs.declared.token.Kind.{Kind}
 use Rattle.qw_token.specs.declared.token.Kind.TheVariants.{Word, DelimitedIdentifier, CharacterString, Number, Symbol}
 use Rattle.qw_token.specs.Token.{Lexeme}
 use Rattle.qw_types.specs.Digits.{are_digits}
-use Rattle.qw_ast.specs.Grammar.{folded, reserved, IsReserved, Place, key_word, regular, symbol, unsigned, Fills}
-use Rattle.qw_parse.specs.Inner.Parser.{◌>>=◌, is_word, is_reserved, fills, place_at, fixed_at}
+use Rattle.qw_ast.specs.Grammar.{folded, reserved, IsReserved, Terminal, key_word, regular, symbol, unsigned, Matches}
+use Rattle.qw_parse.specs.Inner.Parser.{◌>>=◌, is_word, is_reserved, matches, terminal_at, fixed_at}
 
 -- ---- options
 
@@ -36,7 +36,7 @@ none_not_some o x none some = cc
 pub some_same : {A : Type 0} (x y : A) → Some x ≡ Some y → x ≡ y
 some_same x y e = cc
 
--- ---- whether a token fills a place
+-- ---- whether a token matches a terminal
 
 pub is_word-Decides : (k : Kind) → Decides (is_word k) (k ≡ Word)
 is_word-Decides Word = (λ e. refl, λ e. refl)
@@ -62,102 +62,102 @@ not_reserved-Decides name = (
   ],
 )
 
-pub fills-Decides : (p : Place) (t : Lexeme) → Decides (fills p t) (Fills p t)
-fills-Decides (key_word word) t = bytes_eq-Decides (folded t.octets) word
-fills-Decides (regular name) t =
+pub matches-Decides : (p : Terminal) (t : Lexeme) → Decides (matches p t) (Matches p t)
+matches-Decides (key_word word) t = bytes_eq-Decides (folded t.octets) word
+matches-Decides (regular name) t =
     let parts = Decides-and (is_word t.kind) (bytes_eq (folded t.octets) name && not (is_reserved name)) (is_word-Decides t.kind)
     (Decides-and (bytes_eq (folded t.octets) name) (not (is_reserved name)) (bytes_eq-Decides (folded t.octets) name) (not_reserved-Decides name)) in
     (λ e. let h = parts.0 e in (h.0, h.1.0, h.1.1), λ h. parts.1 (h.0, (h.1, h.2)))
-fills-Decides (symbol octets) t = bytes_eq-Decides t.octets octets
-fills-Decides (unsigned n) t =
+matches-Decides (symbol octets) t = bytes_eq-Decides t.octets octets
+matches-Decides (unsigned n) t =
     Decides-and (are_digits t.octets) (nat_eq (digits_value 10 t.octets) n) (λ e. e, λ e. e) (Decides-eqb (digits_value 10 t.octets) n)
 
--- ---- one place
+-- ---- one terminal
 
 -- the tokens begin with one of this sort, and rest follows
 pub record TakesOne (P : Lexeme → Type 0) (ts rest : List Lexeme) : Type 0 where
   pub token : Lexeme
   pub parts : ts ≡ token ∷ rest
-  pub fills : P token
+  pub matches : P token
 
-place_takes : (p : Place) (ts rest : List Lexeme) → place_at p ts ≡ Some rest → TakesOne (Fills p) ts rest
-unfolding place_at
-place_takes p [] rest e = absurd cc
-place_takes p (t ∷ ts) rest e =
-    let g = guard_some (fills p t) ts rest e in
-    record { token = t; parts = ap (λ (x : List Lexeme). t ∷ x) g.1; fills = (fills-Decides p t).0 g.0 }
+terminal_takes : (p : Terminal) (ts rest : List Lexeme) → terminal_at p ts ≡ Some rest → TakesOne (Matches p) ts rest
+unfolding terminal_at
+terminal_takes p [] rest e = absurd cc
+terminal_takes p (t ∷ ts) rest e =
+    let g = guard_some (matches p t) ts rest e in
+    record { token = t; parts = ap (λ (x : List Lexeme). t ∷ x) g.1; matches = (matches-Decides p t).0 g.0 }
 
-place_again : (p : Place) (t : Lexeme) (rest : List Lexeme) → Fills p t → place_at p (t ∷ rest) ≡ Some rest
-unfolding place_at
-place_again p t rest h = rw ((fills-Decides p t).1 h) refl
+terminal_again : (p : Terminal) (t : Lexeme) (rest : List Lexeme) → Matches p t → terminal_at p (t ∷ rest) ≡ Some rest
+unfolding terminal_at
+terminal_again p t rest h = rw ((matches-Decides p t).1 h) refl
 
--- what fills the place is read, and nothing else
-pub place_exactly : (p : Place) (ts rest : List Lexeme) → (place_at p ts ≡ Some rest) ↔ TakesOne (Fills p) ts rest
-place_exactly p ts rest = (
-  place_takes p ts rest,
-  λ one. ap (place_at p) one.parts ∙ place_again p one.token rest one.fills,
+-- what matches the terminal is read, and nothing else
+pub terminal_exactly : (p : Terminal) (ts rest : List Lexeme) → (terminal_at p ts ≡ Some rest) ↔ TakesOne (Matches p) ts rest
+terminal_exactly p ts rest = (
+  terminal_takes p ts rest,
+  λ one. ap (terminal_at p) one.parts ∙ terminal_again p one.token rest one.matches,
 )
 
-not_place : (p : Place) (t : Lexeme) (rest : List Lexeme) → (Fills p t → ⊥) → place_at p (t ∷ rest) ≡ None
-unfolding place_at
-not_place p t rest h =
-    elim (cases_Bool (fills p t)) [
-      | inl e ↦ absurd (h ((fills-Decides p t).0 e))
+not_terminal : (p : Terminal) (t : Lexeme) (rest : List Lexeme) → (Matches p t → ⊥) → terminal_at p (t ∷ rest) ≡ None
+unfolding terminal_at
+not_terminal p t rest h =
+    elim (cases_Bool (matches p t)) [
+      | inl e ↦ absurd (h ((matches-Decides p t).0 e))
       | inr e ↦ rw e refl
     ]
 
--- the first token doesn't fill the place where it fills one that it can't fill beside that
-pub other_than : (p q : Place) (ts rest : List Lexeme) → TakesOne (Fills q) ts rest → ((t : Lexeme) → Fills q t → Fills p t → ⊥) → place_at p ts ≡ None
-other_than p q ts rest one h = ap (place_at p) one.parts ∙ not_place p one.token rest (h one.token one.fills)
+-- the first token doesn't match the terminal where it matches one that no token matches beside that
+pub other_than : (p q : Terminal) (ts rest : List Lexeme) → TakesOne (Matches q) ts rest → ((t : Lexeme) → Matches q t → Matches p t → ⊥) → terminal_at p ts ≡ None
+other_than p q ts rest one h = ap (terminal_at p) one.parts ∙ not_terminal p one.token rest (h one.token one.matches)
 
 pub takes_shorter : (P : Lexeme → Type 0) (ts rest : List Lexeme) → TakesOne P ts rest → length rest < length ts
 takes_shorter P ts rest one =
     let e : length ts ≡ suc (length rest) = ap (λ (x : List Lexeme). length x) one.parts in
     omega (arith, e)
 
--- ---- a row of places
+-- ---- a row of terminals
 
--- the tokens begin with some that fill the places, and rest follows
-abbrev pub Fronts : List Place → List Lexeme → List Lexeme → Type 0
+-- the tokens begin with some that match the terminals, and rest follows
+abbrev pub Fronts : List Terminal → List Lexeme → List Lexeme → Type 0
 Fronts [] ts rest = ts ≡ rest
-Fronts (p ∷ ps) ts rest = (after : List Lexeme) × TakesOne (Fills p) ts after × Fronts ps after rest
+Fronts (p ∷ ps) ts rest = (after : List Lexeme) × TakesOne (Matches p) ts after × Fronts ps after rest
 
-pub fronts_append : (ps qs : List Place) (ts mid rest : List Lexeme) → Fronts ps ts mid → Fronts qs mid rest → Fronts (ps ++ qs) ts rest
+pub fronts_append : (ps qs : List Terminal) (ts mid rest : List Lexeme) → Fronts ps ts mid → Fronts qs mid rest → Fronts (ps ++ qs) ts rest
 fronts_append [] qs ts mid rest h more = subst (λ x. Fronts qs x rest) (sym h) more
 fronts_append (p ∷ ps) qs ts mid rest h more = (h.0, h.1, fronts_append ps qs h.0 mid rest h.2 more)
 
-pub fronts_split : (ps qs : List Place) (ts rest : List Lexeme) → Fronts (ps ++ qs) ts rest → (mid : List Lexeme) × Fronts ps ts mid × Fronts qs mid rest
+pub fronts_split : (ps qs : List Terminal) (ts rest : List Lexeme) → Fronts (ps ++ qs) ts rest → (mid : List Lexeme) × Fronts ps ts mid × Fronts qs mid rest
 fronts_split [] qs ts rest h = (ts, refl, h)
 fronts_split (p ∷ ps) qs ts rest h = let more = fronts_split ps qs h.0 rest h.2 in (more.0, (h.0, h.1, more.1), more.2)
 
-fronts_all : (ps : List Place) (ts : List Lexeme) → Fronts ps ts [] → AllZip Fills ps ts
-fronts_all [] ts h = subst (AllZip Fills []) (sym h) tt
-fronts_all (p ∷ ps) ts h = subst (AllZip Fills (p ∷ ps)) (sym h.1.parts) (h.1.fills, fronts_all ps h.0 h.2)
+fronts_all : (ps : List Terminal) (ts : List Lexeme) → Fronts ps ts [] → AllZip Matches ps ts
+fronts_all [] ts h = subst (AllZip Matches []) (sym h) tt
+fronts_all (p ∷ ps) ts h = subst (AllZip Matches (p ∷ ps)) (sym h.1.parts) (h.1.matches, fronts_all ps h.0 h.2)
 
-all_fronts : (ps : List Place) (ts : List Lexeme) → AllZip Fills ps ts → Fronts ps ts []
+all_fronts : (ps : List Terminal) (ts : List Lexeme) → AllZip Matches ps ts → Fronts ps ts []
 all_fronts [] [] h = refl
 all_fronts [] (t ∷ ts) h = absurd h
 all_fronts (p ∷ ps) [] h = absurd h
-all_fronts (p ∷ ps) (t ∷ ts) h = (ts, record { token = t; parts = refl; fills = h.0 }, all_fronts ps ts h.1)
+all_fronts (p ∷ ps) (t ∷ ts) h = (ts, record { token = t; parts = refl; matches = h.0 }, all_fronts ps ts h.1)
 
--- the whole fills the places
-pub fronts_whole : (ps : List Place) (ts : List Lexeme) → Fronts ps ts [] ↔ AllZip Fills ps ts
+-- the whole matches the terminals
+pub fronts_whole : (ps : List Terminal) (ts : List Lexeme) → Fronts ps ts [] ↔ AllZip Matches ps ts
 fronts_whole ps ts = (fronts_all ps ts, all_fronts ps ts)
 
--- what fills them is read, and nothing else
-pub fixed_exactly : (ps : List Place) (ts rest : List Lexeme) → (fixed_at ps ts ≡ Some rest) ↔ Fronts ps ts rest
+-- what matches them is read, and nothing else
+pub fixed_exactly : (ps : List Terminal) (ts rest : List Lexeme) → (fixed_at ps ts ≡ Some rest) ↔ Fronts ps ts rest
 fixed_exactly [] ts rest = (λ e. some_same ts rest e, λ e. ap (λ (x : List Lexeme). Some x) e)
 fixed_exactly (p ∷ ps) ts rest = (
   λ e.
-      let a = bind_some (place_at p ts) (λ after. fixed_at ps after) rest e in
-      (a.0, (place_exactly p ts a.0).0 a.1, (fixed_exactly ps a.0 rest).0 a.2),
-  λ h. rw ((place_exactly p ts h.0).1 h.1) ((fixed_exactly ps h.0 rest).1 h.2),
+      let a = bind_some (terminal_at p ts) (λ after. fixed_at ps after) rest e in
+      (a.0, (terminal_exactly p ts a.0).0 a.1, (fixed_exactly ps a.0 rest).0 a.2),
+  λ h. rw ((terminal_exactly p ts h.0).1 h.1) ((fixed_exactly ps h.0 rest).1 h.2),
 )
 
-fronts_no_longer : (ps : List Place) (ts rest : List Lexeme) → Fronts ps ts rest → length rest ≤ length ts
+fronts_no_longer : (ps : List Terminal) (ts rest : List Lexeme) → Fronts ps ts rest → length rest ≤ length ts
 fronts_no_longer [] ts rest h = let e : length ts ≡ length rest = ap (λ (x : List Lexeme). length x) h in omega (arith, e)
-fronts_no_longer (p ∷ ps) ts rest h = omega (arith, takes_shorter (Fills p) ts h.0 h.1, fronts_no_longer ps h.0 rest h.2)
+fronts_no_longer (p ∷ ps) ts rest h = omega (arith, takes_shorter (Matches p) ts h.0 h.1, fronts_no_longer ps h.0 rest h.2)
 
-pub fronts_shorter : (ps : List Place) (ts rest : List Lexeme) → 0 < length ps → Fronts ps ts rest → length rest < length ts
+pub fronts_shorter : (ps : List Terminal) (ts rest : List Lexeme) → 0 < length ps → Fronts ps ts rest → length rest < length ts
 fronts_shorter [] ts rest some h = absurd (omega (arith, some))
-fronts_shorter (p ∷ ps) ts rest some h = omega (arith, takes_shorter (Fills p) ts h.0 h.1, fronts_no_longer ps h.0 rest h.2)
+fronts_shorter (p ∷ ps) ts rest some h = omega (arith, takes_shorter (Matches p) ts h.0 h.1, fronts_no_longer ps h.0 rest h.2)
