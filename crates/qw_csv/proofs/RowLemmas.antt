@@ -6,6 +6,7 @@ use Rattle.std.proofs.Math.Seq.{take-length}
 use Rattle.std.proofs.lemmas.Bool.{eqb-true}
 use Rattle.std.proofs.lemmas.List.{length-map, take-append-le, drop-append-le, get_or-drop, get_or-take}
 use Rattle.std.proofs.lemmas.List.Elements.{All-drop, All-head, All-tail, All-take}
+use Rattle.std.proofs.lemmas.Nat.{mul-add-lt}
 use Rattle.std.proofs.lemmas.Option.{slice_get-map, slice_get-get_or}
 use Rattle.csv.specs.Reading.{AreRecords, default_config, strip_bom}
 use Rattle.csv.specs.declared.parser.State.TheVariants.{StartRecord}
@@ -56,6 +57,13 @@ pub few_numbers : (count width : ℕ) (numbers : List ℤ) → AreKept count wid
 few_numbers count width numbers h =
     let most : count * width ≤ 1000000 * 64 = mul-le-mul h.few h.narrow in
     omega (arith, h.full)
+
+-- the number of a row and a column is one of these
+pub number_there : (count width row column : ℕ) (numbers : List ℤ) → AreKept count width numbers → row < length (rows_of count width numbers) → column < width
+    → (row * width + column < length numbers) × (row < count)
+number_there count width row column numbers h row_in column_in =
+    let there : row < count = rw (length-rows_of count width numbers) at row_in in
+    (omega (arith, h.full, mul-add-lt row width column count there column_in), there)
 
 -- a value in a row
 pub value_of-rows : (count width row column : ℕ) (numbers : List ℤ) (d : ℤ) → length numbers ≡ count * width → row < count → column < width

@@ -1,4 +1,4 @@
--- What is read, with its names in upper case and without where it lies in memory.
+-- Mirrors the trees of src/tree.rt, with their names in upper case and without where they lie in memory.
 use Rattle.std.specs.Prelude.{ℕ, List, map}
 use Rattle.std.specs.Borrow.{Bor}
 use Rattle.qw_ast.specs.declared.tree.TableDefinition.{TableDefinition}
