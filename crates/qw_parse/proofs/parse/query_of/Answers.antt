@@ -1,7 +1,10 @@
-use Rattle.std.proofs.Common.{◌≡◌, Some, refl, ap, ◌∙◌, sym}
+use Rattle.std.proofs.Common.{◌≡◌, List, Option, Some, refl, ap, ◌∙◌, sym}
+use Rattle.std.specs.Prelude.{option_map}
 use Rattle.std.proofs.lemmas.Result.{err_from_is_err_and, IfOk-weaker}
 use Rattle.qw_parse.specs.declared.parse.ParseFault.TheVariants.{Refused}
+use Rattle.qw_token.specs.declared.token.Token.{Token}
 use Rattle.qw_token.specs.Token.{lexemes}
+use Rattle.qw_ast.specs.declared.tree.QuerySpecification.{QuerySpecification}
 use Rattle.qw_parse.specs.Inner.Parser.{query_specification_at, whole_of}
 use Rattle.qw_parse.specs.Parse.{Means, ReadsQuery}
 use Rattle.qw_parse.specs.Inner.Faults.{parse_fault_of}
@@ -10,8 +13,8 @@ use Rattle.qw_parse.proofs.ParserLemmas.{no_reading, reads_query, query_is_none,
 use Rattle.qw_parse.proofs.parse.query_of.Goals as goal
 
 -- the tokens are those of a query
-told : (c : goal.In-Some) → whole_of query_specification_at (lexemes c.in_ok-tokens.tokens.items) ≡ Some (selection c.in-Some.query)
-told c = sym (rw c.in-Some.is at c.in_ok-query.ensures ∙ ap (λ x. whole_of query_specification_at (lexemes x)) c.deref.ensures.value)
+told : (found : Option QuerySpecification) (d : QuerySpecification) (xs ys : List Token) → option_map selection found ≡ whole_of query_specification_at (lexemes xs) → xs ≡ ys → found ≡ Some d → whole_of query_specification_at (lexemes ys) ≡ Some (selection d)
+told found d xs ys read same is = ap (λ x. whole_of query_specification_at (lexemes x)) (sym same) ∙ sym read ∙ ap (option_map selection) is
 
 -- a text with no tokens is none
 pub returns-in_err-tokens-clause-refused : goal.returns-in_err-tokens-clause-refused
@@ -31,7 +34,7 @@ returns-in_default-clause-refused c =
 
 pub resolved-requires : goal.resolved-requires
 resolved-requires c =
-    some_columns c.args.text.now _ (selection c.in-Some.query) c.in-Some.query.columns.items c.in_ok-tokens.ensures.read (told c) refl
+    some_columns c.args.text.now _ (selection c.in-Some.query) c.in-Some.query.columns.items c.in_ok-tokens.ensures.read (told _ _ _ _ c.in_ok-query.ensures c.deref.ensures.value c.in-Some.is) refl
 
 pub returns-clause-read : goal.returns-clause-read
 returns-clause-read c =
@@ -39,8 +42,8 @@ returns-clause-read c =
     let text = c.args.text.now in
     let named = selection c.in-Some.query in
     IfOk-weaker c.resolved.result (Means schema named) (ReadsQuery schema text)
-    (λ statement. reads_query schema text _ named statement c.in_ok-tokens.ensures.read (told c.before)) c.resolved.ensures.means
+    (λ statement. reads_query schema text _ named statement c.in_ok-tokens.ensures.read (told _ _ _ _ c.in_ok-query.ensures c.deref.ensures.value c.in-Some.is)) c.resolved.ensures.means
 
 pub returns-clause-refused : goal.returns-clause-refused
 returns-clause-refused c =
-    λ e. query_means_none c.args.schema.now c.args.text.now _ (selection c.in-Some.query) c.in_ok-tokens.ensures.read (told c.before) (c.resolved.ensures.refused e)
+    λ e. query_means_none c.args.schema.now c.args.text.now _ (selection c.in-Some.query) c.in_ok-tokens.ensures.read (told _ _ _ _ c.in_ok-query.ensures c.deref.ensures.value c.in-Some.is) (c.resolved.ensures.refused e)

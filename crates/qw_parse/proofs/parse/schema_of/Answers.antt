@@ -1,7 +1,10 @@
-use Rattle.std.proofs.Common.{◌≡◌, Some, ap, ◌∙◌, sym}
+use Rattle.std.proofs.Common.{◌≡◌, List, Option, Some, ap, ◌∙◌, sym}
+use Rattle.std.specs.Prelude.{option_map}
 use Rattle.std.proofs.lemmas.Result.{err_from_is_err_and}
 use Rattle.qw_parse.specs.declared.parse.ParseFault.TheVariants.{Refused}
+use Rattle.qw_token.specs.declared.token.Token.{Token}
 use Rattle.qw_token.specs.Token.{lexemes}
+use Rattle.qw_ast.specs.declared.tree.TableDefinition.{TableDefinition}
 use Rattle.qw_ast.specs.Grammar.{folded}
 use Rattle.qw_parse.specs.Inner.Parser.{create_table_at, whole_of}
 use Rattle.qw_ast.specs.Inner.Views.{definition}
@@ -10,8 +13,8 @@ use Rattle.qw_parse.proofs.ParserLemmas.{no_reading, declared_reads, schema_is_n
 use Rattle.qw_parse.proofs.parse.schema_of.Goals as goal
 
 -- the tokens are those of a table definition
-told : (c : goal.In-Some) → whole_of create_table_at (lexemes c.in_ok-tokens.tokens.items) ≡ Some (definition c.in-Some.definition)
-told c = sym (rw c.in-Some.is at c.in_ok-definition.ensures ∙ ap (λ x. whole_of create_table_at (lexemes x)) c.deref.ensures.value)
+told : (found : Option TableDefinition) (d : TableDefinition) (xs ys : List Token) → option_map definition found ≡ whole_of create_table_at (lexemes xs) → xs ≡ ys → found ≡ Some d → whole_of create_table_at (lexemes ys) ≡ Some (definition d)
+told found d xs ys read same is = ap (λ x. whole_of create_table_at (lexemes x)) (sym same) ∙ sym read ∙ ap (option_map definition) is
 
 -- a text with no tokens is none
 pub returns-in_err-tokens-clause-refused : goal.returns-in_err-tokens-clause-refused
@@ -32,22 +35,22 @@ returns-in_default-clause-refused c =
 pub declared-requires-clause-table_ascii : goal.declared-requires-clause-table_ascii
 declared-requires-clause-table_ascii c =
     let d = c.in-Some.definition in
-    (names_are_ascii c.args.text.now _ d.table.now d.columns.items c.in_ok-tokens.ensures.read (told c)).0
+    (names_are_ascii c.args.text.now _ d.table.now d.columns.items c.in_ok-tokens.ensures.read (told _ _ _ _ c.in_ok-definition.ensures c.deref.ensures.value c.in-Some.is)).0
 
 pub declared-requires-clause-columns_ascii : goal.declared-requires-clause-columns_ascii
 declared-requires-clause-columns_ascii c =
     let d = c.in-Some.definition in
-    (names_are_ascii c.args.text.now _ d.table.now d.columns.items c.in_ok-tokens.ensures.read (told c)).1
+    (names_are_ascii c.args.text.now _ d.table.now d.columns.items c.in_ok-tokens.ensures.read (told _ _ _ _ c.in_ok-definition.ensures c.deref.ensures.value c.in-Some.is)).1
 
 pub declared-requires-clause-some : goal.declared-requires-clause-some
 declared-requires-clause-some c =
-    some_names c.args.text.now _ (folded c.in-Some.definition.table.now) c.in-Some.definition.columns.items c.in_ok-tokens.ensures.read (told c)
+    some_names c.args.text.now _ (folded c.in-Some.definition.table.now) c.in-Some.definition.columns.items c.in_ok-tokens.ensures.read (told _ _ _ _ c.in_ok-definition.ensures c.deref.ensures.value c.in-Some.is)
 
 pub returns-clause-read : goal.returns-clause-read
 returns-clause-read c =
-    declared_reads c.args.text.now _ (definition c.in-Some.definition) c.declared.result c.in_ok-tokens.ensures.read (told c.before)
+    declared_reads c.args.text.now _ (definition c.in-Some.definition) c.declared.result c.in_ok-tokens.ensures.read (told _ _ _ _ c.in_ok-definition.ensures c.deref.ensures.value c.in-Some.is)
     c.declared.ensures.limits c.declared.ensures.declares
 
 pub returns-clause-refused : goal.returns-clause-refused
 returns-clause-refused c =
-    λ e. schema_is_beyond c.args.text.now _ (definition c.in-Some.definition) c.in_ok-tokens.ensures.read (told c.before) (c.declared.ensures.refused e)
+    λ e. schema_is_beyond c.args.text.now _ (definition c.in-Some.definition) c.in_ok-tokens.ensures.read (told _ _ _ _ c.in_ok-definition.ensures c.deref.ensures.value c.in-Some.is) (c.declared.ensures.refused e)
