@@ -1,6 +1,6 @@
 -- What the two texts say, by what is read of their tokens.
-use Rattle.std.proofs.Common.{◌≡◌, ℕ, suc, Result, Ok, Err, ◌<◌, true, List, [], ◌∷◌, ◌++◌, length, map, Some, None, refl, sym, ap, subst, ◌∙◌, arith, inl, inr}
-use Rattle.std.specs.Prelude.{◌⊎◌, codes, IfOk, IsErrOf}
+use Rattle.std.proofs.Common.{◌≡◌, ℕ, suc, Result, Ok, Err, ◌<◌, true, List, [], ◌∷◌, ◌++◌, length, map, Option, Some, None, refl, sym, ap, subst, ◌∙◌, arith, inl, inr}
+use Rattle.std.specs.Prelude.{◌⊎◌, codes, IfOk, IsErrOf, option_map}
 use Rattle.std.specs.List.{AllByRecursion, AllZip}
 use Rattle.std.specs.Char.{is_ascii_alphabetic, to_ascii_uppercase}
 use Rattle.std.specs.Borrow.{Bor}
@@ -15,7 +15,8 @@ use Rattle.qw_parse.specs.declared.parse.ParseFault.TheVariants.{Refused}
 use Rattle.qw_token.specs.declared.token.TokenFault.{TokenFault}
 use Rattle.qw_token.specs.declared.token.TokenFault.TheVariants.{NotUtf8, NotToken}
 use Rattle.qw_token.specs.declared.token.TokenFault.TheVariants as token_faults
-use Rattle.qw_token.specs.Token.{Lexeme, is_word_octet, after_mark, IsWord, HasForm, Reads, AreTokens, StopsAt}
+use Rattle.qw_token.specs.declared.token.Token.{Token}
+use Rattle.qw_token.specs.Token.{Lexeme, lexemes, is_word_octet, after_mark, IsWord, HasForm, Reads, AreTokens, StopsAt}
 use Rattle.qw_ast.specs.Grammar.{folded, Terminal, key_word, regular, symbol, unsigned, Matches, behind_commas, separated, column_definition, create_table, IsTextOf, Selection, Selects}
 use Rattle.qw_parse.specs.Inner.Parser.{create_table_at, query_specification_at, whole_of}
 use Rattle.qw_parse.specs.Parse.{integer_column, one_table, Means, ReadsSchema, ReadsQuery}
@@ -117,9 +118,14 @@ ReadsQuery-unique schema text statement other r q =
     let same : r.selection ≡ q.selection = cc in
     Means-unique schema q.selection statement other (subst (λ (x : Selection). Means schema x statement) same r.means) q.means
 
--- ---- a text with no tokens
+-- ---- the tokens of a text, or none
 
-pub no_reading : {T : Type 0} (text : List ℕ) (fault : TokenFault) → (IsErrOf {T = T} (Err fault) NotUtf8 → IsUtf8 text → ⊥) → ((n : ℕ) → IsErrOf {T = T} (Err fault) (NotToken n) → StopsAt text n) → parse_fault_of fault ≡ Refused → (ts : List Lexeme) → AreTokens text ts → ⊥
+-- what is found of a list of tokens is read of them
+pub told : {D V : Type 0} (view : D → V) (read : List Lexeme → Option (V × List Lexeme)) (found : Option D) (d : D) (xs ys : List Token)
+    → option_map view found ≡ whole_of read (lexemes xs) → xs ≡ ys → found ≡ Some d → whole_of read (lexemes ys) ≡ Some (view d)
+told view read found d xs ys shown same is = ap (λ x. whole_of read (lexemes x)) (sym same) ∙ sym shown ∙ ap (option_map view) is
+
+pub no_reading : {T S : Type 0} (text : List ℕ) (fault : TokenFault) → (IsErrOf {T = T} (Err fault) NotUtf8 → IsUtf8 text → ⊥) → ((n : ℕ) → IsErrOf {T = T} (Err fault) (NotToken n) → StopsAt text n) → IsErrOf {T = S} (Err (parse_fault_of fault)) Refused → (ts : List Lexeme) → AreTokens text ts → ⊥
 no_reading text NotUtf8 u s e ts a = u refl a.utf8
 no_reading text (NotToken n) u s e ts a = AreTokens-no_stop text ts n a (s n refl)
 no_reading text token_faults.NoMemory u s e ts a = cc

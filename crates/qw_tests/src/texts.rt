@@ -232,68 +232,10 @@ const NO_QUERIES: [&[u8]; 36] = [
 ];
 
 // The reserved words (ISO/IEC 9075:1992, 5.2 "reserved word"), as far as this language has them.
-const RESERVED: [&str; 60] = [
-    "ALL",
-    "AND",
-    "AS",
-    "ASC",
-    "AVG",
-    "BETWEEN",
-    "BY",
-    "CASE",
-    "COALESCE",
-    "COUNT",
-    "CREATE",
-    "CROSS",
-    "DATE",
-    "DEC",
-    "DECIMAL",
-    "DESC",
-    "DISTINCT",
-    "ELSE",
-    "END",
-    "EXCEPT",
-    "EXISTS",
-    "EXTRACT",
-    "FALSE",
-    "FROM",
-    "FULL",
-    "GROUP",
-    "HAVING",
-    "IN",
-    "INNER",
-    "INT",
-    "INTEGER",
-    "INTERSECT",
-    "INTERVAL",
-    "IS",
-    "JOIN",
-    "LEFT",
-    "LIKE",
-    "MAX",
-    "MIN",
-    "NATURAL",
-    "NOT",
-    "NULL",
-    "NULLIF",
-    "NUMERIC",
-    "ON",
-    "OR",
-    "ORDER",
-    "OUTER",
-    "RIGHT",
-    "SELECT",
-    "SUM",
-    "TABLE",
-    "THEN",
-    "TRUE",
-    "UNION",
-    "UNKNOWN",
-    "USING",
-    "VARCHAR",
-    "WHEN",
-    "WHERE",
-];
+const RESERVED: &str = "ALL AND AS ASC AVG BETWEEN BY CASE COALESCE COUNT CREATE CROSS DATE DEC DECIMAL DESC \
+    DISTINCT ELSE END EXCEPT EXISTS EXTRACT FALSE FROM FULL GROUP HAVING IN INNER INT \
+    INTEGER INTERSECT INTERVAL IS JOIN LEFT LIKE MAX MIN NATURAL NOT NULL NULLIF NUMERIC ON \
+    OR ORDER OUTER RIGHT SELECT SUM TABLE THEN TRUE UNION UNKNOWN USING VARCHAR WHEN WHERE";
 
 /// So many items, each after its number from 0 and with a comma between two, and a text before and behind them.
 fn listed(
@@ -344,7 +286,8 @@ fn schema_texts(rt: HostRuntime) -> Result<(), Fail> {
 
 #[test]
 fn reserved_words(rt: HostRuntime) -> Result<(), Fail> {
-    for word in RESERVED {
+    assert_eq!(rt; RESERVED.split(' ').count(), 60);
+    for word in RESERVED.split(' ') {
         let table = format!(in rt.alloc(); "CREATE TABLE {word} ( A INTEGER NOT NULL )")?;
         let column = format!(in rt.alloc(); "CREATE TABLE T ( {word} INTEGER NOT NULL )")?;
         for text in [table, column] {
