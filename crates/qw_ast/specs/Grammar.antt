@@ -32,44 +32,44 @@ reserved =
 abbrev pub IsReserved : List ℕ → Type 0
 IsReserved name = Contains reserved name
 
--- what stands at a place of a form: a key word, a regular identifier of this name, a symbol, an unsigned integer
-pub data Place : Type 0 where
-  key_word : List ℕ → Place
-  regular : List ℕ → Place
-  symbol : List ℕ → Place
-  unsigned : ℕ → Place
+-- what a form is made of: a key word, a regular identifier of this name, a symbol, an unsigned integer
+pub data Terminal : Type 0 where
+  key_word : List ℕ → Terminal
+  regular : List ℕ → Terminal
+  symbol : List ℕ → Terminal
+  unsigned : ℕ → Terminal
 
--- the token fills the place
-abbrev pub Fills : Place → Lexeme → Type 0
-Fills (key_word word) t = folded t.octets ≡ word
-Fills (regular name) t = (t.kind ≡ Word) × (folded t.octets ≡ name) × (IsReserved name → ⊥)
-Fills (symbol octets) t = t.octets ≡ octets
-Fills (unsigned n) t = IsTrue (are_digits t.octets) × (digits_value 10 t.octets ≡ n)
+-- the token matches the terminal
+abbrev pub Matches : Terminal → Lexeme → Type 0
+Matches (key_word word) t = folded t.octets ≡ word
+Matches (regular name) t = (t.kind ≡ Word) × (folded t.octets ≡ name) × (IsReserved name → ⊥)
+Matches (symbol octets) t = t.octets ≡ octets
+Matches (unsigned n) t = IsTrue (are_digits t.octets) × (digits_value 10 t.octets ≡ n)
 
 -- The text is one statement of the form, with a `;` at its end or none.
-pub record IsStatement (form : List Place) (text : List ℕ) : Type 0 where
+pub record IsTextOf (form : List Terminal) (text : List ℕ) : Type 0 where
   pub tokens : List Lexeme
   pub are_tokens : AreTokens text tokens
-  pub follows : AllZip Fills form tokens ⊎ AllZip Fills (form ++ symbol (codes ";") ∷ []) tokens
+  pub follows : AllZip Matches form tokens ⊎ AllZip Matches (form ++ symbol (codes ";") ∷ []) tokens
 
 -- each of the forms behind a comma
-abbrev pub behind_commas : List (List Place) → List Place
+abbrev pub behind_commas : List (List Terminal) → List Terminal
 behind_commas [] = []
 behind_commas (form ∷ forms) = symbol (codes ",") ∷ (form ++ behind_commas forms)
 
 -- the forms, with a comma between each two
-abbrev pub separated : List (List Place) → List Place
+abbrev pub separated : List (List Terminal) → List Terminal
 separated [] = []
 separated (form ∷ forms) = form ++ behind_commas forms
 
 -- ---- the schema
 
 -- column INTEGER NOT NULL
-abbrev pub column_definition : List ℕ → List Place
+abbrev pub column_definition : List ℕ → List Terminal
 column_definition column = regular column ∷ key_word (codes "INTEGER") ∷ key_word (codes "NOT") ∷ key_word (codes "NULL") ∷ []
 
 -- CREATE TABLE table ( column INTEGER NOT NULL {, column INTEGER NOT NULL} )
-abbrev pub create_table : List ℕ → List (List ℕ) → List Place
+abbrev pub create_table : List ℕ → List (List ℕ) → List Terminal
 create_table table columns =
     key_word (codes "CREATE") ∷ key_word (codes "TABLE") ∷ regular table ∷ symbol (codes "(") ∷
     (separated (map column_definition columns) ++ symbol (codes ")") ∷ [])
@@ -89,7 +89,7 @@ pub record Selection : Type 0 where
   pub source : Source
 
 -- a column in a select list
-abbrev pub column_reference : List ℕ → List Place
+abbrev pub column_reference : List ℕ → List Terminal
 column_reference column = regular column ∷ []
 
 -- the symbol of a comparison
@@ -102,7 +102,7 @@ comparison_symbol Greater = codes ">"
 comparison_symbol GreaterOrEqual = codes ">="
 
 -- an unsigned integer, behind a `-` or not
-abbrev pub signed_literal : Bool → ℕ → List Place
+abbrev pub signed_literal : Bool → ℕ → List Terminal
 signed_literal negative magnitude =
     if negative then symbol (codes "-") ∷ unsigned magnitude ∷ [] else unsigned magnitude ∷ []
 
@@ -111,13 +111,13 @@ abbrev pub signed : Bool → ℕ → ℤ
 signed negative magnitude = if negative then neg_ℤ (pos magnitude) else pos magnitude
 
 -- FROM table WHERE tested comparison literal
-abbrev pub table_expression : Source → Bool → ℕ → List Place
+abbrev pub table_expression : Source → Bool → ℕ → List Terminal
 table_expression source negative magnitude =
     key_word (codes "FROM") ∷ regular source.table ∷ key_word (codes "WHERE") ∷ regular source.tested ∷
     symbol (comparison_symbol source.comparison) ∷ signed_literal negative magnitude
 
 -- SELECT column {, column} FROM table WHERE tested comparison literal
-abbrev pub query_specification : Selection → Bool → ℕ → List Place
+abbrev pub query_specification : Selection → Bool → ℕ → List Terminal
 query_specification selection negative magnitude =
     key_word (codes "SELECT") ∷
     (separated (map column_reference selection.columns) ++ table_expression selection.source negative magnitude)
@@ -126,7 +126,7 @@ query_specification selection negative magnitude =
 pub record Selects (text : List ℕ) (selection : Selection) : Type 0 where
   pub negative : Bool
   pub magnitude : ℕ
-  pub statement : IsStatement (query_specification selection negative magnitude) text
+  pub statement : IsTextOf (query_specification selection negative magnitude) text
   pub some : 0 < length selection.columns
   pub literal_is : selection.source.literal ≡ signed negative magnitude
   pub fits : magnitude < 10 ^ 18

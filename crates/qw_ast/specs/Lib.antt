@@ -1,2 +1,5 @@
+pub use Rattle.qw_meaning.specs.Statement
+pub use Rattle.qw_token.specs.Token
+pub use Rattle.qw_types.specs.Digits
 pub mod Grammar
 pub mod Inner

@@ -1,5 +1,5 @@
-pub mod CsvReaderLemmas
+mod CsvReaderLemmas
 pub mod LoadingLaws
-pub mod NumberLemmas
-pub mod RecordLemmas
-pub mod RowLemmas
+mod NumberLemmas
+mod RecordLemmas
+mod RowLemmas

@@ -64,13 +64,13 @@ length_of (c ∷ cs) [] row h = absurd h
 length_of (c ∷ cs) (f ∷ fs) [] h = absurd h
 length_of (c ∷ cs) (f ∷ fs) (v ∷ vs) h = cc (length_of cs fs vs h.1)
 
-sound_fields : (columns : List Column) (fields : List (List ℕ)) (row : List Val) (place : ℕ) (why : FieldFault) → IsRecordOf columns fields row
-    → IsFirstFieldFault columns fields place why → ⊥
-sound_fields [] fields row place why h k = k
-sound_fields (c ∷ cs) [] row place why h k = k
-sound_fields (c ∷ cs) (f ∷ fs) [] place why h k = h
+sound_fields : (columns : List Column) (fields : List (List ℕ)) (row : List Val) (index : ℕ) (why : FieldFault) → IsRecordOf columns fields row
+    → IsFirstFieldFault columns fields index why → ⊥
+sound_fields [] fields row index why h k = k
+sound_fields (c ∷ cs) [] row index why h k = k
+sound_fields (c ∷ cs) (f ∷ fs) [] index why h k = h
 sound_fields (c ∷ cs) (f ∷ fs) (v ∷ vs) zero why h k = value_or_fault c.ty f v why h.0 k
-sound_fields (c ∷ cs) (f ∷ fs) (v ∷ vs) (suc place) why h k = sound_fields cs fs vs place why h.1 k.2
+sound_fields (c ∷ cs) (f ∷ fs) (v ∷ vs) (suc index) why h k = sound_fields cs fs vs index why h.1 k.2
 
 same_first_fault : (columns : List Column) (fields : List (List ℕ)) (p q : ℕ) (a b : FieldFault) → IsFirstFieldFault columns fields p a
     → IsFirstFieldFault columns fields q b → (p ≡ q) × (a ≡ b)
@@ -91,12 +91,12 @@ sound_record columns number fields row fault.TooManyRows few h k = omega arith
 sound_record columns number fields row fault.NoMemory few h k = k
 
 -- a record at fault is no later than the one after the limit
-fault_place : (columns : List Column) (number : ℕ) (fields : List (List ℕ)) (e : LoadFault) → IsRecordFault columns number fields e → number ≤ most_rows + 1
-fault_place columns number fields fault.BadHeader k = absurd k
-fault_place columns number fields (fault.FieldCount r) k = omega (arith, k.0)
-fault_place columns number fields (fault.Field r p why) k = omega (arith, k.0)
-fault_place columns number fields fault.TooManyRows k = omega arith
-fault_place columns number fields fault.NoMemory k = absurd k
+fault_number : (columns : List Column) (number : ℕ) (fields : List (List ℕ)) (e : LoadFault) → IsRecordFault columns number fields e → number ≤ most_rows + 1
+fault_number columns number fields fault.BadHeader k = absurd k
+fault_number columns number fields (fault.FieldCount r) k = omega (arith, k.0)
+fault_number columns number fields (fault.Field r p why) k = omega (arith, k.0)
+fault_number columns number fields fault.TooManyRows k = omega arith
+fault_number columns number fields fault.NoMemory k = absurd k
 
 -- and is so in one way
 same_record_fault : (columns : List Column) (number : ℕ) (fields : List (List ℕ)) (a b : LoadFault)
@@ -110,14 +110,14 @@ same_record_fault columns number fields (fault.FieldCount r) (fault.Field q c w)
 same_record_fault columns number fields (fault.FieldCount r) fault.TooManyRows h k = absurd (omega (arith, h.0))
 same_record_fault columns number fields (fault.Field r p v) (fault.FieldCount q) h k = absurd (k.2 h.2)
 same_record_fault columns number fields (fault.Field r p v) (fault.Field q c w) h k =
-    let (place, why) = same_first_fault columns fields p c v w h.3 k.3 in
-    cc (h.1, k.1, place, why)
+    let (index, why) = same_first_fault columns fields p c v w h.3 k.3 in
+    cc (h.1, k.1, index, why)
 same_record_fault columns number fields (fault.Field r p v) fault.TooManyRows h k = absurd (omega (arith, h.0))
 same_record_fault columns number fields fault.TooManyRows (fault.FieldCount q) h k = absurd (omega (arith, k.0))
 same_record_fault columns number fields fault.TooManyRows (fault.Field q c w) h k = absurd (omega (arith, k.0))
 same_record_fault columns number fields fault.TooManyRows fault.TooManyRows h k = refl
 
--- one read from one place
+-- one read from one position
 same_read : (o : Option Read) (p q : Read) → o ≡ Some p → o ≡ Some q → q ≡ p
 same_read o p q h k = cc (h, k)
 
@@ -246,11 +246,11 @@ same_later table bytes a b rows later x y h k wrong wrong' = meet h.first k.firs
     decide : ((length rows ≡ length later) × (x ≡ y)) ⊎ (Stands table.columns rows later x ⊎ Stands table.columns later rows y) → a ≡ b
     decide (inl (number, e)) = same_record_fault table.columns (length later + 1) y a b (rw (number, e) at wrong) wrong'
     decide (inr (inl s)) =
-        let place = fault_place table.columns (length later + 1) y b wrong' in
-        absurd (sound_record table.columns (length rows + 1) x s.row a (omega (arith, s.before, place)) s.stands wrong)
+        let index = fault_number table.columns (length later + 1) y b wrong' in
+        absurd (sound_record table.columns (length rows + 1) x s.row a (omega (arith, s.before, index)) s.stands wrong)
     decide (inr (inr s)) =
-        let place = fault_place table.columns (length rows + 1) x a wrong in
-        absurd (sound_record table.columns (length later + 1) y s.row b (omega (arith, s.before, place)) s.stands wrong')
+        let index = fault_number table.columns (length rows + 1) x a wrong in
+        absurd (sound_record table.columns (length later + 1) y s.row b (omega (arith, s.before, index)) s.stands wrong')
 
     meet : AreFirstRecords bytes (h.header ∷ (h.records ++ x ∷ [])) → AreFirstRecords bytes (k.header ∷ (k.records ++ y ∷ [])) → a ≡ b
     meet (s, z, (p, read, first, rest)) (s', z', (p', read', first', rest')) =

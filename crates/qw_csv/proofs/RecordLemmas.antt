@@ -48,7 +48,7 @@ header_name (c ∷ columns) (f ∷ fields) (suc n) column lt h = header_name col
 
 -- ---- a data record
 
--- there is a field at each place
+-- there is a field at each index
 pub some_field : (fields : List (List ℕ)) (n : ℕ) (read : Option (Bor (List ℕ))) → n < length fields
     → option_map (λ (field : Bor (List ℕ)). field.now) read ≡ field_at fields n → IsSome read
 some_field fields n (Some field) lt h = refl

@@ -6,6 +6,7 @@ use Rattle.std.proofs.Math.Seq.{take-length}
 use Rattle.std.proofs.lemmas.Bool.{eqb-true}
 use Rattle.std.proofs.lemmas.List.{length-map, take-append-le, drop-append-le, get_or-drop, get_or-take}
 use Rattle.std.proofs.lemmas.List.Elements.{All-drop, All-head, All-tail, All-take}
+use Rattle.std.proofs.lemmas.Nat.{mul-add-lt}
 use Rattle.std.proofs.lemmas.Option.{slice_get-map, slice_get-get_or}
 use Rattle.csv.specs.Reading.{AreRecords, default_config, strip_bom}
 use Rattle.csv.specs.declared.parser.State.TheVariants.{StartRecord}
@@ -57,6 +58,13 @@ few_numbers count width numbers h =
     let most : count * width ≤ 1000000 * 64 = mul-le-mul h.few h.narrow in
     omega (arith, h.full)
 
+-- the number of a row and a column is one of these
+pub number_there : (count width row column : ℕ) (numbers : List ℤ) → AreKept count width numbers → row < length (rows_of count width numbers) → column < width
+    → (row * width + column < length numbers) × (row < count)
+number_there count width row column numbers h row_in column_in =
+    let there : row < count = rw (length-rows_of count width numbers) at row_in in
+    (omega (arith, h.full, mul-add-lt row width column count there column_in), there)
+
 -- a value in a row
 pub value_of-rows : (count width row column : ℕ) (numbers : List ℤ) (d : ℤ) → length numbers ≡ count * width → row < count → column < width
     → value_of (rows_of count width numbers) row column ≡ Some (Num (get_or numbers (row * width + column) d))
@@ -66,14 +74,14 @@ value_of-rows (suc count) width zero column numbers d full there wide =
     let room : width ≤ length numbers = omega arith in
     let long : column < length (take width numbers) = omega (arith, length-take-le width numbers room) in
     let same : get_or (take width numbers) column d ≡ get_or numbers column d = get_or-take width numbers column d wide in
-    let place : column ≡ 0 * width + column = omega arith in
+    let index : column ≡ 0 * width + column = omega arith in
     slice_get-map Num (take width numbers) column
-    ∙ rw (slice_get-get_or (take width numbers) column d long, same) (ap (λ (i : ℕ). Some (Num (get_or numbers i d))) place)
+    ∙ rw (slice_get-get_or (take width numbers) column d long, same) (ap (λ (i : ℕ). Some (Num (get_or numbers i d))) index)
 value_of-rows (suc count) width (suc row) column numbers d full there wide =
     let rest : length (drop width numbers) ≡ count * width = omega (arith, length-drop width numbers) in
-    let place : width + (row * width + column) ≡ suc row * width + column = omega arith in
+    let index : width + (row * width + column) ≡ suc row * width + column = omega arith in
     let same : get_or (drop width numbers) (row * width + column) d ≡ get_or numbers (suc row * width + column) d =
-    get_or-drop width numbers (row * width + column) d ∙ ap (λ (i : ℕ). get_or numbers i d) place in
+    get_or-drop width numbers (row * width + column) d ∙ ap (λ (i : ℕ). get_or numbers i d) index in
     value_of-rows count width row column (drop width numbers) d rest (omega arith) wide ∙ ap (λ (n : ℤ). Some (Num n)) same
 
 -- each row is of the table's columns
@@ -135,7 +143,7 @@ fault_after : (table : Table) (bytes : List ℕ) (rows : List (List Val)) (next 
     → Follows table bytes rows next → IsRecordFault table.columns (length rows + 1) next e → IsFirstFault table bytes e
 fault_after table bytes rows next fault.BadHeader f h = absurd h
 fault_after table bytes rows next (fault.FieldCount row) f h = (rows, next, f, h)
-fault_after table bytes rows next (fault.Field row place why) f h = (rows, next, f, h)
+fault_after table bytes rows next (fault.Field row index why) f h = (rows, next, f, h)
 fault_after table bytes rows next fault.TooManyRows f h = (rows, next, f, h)
 fault_after table bytes rows next fault.NoMemory f h = absurd h
 

@@ -1,2 +1,4 @@
+pub use Rattle.qw_types.specs.Digits
+pub use Rattle.qw_types.specs.Value
 pub mod Inner
 pub mod Loading

@@ -79,19 +79,19 @@ pub record Follows (table : Table) (bytes : List ℕ) (rows : List (List Val)) (
   pub named : IsHeader table.columns header
   pub each : AreRecordsOf table.columns records rows
 
--- the first field that is at fault, by its column's place counted from 0: those before it stand for values
+-- the first field that is at fault, by its column's index counted from 0: those before it stand for values
 abbrev pub IsFirstFieldFault : List Column → List (List ℕ) → ℕ → FieldFault → Type 0
 IsFirstFieldFault (column ∷ columns) (field ∷ fields) zero why = IsFieldFault column.ty field why
-IsFirstFieldFault (column ∷ columns) (field ∷ fields) (suc place) why =
-    (value : Val) × IsFieldOf column.ty field value × IsFirstFieldFault columns fields place why
-IsFirstFieldFault _ _ place why = ⊥
+IsFirstFieldFault (column ∷ columns) (field ∷ fields) (suc index) why =
+    (value : Val) × IsFieldOf column.ty field value × IsFirstFieldFault columns fields index why
+IsFirstFieldFault _ _ index why = ⊥
 
 -- what is wrong with the data record of this number, counted from 1
 abbrev pub IsRecordFault : List Column → ℕ → List (List ℕ) → LoadFault → Type 0
 IsRecordFault columns number fields fault.TooManyRows = number ≡ most_rows + 1
 IsRecordFault columns number fields (fault.FieldCount row) = (number ≤ most_rows) × (row ≡ number) × (length fields ≢ length columns)
-IsRecordFault columns number fields (fault.Field row place why) =
-    (number ≤ most_rows) × (row ≡ number) × (length fields ≡ length columns) × IsFirstFieldFault columns fields place why
+IsRecordFault columns number fields (fault.Field row index why) =
+    (number ≤ most_rows) × (row ≡ number) × (length fields ≡ length columns) × IsFirstFieldFault columns fields index why
 IsRecordFault columns number fields fault.BadHeader = ⊥
 IsRecordFault columns number fields fault.NoMemory = ⊥
 

@@ -4,7 +4,7 @@ ghost use Rattle.std.specs.Prelude.{◌≡◌, ◌≢◌, ◌≤◌, ◌<◌, �
 ghost use Rattle.std.specs.Bool.{MatchBool};
 ghost use Rattle.std.specs.Char.{to_ascii_lowercase};
 ghost use Rattle.std.specs.Str.Parse.{without_leading_sign};
-ghost use Rattle.csv.specs.Reading.{AreRecords, default_config, strip_bom};
+ghost use Rattle.csv.specs.Reading.{AreRecords, default_config, error_kind, stops_reader, strip_bom};
 ghost use Rattle.csv.specs.Records.{fields_of};
 ghost use Rattle.csv.specs.declared.parser.State.TheVariants.{StartRecord};
 ghost use Rattle.qw_types.specs.declared.schema.Column.{Column};
@@ -134,10 +134,7 @@ pub fn load(alloc: Global, table: &Table, bytes: &[u8]) -> Result<Loaded, LoadFa
     ensures width { IfOk result (λ loaded. loaded.width ≡ length table.now.columns) }
     ensures fault { IfErr result (λ e. e ≢ LoadFault.NoMemory → IsFirstFault table.now bytes.now e) }
 {
-    let mut reader = ReaderBuilder::new()
-        .has_headers(false)
-        .flexible(true)
-        .from_reader(alloc, bytes);
+    let mut reader = reader_of(alloc, bytes);
     load_from(alloc, table, &mut reader)
 }
 
@@ -158,6 +155,16 @@ pub fn one_first_fault()
     ensures { (table : Table) (bytes : List ℕ) (a b : LoadFault)
         → IsFirstFault table bytes a → IsFirstFault table bytes b → a ≡ b }
 {}
+
+/// A reader of all records of the octets, the first one among them, of any number of fields each.
+fn reader_of<'a>(alloc: Global, bytes: &'a [u8]) -> Reader<&'a [u8]>
+    ensures { HasRead result (strip_bom bytes.now) [] }
+{
+    ReaderBuilder::new()
+        .has_headers(false)
+        .flexible(true)
+        .from_reader(alloc, bytes)
+}
 
 /// Loads what a reader gives. It works through a reference, so that no return leaves a reader behind.
 fn load_from(alloc: Global, table: &Table, reader: &mut Reader<&[u8]>) -> Result<Loaded, LoadFault>
@@ -207,8 +214,20 @@ fn rows_after_header(
     Ok(Loaded { width, len, values })
 }
 
-/// Reads the next record, if there is one. No clause of `csv` tells a read's error over bytes in
-/// memory from want of memory.
+/// Reads the next record, if there is one, of any number of fields. So an error tells that there was no memory, or that the
+/// octets themselves couldn't be read; no clause of `csv` tells these apart over octets in memory.
+fn read_record(reader: &mut Reader<&[u8]>, row: &mut ByteRecord) -> Result<bool, csv::Error>
+    ensures read { IfOk result (λ found. (text : List ℕ) (records : List (List (List ℕ)))
+        → HasRead reader.old text records
+        → MatchBool found (HasRead reader.new text (records ++ fields_of row.new ∷ []))
+        (AreRecords default_config StartRecord text records)) }
+    ensures stopped { IfErr result (λ e. (text : List ℕ) (records : List (List (List ℕ)))
+        → HasRead reader.old text records → IsTrue (stops_reader (error_kind e))) }
+{
+    reader.read_byte_record(row)
+}
+
+/// Reads the next record, if there is one. What stops the reader counts as want of memory.
 fn next_record(reader: &mut Reader<&[u8]>, row: &mut ByteRecord) -> Result<bool, LoadFault>
     ensures read { IfOk result (λ found. (text : List ℕ) (records : List (List (List ℕ)))
         → HasRead reader.old text records
@@ -216,7 +235,7 @@ fn next_record(reader: &mut Reader<&[u8]>, row: &mut ByteRecord) -> Result<bool,
         (AreRecords default_config StartRecord text records)) }
     ensures memory { IfErr result (λ e. e ≡ LoadFault.NoMemory) }
 {
-    match reader.read_byte_record(row) {
+    match read_record(reader, row) {
         Ok(found) => Ok(found),
         Err(_) => Err(LoadFault::NoMemory),
     }
@@ -229,8 +248,8 @@ fn is_header(columns: &[Column], row: &ByteRecord) -> bool
     if row.len() != columns.len() {
         return false;
     }
-    for (place, column) in columns.iter().enumerate() {
-        if !is_name(field(row, place), column) {
+    for (index, column) in columns.iter().enumerate() {
+        if !is_name(field(row, index), column) {
             return false;
         }
     }
@@ -275,12 +294,12 @@ fn push_row(
     Ok(())
 }
 
-/// The field at a place, counted from 0.
-fn field(row: &ByteRecord, place: usize) -> &[u8]
-    requires { place < length (fields_of row.now) }
-    ensures { result.now ≡ slice_index_or (fields_of row.now) place [] }
+/// The field of an index, counted from 0.
+fn field(row: &ByteRecord, index: usize) -> &[u8]
+    requires { index < length (fields_of row.now) }
+    ensures { result.now ≡ slice_index_or (fields_of row.now) index [] }
 {
-    row.get(place).unwrap()
+    row.get(index).unwrap()
 }
 
 /// The value of a field of an INTEGER column.

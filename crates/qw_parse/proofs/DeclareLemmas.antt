@@ -13,9 +13,9 @@ use Rattle.qw_types.specs.Schema.{AreColumns, AreDistinct}
 use Rattle.qw_ast.specs.Grammar.{folded}
 use Rattle.qw_parse.specs.Parse.{integer_column}
 use Rattle.qw_parse.specs.Inner.Parser.{are_distinct}
-use Rattle.qw_ast.specs.Inner.Views.{names_of}
+use Rattle.qw_ast.specs.Inner.Views.{folded_names}
 
-any_same : (name : List ℕ) (names : List (Bor (List ℕ))) → list_any (λ other. bytes_eq name (folded other.now)) names ≡ list_any (bytes_eq name) (names_of names)
+any_same : (name : List ℕ) (names : List (Bor (List ℕ))) → list_any (λ other. bytes_eq name (folded other.now)) names ≡ list_any (bytes_eq name) (folded_names names)
 any_same name [] = refl
 any_same name (other ∷ names) = ap (λ b. bytes_eq name (folded other.now) || b) (any_same name names)
 
@@ -23,23 +23,23 @@ any_same name (other ∷ names) = ap (λ b. bytes_eq name (folded other.now) || 
 abbrev comes_again : List (Bor (List ℕ)) → ℕ → Bor (List ℕ) → Bool
 comes_again names i d = list_any (λ other. bytes_eq (folded (get_or names i d).now) (folded other.now)) (take (length names - (i + 1)) (drop (i + 1) names))
 
-distinct_from : (names : List (Bor (List ℕ))) (i : ℕ) (d : Bor (List ℕ)) → i < length names → are_distinct (names_of (drop i names)) ≡ (not (comes_again names i d) && are_distinct (names_of (drop (i + 1) names)))
+distinct_from : (names : List (Bor (List ℕ))) (i : ℕ) (d : Bor (List ℕ)) → i < length names → are_distinct (folded_names (drop i names)) ≡ (not (comes_again names i d) && are_distinct (folded_names (drop (i + 1) names)))
 distinct_from names i d lt =
     let name = get_or names i d in
     let rest = drop (i + 1) names in
     let next : suc i ≡ i + 1 = omega arith in
     let cut : drop i names ≡ name ∷ rest = drop-cons names i d lt ∙ ap (λ k. name ∷ drop k names) next in
-    ap (λ (x : List (Bor (List ℕ))). are_distinct (names_of x)) cut
-    ∙ ap (λ b. not b && are_distinct (names_of rest)) (sym (any_same (folded name.now) rest))
-    ∙ ap (λ (x : List (Bor (List ℕ))). not (list_any (λ other. bytes_eq (folded name.now) (folded other.now)) x) && are_distinct (names_of rest)) (sym (between_to_end names (i + 1) (length names) (omega arith)))
+    ap (λ (x : List (Bor (List ℕ))). are_distinct (folded_names x)) cut
+    ∙ ap (λ b. not b && are_distinct (folded_names rest)) (sym (any_same (folded name.now) rest))
+    ∙ ap (λ (x : List (Bor (List ℕ))). not (list_any (λ other. bytes_eq (folded name.now) (folded other.now)) x) && are_distinct (folded_names rest)) (sym (between_to_end names (i + 1) (length names) (omega arith)))
 
-pub distinct_ends : (names : List (Bor (List ℕ))) (i : ℕ) (d : Bor (List ℕ)) → i < length names → true ≡ comes_again names i d → are_distinct (names_of (drop i names)) ≡ are_distinct (names_of names) → false ≡ are_distinct (names_of names)
+pub distinct_ends : (names : List (Bor (List ℕ))) (i : ℕ) (d : Bor (List ℕ)) → i < length names → true ≡ comes_again names i d → are_distinct (folded_names (drop i names)) ≡ are_distinct (folded_names names) → false ≡ are_distinct (folded_names names)
 distinct_ends names i d lt again before =
-    ap (λ b. not b && are_distinct (names_of (drop (i + 1) names))) again ∙ sym (distinct_from names i d lt) ∙ before
+    ap (λ b. not b && are_distinct (folded_names (drop (i + 1) names))) again ∙ sym (distinct_from names i d lt) ∙ before
 
-pub distinct_goes_on : (names : List (Bor (List ℕ))) (i : ℕ) (d : Bor (List ℕ)) → i < length names → false ≡ comes_again names i d → are_distinct (names_of (drop i names)) ≡ are_distinct (names_of names) → are_distinct (names_of (drop (i + 1) names)) ≡ are_distinct (names_of names)
+pub distinct_goes_on : (names : List (Bor (List ℕ))) (i : ℕ) (d : Bor (List ℕ)) → i < length names → false ≡ comes_again names i d → are_distinct (folded_names (drop i names)) ≡ are_distinct (folded_names names) → are_distinct (folded_names (drop (i + 1) names)) ≡ are_distinct (folded_names names)
 distinct_goes_on names i d lt again before =
-    ap (λ b. not b && are_distinct (names_of (drop (i + 1) names))) again ∙ sym (distinct_from names i d lt) ∙ before
+    ap (λ b. not b && are_distinct (folded_names (drop (i + 1) names))) again ∙ sym (distinct_from names i d lt) ∙ before
 
 none_same : (name : List ℕ) (names : List (List ℕ)) → not (list_any (bytes_eq name) names) ≡ true → AllByRecursion (λ other. name ≢ other) names
 none_same name [] e = tt
@@ -74,20 +74,20 @@ column_names : (names : List (List ℕ)) → map (λ (c : Column). c.name) (map 
 column_names [] = refl
 column_names (name ∷ names) = ap (λ ns. name ∷ ns) (column_names names)
 
-pub are_columns : (names : List (Bor (List ℕ))) → 0 < length names → length names ≤ most_columns → true ≡ are_distinct (names_of names) → AreColumns (map integer_column (names_of names))
+pub are_columns : (names : List (Bor (List ℕ))) → 0 < length names → length names ≤ most_columns → true ≡ are_distinct (folded_names names) → AreColumns (map integer_column (folded_names names))
 are_columns names some few distinct =
-    let count : length (map integer_column (names_of names)) ≡ length names = length-map (names_of names) integer_column ∙ length-map names (λ name. folded name.now) in
+    let count : length (map integer_column (folded_names names)) ≡ length names = length-map (folded_names names) integer_column ∙ length-map names (λ name. folded name.now) in
     record {
       some = omega (arith, count, some);
       few = omega (arith, count, few);
-      distinct = subst AreDistinct (sym (column_names (names_of names))) (distinct_from_test (names_of names) (sym distinct));
+      distinct = subst AreDistinct (sym (column_names (folded_names names))) (distinct_from_test (folded_names names) (sym distinct));
     }
 
-pub too_many : (names : List (Bor (List ℕ))) → most_columns < length names → AreColumns (map integer_column (names_of names)) → ⊥
+pub too_many : (names : List (Bor (List ℕ))) → most_columns < length names → AreColumns (map integer_column (folded_names names)) → ⊥
 too_many names many are =
-    let count : length (map integer_column (names_of names)) ≡ length names = length-map (names_of names) integer_column ∙ length-map names (λ name. folded name.now) in
+    let count : length (map integer_column (folded_names names)) ≡ length names = length-map (folded_names names) integer_column ∙ length-map names (λ name. folded name.now) in
     omega (arith, count, many, are.few)
 
-pub not_distinct : (names : List (Bor (List ℕ))) → false ≡ are_distinct (names_of names) → AreColumns (map integer_column (names_of names)) → ⊥
+pub not_distinct : (names : List (Bor (List ℕ))) → false ≡ are_distinct (folded_names names) → AreColumns (map integer_column (folded_names names)) → ⊥
 not_distinct names e are =
-    false≢true (e ∙ test_from_distinct (names_of names) (subst AreDistinct (column_names (names_of names)) are.distinct))
+    false≢true (e ∙ test_from_distinct (folded_names names) (subst AreDistinct (column_names (folded_names names)) are.distinct))

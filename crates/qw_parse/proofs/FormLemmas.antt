@@ -1,224 +1,207 @@
--- What is read of a whole statement has its form, and what has the form is read.
-use Rattle.std.proofs.Common.{◌≡◌, ℕ, ◌<◌, ◌^◌, Bool, true, List, [], ◌∷◌, ◌++◌, length, Some, refl, sym, ap, subst, ◌∙◌, inl, inr}
-use Rattle.std.specs.Prelude.{codes}
-use Rattle.qw_token.specs.Token.{Lexeme}
-use Rattle.qw_ast.specs.Grammar.{folded, Place, key_word, regular, symbol, Fills, Source, Selection, create_table, signed, table_expression, query_specification}
-use Rattle.qw_parse.specs.declared.parse.form.Item.TheVariants.{ColumnDefinition, ColumnReference}
-use Rattle.qw_parse.specs.Inner.Parser.{key_word_at, symbol_at, regular_at, literal_at, comparison_at, is_end, list_at, table_at, is_closed, create_table_of, source_of, selection_of}
-use Rattle.qw_parse.proofs.GrammarLemmas.{bind_some, guard_some, cases_option, Fronts, FollowsOne, fronts_append, fronts_split, other_than, key_word_takes, key_word_is, symbol_takes, symbol_is, regular_takes, regular_is, literal_takes, literal_is, comparison_takes, comparison_is}
-use Rattle.qw_parse.proofs.ListLemmas.{list_form, list_takes, list_is}
+-- A reader reads a form exactly: what it takes is of the form, and what is of the form it takes. One lemma for each way to put
+-- readers together.
+use Rattle.std.proofs.Common.{◌≡◌, ℕ, Bool, true, false, List, [], ◌∷◌, ◌++◌, Option, Some, None, refl, sym, ap, subst, ◌∙◌, inl, inr}
+use Rattle.std.specs.Prelude.{◌⊎◌, codes, if◌then◌else◌}
+use Rattle.std.specs.List.{AllZip}
+use Rattle.std.proofs.lemmas.Slice.Eq.{bytes_eq-Decides}
+use Rattle.qw_token.specs.Token.{Lexeme, AreTokens}
+use Rattle.qw_token.proofs.TokenRun.{AreTokens-unique}
+use Rattle.qw_ast.specs.Grammar.{Terminal, symbol, Matches, IsTextOf}
+use Rattle.qw_parse.specs.Inner.Parser.{terminal_at, token_at, fixed_at, behind_at, before_at, both_at, made_at, optional_at, is_end, whole_of}
+use Rattle.qw_parse.proofs.TerminalLemmas.{bind_some, guard_some, cases_option, some_same, TakesOne, terminal_exactly, Fronts, fronts_append, fronts_split, fronts_whole, fixed_exactly}
 
--- ---- CREATE TABLE
+-- The reader reads the form exactly. A w says which words the form has, and tree w is what is read then. What `Stops` says must
+-- hold of what follows, so that the reader goes no further.
+pub record ReadsExactly {W A : Type 0} (form : W → List Terminal) (tree : W → A) (Stops : List Lexeme → Type 0) (read : List Lexeme → Option (A × List Lexeme)) : Type 0 where
+  pub takes : (ts : List Lexeme) (x : A × List Lexeme) → read ts ≡ Some x → (w : W) × (tree w ≡ x.0) × Fronts (form w) ts x.1
+  pub is : (w : W) (ts rest : List Lexeme) → Fronts (form w) ts rest → Stops rest → read ts ≡ Some (tree w, rest)
 
--- the places before the list of columns
-abbrev table_form : List ℕ → List Place
-table_form table = key_word (codes "CREATE") ∷ key_word (codes "TABLE") ∷ regular table ∷ symbol (codes "(") ∷ []
+-- whatever follows
+abbrev pub Anything : List Lexeme → Type 0
+Anything rest = Unit {0}
 
--- the place behind it
-abbrev close : List Place
-close = symbol (codes ")") ∷ []
+-- ---- one token
 
-table_takes : (ts rest : List Lexeme) (table : List ℕ) → table_at ts ≡ Some (table, rest) → Fronts (table_form table) ts rest
-unfolding table_at
-table_takes ts rest table e =
-    let a = bind_some (key_word_at (codes "CREATE") ts) _ (table, rest) e in
-    let b = bind_some (key_word_at (codes "TABLE") a.0) _ (table, rest) a.2 in
-    let c = bind_some (regular_at b.0) _ (table, rest) b.2 in
-    let d = bind_some (symbol_at (codes "(") c.0.1) _ (table, rest) c.2 in
-    let both : (c.0.0, d.0) ≡ (table, rest) = (let got : Some (c.0.0, d.0) ≡ Some (table, rest) = d.2 in cc) in
-    let all : Fronts (table_form c.0.0) ts d.0 = (
-      a.0,
-      key_word_takes (codes "CREATE") ts a.0 a.1,
-      (
-        b.0,
-        key_word_takes (codes "TABLE") a.0 b.0 b.1,
-        (
-          c.0.1,
-          regular_takes b.0 c.0.1 c.0.0 c.1,
-          (d.0, symbol_takes (codes "(") c.0.1 d.0 d.1, refl),
-        ),
-      ),
-    ) in
-    subst (λ (x : List ℕ × List Lexeme). Fronts (table_form x.0) ts x.1) both all
+token_takes : {W A : Type 0} (terminal : W → Terminal) (tree : W → A) (find : Lexeme → Option A) → ((t : Lexeme) (a : A) → find t ≡ Some a → (w : W) × (tree w ≡ a) × Matches (terminal w) t) → (ts : List Lexeme) (x : A × List Lexeme) → token_at find ts ≡ Some x → (w : W) × (tree w ≡ x.0) × Fronts (terminal w ∷ []) ts x.1
+unfolding token_at
+token_takes terminal tree find found [] x e = absurd cc
+token_takes {A = A} terminal tree find found (t ∷ ts) x e =
+    let a = bind_some (find t) (λ y. Some (y, ts)) x e in
+    let same = some_same (a.0, ts) x a.2 in
+    let w = found t a.0 a.1 in (
+      w.0,
+      w.1 ∙ ap (λ (y : A × List Lexeme). y.0) same,
+      (ts, record { token = t; parts = refl; matches = w.2 }, ap (λ (y : A × List Lexeme). y.1) same),
+    )
 
-table_is : (ts rest : List Lexeme) (table : List ℕ) → Fronts (table_form table) ts rest → table_at ts ≡ Some (table, rest)
-unfolding table_at
-table_is ts rest table h =
-    let b = h.2 in
-    let c = b.2 in
-    let d = c.2 in
-    rw (
-      key_word_is (codes "CREATE") ts h.0 h.1,
-      key_word_is (codes "TABLE") h.0 b.0 b.1,
-      regular_is table b.0 c.0 c.1,
-      symbol_is (codes "(") c.0 d.0 d.1,
-    ) (ap (λ x. Some (table, x)) d.2)
+token_is : {W A : Type 0} (terminal : W → Terminal) (tree : W → A) (find : Lexeme → Option A) → ((w : W) (t : Lexeme) → Matches (terminal w) t → find t ≡ Some (tree w)) → (w : W) (ts rest : List Lexeme) → TakesOne (Matches (terminal w)) ts rest → token_at find ts ≡ Some (tree w, rest)
+unfolding token_at
+token_is terminal tree find matched w ts rest one = rw (one.parts, matched w one.token one.matches) refl
 
-closed_takes : (ts : List Lexeme) → is_closed ts ≡ true → FollowsOne close ts
-unfolding is_closed
-closed_takes ts e =
-    elim (cases_option (symbol_at (codes ")") ts)) [
-      | inl none ↦ absurd (let no = rw none at e in cc)
-      | inr some ↦ (let ends : is_end some.0 ≡ true = rw some.1 at e in (some.0, (some.0, symbol_takes (codes ")") ts some.0 some.1, refl), ends))
-    ]
+-- a terminal for what is found in a token
+pub token_exactly : {W A : Type 0} (terminal : W → Terminal) (tree : W → A) (find : Lexeme → Option A) → ((t : Lexeme) (a : A) → find t ≡ Some a → (w : W) × (tree w ≡ a) × Matches (terminal w) t) → ((w : W) (t : Lexeme) → Matches (terminal w) t → find t ≡ Some (tree w)) → ReadsExactly (λ w. terminal w ∷ []) tree Anything (token_at find)
+token_exactly {A = A} terminal tree find found matched = record {
+  takes = token_takes terminal tree find found;
+  is = λ w ts rest h _. token_is terminal tree find matched w ts h.0 h.1 ∙ ap (λ (y : List Lexeme). Some (tree w, y)) h.2;
+}
 
-closed_is : (ts : List Lexeme) → FollowsOne close ts → is_closed ts ≡ true
-unfolding is_closed
-closed_is ts h = let one = h.1 in rw (symbol_is (codes ")") ts one.0 one.1) (ap is_end one.2 ∙ h.2)
+-- ---- sequences
 
-no_comma : (t : Lexeme) → t.octets ≡ codes ")" → t.octets ≡ codes "," → ⊥
-no_comma t e f = let both : codes ")" ≡ codes "," = sym e ∙ f in cc
+-- one behind the other
+pub both_exactly : {V W A B : Type 0} {form : V → List Terminal} {tree : V → A} {Stops : List Lexeme → Type 0} {read : List Lexeme → Option (A × List Lexeme)} {form' : W → List Terminal} {tree' : W → B} {Stops' : List Lexeme → Type 0} {read' : List Lexeme → Option (B × List Lexeme)}
+    → ReadsExactly form tree Stops read → ReadsExactly form' tree' Stops' read' → ((w : W) (ts rest : List Lexeme) → Fronts (form' w) ts rest → Stops ts)
+    → ReadsExactly (λ (w : V × W). form w.0 ++ form' w.1) (λ (w : V × W). (tree w.0, tree' w.1)) Stops' (both_at read read')
+both_exactly {A = A} {B = B} {form = form} {tree = tree} {read = read} {form' = form'} {tree' = tree'} {read' = read'} first second stops = record {
+  takes = λ ts x e.
+      let a = bind_some (read ts) _ x e in
+      let b = bind_some (read' a.0.1) _ x a.2 in
+      let same = some_same ((a.0.0, b.0.0), b.0.1) x b.2 in
+      let v = first.takes ts a.0 a.1 in
+      let w = second.takes a.0.1 b.0 b.1 in (
+        (v.0, w.0),
+        ap (λ (y : A). (y, tree' w.0)) v.1 ∙ ap (λ (y : B). (a.0.0, y)) w.1 ∙ ap (λ (y : (A × B) × List Lexeme). y.0) same,
+        subst (λ (y : (A × B) × List Lexeme). Fronts (form v.0 ++ form' w.0) ts y.1) same (fronts_append (form v.0) (form' w.0) ts a.0.1 b.0.1 v.2 w.2),
+      );
+  is = λ w ts rest h ends.
+      let parts = fronts_split (form w.0) (form' w.1) ts rest h in
+      rw (first.is w.0 ts parts.0 parts.1 (stops w.1 parts.0 rest parts.2), second.is w.1 parts.0 rest parts.2 ends) refl;
+}
 
--- the tokens are a table definition
-pub record FollowsTable (names : List ℕ × List (List ℕ)) (ts : List Lexeme) : Type 0 where
-  pub some : 0 < length names.1
-  pub follows : FollowsOne (create_table names.0 names.1) ts
+-- behind fixed terminals
+pub behind_exactly : {W A : Type 0} {form : W → List Terminal} {tree : W → A} {Stops : List Lexeme → Type 0} {read : List Lexeme → Option (A × List Lexeme)} (terminals : List Terminal)
+    → ReadsExactly form tree Stops read → ReadsExactly (λ w. terminals ++ form w) tree Stops (behind_at terminals read)
+behind_exactly {form = form} {read = read} terminals first = record {
+  takes = λ ts x e.
+      let a = bind_some (fixed_at terminals ts) (λ rest. read rest) x e in
+      let w = first.takes a.0 x a.2 in
+      (w.0, w.1, fronts_append terminals (form w.0) ts a.0 x.1 ((fixed_exactly terminals ts a.0).0 a.1) w.2);
+  is = λ w ts rest h ends.
+      let parts = fronts_split terminals (form w) ts rest h in
+      rw ((fixed_exactly terminals ts parts.0).1 parts.1) (first.is w parts.0 rest parts.2 ends);
+}
 
-pub create_table_takes : (ts : List Lexeme) (names : List ℕ × List (List ℕ)) → create_table_of ts ≡ Some names → FollowsTable names ts
-unfolding create_table_of
-create_table_takes ts names e =
-    let a = bind_some (table_at ts) _ names e in
-    let b = bind_some (list_at ColumnDefinition a.0.1) _ names a.2 in
-    let g = guard_some (is_closed b.0.1) (a.0.0, b.0.0) names b.2 in
-    let list = list_takes ColumnDefinition a.0.1 b.0.1 b.0.0 b.1 in
-    let last = closed_takes b.0.1 g.0 in
-    let columns = list_form ColumnDefinition b.0.0 in
-    let tail = fronts_append columns close a.0.1 b.0.1 last.0 list.1 last.1 in
-    let all = fronts_append (table_form a.0.0) (columns ++ close) ts a.0.1 last.0 (table_takes ts a.0.1 a.0.0 a.1) tail in
-    subst (λ (x : List ℕ × List (List ℕ)). FollowsTable x ts) g.1 (record { some = list.0; follows = (last.0, all, last.2) })
+-- before fixed terminals
+pub before_exactly : {W A : Type 0} {form : W → List Terminal} {tree : W → A} {Stops : List Lexeme → Type 0} {read : List Lexeme → Option (A × List Lexeme)} (terminals : List Terminal)
+    → ReadsExactly form tree Stops read → ((ts rest : List Lexeme) → Fronts terminals ts rest → Stops ts) → ReadsExactly (λ w. form w ++ terminals) tree Anything (before_at read terminals)
+before_exactly {A = A} {form = form} {tree = tree} {read = read} terminals first stops = record {
+  takes = λ ts x e.
+      let a = bind_some (read ts) _ x e in
+      let b = bind_some (fixed_at terminals a.0.1) _ x a.2 in
+      let same = some_same (a.0.0, b.0) x b.2 in
+      let w = first.takes ts a.0 a.1 in (
+        w.0,
+        w.1 ∙ ap (λ (y : A × List Lexeme). y.0) same,
+        subst (λ (y : A × List Lexeme). Fronts (form w.0 ++ terminals) ts y.1) same
+            (fronts_append (form w.0) terminals ts a.0.1 b.0 w.2 ((fixed_exactly terminals a.0.1 b.0).0 b.1)),
+      );
+  is = λ w ts rest h _.
+      let parts = fronts_split (form w) terminals ts rest h in
+      rw (first.is w ts parts.0 parts.1 (stops parts.0 rest parts.2), (fixed_exactly terminals parts.0 rest).1 parts.2) refl;
+}
 
-pub create_table_again : (ts : List Lexeme) (table : List ℕ) (columns : List (List ℕ)) → 0 < length columns → FollowsOne (create_table table columns) ts → create_table_of ts ≡ Some (table, columns)
-unfolding create_table_of
-create_table_again ts table columns some one =
-    let list = list_form ColumnDefinition columns in
-    let a = fronts_split (table_form table) (list ++ close) ts one.0 one.1 in
-    let b = fronts_split list close a.0 one.0 a.2 in
-    let no = other_than (codes ",") (Fills (symbol (codes ")"))) b.0 b.2.0 b.2.1 no_comma in
-    rw (
-      table_is ts a.0 table a.1,
-      list_is ColumnDefinition columns a.0 b.0 some b.1 no,
-      closed_is b.0 (one.0, b.2, one.2),
-    ) refl
+-- something made of what is read
+pub made_exactly : {W A B : Type 0} {form : W → List Terminal} {tree : W → A} {Stops : List Lexeme → Type 0} {read : List Lexeme → Option (A × List Lexeme)} (make : A → B)
+    → ReadsExactly form tree Stops read → ReadsExactly form (λ w. make (tree w)) Stops (made_at make read)
+made_exactly {A = A} {B = B} {form = form} {read = read} make first = record {
+  takes = λ ts x e.
+      let a = bind_some (read ts) _ x e in
+      let same = some_same (make a.0.0, a.0.1) x a.2 in
+      let w = first.takes ts a.0 a.1 in
+      (w.0, ap make w.1 ∙ ap (λ (y : B × List Lexeme). y.0) same, subst (λ (y : B × List Lexeme). Fronts (form w.0) ts y.1) same w.2);
+  is = λ w ts rest h ends. rw (first.is w ts rest h ends) refl;
+}
 
--- ---- FROM
+-- another word for what is read
+pub same_exactly : {W A : Type 0} {form : W → List Terminal} {tree : W → A} {Stops : List Lexeme → Type 0} {read : List Lexeme → Option (A × List Lexeme)} (other : W → A)
+    → ((w : W) → tree w ≡ other w) → ReadsExactly form tree Stops read → ReadsExactly form other Stops read
+same_exactly other same first = record {
+  takes = λ ts x e. let w = first.takes ts x e in (w.0, sym (same w.0) ∙ w.1, w.2);
+  is = λ w ts rest h ends. first.is w ts rest h ends ∙ ap (λ y. Some (y, rest)) (same w);
+}
 
--- the tokens are a table expression, with the literal that was read
-pub record FollowsSource (source : Source) (ts : List Lexeme) : Type 0 where
-  pub negative : Bool
-  pub magnitude : ℕ
-  pub follows : FollowsOne (table_expression source negative magnitude) ts
-  pub literal_is : source.literal ≡ signed negative magnitude
-  pub fits : magnitude < 10 ^ 18
+-- ---- a terminal that may be there
 
-source_takes : (ts : List Lexeme) (source : Source) → source_of ts ≡ Some source → FollowsSource source ts
-unfolding source_of
-source_takes ts source e =
-    let a = bind_some (key_word_at (codes "FROM") ts) _ source e in
-    let b = bind_some (regular_at a.0) _ source a.2 in
-    let c = bind_some (key_word_at (codes "WHERE") b.0.1) _ source b.2 in
-    let d = bind_some (regular_at c.0) _ source c.2 in
-    let f = bind_some (comparison_at d.0.1) _ source d.2 in
-    let g = bind_some (literal_at f.0.1) _ source f.2 in
-    let made : Source = record { table = b.0.0; tested = d.0.0; comparison = f.0.0; literal = g.0.0 } in
-    let h = guard_some (is_end g.0.1) made source g.2 in
-    let literal = literal_takes f.0.1 g.0.1 g.0.0 g.1 in
-    let all : Fronts (table_expression made literal.negative literal.magnitude) ts g.0.1 = (
-      a.0,
-      key_word_takes (codes "FROM") ts a.0 a.1,
-      (
-        b.0.1,
-        regular_takes a.0 b.0.1 b.0.0 b.1,
-        (
-          c.0,
-          key_word_takes (codes "WHERE") b.0.1 c.0 c.1,
-          (
-            d.0.1,
-            regular_takes c.0 d.0.1 d.0.0 d.1,
-            (f.0.1, comparison_takes d.0.1 f.0.1 f.0.0 f.1, literal.fronts),
-          ),
-        ),
-      ),
-    ) in
-    subst (λ (x : Source). FollowsSource x ts) h.1 (record {
-      negative = literal.negative;
-      magnitude = literal.magnitude;
-      follows = (g.0.1, all, h.0);
-      literal_is = literal.is;
-      fits = literal.fits;
-    })
+module _ {W A : Type 0} {form : W → List Terminal} {tree tree' : W → A} {Stops : List Lexeme → Type 0} {read read' : List Lexeme → Option (A × List Lexeme)} (terminal : Terminal)
+    (behind_it : ReadsExactly form tree Stops read) (alone : ReadsExactly form tree' Stops read') where
+  abbrev form_if : Bool × W → List Terminal
+  form_if w = if w.0 then terminal ∷ form w.1 else form w.1
 
-source_again : (ts : List Lexeme) (source : Source) → FollowsSource source ts → source_of ts ≡ Some source
-unfolding source_of
-source_again ts source one =
-    let last = one.follows.0 in
-    let a = one.follows.1 in
-    let b = a.2 in
-    let c = b.2 in
-    let d = c.2 in
-    let f = d.2 in
-    rw (
-      key_word_is (codes "FROM") ts a.0 a.1,
-      regular_is source.table a.0 b.0 b.1,
-      key_word_is (codes "WHERE") b.0 c.0 c.1,
-      regular_is source.tested c.0 d.0 d.1,
-      comparison_is source.comparison d.0 f.0 f.1,
-      literal_is one.negative one.magnitude f.0 last one.fits f.2,
-      one.follows.2,
-    ) (ap (λ z. Some (record source { literal = z })) (sym one.literal_is))
+  abbrev tree_if : Bool × W → A
+  tree_if w = if w.0 then tree w.1 else tree' w.1
 
--- ---- SELECT
+  optional_takes : (ts : List Lexeme) (x : A × List Lexeme) → optional_at terminal read read' ts ≡ Some x → (w : Bool × W) × (tree_if w ≡ x.0) × Fronts (form_if w) ts x.1
+  optional_takes ts x e =
+      elim (cases_option (terminal_at terminal ts)) [
+        | inl none ↦ (let w = alone.takes ts x (rw none at e) in ((false, w.0), w.1, w.2))
+        | inr some ↦ (let w = behind_it.takes some.0 x (rw some.1 at e) in ((true, w.0), w.1, (some.0, (terminal_exactly terminal ts some.0).0 some.1, w.2)))
+      ]
 
--- the tokens are a query, with the literal that was read
-pub record FollowsSelection (selection : Selection) (ts : List Lexeme) : Type 0 where
-  pub negative : Bool
-  pub magnitude : ℕ
-  pub some : 0 < length selection.columns
-  pub follows : FollowsOne (query_specification selection negative magnitude) ts
-  pub literal_is : selection.source.literal ≡ signed negative magnitude
-  pub fits : magnitude < 10 ^ 18
+  optional_is : ((w : W) (ts rest : List Lexeme) → Fronts (form w) ts rest → terminal_at terminal ts ≡ None) → (w : Bool × W) (ts rest : List Lexeme) → Fronts (form_if w) ts rest → Stops rest → optional_at terminal read read' ts ≡ Some (tree_if w, rest)
+  optional_is differs (true, w) ts rest h ends = rw ((terminal_exactly terminal ts h.0).1 h.1) (behind_it.is w h.0 rest h.2 ends)
+  optional_is differs (false, w) ts rest h ends = rw (differs w ts rest h) (alone.is w ts rest h ends)
 
-pub selection_takes : (ts : List Lexeme) (selection : Selection) → selection_of ts ≡ Some selection → FollowsSelection selection ts
-unfolding selection_of
-selection_takes ts selection e =
-    let a = bind_some (key_word_at (codes "SELECT") ts) _ selection e in
-    let b = bind_some (list_at ColumnReference a.0) _ selection a.2 in
-    let c = bind_some (source_of b.0.1) _ selection b.2 in
-    let made : Selection = record { columns = b.0.0; source = c.0 } in
-    let same : made ≡ selection = (let got : Some made ≡ Some selection = c.2 in cc) in
-    let list = list_takes ColumnReference a.0 b.0.1 b.0.0 b.1 in
-    let source = source_takes b.0.1 c.0 c.1 in
-    let last = source.follows.0 in
-    let tail = fronts_append (list_form ColumnReference b.0.0) (table_expression c.0 source.negative source.magnitude) a.0 b.0.1 last list.1 source.follows.1 in
-    let all : Fronts (query_specification made source.negative source.magnitude) ts last = (a.0, key_word_takes (codes "SELECT") ts a.0 a.1, tail) in
-    subst (λ (x : Selection). FollowsSelection x ts) same (record {
-      negative = source.negative;
-      magnitude = source.magnitude;
-      some = list.0;
-      follows = (last, all, source.follows.2);
-      literal_is = source.literal_is;
-      fits = source.fits;
-    })
+-- where the form never begins with the terminal
+pub optional_exactly : {W A : Type 0} {form : W → List Terminal} {tree tree' : W → A} {Stops : List Lexeme → Type 0} {read read' : List Lexeme → Option (A × List Lexeme)} (terminal : Terminal)
+    → ReadsExactly form tree Stops read → ReadsExactly form tree' Stops read' → ((w : W) (ts rest : List Lexeme) → Fronts (form w) ts rest → terminal_at terminal ts ≡ None)
+    → ReadsExactly (λ (w : Bool × W). if w.0 then terminal ∷ form w.1 else form w.1) (λ (w : Bool × W). if w.0 then tree w.1 else tree' w.1) Stops (optional_at terminal read read')
+optional_exactly terminal behind_it alone differs = record {
+  takes = optional_takes terminal behind_it alone;
+  is = optional_is terminal behind_it alone differs;
+}
 
-from_is_no_comma : (t : Lexeme) → folded t.octets ≡ codes "FROM" → t.octets ≡ codes "," → ⊥
-from_is_no_comma t e f = let both : codes "FROM" ≡ folded (codes ",") = sym e ∙ ap folded f in cc
+-- ---- a statement
 
-pub selection_again : (ts : List Lexeme) (selection : Selection) → FollowsSelection selection ts → selection_of ts ≡ Some selection
-unfolding selection_of
-selection_again ts selection one =
-    let list = list_form ColumnReference selection.columns in
-    let last = one.follows.0 in
-    let a = one.follows.1 in
-    let b = fronts_split list (table_expression selection.source one.negative one.magnitude) a.0 last a.2 in
-    let no = other_than (codes ",") (Fills (key_word (codes "FROM"))) b.0 b.2.0 b.2.1 from_is_no_comma in
-    let source : FollowsSource selection.source b.0 = record {
-      negative = one.negative;
-      magnitude = one.magnitude;
-      follows = (last, b.2, one.follows.2);
-      literal_is = one.literal_is;
-      fits = one.fits;
-    } in
-    rw (
-      key_word_is (codes "SELECT") ts a.0 a.1,
-      list_is ColumnReference selection.columns a.0 b.0 one.some b.1 no,
-      source_again b.0 selection.source source,
-    ) refl
+-- a `;` or nothing
+abbrev Ends : List Lexeme → Type 0
+Ends ts = (ts ≡ []) ⊎ Fronts (symbol (codes ";") ∷ []) ts []
+
+end_takes : (ts : List Lexeme) → is_end ts ≡ true → Ends ts
+unfolding is_end
+end_takes [] e = inl refl
+end_takes (t ∷ []) e = inr ([], record { token = t; parts = refl; matches = (bytes_eq-Decides t.octets (codes ";")).0 e }, refl)
+end_takes (t ∷ u ∷ ts) e = absurd cc
+
+no_end : is_end [] ≡ true
+unfolding is_end
+no_end = refl
+
+one_end : (t : Lexeme) → t.octets ≡ codes ";" → is_end (t ∷ []) ≡ true
+unfolding is_end
+one_end t h = (bytes_eq-Decides t.octets (codes ";")).1 h
+
+end_is : (ts : List Lexeme) → Ends ts → is_end ts ≡ true
+end_is ts (inl none) = ap is_end none ∙ no_end
+end_is ts (inr h) =
+    let one = h.1 in
+    ap is_end (one.parts ∙ ap (λ (x : List Lexeme). one.token ∷ x) h.2) ∙ one_end one.token one.matches
+
+-- the tokens follow the form, with a `;` behind it or none
+abbrev Follows : List Terminal → List Lexeme → Type 0
+Follows form ts = AllZip Matches form ts ⊎ AllZip Matches (form ++ symbol (codes ";") ∷ []) ts
+
+to_follows : (form : List Terminal) (ts last : List Lexeme) → Fronts form ts last → Ends last → Follows form ts
+to_follows form ts last h (inl none) = inl ((fronts_whole form ts).0 (subst (Fronts form ts) none h))
+to_follows form ts last h (inr more) =
+    inr ((fronts_whole (form ++ symbol (codes ";") ∷ []) ts).0 (fronts_append form (symbol (codes ";") ∷ []) ts last [] h more))
+
+from_follows : (form : List Terminal) (ts : List Lexeme) → Follows form ts → (last : List Lexeme) × Fronts form ts last × Ends last
+from_follows form ts (inl h) = ([], (fronts_whole form ts).1 h, inl refl)
+from_follows form ts (inr h) =
+    let parts = fronts_split form (symbol (codes ";") ∷ []) ts [] ((fronts_whole (form ++ symbol (codes ";") ∷ []) ts).1 h) in
+    (parts.0, parts.1, inr parts.2)
+
+-- what is read of the whole text is its statement of the form, and what is its statement is read
+pub statement_exactly : {W A : Type 0} {form : W → List Terminal} {tree : W → A} {read : List Lexeme → Option (A × List Lexeme)}
+    → ReadsExactly form tree Anything read → (text : List ℕ) (ts : List Lexeme) → AreTokens text ts
+    → ((a : A) → whole_of read ts ≡ Some a → (w : W) × (tree w ≡ a) × IsTextOf (form w) text) × ((w : W) → IsTextOf (form w) text → whole_of read ts ≡ Some (tree w))
+statement_exactly {form = form} {tree = tree} {read = read} reads text ts are = (
+  λ a e.
+      let x = bind_some (read ts) _ a e in
+      let g = guard_some (is_end x.0.1) x.0.0 a x.2 in
+      let w = reads.takes ts x.0 x.1 in
+      (w.0, w.1 ∙ g.1, record { tokens = ts; are_tokens = are; follows = to_follows (form w.0) ts x.0.1 w.2 (end_takes x.0.1 g.0) }),
+  λ w is.
+      let same = AreTokens-unique text ts is.tokens are is.are_tokens in
+      let parts = from_follows (form w) ts (subst (Follows (form w)) (sym same) is.follows) in
+      rw (reads.is w ts parts.0 parts.1 tt, end_is parts.0 parts.2) refl,
+)

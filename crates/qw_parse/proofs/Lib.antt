@@ -1,7 +1,8 @@
-pub mod DeclareLemmas
-pub mod FormLemmas
-pub mod GrammarLemmas
-pub mod ListLemmas
-pub mod LiteralLemmas
+mod DeclareLemmas
+mod FormLemmas
+mod GrammarLemmas
+mod ListLemmas
+mod LiteralLemmas
 pub mod ParserLemmas
-pub mod ResolveLemmas
+mod ResolveLemmas
+mod TerminalLemmas

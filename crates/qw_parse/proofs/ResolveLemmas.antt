@@ -1,4 +1,4 @@
--- Places of columns, and the one meaning of names.
+-- Indices of columns, and the one meaning of names.
 use Rattle.std.proofs.Common.{◌≡◌, ℕ, zero, suc, ◌+◌, ◌<◌, ◌≤◌, List, [], ◌∷◌, ◌++◌, length, map, take, get_or, Option, Some, None, refl, sym, ap, ◌∙◌, arith}
 use Rattle.std.specs.Prelude.{ℤ}
 use Rattle.std.specs.List.{AllByRecursion}
@@ -13,69 +13,69 @@ use Rattle.qw_types.specs.Schema.{AreColumns}
 use Rattle.qw_meaning.specs.declared.query.Comparison.{Comparison}
 use Rattle.qw_meaning.specs.Statement.{most_items, Statement, IsStatement}
 use Rattle.qw_ast.specs.Grammar.{folded, Selection}
-use Rattle.qw_parse.specs.Parse.{place_of, Means}
-use Rattle.qw_ast.specs.Inner.Views.{names_of}
+use Rattle.qw_parse.specs.Parse.{index_of, Means}
+use Rattle.qw_ast.specs.Inner.Views.{folded_names}
 
--- ---- places
+-- ---- indices
 
-pub no_place : (find : List ℕ → Option ℕ) (names : List (Bor (List ℕ))) (places : List ℕ) (k : ℕ) (d : Bor (List ℕ)) → k < length names → None ≡ find (folded (get_or names k d).now) → map find (names_of names) ≡ map Some places → ⊥
-no_place find [] places k d lt none e = omega (arith, lt)
-no_place find (n ∷ names) [] k d lt none e = cc
-no_place find (n ∷ names) (p ∷ places) zero d lt none e =
+pub no_index : (find : List ℕ → Option ℕ) (names : List (Bor (List ℕ))) (indices : List ℕ) (k : ℕ) (d : Bor (List ℕ)) → k < length names → None ≡ find (folded (get_or names k d).now) → map find (folded_names names) ≡ map Some indices → ⊥
+no_index find [] indices k d lt none e = omega (arith, lt)
+no_index find (n ∷ names) [] k d lt none e = cc
+no_index find (n ∷ names) (p ∷ indices) zero d lt none e =
     let first : find (folded n.now) ≡ Some p = cc in
     let no : None ≡ Some p = none ∙ first in
     cc
-no_place find (n ∷ names) (p ∷ places) (suc k) d lt none e =
-    no_place find names places k d (omega (arith, lt)) none (let rest : map find (names_of names) ≡ map Some places = cc in rest)
+no_index find (n ∷ names) (p ∷ indices) (suc k) d lt none e =
+    no_index find names indices k d (omega (arith, lt)) none (let rest : map find (folded_names names) ≡ map Some indices = cc in rest)
 
-pub place_more : (find : List ℕ → Option ℕ) (names : List (Bor (List ℕ))) (places : List ℕ) (i place : ℕ) (d : Bor (List ℕ)) → i < length names → map find (names_of (take i names)) ≡ map Some places → Some place ≡ find (folded (get_or names i d).now) → map find (names_of (take (i + 1) names)) ≡ map Some (places ++ place ∷ [])
-place_more find names places i place d lt before found =
+pub index_more : (find : List ℕ → Option ℕ) (names : List (Bor (List ℕ))) (indices : List ℕ) (i index : ℕ) (d : Bor (List ℕ)) → i < length names → map find (folded_names (take i names)) ≡ map Some indices → Some index ≡ find (folded (get_or names i d).now) → map find (folded_names (take (i + 1) names)) ≡ map Some (indices ++ index ∷ [])
+index_more find names indices i index d lt before found =
     let name = get_or names i d in
-    ap (λ (x : List (Bor (List ℕ))). map find (names_of x)) (take_more names i d lt)
+    ap (λ (x : List (Bor (List ℕ))). map find (folded_names x)) (take_more names i d lt)
     ∙ ap (map find) (map_push (λ n. folded n.now) (take i names) name)
-    ∙ map_push find (names_of (take i names)) (folded name.now)
+    ∙ map_push find (folded_names (take i names)) (folded name.now)
     ∙ ap (λ x. x ++ find (folded name.now) ∷ []) before
-    ∙ ap (λ x. map Some places ++ x ∷ []) (sym found)
-    ∙ sym (map_push Some places place)
+    ∙ ap (λ x. map Some indices ++ x ∷ []) (sym found)
+    ∙ sym (map_push Some indices index)
 
-places_same : (xs ys : List ℕ) → map Some xs ≡ map Some ys → xs ≡ ys
-places_same [] [] e = refl
-places_same [] (y ∷ ys) e = absurd cc
-places_same (x ∷ xs) [] e = absurd cc
-places_same (x ∷ xs) (y ∷ ys) e =
+indices_same : (xs ys : List ℕ) → map Some xs ≡ map Some ys → xs ≡ ys
+indices_same [] [] e = refl
+indices_same [] (y ∷ ys) e = absurd cc
+indices_same (x ∷ xs) [] e = absurd cc
+indices_same (x ∷ xs) (y ∷ ys) e =
     let first : Some x ≡ Some y = cc in
     let same : x ≡ y = cc in
     let rest : map Some xs ≡ map Some ys = cc in
-    let more = places_same xs ys rest in
+    let more = indices_same xs ys rest in
     cc
 
-place_below : (columns : List Column) (name : List ℕ) (place : ℕ) → place_of columns name ≡ Some place → place < length columns
-place_below [] name place e = absurd cc
-place_below (column ∷ columns) name place e = (position-Some (λ (c : Column). bytes_eq name c.name) (column ∷ columns) place column e).0
+index_below : (columns : List Column) (name : List ℕ) (index : ℕ) → index_of columns name ≡ Some index → index < length columns
+index_below [] name index e = absurd cc
+index_below (column ∷ columns) name index e = (position-Some (λ (c : Column). bytes_eq name c.name) (column ∷ columns) index column e).0
 
-places_within : (columns : List Column) (names : List (List ℕ)) (places : List ℕ) (most : ℕ) → length columns ≤ most → map (place_of columns) names ≡ map Some places → AllByRecursion (λ place. place < most) places
-places_within columns [] [] most few e = tt
-places_within columns [] (p ∷ places) most few e = absurd cc
-places_within columns (n ∷ names) [] most few e = absurd cc
-places_within columns (n ∷ names) (p ∷ places) most few e =
-    let first : place_of columns n ≡ Some p = cc in
-    let rest : map (place_of columns) names ≡ map Some places = cc in
-    (omega (arith, place_below columns n p first, few), places_within columns names places most few rest)
+indices_within : (columns : List Column) (names : List (List ℕ)) (indices : List ℕ) (most : ℕ) → length columns ≤ most → map (index_of columns) names ≡ map Some indices → AllByRecursion (λ index. index < most) indices
+indices_within columns [] [] most few e = tt
+indices_within columns [] (p ∷ indices) most few e = absurd cc
+indices_within columns (n ∷ names) [] most few e = absurd cc
+indices_within columns (n ∷ names) (p ∷ indices) most few e =
+    let first : index_of columns n ≡ Some p = cc in
+    let rest : map (index_of columns) names ≡ map Some indices = cc in
+    (omega (arith, index_below columns n p first, few), indices_within columns names indices most few rest)
 
-as_many : (find : List ℕ → Option ℕ) (names : List (List ℕ)) (places : List ℕ) → map find names ≡ map Some places → length places ≡ length names
-as_many find names places e =
-    let counts : length (map find names) ≡ length (map Some places) = ap (λ (x : List (Option ℕ)). length x) e in
-    omega (arith, counts, length-map names find, length-map {A = ℕ} places Some)
+as_many : (find : List ℕ → Option ℕ) (names : List (List ℕ)) (indices : List ℕ) → map find names ≡ map Some indices → length indices ≡ length names
+as_many find names indices e =
+    let counts : length (map find names) ≡ length (map Some indices) = ap (λ (x : List (Option ℕ)). length x) e in
+    omega (arith, counts, length-map names find, length-map {A = ℕ} indices Some)
 
-pub statement_within : (columns : List Column) (names : List (Bor (List ℕ))) (places : List ℕ) (name : List ℕ) (tested : ℕ) (comparison : Comparison) (literal : ℤ) → AreColumns columns → 0 < length names → length names ≤ most_items → map (place_of columns) (names_of names) ≡ map Some places → Some tested ≡ place_of columns name → IsStatement (record { columns = places; tested = tested; comparison = comparison; literal = literal })
-statement_within columns names places name tested comparison literal are some few found is =
-    let count = as_many (place_of columns) (names_of names) places found in
+pub statement_within : (columns : List Column) (names : List (Bor (List ℕ))) (indices : List ℕ) (name : List ℕ) (tested : ℕ) (comparison : Comparison) (literal : ℤ) → AreColumns columns → 0 < length names → length names ≤ most_items → map (index_of columns) (folded_names names) ≡ map Some indices → Some tested ≡ index_of columns name → IsStatement (record { columns = indices; tested = tested; comparison = comparison; literal = literal })
+statement_within columns names indices name tested comparison literal are some few found is =
+    let count = as_many (index_of columns) (folded_names names) indices found in
     let named = length-map names (λ n. folded n.now) in
     record {
       some = omega (arith, count, named, some);
       few = omega (arith, count, named, few);
-      selected = places_within columns (names_of names) places most_columns are.few found;
-      tested = omega (arith, place_below columns name tested (sym is), are.few);
+      selected = indices_within columns (folded_names names) indices most_columns are.few found;
+      tested = omega (arith, index_below columns name tested (sym is), are.few);
     }
 
 -- ---- one meaning
@@ -84,10 +84,10 @@ pub Means-unique : (schema : List Table) (selection : Selection) (statement othe
 Means-unique schema selection statement other m n =
     let tables : Some m.table ≡ Some n.table = sym m.table_is ∙ n.table_is in
     let table : m.table ≡ n.table = cc in
-    let columns = places_same statement.columns other.columns
-    (sym m.columns_are ∙ ap (λ (t : Table). map (place_of t.columns) selection.columns) table ∙ n.columns_are) in
+    let columns = indices_same statement.columns other.columns
+    (sym m.columns_are ∙ ap (λ (t : Table). map (index_of t.columns) selection.columns) table ∙ n.columns_are) in
     let tests : Some statement.tested ≡ Some other.tested =
-    sym m.tested_is ∙ ap (λ (t : Table). place_of t.columns selection.source.tested) table ∙ n.tested_is in
+    sym m.tested_is ∙ ap (λ (t : Table). index_of t.columns selection.source.tested) table ∙ n.tested_is in
     let tested : statement.tested ≡ other.tested = cc in
     let comparison = m.comparison_is ∙ sym n.comparison_is in
     let literal = m.literal_is ∙ sym n.literal_is in

@@ -4,7 +4,7 @@ use qw_types::Ty;
 use std::test::Fail;
 
 // Schemas of a table T, and the names of its columns.
-const SCHEMAS: [(&[u8], &[&str]); 9] = [
+const SCHEMAS: [(&[u8], &[&str]); 10] = [
     (b"CREATE TABLE T ( A INTEGER NOT NULL )", &["A"]),
     (b"create table t(a integer not null);", &["A"]),
     (
@@ -28,6 +28,10 @@ const SCHEMAS: [(&[u8], &[&str]); 9] = [
     (
         b"CREATE TABLE T ( A INTEGER NOT NULL, AA INTEGER NOT NULL )",
         &["A", "AA"],
+    ),
+    (
+        b"CREATE TABLE T ( YEAR INTEGER NOT NULL, MONTH INTEGER NOT NULL, DAY INTEGER NOT NULL )",
+        &["YEAR", "MONTH", "DAY"],
     ),
 ];
 
@@ -227,6 +231,12 @@ const NO_QUERIES: [&[u8]; 36] = [
     b"SELECT A FROM T WHERE A > 5 '\xFF'",
 ];
 
+// The reserved words (ISO/IEC 9075:1992, 5.2 "reserved word"), as far as this language has them.
+const RESERVED: &str = "ALL AND AS ASC AVG BETWEEN BY CASE COALESCE COUNT CREATE CROSS DATE DEC DECIMAL DESC \
+    DISTINCT ELSE END EXCEPT EXISTS EXTRACT FALSE FROM FULL GROUP HAVING IN INNER INT \
+    INTEGER INTERSECT INTERVAL IS JOIN LEFT LIKE MAX MIN NATURAL NOT NULL NULLIF NUMERIC ON \
+    OR ORDER OUTER RIGHT SELECT SUM TABLE THEN TRUE UNION UNKNOWN USING VARCHAR WHEN WHERE";
+
 /// So many items, each after its number from 0 and with a comma between two, and a text before and behind them.
 fn listed(
     rt: &HostRuntime,
@@ -270,6 +280,23 @@ fn schema_texts(rt: HostRuntime) -> Result<(), Fail> {
     for text in NO_SCHEMAS {
         let fault = schema_of(rt.alloc(), text).err();
         assert!(rt; matches!(fault, Some(ParseFault::Refused)), "{text:?}");
+    }
+    Ok(())
+}
+
+#[test]
+fn reserved_words(rt: HostRuntime) -> Result<(), Fail> {
+    assert_eq!(rt; RESERVED.split(' ').count(), 60);
+    for word in RESERVED.split(' ') {
+        let table = format!(in rt.alloc(); "CREATE TABLE {word} ( A INTEGER NOT NULL )")?;
+        let column = format!(in rt.alloc(); "CREATE TABLE T ( {word} INTEGER NOT NULL )")?;
+        for text in [table, column] {
+            let fault = schema_of(rt.alloc(), text.as_bytes()).err();
+            assert!(rt; matches!(fault, Some(ParseFault::Refused)), "{text}");
+        }
+        let longer = format!(in rt.alloc(); "CREATE TABLE {word}_ ( {word}_ INTEGER NOT NULL )")?;
+        let schema = schema_of(rt.alloc(), longer.as_bytes())?;
+        assert_eq!(rt; schema.as_slice().len(), 1, "{longer}");
     }
     Ok(())
 }

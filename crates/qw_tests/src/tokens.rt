@@ -38,7 +38,7 @@ const READ: [&[u8]; 12] = [
 ];
 
 // Texts, and the octet at which they stop.
-const STOPS: [(&[u8], usize); 15] = [
+const STOPS: [(&[u8], usize); 20] = [
     (b"12a", 0),
     (b"1.2.3", 0),
     (b"x 5._", 2),
@@ -52,7 +52,12 @@ const STOPS: [(&[u8], usize); 15] = [
     (b"a [b]", 2),
     (b"_a", 0),
     (b"\xEF\xBB\xBF a \xEF\xBB\xBF", 6),
+    (b"\x00", 0),
+    (b"a\x00b", 1),
+    (b"\x0B", 0),
+    (b"a\x0Bb", 1),
     (b"a\x0C", 1),
+    (b"a\x1Fb", 1),
     (b"a \xC3\xA9", 2),
 ];
 

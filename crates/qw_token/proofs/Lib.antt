@@ -1,3 +1,3 @@
-pub mod TokenLemmas
-pub mod TokenLongest
+mod TokenLemmas
+mod TokenLongest
 pub mod TokenRun

@@ -11,7 +11,7 @@ use Rattle.std.proofs.lemmas.Slice.{between_to_end}
 use Rattle.std.proofs.lemmas.List.Sums.{sum_by-cons}
 use Rattle.qw_token.specs.declared.token.Kind.{Kind}
 use Rattle.qw_token.specs.declared.token.Kind.TheVariants.{Word, DelimitedIdentifier, CharacterString, Number, Symbol}
-use Rattle.qw_token.specs.Token.{Lexeme, after_run, is_word_octet, IsWord, doubled, quoted, is_number_octet, is_word_octet_or_point, IsNumber, is_single_symbol, is_double_symbol, IsSymbol, HasForm, symbol_goes_on, goes_on, begins_with, Begins}
+use Rattle.qw_token.specs.Token.{Lexeme, after_run, is_word_octet, IsWord, doubled, quoted, is_number_octet, is_word_octet_or_point, IsNumber, is_single_symbol, is_double_symbol, IsSymbol, HasForm, symbol_goes_on, token_goes_on, begins_with, Begins}
 use Rattle.qw_token.specs.Inner.Lexer.{kind_at, after_quote, after_symbol, IsAfter}
 
 -- ---- runs
@@ -190,7 +190,7 @@ pub word_kind : (octets rest : List ℕ) → IsWord octets → kind_at (octets +
 word_kind [] rest w = absurd w
 word_kind (b ∷ bs) rest w = rw w.0 refl
 
-form_kind : (kind : Kind) (octets rest : List ℕ) → HasForm kind octets → begins_with (goes_on kind octets) rest ≡ false → kind_at (octets ++ rest) ≡ kind
+form_kind : (kind : Kind) (octets rest : List ℕ) → HasForm kind octets → begins_with (token_goes_on kind octets) rest ≡ false → kind_at (octets ++ rest) ≡ kind
 form_kind Word octets rest form ends = word_kind octets rest form
 form_kind DelimitedIdentifier octets rest form ends = rw form.2 refl
 form_kind CharacterString octets rest form ends = rw form.1 refl
@@ -457,7 +457,7 @@ after_symbol_of (b ∷ []) (c ∷ rest) s ends =
 after_symbol_of (b ∷ c ∷ []) rest s ends = rw s refl
 after_symbol_of (b ∷ c ∷ d ∷ bs) rest s ends = absurd s
 
-pub after_kind_is : (kind : Kind) (octets rest : List ℕ) → HasForm kind octets → begins_with (goes_on kind octets) rest ≡ false → after_kind_of kind (octets ++ rest) ≡ Some rest
+pub after_kind_is : (kind : Kind) (octets rest : List ℕ) → HasForm kind octets → begins_with (token_goes_on kind octets) rest ≡ false → after_kind_of kind (octets ++ rest) ≡ Some rest
 after_kind_is Word octets rest form ends = ap (λ x. Some x) (after_run_of is_word_octet octets rest (word_passes octets form) ends)
 after_kind_is DelimitedIdentifier octets rest form ends = ap (after_quote 34) (behind_opening 34 octets form.0 rest form.2) ∙ after_quote_of 34 form.0 rest ends
 after_kind_is CharacterString octets rest form ends = ap (after_quote 39) (behind_opening 39 octets form.0 rest form.1) ∙ after_quote_of 39 form.0 rest ends

@@ -70,7 +70,7 @@ AreTokens-unique text ts us a b = (Reads-unique (after_mark text) ts us [] [] a.
 pub StopsAt-unique : (text : List ℕ) (m n : ℕ) → StopsAt text m → StopsAt text n → m ≡ n
 StopsAt-unique text m n a b =
     let same = (Reads-unique (after_mark text) a.before b.before a.rest b.rest a.reads b.reads a.no_token b.no_token).1 in
-    omega (arith, a.place, b.place, ap length same)
+    omega (arith, a.position, b.position, ap length same)
 
 pub AreTokens-no_stop : (text : List ℕ) (ts : List Lexeme) (n : ℕ) → AreTokens text ts → StopsAt text n → ⊥
 AreTokens-no_stop text ts n a b =

@@ -103,12 +103,12 @@ symbol_goes_on (b ∷ []) c = (is_double_symbol b c || ((b == period) && is_asci
 symbol_goes_on (b ∷ d ∷ bs) c = false
 
 -- Whether a token can't end before this octet. Letters and `_` are no part of a number, and yet none ends before them.
-abbrev pub goes_on : Kind → List ℕ → ℕ → Bool
-goes_on Word octets c = is_word_octet c
-goes_on DelimitedIdentifier octets c = c == double_quote
-goes_on CharacterString octets c = c == single_quote
-goes_on Number octets c = is_word_octet_or_point c
-goes_on Symbol octets c = symbol_goes_on octets c
+abbrev pub token_goes_on : Kind → List ℕ → ℕ → Bool
+token_goes_on Word octets c = is_word_octet c
+token_goes_on DelimitedIdentifier octets c = c == double_quote
+token_goes_on CharacterString octets c = c == single_quote
+token_goes_on Number octets c = is_word_octet_or_point c
+token_goes_on Symbol octets c = symbol_goes_on octets c
 
 -- whether the text has a first octet, and it passes the test
 abbrev pub begins_with : (ℕ → Bool) → List ℕ → Bool
@@ -119,7 +119,7 @@ begins_with test (b ∷ bs) = test b
 pub record Begins (text : List ℕ) (t : Lexeme) (rest : List ℕ) : Type 0 where
   pub parts : text ≡ t.octets ++ rest
   pub form : HasForm t.kind t.octets
-  pub ends : begins_with (goes_on t.kind t.octets) rest ≡ false
+  pub ends : begins_with (token_goes_on t.kind t.octets) rest ≡ false
 
 -- ---- the tokens of a text
 
@@ -139,6 +139,6 @@ pub record StopsAt (text : List ℕ) (at : ℕ) : Type 0 where
   pub before : List Lexeme
   pub rest : List ℕ
   pub reads : Reads (after_mark text) before rest
-  pub place : at + length rest ≡ length text
+  pub position : at + length rest ≡ length text
   pub more : rest ≢ []
   pub no_token : (t : Lexeme) (after : List ℕ) → Begins rest t after → ⊥

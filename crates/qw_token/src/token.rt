@@ -76,11 +76,11 @@ pub fn tokens(alloc: Global, text: &[u8]) -> Result<Vec<Token<'_>>, TokenFault>
     Ok(found)
 }
 
-/// A text has one list of tokens, or stops at one place, or is not UTF-8. So `tokens` can answer
+/// A text has one list of tokens, or stops at one position, or is not UTF-8. So `tokens` can answer
 /// nothing else than it does, unless memory runs out.
 pub fn one_reading()
     ensures tokens { (text : List ℕ) (ts us : List Lexeme) → AreTokens text ts → AreTokens text us → ts ≡ us }
-    ensures place { (text : List ℕ) (m n : ℕ) → StopsAt text m → StopsAt text n → m ≡ n }
+    ensures position { (text : List ℕ) (m n : ℕ) → StopsAt text m → StopsAt text n → m ≡ n }
     ensures either { (text : List ℕ) (ts : List Lexeme) (n : ℕ) → AreTokens text ts → StopsAt text n → ⊥ }
 {}
 

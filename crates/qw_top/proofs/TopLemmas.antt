@@ -20,7 +20,7 @@ use Rattle.qw_top.specs.declared.stop.Refusal.TheVariants.{TableFile, Queries}
 use Rattle.qw_top.specs.declared.stop.Stop.{Stop}
 use Rattle.qw_top.specs.declared.stop.Stop.TheVariants.{Refused, Unread, NoMemory}
 use Rattle.qw_top.specs.FileNames.{table_file_of}
-use Rattle.qw_parse.specs.Parse.{ReadsQuery, ReadsSchema, integer_column, place_of, table_of}
+use Rattle.qw_parse.specs.Parse.{ReadsQuery, ReadsSchema, integer_column, index_of, table_of}
 use Rattle.qw_csv.specs.Loading.{AreIntegers, Contents, Loads}
 use Rattle.qw_top.specs.Inner.Stages.{FilesStop, StopsAs}
 use Rattle.qw_top.specs.Inner.Stop.{refusal_status}
@@ -102,26 +102,26 @@ only_element x y zero h = cc
 only_element x y (suc k) h = cc
 
 -- a place that was found is one of the columns
-place_within : (columns : List Column) (name : List ℕ) (place : ℕ) → place_of columns name ≡ Some place → place < length columns
+place_within : (columns : List Column) (name : List ℕ) (place : ℕ) → index_of columns name ≡ Some place → place < length columns
 place_within columns name place is =
     let other : Column = integer_column [] in
     (position-Some (λ (c : Column). bytes_eq name c.name) columns place other is).0
 
-places_within : (columns : List Column) (names : List (List ℕ)) (places : List ℕ) → map (place_of columns) names ≡ map Some places → AllByRecursion (λ place. place < length columns) places
+places_within : (columns : List Column) (names : List (List ℕ)) (places : List ℕ) → map (index_of columns) names ≡ map Some places → AllByRecursion (λ place. place < length columns) places
 places_within columns names [] is = tt
 places_within columns [] (place ∷ places) is = cc
 places_within columns (name ∷ names) (place ∷ places) is =
-    let first : place_of columns name ≡ Some place = cc in
-    let rest : map (place_of columns) names ≡ map Some places = cc in
+    let first : index_of columns name ≡ Some place = cc in
+    let rest : map (index_of columns) names ≡ map Some places = cc in
     (place_within columns name place first, places_within columns names places rest)
 
 columns_of : (table found : Table) (name tested : List ℕ) (names : List (List ℕ)) (statement : Statement) → table_of (table ∷ []) name ≡ Some found →
-    map (place_of found.columns) names ≡ map Some statement.columns → place_of found.columns tested ≡ Some statement.tested → AreColumnsOf table statement
+    map (index_of found.columns) names ≡ map Some statement.columns → index_of found.columns tested ≡ Some statement.tested → AreColumnsOf table statement
 columns_of table found name tested names statement finds columns tests =
     let is_named : Table → Bool = λ t. bytes_eq name t.name in
     let same = only_element table found (position_or_len is_named (table ∷ [])) (sym (find_at is_named (table ∷ [])) ∙ finds) in (
-      place_within table.columns tested statement.tested (subst (λ (t : Table). place_of t.columns tested ≡ Some statement.tested) same tests),
-      places_within table.columns names statement.columns (subst (λ (t : Table). map (place_of t.columns) names ≡ map Some statement.columns) same columns),
+      place_within table.columns tested statement.tested (subst (λ (t : Table). index_of t.columns tested ≡ Some statement.tested) same tests),
+      places_within table.columns names statement.columns (subst (λ (t : Table). map (index_of t.columns) names ≡ map Some statement.columns) same columns),
     )
 
 -- a statement that was read over one table has columns of it

@@ -1,4 +1,4 @@
--- What is read, with its names in upper case and without where it lies in memory.
+-- Mirrors the trees of src/tree.rt, with their names in upper case and without where they lie in memory.
 use Rattle.std.specs.Prelude.{ℕ, List, map}
 use Rattle.std.specs.Borrow.{Bor}
 use Rattle.qw_ast.specs.declared.tree.TableDefinition.{TableDefinition}
@@ -7,12 +7,12 @@ use Rattle.qw_ast.specs.declared.tree.QuerySpecification.{QuerySpecification}
 use Rattle.qw_ast.specs.Grammar.{folded, Source, Selection}
 
 -- each name in upper case
-abbrev pub names_of : List (Bor (List ℕ)) → List (List ℕ)
-names_of names = map (λ name. folded name.now) names
+abbrev pub folded_names : List (Bor (List ℕ)) → List (List ℕ)
+folded_names names = map (λ name. folded name.now) names
 
 -- the names of the table and of its columns
 abbrev pub definition : TableDefinition → List ℕ × List (List ℕ)
-definition d = (folded d.table.now, names_of d.columns.items)
+definition d = (folded d.table.now, folded_names d.columns.items)
 
 -- what stands behind a select list
 abbrev pub source : TableExpression → Source
@@ -20,4 +20,4 @@ source e = record { table = folded e.table.now; tested = folded e.tested.now; co
 
 -- what a query names
 abbrev pub selection : QuerySpecification → Selection
-selection q = record { columns = names_of q.columns.items; source = source q.source }
+selection q = record { columns = folded_names q.columns.items; source = source q.source }

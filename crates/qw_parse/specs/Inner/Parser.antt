@@ -1,5 +1,7 @@
--- Reading a form from left to right.
-use Rattle.std.specs.Prelude.{ℕ, zero, suc, ◌^◌, nat_lt, Bool, true, false, ◌&&◌, not, List, [], ◌∷◌, ◌++◌, length, ℤ, pos, neg_ℤ, codes, Option, Some, None, if◌then◌else◌}
+-- Mirrors the readers of src/parse/form.rt, and the tests of src/parse/word.rt, literal.rt and declare.rt. A reader answers
+-- what it found and the tokens behind that. Each way to put readers together has its lemma in proofs/FormLemmas and
+-- proofs/ListLemmas.
+use Rattle.std.specs.Prelude.{ℕ, zero, suc, ◌^◌, nat_lt, nat_eq, Bool, true, false, ◌&&◌, not, List, [], ◌∷◌, ◌++◌, length, ℤ, pos, neg_ℤ, codes, Option, Some, None, if◌then◌else◌}
 use Rattle.std.specs.List.{list_any}
 use Rattle.std.specs.Option.{option_map_or}
 use Rattle.std.specs.Str.{bytes_eq}
@@ -8,7 +10,7 @@ use Rattle.qw_token.specs.declared.token.Kind.{Kind}
 use Rattle.qw_token.specs.declared.token.Kind.TheVariants.{Word}
 use Rattle.qw_types.specs.Digits.{are_digits}
 use Rattle.qw_token.specs.Token.{Lexeme}
-use Rattle.qw_ast.specs.Grammar.{folded, reserved, Source, Selection}
+use Rattle.qw_ast.specs.Grammar.{folded, reserved, Terminal, key_word, regular, symbol, unsigned, Source, Selection}
 use Rattle.qw_parse.specs.declared.parse.form.Item.{Item}
 use Rattle.qw_parse.specs.declared.parse.form.Item.TheVariants.{ColumnDefinition, ColumnReference}
 use Rattle.qw_meaning.specs.declared.query.Comparison.{Comparison}
@@ -29,20 +31,30 @@ is_word _ = false
 abbrev pub is_reserved : List ℕ → Bool
 is_reserved name = list_any (bytes_eq name) reserved
 
--- the tokens behind the key word
-unfoldable pub key_word_at : List ℕ → List Lexeme → Option (List Lexeme)
-key_word_at word [] = None
-key_word_at word (t ∷ ts) = if bytes_eq (folded t.octets) word then Some ts else None
+-- whether the token matches the terminal
+abbrev pub matches : Terminal → Lexeme → Bool
+matches (key_word word) t = bytes_eq (folded t.octets) word
+matches (regular name) t = is_word t.kind && (bytes_eq (folded t.octets) name && not (is_reserved name))
+matches (symbol octets) t = bytes_eq t.octets octets
+matches (unsigned n) t = are_digits t.octets && nat_eq (digits_value 10 t.octets) n
 
--- the tokens behind the symbol
-unfoldable pub symbol_at : List ℕ → List Lexeme → Option (List Lexeme)
-symbol_at octets [] = None
-symbol_at octets (t ∷ ts) = if bytes_eq t.octets octets then Some ts else None
+-- ---- readers of one token
 
--- a name in upper case, and the tokens behind it
-unfoldable pub regular_at : List Lexeme → Option (List ℕ × List Lexeme)
-regular_at [] = None
-regular_at (t ∷ ts) = if is_word t.kind && not (is_reserved (folded t.octets)) then Some (folded t.octets, ts) else None
+-- the tokens behind one that matches the terminal
+unfoldable pub terminal_at : Terminal → List Lexeme → Option (List Lexeme)
+terminal_at terminal [] = None
+terminal_at terminal (t ∷ ts) = if matches terminal t then Some ts else None
+
+-- what is found in the first token, and the tokens behind it
+unfoldable pub token_at : {A : Type 0} → (Lexeme → Option A) → List Lexeme → Option (A × List Lexeme)
+token_at find [] = None
+token_at find (t ∷ ts) = do
+  x ← find t
+  Some (x, ts)
+
+-- the name that a regular identifier is, in upper case
+abbrev pub regular_of : Lexeme → Option (List ℕ)
+regular_of t = if is_word t.kind && not (is_reserved (folded t.octets)) then Some (folded t.octets) else None
 
 -- the number that digits are, if it fits
 abbrev pub literal_of : List ℕ → Option ℤ
@@ -50,22 +62,6 @@ literal_of octets =
     if are_digits octets && nat_lt (digits_value 10 octets) (10 ^ 18)
     then Some (pos (digits_value 10 octets))
     else None
-
--- a literal with no sign, and the tokens behind it
-unfoldable pub unsigned_at : List Lexeme → Option (ℤ × List Lexeme)
-unsigned_at [] = None
-unsigned_at (t ∷ ts) = do
-  magnitude ← literal_of t.octets
-  Some (magnitude, ts)
-
--- its negative
-abbrev pub negated : Option (ℤ × List Lexeme) → Option (ℤ × List Lexeme)
-negated None = None
-negated (Some read) = Some (neg_ℤ read.0, read.1)
-
--- a literal, behind a `-` or not, and the tokens behind it
-unfoldable pub literal_at : List Lexeme → Option (ℤ × List Lexeme)
-literal_at ts = option_map_or (λ after. negated (unsigned_at after)) (symbol_at (codes "-") ts) (unsigned_at ts)
 
 -- the comparison of the symbol
 abbrev pub comparison_of : List ℕ → Option Comparison
@@ -78,12 +74,68 @@ comparison_of octets =
     else (if bytes_eq octets (codes ">=") then Some GreaterOrEqual
     else None)))))
 
--- a comparison, and the tokens behind it
-unfoldable pub comparison_at : List Lexeme → Option (Comparison × List Lexeme)
-comparison_at [] = None
-comparison_at (t ∷ ts) = do
-  comparison ← comparison_of t.octets
-  Some (comparison, ts)
+-- ---- ways to put readers together
+
+-- the tokens behind some that match the terminals
+abbrev pub fixed_at : List Terminal → List Lexeme → Option (List Lexeme)
+fixed_at [] ts = Some ts
+fixed_at (terminal ∷ terminals) ts = terminal_at terminal ts >>= (λ rest. fixed_at terminals rest)
+
+-- what is read behind the terminals
+abbrev pub behind_at : {A : Type 0} → List Terminal → (List Lexeme → Option (A × List Lexeme)) → List Lexeme → Option (A × List Lexeme)
+behind_at terminals read ts = fixed_at terminals ts >>= (λ rest. read rest)
+
+-- what is read before the terminals
+abbrev pub before_at : {A : Type 0} → (List Lexeme → Option (A × List Lexeme)) → List Terminal → List Lexeme → Option (A × List Lexeme)
+before_at read terminals ts = do
+  x ← read ts
+  rest ← fixed_at terminals x.1
+  Some (x.0, rest)
+
+-- what the two read, one behind the other
+abbrev pub both_at : {A B : Type 0} → (List Lexeme → Option (A × List Lexeme)) → (List Lexeme → Option (B × List Lexeme)) → List Lexeme → Option ((A × B) × List Lexeme)
+both_at first second ts = do
+  x ← first ts
+  y ← second x.1
+  Some ((x.0, y.0), y.1)
+
+-- what is made of what is read
+abbrev pub made_at : {A B : Type 0} → (A → B) → (List Lexeme → Option (A × List Lexeme)) → List Lexeme → Option (B × List Lexeme)
+made_at make read ts = do
+  x ← read ts
+  Some (make x.0, x.1)
+
+-- what the first reads behind the terminal, or where that isn't there what the second reads
+abbrev pub optional_at : {A : Type 0} → Terminal → (List Lexeme → Option (A × List Lexeme)) → (List Lexeme → Option (A × List Lexeme)) → List Lexeme → Option (A × List Lexeme)
+optional_at terminal first second ts = option_map_or (λ rest. first rest) (terminal_at terminal ts) (second ts)
+
+-- a comma
+abbrev pub comma : Terminal
+comma = symbol (codes ",")
+
+-- what is read, behind other items
+abbrev pub behind : {A : Type 0} → List A → Option (List A × List Lexeme) → Option (List A × List Lexeme)
+behind front None = None
+behind front (Some read) = Some (front ++ read.0, read.1)
+
+-- the items that stand behind a comma each, and the tokens behind those; only for fewer than `most` of them
+unfoldable pub further_within : {A : Type 0} → ℕ → (List Lexeme → Option (A × List Lexeme)) → List Lexeme → Option (List A × List Lexeme)
+further_within zero read ts = None
+further_within (suc most) read ts =
+    option_map_or
+    (λ after. read after >>= (λ first. behind (first.0 ∷ []) (further_within most read first.1)))
+    (terminal_at comma ts)
+    (Some ([], ts))
+
+-- the same for any number: there are fewer items than tokens
+abbrev pub further : {A : Type 0} → (List Lexeme → Option (A × List Lexeme)) → List Lexeme → Option (List A × List Lexeme)
+further read ts = further_within (suc (length ts)) read ts
+
+-- the items, with a comma between each two, and the tokens behind the list
+unfoldable pub list_at : {A : Type 0} → (List Lexeme → Option (A × List Lexeme)) → List Lexeme → Option (List A × List Lexeme)
+list_at read ts = do
+  first ← read ts
+  behind (first.0 ∷ []) (further read first.1)
 
 -- whether nothing is left but a `;`
 unfoldable pub is_end : List Lexeme → Bool
@@ -91,93 +143,65 @@ is_end [] = true
 is_end (t ∷ []) = bytes_eq t.octets (codes ";")
 is_end (t ∷ u ∷ ts) = false
 
--- ---- lists
+-- what is read of the whole
+abbrev pub whole_of : {A : Type 0} → (List Lexeme → Option (A × List Lexeme)) → List Lexeme → Option A
+whole_of read ts = do
+  x ← read ts
+  if is_end x.1 then Some x.0 else None
 
--- the name in a column definition, and the tokens behind that
+-- ---- the rules of the grammar
+
+-- a regular identifier
+unfoldable pub regular_at : List Lexeme → Option (List ℕ × List Lexeme)
+regular_at ts = token_at regular_of ts
+
+-- a literal with no sign
+unfoldable pub unsigned_at : List Lexeme → Option (ℤ × List Lexeme)
+unsigned_at ts = token_at (λ (t : Lexeme). literal_of t.octets) ts
+
+-- a literal, behind a `-` or not
+unfoldable pub literal_at : List Lexeme → Option (ℤ × List Lexeme)
+literal_at ts = optional_at (symbol (codes "-")) (made_at neg_ℤ unsigned_at) unsigned_at ts
+
+-- a comparison
+unfoldable pub comparison_at : List Lexeme → Option (Comparison × List Lexeme)
+comparison_at ts = token_at (λ (t : Lexeme). comparison_of t.octets) ts
+
+-- a column definition, by its name
 unfoldable pub column_definition_at : List Lexeme → Option (List ℕ × List Lexeme)
-column_definition_at ts = do
-  name ← regular_at ts
-  a ← key_word_at (codes "INTEGER") name.1
-  b ← key_word_at (codes "NOT") a
-  c ← key_word_at (codes "NULL") b
-  Some (name.0, c)
+column_definition_at ts =
+    before_at regular_at (key_word (codes "INTEGER") ∷ key_word (codes "NOT") ∷ key_word (codes "NULL") ∷ []) ts
 
--- the name in an item of a list, and the tokens behind the item
+-- an item of a list, by its name
 abbrev pub item_at : Item → List Lexeme → Option (List ℕ × List Lexeme)
 item_at ColumnDefinition ts = column_definition_at ts
 item_at ColumnReference ts = regular_at ts
 
--- the names that are read, behind others
-abbrev pub behind : List (List ℕ) → Option (List (List ℕ) × List Lexeme) → Option (List (List ℕ) × List Lexeme)
-behind front None = None
-behind front (Some read) = Some (front ++ read.0, read.1)
+-- CREATE TABLE table (
+unfoldable pub table_at : List Lexeme → Option (List ℕ × List Lexeme)
+table_at ts =
+    behind_at (key_word (codes "CREATE") ∷ key_word (codes "TABLE") ∷ []) (before_at regular_at (symbol (codes "(") ∷ [])) ts
 
--- the names in the items that stand behind a comma each, and the tokens behind those; only for fewer than `most` of them
-unfoldable pub further_within : ℕ → Item → List Lexeme → Option (List (List ℕ) × List Lexeme)
-further_within zero item ts = None
-further_within (suc most) item ts =
-    option_map_or
-    (λ after. item_at item after >>= (λ first. behind (first.0 ∷ []) (further_within most item first.1)))
-    (symbol_at (codes ",") ts)
-    (Some ([], ts))
+-- a table definition, by the names of the table and of the columns
+unfoldable pub create_table_at : List Lexeme → Option ((List ℕ × List (List ℕ)) × List Lexeme)
+create_table_at ts = both_at table_at (before_at (list_at (item_at ColumnDefinition)) (symbol (codes ")") ∷ [])) ts
 
--- the same for any number: there are fewer items than tokens
-abbrev pub further : Item → List Lexeme → Option (List (List ℕ) × List Lexeme)
-further item ts = further_within (suc (length ts)) item ts
+-- what stands behind a select list
+unfoldable pub table_expression_at : List Lexeme → Option (Source × List Lexeme)
+table_expression_at ts =
+    made_at (λ (x : List ℕ × (List ℕ × (Comparison × ℤ))). record { table = x.0; tested = x.1.0; comparison = x.1.1.0; literal = x.1.1.1 })
+    (behind_at (key_word (codes "FROM") ∷ [])
+    (both_at regular_at (behind_at (key_word (codes "WHERE") ∷ []) (both_at regular_at (both_at comparison_at literal_at))))) ts
 
--- the names in the items, with a comma between each two, and the tokens behind the list
-unfoldable pub list_at : Item → List Lexeme → Option (List (List ℕ) × List Lexeme)
-list_at item ts = do
-  first ← item_at item ts
-  behind (first.0 ∷ []) (further item first.1)
+-- a query, by what it names
+unfoldable pub query_specification_at : List Lexeme → Option (Selection × List Lexeme)
+query_specification_at ts =
+    made_at (λ (x : List (List ℕ) × Source). record { columns = x.0; source = x.1 })
+    (behind_at (key_word (codes "SELECT") ∷ []) (both_at (list_at (item_at ColumnReference)) table_expression_at)) ts
+
+-- ---- names that differ
 
 -- whether no name comes twice
 abbrev pub are_distinct : List (List ℕ) → Bool
 are_distinct [] = true
 are_distinct (name ∷ names) = not (list_any (bytes_eq name) names) && are_distinct names
-
--- ---- the texts
-
--- the name in CREATE TABLE table (, and the tokens behind that
-unfoldable pub table_at : List Lexeme → Option (List ℕ × List Lexeme)
-table_at ts = do
-  a ← key_word_at (codes "CREATE") ts
-  b ← key_word_at (codes "TABLE") a
-  table ← regular_at b
-  c ← symbol_at (codes "(") table.1
-  Some (table.0, c)
-
--- whether nothing is left but a `)` and an end
-unfoldable pub is_closed : List Lexeme → Bool
-is_closed ts = option_map_or is_end (symbol_at (codes ")") ts) false
-
--- the names of the table and of the columns
-unfoldable pub create_table_of : List Lexeme → Option (List ℕ × List (List ℕ))
-create_table_of ts = do
-  table ← table_at ts
-  columns ← list_at ColumnDefinition table.1
-  if is_closed columns.1 then Some (table.0, columns.0) else None
-
--- what stands behind the select list, to the end
-unfoldable pub source_of : List Lexeme → Option Source
-source_of ts = do
-  a ← key_word_at (codes "FROM") ts
-  table ← regular_at a
-  b ← key_word_at (codes "WHERE") table.1
-  tested ← regular_at b
-  comparison ← comparison_at tested.1
-  literal ← literal_at comparison.1
-  if is_end literal.1 then Some (record {
-    table = table.0;
-    tested = tested.0;
-    comparison = comparison.0;
-    literal = literal.0;
-  }) else None
-
--- what the query names
-unfoldable pub selection_of : List Lexeme → Option Selection
-selection_of ts = do
-  a ← key_word_at (codes "SELECT") ts
-  columns ← list_at ColumnReference a
-  source ← source_of columns.1
-  Some (record { columns = columns.0; source = source })

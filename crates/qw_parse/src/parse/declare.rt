@@ -7,7 +7,7 @@ ghost use Rattle.qw_types.specs.Schema.{AreColumns};
 ghost use Rattle.qw_ast.specs.Grammar.{folded};
 ghost use Rattle.qw_parse.specs.Parse.{integer_column, one_table};
 ghost use Rattle.qw_parse.specs.Inner.Parser.{are_distinct};
-ghost use Rattle.qw_ast.specs.Inner.Views.{names_of};
+ghost use Rattle.qw_ast.specs.Inner.Views.{folded_names};
 
 use super::ParseFault;
 use super::word::is_same_name;
@@ -29,9 +29,9 @@ pub(crate) fn declared(
     requires table_ascii { IsAscii definition.now.table.now }
     requires columns_ascii { AllByRecursion (λ name. IsAscii name.now) definition.now.columns.items }
     requires some { 0 < length definition.now.columns.items }
-    ensures limits { IfOk result (λ schema. AreColumns (map integer_column (names_of definition.now.columns.items))) }
-    ensures declares { IfOk result (λ schema. schema ≡ one_table (folded definition.now.table.now) (names_of definition.now.columns.items)) }
-    ensures refused { IsErrOf result ParseFault.Refused → AreColumns (map integer_column (names_of definition.now.columns.items)) → ⊥ }
+    ensures limits { IfOk result (λ schema. AreColumns (map integer_column (folded_names definition.now.columns.items))) }
+    ensures declares { IfOk result (λ schema. schema ≡ one_table (folded definition.now.table.now) (folded_names definition.now.columns.items)) }
+    ensures refused { IsErrOf result ParseFault.Refused → AreColumns (map integer_column (folded_names definition.now.columns.items)) → ⊥ }
 {
     let names = definition.columns.as_slice();
     if MAX_COLUMNS < names.len() {
@@ -52,7 +52,7 @@ fn is_one_of(name: &[u8], others: &[&[u8]]) -> bool
 
 /// Whether no name comes twice.
 fn are_distinct(names: &[&[u8]]) -> bool
-    ensures { result ≡ are_distinct (names_of names.now) }
+    ensures { result ≡ are_distinct (folded_names names.now) }
 {
     for (index, name) in names.iter().enumerate() {
         if is_one_of(name, &names[index + 1..]) {
@@ -89,7 +89,7 @@ fn integer_column(alloc: Global, name: &[u8]) -> Result<Column, NoMemory>
 /// Such columns of these names, in order.
 fn integer_columns(alloc: Global, names: &[&[u8]]) -> Result<Vec<Column>, NoMemory>
     requires { AllByRecursion (λ name. IsAscii name.now) names.now }
-    ensures { IfOk result (λ columns. columns.items ≡ map integer_column (names_of names.now)) }
+    ensures { IfOk result (λ columns. columns.items ≡ map integer_column (folded_names names.now)) }
 {
     let mut columns = Vec::new(alloc);
     for name in names {
@@ -102,8 +102,8 @@ fn integer_columns(alloc: Global, names: &[&[u8]]) -> Result<Vec<Column>, NoMemo
 fn one_table(alloc: Global, table: &[u8], names: &[&[u8]]) -> Result<Schema, NoMemory>
     requires table_ascii { IsAscii table.now }
     requires columns_ascii { AllByRecursion (λ name. IsAscii name.now) names.now }
-    requires limits { AreColumns (map integer_column (names_of names.now)) }
-    ensures { IfOk result (λ schema. schema ≡ one_table (folded table.now) (names_of names.now)) }
+    requires limits { AreColumns (map integer_column (folded_names names.now)) }
+    ensures { IfOk result (λ schema. schema ≡ one_table (folded table.now) (folded_names names.now)) }
 {
     let table = Table {
         name: folded_text(alloc, table)?,

@@ -1,10 +1,10 @@
 //! The forms of the statements, read from left to right.
 
 ghost use Rattle.std.specs.Prelude.{◌≡◌, ◌≤ℤ◌, pos, IfOk, IfSome, option_map};
-ghost use Rattle.qw_ast.specs.Grammar.{folded};
-ghost use Rattle.qw_parse.specs.Inner.Parser.{key_word_at, symbol_at, regular_at, unsigned_at, literal_at, comparison_of, comparison_at, is_end, column_definition_at, item_at, list_at, table_at, is_closed, create_table_of, source_of, selection_of};
+ghost use Rattle.qw_ast.specs.Grammar.{folded, key_word, symbol};
+ghost use Rattle.qw_parse.specs.Inner.Parser.{terminal_at, regular_at, unsigned_at, literal_at, comparison_of, comparison_at, is_end, column_definition_at, item_at, list_at, whole_of, table_at, create_table_at, table_expression_at, query_specification_at};
 ghost use Rattle.qw_token.specs.Token.{lexemes};
-ghost use Rattle.qw_ast.specs.Inner.Views.{definition, names_of, source, selection};
+ghost use Rattle.qw_ast.specs.Inner.Views.{definition, folded_names, source, selection};
 
 use super::literal::literal_of;
 use super::word::{folds_to, is_reserved};
@@ -22,9 +22,9 @@ pub(crate) enum Item {
 }
 
 /// The tokens behind the key word.
-#[tactic(auto, unfolding(crate::specs::Inner::Parser::key_word_at))]
+#[tactic(auto, unfolding(crate::specs::Inner::Parser::terminal_at))]
 fn key_word<'t, 'a>(tokens: &'t [Token<'a>], word: &[u8]) -> Option<&'t [Token<'a>]>
-    ensures { option_map (λ x. lexemes x.now) result ≡ key_word_at word.now (lexemes tokens.now) }
+    ensures { option_map (λ x. lexemes x.now) result ≡ terminal_at (key_word word.now) (lexemes tokens.now) }
 {
     match tokens {
         [first, rest @ ..] if folds_to(first.octets, word) => Some(rest),
@@ -33,9 +33,9 @@ fn key_word<'t, 'a>(tokens: &'t [Token<'a>], word: &[u8]) -> Option<&'t [Token<'
 }
 
 /// The tokens behind the symbol.
-#[tactic(auto, unfolding(crate::specs::Inner::Parser::symbol_at))]
+#[tactic(auto, unfolding(crate::specs::Inner::Parser::terminal_at))]
 fn symbol<'t, 'a>(tokens: &'t [Token<'a>], octets: &[u8]) -> Option<&'t [Token<'a>]>
-    ensures { option_map (λ x. lexemes x.now) result ≡ symbol_at octets.now (lexemes tokens.now) }
+    ensures { option_map (λ x. lexemes x.now) result ≡ terminal_at (symbol octets.now) (lexemes tokens.now) }
 {
     match tokens {
         [first, rest @ ..] if first.octets == octets => Some(rest),
@@ -44,7 +44,7 @@ fn symbol<'t, 'a>(tokens: &'t [Token<'a>], octets: &[u8]) -> Option<&'t [Token<'
 }
 
 /// The regular identifier in front, as it stands in the text, and the tokens behind it.
-#[tactic(auto, unfolding(crate::specs::Inner::Parser::regular_at))]
+#[tactic(auto, unfolding(crate::specs::Inner::Parser::regular_at, crate::specs::Inner::Parser::token_at))]
 fn regular<'t, 'a>(tokens: &'t [Token<'a>]) -> Option<(&'a [u8], &'t [Token<'a>])>
     ensures { option_map (λ x. (folded x.0.now, lexemes x.1.now)) result ≡ regular_at (lexemes tokens.now) }
 {
@@ -69,7 +69,7 @@ fn is_end(tokens: &[Token<'_>]) -> bool
 }
 
 /// The literal in front, without a sign, and the tokens behind it.
-#[tactic(auto, unfolding(crate::specs::Inner::Parser::unsigned_at))]
+#[tactic(auto, unfolding(crate::specs::Inner::Parser::unsigned_at, crate::specs::Inner::Parser::token_at))]
 fn unsigned<'t, 'a>(tokens: &'t [Token<'a>]) -> Option<(i64, &'t [Token<'a>])>
     ensures read { option_map (λ x. (x.0, lexemes x.1.now)) result ≡ unsigned_at (lexemes tokens.now) }
     ensures no_sign { IfSome result (λ x. pos 0 ≤ℤ x.0) }
@@ -108,7 +108,7 @@ fn comparison_of(octets: &[u8]) -> Option<Comparison>
 }
 
 /// The comparison in front, and the tokens behind it.
-#[tactic(auto, unfolding(crate::specs::Inner::Parser::comparison_at))]
+#[tactic(auto, unfolding(crate::specs::Inner::Parser::comparison_at, crate::specs::Inner::Parser::token_at))]
 fn comparison<'t, 'a>(tokens: &'t [Token<'a>]) -> Option<(Comparison, &'t [Token<'a>])>
     ensures { option_map (λ x. (x.0, lexemes x.1.now)) result ≡ comparison_at (lexemes tokens.now) }
 {
@@ -146,7 +146,7 @@ fn list<'t, 'a>(
     kind: Item,
     tokens: &'t [Token<'a>],
 ) -> Result<Option<(Vec<&'a [u8]>, &'t [Token<'a>])>, NoMemory>
-    ensures { IfOk result (λ read. option_map (λ x. (names_of x.0.items, lexemes x.1.now)) read ≡ list_at kind (lexemes tokens.now)) }
+    ensures { IfOk result (λ read. option_map (λ x. (folded_names x.0.items, lexemes x.1.now)) read ≡ list_at (item_at kind) (lexemes tokens.now)) }
 {
     let Some((first, mut rest)) = one_item(kind, tokens) else {
         return Ok(None);
@@ -174,24 +174,13 @@ fn table<'t, 'a>(tokens: &'t [Token<'a>]) -> Option<(&'a [u8], &'t [Token<'a>])>
     Some((table, rest))
 }
 
-/// Whether nothing is left but a `)` and an end.
-#[tactic(auto, unfolding(crate::specs::Inner::Parser::is_closed))]
-fn is_closed(tokens: &[Token<'_>]) -> bool
-    ensures { result ≡ is_closed (lexemes tokens.now) }
-{
-    match symbol(tokens, b")") {
-        Some(rest) => is_end(rest),
-        None => false,
-    }
-}
-
 /// The names of the table and of its columns.
-#[tactic(auto, unfolding(crate::specs::Inner::Parser::create_table_of))]
+#[tactic(auto, unfolding(crate::specs::Inner::Parser::create_table_at))]
 pub(crate) fn create_table<'a>(
     alloc: Global,
     tokens: &[Token<'a>],
 ) -> Result<Option<TableDefinition<'a>>, NoMemory>
-    ensures { IfOk result (λ read. option_map definition read ≡ create_table_of (lexemes tokens.now)) }
+    ensures { IfOk result (λ read. option_map definition read ≡ whole_of create_table_at (lexemes tokens.now)) }
 {
     let Some((table, rest)) = table(tokens) else {
         return Ok(None);
@@ -199,17 +188,22 @@ pub(crate) fn create_table<'a>(
     let Some((columns, rest)) = list(alloc, Item::ColumnDefinition, rest)? else {
         return Ok(None);
     };
-    if is_closed(rest) {
+    let Some(rest) = symbol(rest, b")") else {
+        return Ok(None);
+    };
+    if is_end(rest) {
         Ok(Some(TableDefinition { table, columns }))
     } else {
         Ok(None)
     }
 }
 
-/// What stands behind a select list, to the end.
-#[tactic(auto, unfolding(crate::specs::Inner::Parser::source_of))]
-fn table_expression<'a>(tokens: &[Token<'a>]) -> Option<TableExpression<'a>>
-    ensures { option_map source result ≡ source_of (lexemes tokens.now) }
+/// What stands behind a select list, and the tokens behind it.
+#[tactic(auto, unfolding(crate::specs::Inner::Parser::table_expression_at))]
+fn table_expression<'t, 'a>(
+    tokens: &'t [Token<'a>],
+) -> Option<(TableExpression<'a>, &'t [Token<'a>])>
+    ensures { option_map (λ x. (source x.0, lexemes x.1.now)) result ≡ table_expression_at (lexemes tokens.now) }
 {
     let rest = key_word(tokens, b"FROM")?;
     let (table, rest) = regular(rest)?;
@@ -217,25 +211,22 @@ fn table_expression<'a>(tokens: &[Token<'a>]) -> Option<TableExpression<'a>>
     let (tested, rest) = regular(rest)?;
     let (comparison, rest) = comparison(rest)?;
     let (literal, rest) = literal(rest)?;
-    if is_end(rest) {
-        Some(TableExpression {
-            table,
-            tested,
-            comparison,
-            literal,
-        })
-    } else {
-        None
-    }
+    let read = TableExpression {
+        table,
+        tested,
+        comparison,
+        literal,
+    };
+    Some((read, rest))
 }
 
 /// The names and the literal of the query.
-#[tactic(auto, unfolding(crate::specs::Inner::Parser::selection_of))]
+#[tactic(auto, unfolding(crate::specs::Inner::Parser::query_specification_at))]
 pub(crate) fn query_specification<'a>(
     alloc: Global,
     tokens: &[Token<'a>],
 ) -> Result<Option<QuerySpecification<'a>>, NoMemory>
-    ensures { IfOk result (λ read. option_map selection read ≡ selection_of (lexemes tokens.now)) }
+    ensures { IfOk result (λ read. option_map selection read ≡ whole_of query_specification_at (lexemes tokens.now)) }
 {
     let Some(rest) = key_word(tokens, b"SELECT") else {
         return Ok(None);
@@ -243,8 +234,12 @@ pub(crate) fn query_specification<'a>(
     let Some((columns, rest)) = list(alloc, Item::ColumnReference, rest)? else {
         return Ok(None);
     };
-    let Some(source) = table_expression(rest) else {
+    let Some((source, rest)) = table_expression(rest) else {
         return Ok(None);
     };
-    Ok(Some(QuerySpecification { columns, source }))
+    if is_end(rest) {
+        Ok(Some(QuerySpecification { columns, source }))
+    } else {
+        Ok(None)
+    }
 }

@@ -3,8 +3,8 @@
 ghost use Rattle.std.specs.Prelude.{◌≡◌, ◌<◌, ℕ, List, length, IfOk, IsErrOf, map, option_map, Some, MatchOption};
 ghost use Rattle.qw_meaning.specs.Statement.{Statement};
 ghost use Rattle.qw_ast.specs.Grammar.{folded};
-ghost use Rattle.qw_parse.specs.Parse.{Means, table_of, place_of};
-ghost use Rattle.qw_ast.specs.Inner.Views.{names_of, selection};
+ghost use Rattle.qw_parse.specs.Parse.{Means, table_of, index_of};
+ghost use Rattle.qw_ast.specs.Inner.Views.{folded_names, selection};
 
 use super::ParseFault;
 use super::word::folds_to;
@@ -36,13 +36,13 @@ pub(crate) fn resolved(
         return Err(ParseFault::Refused);
     };
     let columns = table.columns.as_slice();
-    let Some(tested) = place_named(columns, source.tested) else {
+    let Some(tested) = index_named(columns, source.tested) else {
         return Err(ParseFault::Refused);
     };
-    let Some(places) = places_of(alloc, columns, names)? else {
+    let Some(indices) = indices_of(alloc, columns, names)? else {
         return Err(ParseFault::Refused);
     };
-    Ok(Query::new(places, tested, source.comparison, source.literal))
+    Ok(Query::new(indices, tested, source.comparison, source.literal))
 }
 
 /// The table of the name.
@@ -54,31 +54,31 @@ fn table_named<'s>(tables: &'s [Table], name: &[u8]) -> Option<&'s Table>
         .find(|table| folds_to(name, table.name.as_str().as_bytes()))
 }
 
-/// The place of the column of the name.
-fn place_named(columns: &[Column], name: &[u8]) -> Option<usize>
-    ensures { result ≡ place_of columns.now (folded name.now) }
+/// The index of the column of the name.
+fn index_named(columns: &[Column], name: &[u8]) -> Option<usize>
+    ensures { result ≡ index_of columns.now (folded name.now) }
 {
     columns
         .iter()
         .position(|column| folds_to(name, column.name.as_str().as_bytes()))
 }
 
-/// The places of the columns of the names, if there is one of each.
-fn places_of(
+/// The indices of the columns of the names, if there is one of each.
+fn indices_of(
     alloc: Global,
     columns: &[Column],
     names: &[&[u8]],
 ) -> Result<Option<Vec<usize>>, NoMemory>
     ensures { IfOk result (λ found. MatchOption found
-        ((places : List ℕ) → map (place_of columns.now) (names_of names.now) ≡ map Some places → ⊥)
-        (λ places. map (place_of columns.now) (names_of names.now) ≡ map Some places.items)) }
+        ((indices : List ℕ) → map (index_of columns.now) (folded_names names.now) ≡ map Some indices → ⊥)
+        (λ indices. map (index_of columns.now) (folded_names names.now) ≡ map Some indices.items)) }
 {
-    let mut places = Vec::new(alloc);
+    let mut indices = Vec::new(alloc);
     for name in names {
-        let Some(place) = place_named(columns, name) else {
+        let Some(index) = index_named(columns, name) else {
             return Ok(None);
         };
-        places.push(place)?;
+        indices.push(index)?;
     }
-    Ok(Some(places))
+    Ok(Some(indices))
 }

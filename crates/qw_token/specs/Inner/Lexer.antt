@@ -1,4 +1,4 @@
--- What the functions that read one token answer.
+-- Mirrors the functions of src/token/lexer.rt that read one token.
 use Rattle.std.specs.Prelude.{◌≡◌, ◌<◌, ℕ, Bool, ◌==◌, ◌||◌, ◌&&◌, List, [], ◌∷◌, Option, Some, None, if◌then◌else◌}
 use Rattle.std.specs.Char.{is_ascii_alphabetic, is_ascii_digit}
 use Rattle.qw_token.specs.declared.token.Kind.{Kind}

@@ -2,4 +2,4 @@ use Rattle.qw_token.proofs.TokenRun.{AreTokens-unique, StopsAt-unique, AreTokens
 use Rattle.qw_token.proofs.token.one_reading.Goals as goal
 
 pub returns : goal.returns
-returns c = record { tokens = AreTokens-unique; place = StopsAt-unique; either = AreTokens-no_stop }
+returns c = record { tokens = AreTokens-unique; position = StopsAt-unique; either = AreTokens-no_stop }

@@ -9,6 +9,6 @@ new-requires c =
     let columns = c.as_slice-columns.result.now in
     let query = c.args.query.now in
     let are = subst AreColumns (sym c.as_slice-columns.ensures.same) c.as_slice-columns.ensures.limits in
-    let found = rw c.in-Some-2.is at c.in_ok-places.ensures in
-    statement_within columns c.as_slice-names.result.now c.in-Some-2.places.items (folded query.source.tested.now) c.in-Some-place_named.tested query.source.comparison _
-    are (rw c.as_slice-names.ensures.value c.requires) c.if-names-gt-MAX_ITEMS.false found c.in-Some-place_named.ensures
+    let found = rw c.in-Some-2.is at c.in_ok-indices.ensures in
+    statement_within columns c.as_slice-names.result.now c.in-Some-2.indices.items (folded query.source.tested.now) c.in-Some-index_named.tested query.source.comparison _
+    are (rw c.as_slice-names.ensures.value c.requires) c.if-names-gt-MAX_ITEMS.false found c.in-Some-index_named.ensures
