@@ -12,7 +12,7 @@ product_fits a b n within small is =
     fits_signed_mul w128 a b (10 ^ 18) (10 ^ 18) (grind (arith, nat_tests, within)) (rw is (pow-le-pow_right (omega arith) small)) (omega arith)
 
 -- a result that was checked is what was checked, and fits
-checked_is : (v x : ℤ) → ◌≡◌ {A = Result ℤ Code} (Ok x) (checked v) → x ≡ v
+pub checked_is : (v x : ℤ) → ◌≡◌ {A = Result ℤ Code} (Ok x) (checked v) → x ≡ v
 checked_is v x e = grind (arith, nat_tests)
 
 checked_fits : (v x : ℤ) → ◌≡◌ {A = Result ℤ Code} (Ok x) (checked v) → unsigned_abs x < 10 ^ 18
@@ -39,7 +39,7 @@ small_sum_fits x y hx hy = grind (arith, ints)
 small_difference_fits : (x y : ℤ) → unsigned_abs x < 10 ^ 18 → unsigned_abs y < 10 ^ 18 → FitsSigned w128 (x -ℤ y)
 small_difference_fits x y hx hy = grind (arith, ints)
 
-brought_fits : (v x : ℤ) (from to : ℕ) → ◌≡◌ {A = Result ℤ Code} (Ok x) (bring v from to) → unsigned_abs x < 10 ^ 18
+pub brought_fits : (v x : ℤ) (from to : ℕ) → ◌≡◌ {A = Result ℤ Code} (Ok x) (bring v from to) → unsigned_abs x < 10 ^ 18
 brought_fits v x from to e = checked_fits (v *ℤ pos (10 ^ (to - from))) x e
 
 fits_is : (x : ℤ) → IsTrue (fits x) → unsigned_abs x < 10 ^ 18
@@ -89,7 +89,7 @@ product_is a b x y r fa fb wa wb ex ey er =
     simp to_z-of_z at er'
 
 -- a quotient is no larger than its dividend
-quotient_below : (a d : ℤ) (m : ℕ) → unsigned_abs a < m → unsigned_abs (int_div a d) < m
+pub quotient_below : (a d : ℤ) (m : ℕ) → unsigned_abs a < m → unsigned_abs (int_div a d) < m
 quotient_below (pos a) (pos b) m h = omega (arith, div-le_self a b)
 quotient_below (pos a) (negsuc b) m h = omega (arith, unsigned_abs_negated (a / suc b), div-le_self a (suc b))
 quotient_below (negsuc a) (pos b) m h = omega (arith, unsigned_abs_negated (suc a / b), div-le_self (suc a) b)

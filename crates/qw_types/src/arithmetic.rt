@@ -1,7 +1,7 @@
 //! Exact arithmetic on whole numbers with scales (ISO/IEC 9075:1992, 6.12). A value `v` of scale `s` stands for
 //! `v / 10^s`, and has at most 18 digits. Nothing here takes memory.
 
-ghost use Rattle.std.specs.Prelude.{◌≡◌, ◌≢◌, ◌+◌, ◌-◌, ◌≤◌, ◌^◌, ◌*ℤ◌, pos, IsTrue};
+ghost use Rattle.std.specs.Prelude.{◌≡◌, ◌≢◌, ◌+◌, ◌-◌, ◌≤◌, ◌^◌, ◌*ℤ◌, pos, IfOk, IsTrue};
 ghost use Rattle.qw_types.specs.Arithmetic.{bring, checked, difference_of, fits, order_of, product_of, quotient_of, sum_of};
 
 use crate::code::Code;
@@ -18,7 +18,8 @@ const FIRST_TOO_LARGE: u128 = 1_000_000_000_000_000_000;
 pub fn add(a: i64, sa: u8, b: i64, sb: u8) -> Result<i64, Code>
     requires fits { IsTrue (fits a) × IsTrue (fits b) }
     requires scales { (sa ≤ 18) × (sb ≤ 18) }
-    ensures { result ≡ sum_of a sa b sb }
+    ensures value { result ≡ sum_of a sa b sb }
+    ensures fits { IfOk result (λ v. IsTrue (fits v)) }
 {
     let scale = sa.max(sb);
     let x = brought(a, sa, scale)?;
@@ -34,7 +35,8 @@ pub fn add(a: i64, sa: u8, b: i64, sb: u8) -> Result<i64, Code>
 pub fn sub(a: i64, sa: u8, b: i64, sb: u8) -> Result<i64, Code>
     requires fits { IsTrue (fits a) × IsTrue (fits b) }
     requires scales { (sa ≤ 18) × (sb ≤ 18) }
-    ensures { result ≡ difference_of a sa b sb }
+    ensures value { result ≡ difference_of a sa b sb }
+    ensures fits { IfOk result (λ v. IsTrue (fits v)) }
 {
     let scale = sa.max(sb);
     let x = brought(a, sa, scale)?;
@@ -50,7 +52,8 @@ pub fn sub(a: i64, sa: u8, b: i64, sb: u8) -> Result<i64, Code>
 pub fn mul(a: i64, sa: u8, b: i64, sb: u8) -> Result<i64, Code>
     requires fits { IsTrue (fits a) × IsTrue (fits b) }
     requires scales { sa + sb ≤ 18 }
-    ensures { result ≡ product_of a b }
+    ensures value { result ≡ product_of a b }
+    ensures fits { IfOk result (λ v. IsTrue (fits v)) }
 {
     let _scale = sa + sb;
     within(i128::from(a) * i128::from(b))
@@ -64,7 +67,8 @@ pub fn mul(a: i64, sa: u8, b: i64, sb: u8) -> Result<i64, Code>
 pub fn div(a: i64, sa: u8, b: i64, sb: u8) -> Result<i64, Code>
     requires fits { IsTrue (fits a) × IsTrue (fits b) }
     requires scales { sa + sb ≤ 18 }
-    ensures { result ≡ quotient_of a sa b sb }
+    ensures value { result ≡ quotient_of a sa b sb }
+    ensures fits { IfOk result (λ v. IsTrue (fits v)) }
 {
     if b == 0 {
         return Err(Code::DivZero);

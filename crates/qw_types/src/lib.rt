@@ -2,6 +2,7 @@
 //!
 //! - [`truth::Truth`]: truth of three values; [`truth::and`], [`truth::or`], [`truth::not`].
 //! - [`arithmetic`]: exact arithmetic on whole numbers with scales; [`code::Code`]: the exceptions that it raises.
+//! - [`value_laws`]: what holds of both, and worked cases.
 //! - [`digits`]: whether octets are digits.
 //! - [`value::Ty`] and [`value::Val`]: a column's type, and a value of a row.
 //! - [`text::Text`]: a text, which contracts see as its octets.
@@ -19,6 +20,7 @@ pub mod row;
 pub mod schema;
 pub mod text;
 pub mod truth;
+pub mod value_laws;
 pub mod value;
 
 pub use code::Code;
