@@ -55,7 +55,6 @@ pub fn mul(a: i64, sa: u8, b: i64, sb: u8) -> Result<i64, Code>
     ensures value { result ≡ product_of a b }
     ensures fits { IfOk result (λ v. IsTrue (fits v)) }
 {
-    let _scale = sa + sb;
     within(i128::from(a) * i128::from(b))
 }
 
