@@ -1,1 +1,4 @@
+pub mod ArithmeticLaws
 pub mod DigitLemmas
+mod ArithmeticLemmas
+mod ValueLemmas

@@ -1,5 +1,8 @@
 //! The values, rows and schemas that every other crate speaks of.
 //!
+//! - [`truth::Truth`]: truth of three values; [`truth::and`], [`truth::or`], [`truth::not`].
+//! - [`arithmetic`]: exact arithmetic on whole numbers with scales; [`code::Code`]: the exceptions that it raises.
+//! - [`value_laws`]: what holds of both, and worked cases.
 //! - [`digits`]: whether octets are digits.
 //! - [`value::Ty`] and [`value::Val`]: a column's type, and a value of a row.
 //! - [`text::Text`]: a text, which contracts see as its octets.
@@ -10,16 +13,22 @@
 //! The limits on counts and the rule that names differ are kept by the types.
 #![tactic(auto)]
 
+pub mod arithmetic;
+pub mod code;
 pub mod digits;
 pub mod memory;
 pub mod row;
 pub mod schema;
 pub mod text;
+pub mod truth;
+pub mod value_laws;
 pub mod value;
 pub mod worked_laws;
 
+pub use code::Code;
 pub use memory::NoMemory;
 pub use row::Row;
 pub use schema::{Column, Columns, Schema, Table};
 pub use text::Text;
+pub use truth::Truth;
 pub use value::{Ty, Val};
