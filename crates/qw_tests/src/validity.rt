@@ -96,7 +96,7 @@ fn made_of(alloc: Global, parts: Parts<'_>) -> Result<Module, AllocError> {
 
 /// Each part of validity on both sides of it (WebAssembly Core Specification 1.0, 3.2 and 3.4).
 #[test]
-fn parts(rt: HostRuntime) -> Result<(), Fail> {
+fn each_part(rt: HostRuntime) -> Result<(), Fail> {
     let pages = |min: u32, max: Option<u32>| Limits { min, max };
     let whole = Parts {
         results: &[],
