@@ -6,3 +6,4 @@ pub mod Step
 pub mod Syntax
 pub mod Typing
 pub mod Validity
+pub use Rattle.qw_linear.specs.Memory

@@ -1,5 +1,7 @@
 use qw_module::instruction::{Const, Instr, Load, MemArg, Op, Store, ValType};
-use qw_module::module::{Body, Export, ExportKind, FuncType, Function, Global as ModuleGlobal, Import, Limits, Module};
+use qw_module::module::{
+    Body, Export, ExportKind, FuncType, Function, Global as ModuleGlobal, Import, Limits, Module,
+};
 use qw_valid::valid::{ValidFault, validate};
 use std::alloc::{AllocError, Global};
 use std::test::Fail;
@@ -94,7 +96,7 @@ fn made_of(alloc: Global, parts: Parts<'_>) -> Result<Module, AllocError> {
 
 /// Each part of validity on both sides of it (WebAssembly Core Specification 1.0, 3.2 and 3.4).
 #[test]
-fn parts(rt: HostRuntime) -> Result<(), Fail> {
+fn each_part(rt: HostRuntime) -> Result<(), Fail> {
     let pages = |min: u32, max: Option<u32>| Limits { min, max };
     let whole = Parts {
         results: &[],
@@ -117,7 +119,10 @@ fn parts(rt: HostRuntime) -> Result<(), Fail> {
         ..wide
     };
     let one = [Import::Memory(pages(1, None))];
-    let two = [Import::Memory(pages(1, None)), Import::Memory(pages(1, None))];
+    let two = [
+        Import::Memory(pages(1, None)),
+        Import::Memory(pages(1, None)),
+    ];
     let great = [Import::Memory(pages(65_537, None))];
     let first_type = [Import::Raise(0)];
     let second_type = [Import::Raise(1)];
@@ -142,26 +147,110 @@ fn parts(rt: HostRuntime) -> Result<(), Fail> {
     };
     let cases = [
         (whole, None),
-        (Parts { results: &results, ..whole }, None),
-        (Parts { results: &two_results, ..whole }, Some(ValidFault::Types)),
+        (
+            Parts {
+                results: &results,
+                ..whole
+            },
+            None,
+        ),
+        (
+            Parts {
+                results: &two_results,
+                ..whole
+            },
+            Some(ValidFault::Types),
+        ),
         (raising, None),
-        (Parts { imports: &second_type, ..whole }, Some(ValidFault::Imports)),
-        (Parts { imports: &great, ..whole }, Some(ValidFault::Imports)),
+        (
+            Parts {
+                imports: &second_type,
+                ..whole
+            },
+            Some(ValidFault::Imports),
+        ),
+        (
+            Parts {
+                imports: &great,
+                ..whole
+            },
+            Some(ValidFault::Imports),
+        ),
         (memory(pages(65_536, None)), None),
         (memory(pages(65_537, None)), Some(ValidFault::Memory)),
         (memory(pages(3, Some(3))), None),
         (memory(pages(3, Some(2))), Some(ValidFault::Memory)),
         (memory(pages(0, Some(65_537))), Some(ValidFault::Memory)),
-        (Parts { imports: &two, ..whole }, Some(ValidFault::Memory)),
-        (Parts { imports: &one, ..memory(pages(1, None)) }, Some(ValidFault::Memory)),
-        (Parts { globals: &globals, ..whole }, None),
-        (Parts { globals: &wrong_globals, ..whole }, Some(ValidFault::Globals)),
-        (Parts { exports: &a, ..exporting }, None),
-        (Parts { exports: &same, ..exporting }, Some(ValidFault::Exports)),
-        (Parts { exports: &no_global, ..exporting }, Some(ValidFault::Exports)),
-        (Parts { exports: &no_memory, ..exporting }, Some(ValidFault::Exports)),
-        (Parts { exports: &function, ..raising }, None),
-        (Parts { exports: &no_function, ..raising }, Some(ValidFault::Exports)),
+        (
+            Parts {
+                imports: &two,
+                ..whole
+            },
+            Some(ValidFault::Memory),
+        ),
+        (
+            Parts {
+                imports: &one,
+                ..memory(pages(1, None))
+            },
+            Some(ValidFault::Memory),
+        ),
+        (
+            Parts {
+                globals: &globals,
+                ..whole
+            },
+            None,
+        ),
+        (
+            Parts {
+                globals: &wrong_globals,
+                ..whole
+            },
+            Some(ValidFault::Globals),
+        ),
+        (
+            Parts {
+                exports: &a,
+                ..exporting
+            },
+            None,
+        ),
+        (
+            Parts {
+                exports: &same,
+                ..exporting
+            },
+            Some(ValidFault::Exports),
+        ),
+        (
+            Parts {
+                exports: &no_global,
+                ..exporting
+            },
+            Some(ValidFault::Exports),
+        ),
+        (
+            Parts {
+                exports: &no_memory,
+                ..exporting
+            },
+            Some(ValidFault::Exports),
+        ),
+        (
+            Parts {
+                exports: &function,
+                ..raising
+            },
+            None,
+        ),
+        (
+            Parts {
+                exports: &no_function,
+                ..raising
+            },
+            Some(ValidFault::Exports),
+        ),
     ];
     for (parts, fault) in cases {
         let module = made_of(rt.alloc(), parts)?;

@@ -1,6 +1,6 @@
-pub mod Checked
-pub mod CheckedBodies
+mod Checked
+mod CheckedBodies
 pub mod Imported
-pub mod Names
-pub mod Numbering
+mod Names
+mod Numbering
 pub mod ValidFunctions

@@ -1,2 +1,3 @@
 pub mod Inner
 pub mod ValidFaults
+pub use Rattle.qw_module.specs.Validity
