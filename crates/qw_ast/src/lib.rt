@@ -1,7 +1,7 @@
 //! What the two texts may say: their trees, and the definitions of their grammar.
 //!
 //! - [`tree`]: the names and numbers of a table definition and of a query.
-//! - `specs/Grammar`: the forms, place by place, and when a text is a statement of a form.
+//! - `specs/Grammar`: the forms, terminal by terminal, and when a text is a statement of a form.
 #![tactic(auto)]
 
 pub mod tree;

@@ -3,7 +3,6 @@
 
 use crate::tables::{narrow, sevens, wide};
 use qw_csv::loading::{FieldFault, LoadFault, Loaded, load};
-use qw_types::schema::MAX_ROWS;
 use std::alloc::Global;
 use std::test::Fail;
 
@@ -37,7 +36,7 @@ const NOT_NUMBER: FieldFault = FieldFault::NotNumber;
 
 const TOO_LARGE: FieldFault = FieldFault::TooLarge;
 
-const REFUSED: [(&[u8], LoadFault); 18] = [
+const REFUSED: [(&[u8], LoadFault); 8] = [
     (b"", LoadFault::BadHeader),
     (b"\n\n", LoadFault::BadHeader),
     (b"B\n7\n", LoadFault::BadHeader),
@@ -46,86 +45,20 @@ const REFUSED: [(&[u8], LoadFault); 18] = [
     (b"\xEF\xBB\xBF\xEF\xBB\xBFA\n7\n", LoadFault::BadHeader),
     (b"A\n7,8\n", LoadFault::FieldCount { row: 1 }),
     (b"A\n7\n,\nx\n", LoadFault::FieldCount { row: 2 }),
-    (
-        b"A\n7.0\n",
-        LoadFault::Field {
-            row: 1,
-            column: 0,
-            fault: NOT_NUMBER,
-        },
-    ),
-    (
-        b"A\n7\n 7\n",
-        LoadFault::Field {
-            row: 2,
-            column: 0,
-            fault: NOT_NUMBER,
-        },
-    ),
-    (
-        b"A\n\"\"\n",
-        LoadFault::Field {
-            row: 1,
-            column: 0,
-            fault: NOT_NUMBER,
-        },
-    ),
-    (
-        b"A\n+\n",
-        LoadFault::Field {
-            row: 1,
-            column: 0,
-            fault: NOT_NUMBER,
-        },
-    ),
-    (
-        b"A\n-+7\n",
-        LoadFault::Field {
-            row: 1,
-            column: 0,
-            fault: NOT_NUMBER,
-        },
-    ),
-    (
-        b"A\n\xFF\n",
-        LoadFault::Field {
-            row: 1,
-            column: 0,
-            fault: NOT_NUMBER,
-        },
-    ),
-    (
-        b"A\n99999999999x\n",
-        LoadFault::Field {
-            row: 1,
-            column: 0,
-            fault: NOT_NUMBER,
-        },
-    ),
-    (
-        b"A\n2147483648\n",
-        LoadFault::Field {
-            row: 1,
-            column: 0,
-            fault: TOO_LARGE,
-        },
-    ),
-    (
-        b"A\n-2147483649\n",
-        LoadFault::Field {
-            row: 1,
-            column: 0,
-            fault: TOO_LARGE,
-        },
-    ),
-    (
-        b"A\n99999999999\nx\n",
-        LoadFault::Field {
-            row: 1,
-            column: 0,
-            fault: TOO_LARGE,
-        },
-    ),
+];
+
+// Files, and the record and the column of the field at fault.
+const REFUSED_FIELDS: [(&[u8], usize, usize, FieldFault); 10] = [
+    (b"A\n7.0\n", 1, 0, NOT_NUMBER),
+    (b"A\n7\n 7\n", 2, 0, NOT_NUMBER),
+    (b"A\n\"\"\n", 1, 0, NOT_NUMBER),
+    (b"A\n+\n", 1, 0, NOT_NUMBER),
+    (b"A\n-+7\n", 1, 0, NOT_NUMBER),
+    (b"A\n\xFF\n", 1, 0, NOT_NUMBER),
+    (b"A\n99999999999x\n", 1, 0, NOT_NUMBER),
+    (b"A\n2147483648\n", 1, 0, TOO_LARGE),
+    (b"A\n-2147483649\n", 1, 0, TOO_LARGE),
+    (b"A\n99999999999\nx\n", 1, 0, TOO_LARGE),
 ];
 
 const WIDE_LOADED: [(&[u8], &[i32]); 5] = [
@@ -136,45 +69,21 @@ const WIDE_LOADED: [(&[u8], &[i32]); 5] = [
     (b"\xEF\xBB\xBFA,B\n7,7\n", &[7, 7]),
 ];
 
-const WIDE_REFUSED: [(&[u8], LoadFault); 10] = [
+const WIDE_REFUSED: [(&[u8], LoadFault); 6] = [
     (b"A\n7\n", LoadFault::BadHeader),
     (b"A,C\n7,8\n", LoadFault::BadHeader),
     (b"B,A\n7,8\n", LoadFault::BadHeader),
     (b"A,B,C\n7,8,9\n", LoadFault::BadHeader),
     (b"A,B\n7\n", LoadFault::FieldCount { row: 1 }),
     (b"A,B\n7,8\nx,8,9\n", LoadFault::FieldCount { row: 2 }),
-    (
-        b"A,B\n7,\n",
-        LoadFault::Field {
-            row: 1,
-            column: 1,
-            fault: NOT_NUMBER,
-        },
-    ),
-    (
-        b"A,B\n7,8\n9999999999,x\n",
-        LoadFault::Field {
-            row: 2,
-            column: 0,
-            fault: TOO_LARGE,
-        },
-    ),
-    (
-        b"A,B\n7,x\nx,7\n",
-        LoadFault::Field {
-            row: 1,
-            column: 1,
-            fault: NOT_NUMBER,
-        },
-    ),
-    (
-        b"A,B\n7,2147483648\n1\n",
-        LoadFault::Field {
-            row: 1,
-            column: 1,
-            fault: TOO_LARGE,
-        },
-    ),
+];
+
+// Files of two columns, and the record and the column of the field at fault.
+const WIDE_REFUSED_FIELDS: [(&[u8], usize, usize, FieldFault); 4] = [
+    (b"A,B\n7,\n", 1, 1, NOT_NUMBER),
+    (b"A,B\n7,8\n9999999999,x\n", 2, 0, TOO_LARGE),
+    (b"A,B\n7,x\nx,7\n", 1, 1, NOT_NUMBER),
+    (b"A,B\n7,2147483648\n1\n", 1, 1, TOO_LARGE),
 ];
 
 #[test]
@@ -186,6 +95,10 @@ fn files_at_the_edges(rt: HostRuntime) -> Result<(), Fail> {
         assert_eq!(rt; values(rt.alloc(), &loaded)?.as_slice(), expected);
     }
     for (bytes, fault) in REFUSED {
+        assert_eq!(rt; load(rt.alloc(), &table, bytes).err(), Some(fault));
+    }
+    for (bytes, row, column, fault) in REFUSED_FIELDS {
+        let fault = LoadFault::Field { row, column, fault };
         assert_eq!(rt; load(rt.alloc(), &table, bytes).err(), Some(fault));
     }
     Ok(())
@@ -203,15 +116,19 @@ fn files_of_two_columns(rt: HostRuntime) -> Result<(), Fail> {
     for (bytes, fault) in WIDE_REFUSED {
         assert_eq!(rt; load(rt.alloc(), &table, bytes).err(), Some(fault));
     }
+    for (bytes, row, column, fault) in WIDE_REFUSED_FIELDS {
+        let fault = LoadFault::Field { row, column, fault };
+        assert_eq!(rt; load(rt.alloc(), &table, bytes).err(), Some(fault));
+    }
     Ok(())
 }
 
 #[test]
 fn files_at_the_limit(rt: HostRuntime) -> Result<(), Fail> {
     let table = narrow(rt.alloc())?;
-    let full = sevens(rt.alloc(), MAX_ROWS)?;
+    let full = sevens(rt.alloc(), 1_000_000)?;
     assert_eq!(rt; load(rt.alloc(), &table, full.as_slice())?.len(), 1_000_000);
-    let over = sevens(rt.alloc(), MAX_ROWS + 1)?;
+    let over = sevens(rt.alloc(), 1_000_001)?;
     assert_eq!(rt;
         load(rt.alloc(), &table, over.as_slice()).err(),
         Some(LoadFault::TooManyRows)
