@@ -1,5 +1,5 @@
 -- Results of exact arithmetic fit.
-use Rattle.std.proofs.Common.{◌≡◌, ℕ, ℤ, ◌+ℤ◌, ◌-ℤ◌, ◌*ℤ◌, IsTrue, max, Ok, Err, Result, IfOk, arith, refl, subst, sym}
+use Rattle.std.proofs.Common.{◌≡◌, ℕ, ◌-◌, ◌^◌, ℤ, pos, ◌+ℤ◌, ◌-ℤ◌, ◌*ℤ◌, IsTrue, max, Ok, Err, Result, IfOk, arith, refl, subst, sym}
 use Rattle.std.proofs.lemmas.Bool.Decides.{nat_tests}
 use Rattle.qw_types.specs.Arithmetic.{◌>>=◌, bring, checked, difference_of, fits, product_of, quotient_of, sum_of}
 use Rattle.qw_types.specs.declared.code.Code.{Code}
@@ -31,3 +31,6 @@ quotient_fit a sa b sb = grind (arith, nat_tests)
 
 pub result_fits : (v : ℤ) (r : Result ℤ Code) → ◌≡◌ {A = Result ℤ Code} (Ok v) r → IfOk r (λ x. IsTrue (fits x)) → IsTrue (fits v)
 result_fits v r e h = subst (λ x. IfOk x (λ y. IsTrue (fits y))) (sym e) h
+
+pub bring_fit : (v : ℤ) (from to : ℕ) → IfOk (bring v from to) (λ x. IsTrue (fits x))
+bring_fit v from to = checked_fit (v *ℤ pos (10 ^ (to - from)))

@@ -123,3 +123,15 @@ order_is a b x y p q sa sb r fa fb wa wb la lb ex ey ep eq er =
     let fyq = product_fits b (pos (10 ^ sa)) sa wb la refl in
     let er' = rw (ex', ey', ep, eq) at er in
     simp to_z-of_z at er'
+
+checked_again : (x : ℤ) → unsigned_abs x < 10 ^ 18 → ◌≡◌ {A = Result ℤ Code} (checked x) (Ok x)
+checked_again x h = grind (arith, nat_tests)
+
+-- a value that was brought is within its bounds a second time
+pub bring_is : (v x : ℤ) (from to : ℕ) (r : Result ℤ Code) → FitsSigned w64 v → ◌≡◌ {A = Result ℤ Code} (Ok x) (bring (to_z w64 (of_z w64 v)) from to) → r ≡ checked (to_z w128 (of_z w128 x)) → r ≡ bring v from to
+bring_is v x from to r fv ex er =
+    let hx = brought_fits (to_z w64 (of_z w64 v)) x from to ex in
+    let fx = small_fits x hx in
+    let ex' = simp to_z-of_z at ex in
+    let er' = simp to_z-of_z at er in
+    er' ∙ checked_again x hx ∙ ex'

@@ -76,6 +76,20 @@ pub fn div(a: i64, sa: u8, b: i64, sb: u8) -> Result<i64, Code>
     Ok((x / i128::from(b)) as i64)
 }
 
+/// The value of another scale that stands for the same number.
+///
+/// # Errors
+///
+/// `OutOfRange` where it doesn't fit.
+pub fn bring(v: i64, from: u8, to: u8) -> Result<i64, Code>
+    requires fits { IsTrue (fits v) }
+    requires scales { (from ≤ to) × (to ≤ 18) }
+    ensures value { result ≡ bring v from to }
+    ensures fits { IfOk result (λ x. IsTrue (fits x)) }
+{
+    within(brought(v, from, to)?)
+}
+
 /// How two values compare, by their exact values.
 #[tactic(auto, using(crate::proofs::ArithmeticLemmas::product_fits))]
 pub fn compare(a: i64, sa: u8, b: i64, sb: u8) -> Ordering
