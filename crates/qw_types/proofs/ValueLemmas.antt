@@ -88,7 +88,7 @@ order_facts Greater p q r m = r m
 times_order : (x y : ℤ) (k : ℕ) → 0 < k → int_cmp (x *ℤ pos k) (y *ℤ pos k) ≡ int_cmp x y
 times_order x y k positive =
     sym (int_cmp_is (x *ℤ pos k) (y *ℤ pos k) (int_cmp x y)
-        (order_facts (int_cmp x y) (times_less x y k positive) (ap (λ z. z *ℤ pos k)) (times_less y x k positive) (int_ranks x y)))
+    (order_facts (int_cmp x y) (times_less x y k positive) (ap (λ z. z *ℤ pos k)) (times_less y x k positive) (int_ranks x y)))
 
 times_times : (a : ℤ) (m n : ℕ) → a *ℤ pos m *ℤ pos n ≡ a *ℤ pos (m * n)
 times_times (pos a) m n = ap pos (mul_assoc a m n)
@@ -116,10 +116,11 @@ brought_order a b x y sa sb da db same ex ey =
   where
     left : a *ℤ pos (10 ^ sb) *ℤ pos (10 ^ da) ≡ x *ℤ pos (10 ^ sb)
     left = times_times a (10 ^ sb) (10 ^ da) ∙ ap (λ n. a *ℤ pos n) (mul_comm (10 ^ sb) (10 ^ da)) ∙ sym (times_times a (10 ^ da) (10 ^ sb)) ∙ ap (λ z. z *ℤ pos (10 ^ sb)) (sym ex)
+
     right : b *ℤ pos (10 ^ sa) *ℤ pos (10 ^ da) ≡ y *ℤ pos (10 ^ sb)
     right = times_times b (10 ^ sa) (10 ^ da) ∙ ap (λ n. b *ℤ pos n) (sym (pow-add 10 sa da) ∙ ap (λ n. 10 ^ n) same ∙ pow-add 10 sb db ∙ mul_comm (10 ^ sb) (10 ^ db)) ∙ sym (times_times b (10 ^ db) (10 ^ sb)) ∙ ap (λ z. z *ℤ pos (10 ^ sb)) (sym ey)
 
 pub order_by_bringing : (a b x y : ℤ) (sa sb : ℕ) → bring a sa (max sa sb) ≡ Ok x → bring b sb (max sa sb) ≡ Ok y → order_of a sa b sb ≡ int_cmp x y
 order_by_bringing a b x y sa sb ex ey =
     brought_order a b x y sa sb (max sa sb - sa) (max sa sb - sb) (omega arith)
-        (checked_is (a *ℤ pos (10 ^ (max sa sb - sa))) x (sym ex)) (checked_is (b *ℤ pos (10 ^ (max sa sb - sb))) y (sym ey))
+    (checked_is (a *ℤ pos (10 ^ (max sa sb - sa))) x (sym ex)) (checked_is (b *ℤ pos (10 ^ (max sa sb - sb))) y (sym ey))

@@ -21,8 +21,8 @@ pub mod row;
 pub mod schema;
 pub mod text;
 pub mod truth;
-pub mod value_laws;
 pub mod value;
+pub mod value_laws;
 pub mod worked_laws;
 
 pub use code::Code;
