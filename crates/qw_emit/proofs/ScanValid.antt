@@ -42,7 +42,7 @@ one P x h = All-cons P x [] h (All-nil P)
 the_limits : Limits
 the_limits = record { min = 1; max = None }
 
--- what stands at a place of a list is in it
+-- what stands at an index of a list is in it
 pub contains : {A : Type 0} (xs : List A) {ys : List A} {x : A} → xs ≡ ys → (k : ℕ) → k < length ys → get_or ys k x ≡ x → Contains xs x
 contains {A} xs {ys} {x} same k within there = subst (λ (zs : List A). Contains zs x) (sym same) (k, within, there)
 
