@@ -62,198 +62,108 @@ fn bodies(rt: HostRuntime) -> Result<(), Fail> {
     Ok(())
 }
 
-/// The parts of a module without functions, whose one type takes nothing.
-#[derive(Clone, Copy)]
-struct Parts<'a> {
-    results: &'a [ValType],
-    imports: &'a [Import],
-    memory: Option<Limits>,
-    globals: &'a [ModuleGlobal],
-    exports: &'a [(&'a str, ExportKind)],
-}
-
-fn made_of(alloc: Global, parts: Parts<'_>) -> Result<Module, AllocError> {
+/// A module without functions, whose one type takes nothing.
+fn plain_module(
+    alloc: Global,
+    results: &[ValType],
+    imports: &[Import],
+) -> Result<Module, AllocError> {
     let ty = FuncType {
         params: Vec::new(alloc),
-        results: parts.results.to_vec(alloc)?,
+        results: results.to_vec(alloc)?,
     };
-    let mut exports = Vec::new(alloc);
-    for (name, kind) in parts.exports {
-        exports.push(Export {
-            name: String::from_str(alloc, name)?,
-            kind: *kind,
-        })?;
-    }
     Ok(Module {
         types: vec![in alloc; ty]?,
-        imports: parts.imports.to_vec(alloc)?,
+        imports: imports.to_vec(alloc)?,
         functions: Vec::new(alloc),
-        memory: parts.memory,
-        globals: parts.globals.to_vec(alloc)?,
-        exports,
+        memory: None,
+        globals: Vec::new(alloc),
+        exports: Vec::new(alloc),
     })
 }
 
-/// Each part of validity on both sides of it (WebAssembly Core Specification 1.0, 3.2 and 3.4).
+/// Types have one result at most (WebAssembly Core Specification 1.0, 3.2.2), and imports have a type or limits (3.4.9).
 #[test]
-fn each_part(rt: HostRuntime) -> Result<(), Fail> {
-    let pages = |min: u32, max: Option<u32>| Limits { min, max };
-    let whole = Parts {
-        results: &[],
-        imports: &[],
-        memory: None,
-        globals: &[],
-        exports: &[],
-    };
-    let memory = |limits: Limits| Parts {
-        memory: Some(limits),
-        ..whole
-    };
-    let wide = ModuleGlobal {
-        ty: ValType::I64,
-        mutable: false,
-        init: Const::I64(7),
-    };
-    let narrow = ModuleGlobal {
-        init: Const::I32(7),
-        ..wide
-    };
-    let one = [Import::Memory(pages(1, None))];
-    let two = [
-        Import::Memory(pages(1, None)),
-        Import::Memory(pages(1, None)),
+fn types_and_imports(rt: HostRuntime) -> Result<(), Fail> {
+    let one = [ValType::I32];
+    let two = [ValType::I32, ValType::I64];
+    let memory = Import::Memory(Limits {
+        min: 65_536,
+        max: None,
+    });
+    let great = [Import::Memory(Limits {
+        min: 65_537,
+        max: None,
+    })];
+    let both = [memory, Import::Raise(0)];
+    let memories = [memory, memory];
+    let no_type = [Import::Raise(1)];
+    let cases: [(&[ValType], &[Import], Option<ValidFault>); 6] = [
+        (&one, &[], None),
+        (&two, &[], Some(ValidFault::Types)),
+        (&[], &both, None),
+        (&[], &no_type, Some(ValidFault::Imports)),
+        (&[], &great, Some(ValidFault::Imports)),
+        (&[], &memories, Some(ValidFault::Memory)),
     ];
-    let great = [Import::Memory(pages(65_537, None))];
-    let first_type = [Import::Raise(0)];
-    let second_type = [Import::Raise(1)];
-    let globals = [wide];
-    let wrong_globals = [narrow];
-    let results = [ValType::I32];
-    let two_results = [ValType::I32, ValType::I64];
-    let a = [("a", ExportKind::Global(0)), ("b", ExportKind::Memory(0))];
-    let same = [("a", ExportKind::Global(0)), ("a", ExportKind::Memory(0))];
-    let no_global = [("a", ExportKind::Global(1))];
-    let no_memory = [("a", ExportKind::Memory(1))];
-    let no_function = [("a", ExportKind::Function(1))];
-    let function = [("a", ExportKind::Function(0))];
-    let exporting = Parts {
-        imports: &one,
-        globals: &globals,
-        ..whole
-    };
-    let raising = Parts {
-        imports: &first_type,
-        ..whole
-    };
+    for (results, imports, fault) in cases {
+        let module = plain_module(rt.alloc(), results, imports)?;
+        assert_eq!(rt; validate(rt.alloc(), module).err(), fault);
+    }
+    Ok(())
+}
+
+/// A memory of the module's own (3.2.1, 3.2.4), and the first value of a global (3.4.4).
+#[test]
+fn memories_and_globals(rt: HostRuntime) -> Result<(), Fail> {
+    let wide = (ValType::I64, Const::I64(7));
+    let narrow = (ValType::I64, Const::I32(7));
     let cases = [
-        (whole, None),
-        (
-            Parts {
-                results: &results,
-                ..whole
-            },
-            None,
-        ),
-        (
-            Parts {
-                results: &two_results,
-                ..whole
-            },
-            Some(ValidFault::Types),
-        ),
-        (raising, None),
-        (
-            Parts {
-                imports: &second_type,
-                ..whole
-            },
-            Some(ValidFault::Imports),
-        ),
-        (
-            Parts {
-                imports: &great,
-                ..whole
-            },
-            Some(ValidFault::Imports),
-        ),
-        (memory(pages(65_536, None)), None),
-        (memory(pages(65_537, None)), Some(ValidFault::Memory)),
-        (memory(pages(3, Some(3))), None),
-        (memory(pages(3, Some(2))), Some(ValidFault::Memory)),
-        (memory(pages(0, Some(65_537))), Some(ValidFault::Memory)),
-        (
-            Parts {
-                imports: &two,
-                ..whole
-            },
-            Some(ValidFault::Memory),
-        ),
-        (
-            Parts {
-                imports: &one,
-                ..memory(pages(1, None))
-            },
-            Some(ValidFault::Memory),
-        ),
-        (
-            Parts {
-                globals: &globals,
-                ..whole
-            },
-            None,
-        ),
-        (
-            Parts {
-                globals: &wrong_globals,
-                ..whole
-            },
-            Some(ValidFault::Globals),
-        ),
-        (
-            Parts {
-                exports: &a,
-                ..exporting
-            },
-            None,
-        ),
-        (
-            Parts {
-                exports: &same,
-                ..exporting
-            },
-            Some(ValidFault::Exports),
-        ),
-        (
-            Parts {
-                exports: &no_global,
-                ..exporting
-            },
-            Some(ValidFault::Exports),
-        ),
-        (
-            Parts {
-                exports: &no_memory,
-                ..exporting
-            },
-            Some(ValidFault::Exports),
-        ),
-        (
-            Parts {
-                exports: &function,
-                ..raising
-            },
-            None,
-        ),
-        (
-            Parts {
-                exports: &no_function,
-                ..raising
-            },
-            Some(ValidFault::Exports),
-        ),
+        (65_536u32, None, wide, None),
+        (65_537, None, wide, Some(ValidFault::Memory)),
+        (3, Some(3u32), wide, None),
+        (3, Some(2), wide, Some(ValidFault::Memory)),
+        (0, Some(65_537), wide, Some(ValidFault::Memory)),
+        (0, None, narrow, Some(ValidFault::Globals)),
     ];
-    for (parts, fault) in cases {
-        let module = made_of(rt.alloc(), parts)?;
+    for (min, max, (ty, init), fault) in cases {
+        let mut module = plain_module(rt.alloc(), &[], &[])?;
+        module.memory = Some(Limits { min, max });
+        module.globals.push(ModuleGlobal {
+            ty,
+            mutable: false,
+            init,
+        })?;
+        assert_eq!(rt; validate(rt.alloc(), module).err(), fault);
+    }
+    Ok(())
+}
+
+/// What is exported is there (3.4.8), and no name is exported twice (3.4.10).
+#[test]
+fn exports(rt: HostRuntime) -> Result<(), Fail> {
+    let imports = [
+        Import::Memory(Limits { min: 1, max: None }),
+        Import::Raise(0),
+    ];
+    let cases = [
+        ("b", ExportKind::Function(0), None),
+        ("b", ExportKind::Function(1), Some(ValidFault::Exports)),
+        ("b", ExportKind::Memory(0), None),
+        ("b", ExportKind::Memory(1), Some(ValidFault::Exports)),
+        ("b", ExportKind::Global(0), Some(ValidFault::Exports)),
+        ("a", ExportKind::Memory(0), Some(ValidFault::Exports)),
+    ];
+    for (name, kind, fault) in cases {
+        let mut module = plain_module(rt.alloc(), &[], &imports)?;
+        module.exports.push(Export {
+            name: String::from_str(rt.alloc(), "a")?,
+            kind: ExportKind::Memory(0),
+        })?;
+        module.exports.push(Export {
+            name: String::from_str(rt.alloc(), name)?,
+            kind,
+        })?;
         assert_eq!(rt; validate(rt.alloc(), module).err(), fault);
     }
     Ok(())
