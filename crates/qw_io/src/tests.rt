@@ -1,9 +1,10 @@
-use crate::{
-    FileShelf, IoFault, MemoryShelf, MemorySink, NamedFile, PlainSink, Shelf, Sink, StdSink,
-};
+use crate::{IoFault, MemoryShelf, MemorySink, NamedFile, PlainSink, Shelf, Sink};
 use std::alloc::Global;
-use std::fs;
 use std::test::Fail;
+
+mod device;
+mod files;
+mod streams;
 
 /// A shelf with one file, `greeting`, that reads at most two octets at a call.
 fn greeting_shelf(alloc: Global, failing: &[u64]) -> Result<MemoryShelf, Fail> {
@@ -51,27 +52,5 @@ fn memory_sinks_take(rt: HostRuntime) -> Result<(), Fail> {
     let mut plain = PlainSink::new(alloc);
     assert_eq!(rt; plain.put(b"hello"), Ok(5));
     assert_eq!(rt; plain.bytes(), b"hello".as_slice());
-    Ok(())
-}
-
-#[test]
-fn file_shelf_reads_a_file(rt: HostRuntime) -> Result<(), Fail> {
-    let name = "file-shelf-test.txt";
-    fs::write(&rt, name, "hello")?;
-    let mut shelf = FileShelf::new(&rt);
-    let mut into = [0u8; 8];
-    assert_eq!(rt; shelf.fetch(name, 1, &mut into), Ok(4));
-    assert_eq!(rt; into.get(..4), Some(b"ello".as_slice()));
-    assert_eq!(rt; shelf.fetch(name, 5, &mut into), Ok(0));
-    fs::remove_file(&rt, name)?;
-    assert_eq!(rt; shelf.fetch(name, 0, &mut into), Err(IoFault::Failed));
-    Ok(())
-}
-
-#[test]
-fn std_sink_takes(rt: HostRuntime) -> Result<(), Fail> {
-    let mut sink = StdSink::new(rt.stdout());
-    assert_eq!(rt; sink.put(b""), Ok(0));
-    assert_eq!(rt; sink.put(b"taken\n"), Ok(6));
     Ok(())
 }

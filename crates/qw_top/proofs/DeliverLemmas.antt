@@ -1,7 +1,7 @@
 -- How the stages of a run compose into what it leaves.
 use Rattle.std.proofs.Common.{◌≡◌, ◌⊎◌, ℕ, zero, ◌≤◌, ◌<◌, List, [], ◌∷◌, Option, Some, None, inl, inr, refl, sym, subst, Result, Ok, Err, length, ap, ◌∙◌, arith}
 use Rattle.std.specs.List.{AllByRecursion}
-use Rattle.std.specs.Prelude.{IfErr, OnErr, OnOk}
+use Rattle.std.specs.Prelude.{IfErr, IfSome, OnErr, OnOk}
 use Rattle.std.proofs.lemmas.List.{take_all, append-nil}
 use Rattle.qw_io.specs.Faults.{IsCounted}
 use Rattle.qw_io.specs.declared.fault.IoFault.{IoFault}
@@ -18,18 +18,18 @@ use Rattle.qw_top.specs.declared.stop.Refusal.{Refusal}
 use Rattle.qw_top.specs.declared.stop.Refusal.TheVariants.{Words, Schema, TableFile, Queries}
 use Rattle.qw_top.specs.declared.stop.Stop.{Stop}
 use Rattle.qw_top.specs.declared.stop.Stop.TheVariants.{Refused, Unread, NoMemory as NoMemoryLeft}
-use Rattle.qw_top.specs.Inner.FaultCounts.{CountsWrite, write_fault_of}
 use Rattle.qw_top.specs.Delivered.{Asks, HasRun, IsLine, Leaves, LeavesBench, Notes, Reports, ShowsEnd, status_of}
-use Rattle.qw_top.specs.Inner.Noted.{NotesLine, NotesStop}
+use Rattle.qw_top.specs.Noted.{NotesLine, NotesStop}
 use Rattle.qw_map.specs.Layout.{used}
 use Rattle.qw_csv.specs.Loading.{Contents}
 use Rattle.qw_top.specs.Notes.{read_fault_line, want_of_memory_line}
-use Rattle.qw_top.specs.Output.{TookFront, with_text}
+use Rattle.qw_top.specs.Output.{CountsWrite, TookFront, with_text, write_fault_of}
 use Rattle.qw_bench.specs.Bench.{end_in}
 use Rattle.qw_bench.specs.Seats.{Standing, shared_of}
-use Rattle.qw_top.specs.Inner.Stages.{FilesStop, HasAsked, IsReport, Ran, Stops, Writes}
-use Rattle.qw_top.specs.Inner.Stop.{octets_of, refusal_status}
-use Rattle.qw_top.specs.Top.{AreNames, Explains, Files, FilesExplain, HasQuery, IsFault, IsSettled, Names}
+use Rattle.qw_top.specs.Inner.Stages.{FilesStop, HasAsked, IsReport, Ran, Stops, Writes, failed_stop}
+use Rattle.qw_top.specs.Shelves.{Counts, Told}
+use Rattle.qw_top.specs.Stop.{octets_of, refusal_status}
+use Rattle.qw_top.specs.Top.{AreNames, Explains, Files, FilesExplain, HasQuery, IsFault, IsNamed, IsSettled, Names}
 use Rattle.qw_top.specs.Inner.Inputs.{IsOneTable}
 use Rattle.qw_top.proofs.RunLemmas.{HasRun-pages, HasRun-shows}
 use Rattle.qw_top.proofs.TopLemmas.{AreNames-unique, Explains-unique, HasQuery-unique, ReadsQuery-columns, used_within}
@@ -132,26 +132,46 @@ stopped_explained files words (Unread file) result old new (names, are, why) not
 stopped_explained files words NoMemoryLeft result old new (names, are) noted = line_explained files words names want_of_memory_line NoMemory result old new are (names, are, tt) noted
 
 -- a line that was cut short, or one that memory is wanted
-cut_short : (files : Files) (words : List (List ℕ)) (line : List ℕ) (result : Status) (old new : Option (List ℕ)) → IsLine files words line → (result ≡ WriteFailed) ⊎ (result ≡ NoMemory) → TookFront old new line → Notes files words result old new
-cut_short files words line result old new is (inl failed) front = subst (λ (s : Status). Notes files words s old new) (sym failed) (line, is, front)
-cut_short files words line result old new is (inr wanted) front = subst (λ (s : Status). Notes files words s old new) (sym wanted) (line, is, front)
+cut_short : (files : Files) (words : List (List ℕ)) (fault_name : Option (List ℕ)) (line : List ℕ) (result : Status) (old new : Option (List ℕ)) → IsLine files words line → (result ≡ WriteFailed) ⊎ (result ≡ NoMemory) → TookFront old new line → Notes files words fault_name result old new
+cut_short files words fault_name line result old new is (inl failed) front = subst (λ (s : Status). Notes files words fault_name s old new) (sym failed) (line, is, front)
+cut_short files words fault_name line result old new is (inr wanted) front = subst (λ (s : Status). Notes files words fault_name s old new) (sym wanted) (line, is, front)
 
-pub want_noted : (files : Files) (words : List (List ℕ)) (result : Status) (old new : Option (List ℕ)) → NotesLine want_of_memory_line NoMemory result old new → Notes files words result old new
-want_noted files words result old new (inl (is, took)) = cut_short files words want_of_memory_line result old new (inl refl) (inr is) (TookFront-whole old new want_of_memory_line took)
-want_noted files words result old new (inr (ends, front)) = cut_short files words want_of_memory_line result old new (inl refl) ends front
+pub want_noted : (files : Files) (words : List (List ℕ)) (fault_name : Option (List ℕ)) (result : Status) (old new : Option (List ℕ)) → NotesLine want_of_memory_line NoMemory result old new → Notes files words fault_name result old new
+want_noted files words fault_name result old new (inl (is, took)) = cut_short files words fault_name want_of_memory_line result old new (inl refl) (inr is) (TookFront-whole old new want_of_memory_line took)
+want_noted files words fault_name result old new (inr (ends, front)) = cut_short files words fault_name want_of_memory_line result old new (inl refl) ends front
 
-refusal_noted : (files : Files) (words : List (List ℕ)) (refusal : Refusal) (old new : Option (List ℕ)) → new ≡ old → Notes files words (refusal_status refusal) old new
-refusal_noted files words Words old new same = same
-refusal_noted files words Schema old new same = same
-refusal_noted files words TableFile old new same = same
-refusal_noted files words Queries old new same = same
+refusal_noted : (files : Files) (words : List (List ℕ)) (fault_name : Option (List ℕ)) (refusal : Refusal) (old new : Option (List ℕ)) → new ≡ old → Notes files words fault_name (refusal_status refusal) old new
+refusal_noted files words fault_name Words old new same = same
+refusal_noted files words fault_name Schema old new same = same
+refusal_noted files words fault_name TableFile old new same = same
+refusal_noted files words fault_name Queries old new same = same
 
-pub stopped_noted : (files : Files) (words : List (List ℕ)) (stop : Stop) (result : Status) (old new : Option (List ℕ)) → Stops files words stop → NotesStop stop result old new → Notes files words result old new
-stopped_noted files words (Refused refusal) result old new why (is, same) = subst (λ (s : Status). Notes files words s old new) (sym is) (refusal_noted files words refusal old new same)
-stopped_noted files words (Unread file) result old new named (inl (is, took)) = subst (λ (s : Status). Notes files words s old new) (sym is) (octets_of file, named, took)
-stopped_noted files words (Unread file) result old new named (inr (ends, front)) =
-    cut_short files words (read_fault_line (octets_of file)) result old new (inr (octets_of file, named, refl)) ends front
-stopped_noted files words NoMemoryLeft result old new are noted = want_noted files words result old new noted
+pub stopped_noted : {T : Type 0} (files : Files) (words : List (List ℕ)) (before after : Told) (stop : Stop) (result : Status) (old new : Option (List ℕ)) → Stops files words stop → Counts (failed_stop {T = T} (Err stop)) before after →
+    NotesStop stop result old new → Notes files words after.fault_name result old new
+stopped_noted files words before after (Refused refusal) result old new why counts (is, same) =
+    subst (λ (s : Status). Notes files words after.fault_name s old new) (sym is) (refusal_noted files words after.fault_name refusal old new same)
+stopped_noted files words before after (Unread file) result old new named counts (inl (is, took)) =
+    subst (λ (s : Status). Notes files words after.fault_name s old new) (sym is) (octets_of file, named, counts.1, took)
+stopped_noted files words before after (Unread file) result old new named counts (inr (ends, front)) =
+    cut_short files words after.fault_name (read_fault_line (octets_of file)) result old new (inr (octets_of file, named, refl)) ends front
+stopped_noted files words before after NoMemoryLeft result old new are counts noted = want_noted files words after.fault_name result old new noted
+
+name_of_last : (files : Files) (words : List (List ℕ)) (fault_name : Option (List ℕ)) (name : List ℕ) → IsNamed files words name → IfSome fault_name (λ last. last ≡ name) → IfSome fault_name (λ last. IsNamed files words last)
+name_of_last files words None name named is = tt
+name_of_last files words (Some last) name named is = subst (λ (n : List ℕ). IsNamed files words n) (sym is) named
+
+-- a fault that the shelf counted is at a file that the run may read
+pub fault_named : {T : Type 0} (files : Files) (words : List (List ℕ)) (before after : Told) (stop : Stop) → Stops files words stop → Counts (failed_stop {T = T} (Err stop)) before after →
+    (after.faults ≡ before.faults → ⊥) → IfSome after.fault_name (λ name. IsNamed files words name)
+fault_named files words before after (Refused refusal) why counts more = absurd (more counts.0)
+fault_named files words before after (Unread file) named counts more = name_of_last files words after.fault_name (octets_of file) named counts.1
+fault_named files words before after NoMemoryLeft are counts more = absurd (more counts.0)
+
+-- where memory was wanted no fault was counted
+pub want_uncounted : {T : Type 0} (before after : Told) (stop : Stop) → stop ≡ NoMemoryLeft → Counts (failed_stop {T = T} (Err stop)) before after → after.faults ≡ before.faults
+want_uncounted before after (Refused refusal) is counts = counts.0
+want_uncounted before after (Unread file) is counts = cc
+want_uncounted before after NoMemoryLeft is counts = counts.0
 
 -- ---- a report
 
@@ -302,20 +322,20 @@ line_ends : (line : List ℕ) (result : Status) (old new : Option (List ℕ)) �
 line_ends line result old new (inl (is, took)) = inr is
 line_ends line result old new (inr (ends, front)) = ends
 
-pub wanted_left : (files : Files) (words : List (List ℕ)) (b : Standing) (result : Status) (old new before after : Option (List ℕ)) → Delivered files words b NoMemory old new → NotesLine want_of_memory_line NoMemory result before after → Leaves files words result (Some b) old new
+pub wanted_left : (files : Files) (words : List (List ℕ)) (fault_name : Option (List ℕ)) (b : Standing) (result : Status) (old new before after : Option (List ℕ)) → Delivered files words b NoMemory old new → NotesLine want_of_memory_line NoMemory result before after → Leaves files words result (Some b) old new
 wanted_left files words b result old new before after d noted =
     cut_left files words b d.report d.status result old new d.reports d.writes (line_ends want_of_memory_line result before after noted)
 
-written_noted : (files : Files) (words : List (List ℕ)) (status result : Status) (old new taken : Option (List ℕ)) (report : List ℕ) → Writes status result old new report → Notes files words result taken taken
-written_noted files words status Done old new taken report writes = refl
-written_noted files words status PageLimitMet old new taken report writes = refl
-written_noted files words status WriteFailed old new taken report writes = (want_of_memory_line, inl refl, TookFront-none taken want_of_memory_line)
-written_noted files words status NoMemory old new taken report writes = (want_of_memory_line, inl refl, TookFront-none taken want_of_memory_line)
-written_noted files words status _ old new taken report writes = absurd writes
+written_noted : (files : Files) (words : List (List ℕ)) (fault_name : Option (List ℕ)) (status result : Status) (old new taken : Option (List ℕ)) (report : List ℕ) → Writes status result old new report → Notes files words fault_name result taken taken
+written_noted files words fault_name status Done old new taken report writes = refl
+written_noted files words fault_name status PageLimitMet old new taken report writes = refl
+written_noted files words fault_name status WriteFailed old new taken report writes = (want_of_memory_line, inl refl, TookFront-none taken want_of_memory_line)
+written_noted files words fault_name status NoMemory old new taken report writes = (want_of_memory_line, inl refl, TookFront-none taken want_of_memory_line)
+written_noted files words fault_name status _ old new taken report writes = absurd writes
 
 -- the writing of a report notes nothing
-pub delivered_noted : (files : Files) (words : List (List ℕ)) (b : Standing) (result : Status) (old new taken : Option (List ℕ)) → Delivered files words b result old new → Notes files words result taken taken
-delivered_noted files words b result old new taken d = written_noted files words d.status result old new taken d.report d.writes
+pub delivered_noted : (files : Files) (words : List (List ℕ)) (fault_name : Option (List ℕ)) (b : Standing) (result : Status) (old new taken : Option (List ℕ)) → Delivered files words b result old new → Notes files words fault_name result taken taken
+delivered_noted files words fault_name b result old new taken d = written_noted files words fault_name d.status result old new taken d.report d.writes
 
 -- and it doesn't end with a failed read
 pub delivered_reads : (files : Files) (words : List (List ℕ)) (b : Standing) (result : Status) (old new : Option (List ℕ)) → Delivered files words b result old new → result ≡ ReadFailed → ⊥

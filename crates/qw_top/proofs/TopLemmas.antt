@@ -23,7 +23,7 @@ use Rattle.qw_top.specs.FileNames.{table_file_of}
 use Rattle.qw_parse.specs.Parse.{ReadsQuery, ReadsSchema, integer_column, place_of, table_of}
 use Rattle.qw_csv.specs.Loading.{AreIntegers, Contents, Loads}
 use Rattle.qw_top.specs.Inner.Stages.{FilesStop, StopsAs}
-use Rattle.qw_top.specs.Inner.Stop.{refusal_status}
+use Rattle.qw_top.specs.Stop.{refusal_status}
 use Rattle.qw_top.specs.Top.{AreNames, Explains, Files, FilesExplain, HasQuery, HasRows, IsFault, IsFile, IsFileOf, IsNoQuery, IsNoSchema, IsNoTable, IsSettled, IsTooLong, Names, QueryIs, SchemaIs, TableIs}
 use Rattle.qw_top.specs.Inner.Inputs.{AreColumnsOf, IsOneTable}
 use Rattle.qw_csv.proofs.LoadingLaws.{same_loads, loads_or_fails}
@@ -80,7 +80,7 @@ pub queries_stop : (files now : Files) (names : Names) (schema : List Table) (co
 queries_stop files now names schema contents stop same (table, is, wide, held) stops =
     StopsAs-explained files names Queries (IsNoQuery now names.queries schema) names.queries stop
     (λ none. (table, contents.rows, held, subst (λ (s : List Table). IsNoQuery files names.queries s) is (subst (λ (f : Files). IsNoQuery f names.queries schema) same none)))
-    (inr (inr refl))
+    (inr (inr (table, contents.rows, held, refl)))
     stops
 
 -- all was accepted

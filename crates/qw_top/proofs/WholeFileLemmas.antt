@@ -1,10 +1,12 @@
 -- How the reading of a file goes on, and how it ends.
-use Rattle.std.proofs.Common.{◌≡◌, ℕ, ◌+◌, ◌≤◌, ◌<◌, Option, Some, None, List, [], ◌++◌, length, take, drop, ap, sym, ◌∙◌, length-append, length-take, arith}
+use Rattle.std.proofs.Common.{◌≡◌, ℕ, ◌+◌, ◌≤◌, ◌<◌, Option, Some, None, List, [], ◌++◌, length, take, drop, ap, sym, ◌∙◌, length-append, length-take, subst, arith}
 use Rattle.std.specs.Prelude.{unwrap_or, IsSomeAnd}
 use Rattle.std.proofs.lemmas.List.{take_all, length-take-le}
 use Rattle.std.proofs.Math.Seq.{take-add}
+use Rattle.qw_io.specs.Faults.{IsCounted}
 use Rattle.qw_io.specs.Files.{OfFile}
 use Rattle.qw_top.specs.Inner.WholeFiles.{IsFront}
+use Rattle.qw_top.specs.Shelves.{HasRead, Told}
 
 -- a front of a list, and a front of what stands behind it
 pub front-append : (bytes more file : List ℕ) → bytes ≡ take (length bytes) file → more ≡ take (length more) (drop (length bytes) file) → bytes ++ more ≡ take (length (bytes ++ more)) file
@@ -47,9 +49,21 @@ pub IsFront-longer : (files : Option (List ℕ → Option (List ℕ))) (name byt
 IsFront-longer None name bytes limit front long = tt
 IsFront-longer (Some bytes_of) name bytes limit front long = longer_of (bytes_of name) bytes limit front long
 
+-- what is read after a reading without fault leaves what both together do
+pub HasRead-then : (failed : Option (List ℕ)) (first second third : Told) → HasRead None first second → HasRead failed second third → HasRead failed first third
+HasRead-then None first second third h k = record {
+  same_files = k.same_files ∙ h.same_files;
+  never_falls = omega (arith, h.never_falls, k.never_falls);
+  counts = (k.counts.0 ∙ h.counts.0, k.counts.1 ∙ h.counts.1);
+}
+HasRead-then (Some name) first second third h k = record {
+  same_files = k.same_files ∙ h.same_files;
+  never_falls = omega (arith, h.never_falls, k.never_falls);
+  counts = (subst (λ n. IsCounted n third.faults) h.counts.0 k.counts.0, k.counts.1);
+}
+
 -- how far the reading has come
-pub record Reads (files now : Option (List ℕ → Option (List ℕ))) (name bytes : List ℕ) (limit before after : ℕ) : Type 0 where
-  pub front : IsFront files name bytes
+pub record Reads (before now : Told) (name bytes : List ℕ) (limit : ℕ) : Type 0 where
+  pub front : IsFront before.files name bytes
   pub within : length bytes ≤ limit + 1
-  pub same_files : now ≡ files
-  pub same_faults : after ≡ before
+  pub shelf : HasRead None before now

@@ -1,5 +1,5 @@
 -- What a run leaves: the bench that it turned to the end, what it wrote of the report, and what it noted.
-use Rattle.std.specs.Prelude.{◌≡◌, ◌⊎◌, ℕ, List, [], ◌∷◌, length, Option, Some, None}
+use Rattle.std.specs.Prelude.{◌≡◌, ◌⊎◌, ℕ, List, [], ◌∷◌, length, Option, Some, None, IfSome}
 use Rattle.qw_types.specs.declared.schema.Table.{Table}
 use Rattle.qw_types.specs.declared.value.Val.{Val}
 use Rattle.qw_module.specs.declared.module.Module.{Module}
@@ -88,10 +88,12 @@ Leaves files words ReadFailed kept old new = LeavesNothing kept old new
 abbrev pub IsLine : Files → (words : List (List ℕ)) → List ℕ → Type 0
 IsLine files words line = (line ≡ want_of_memory_line) ⊎ ((name : List ℕ) × IsNamed files words name × (line ≡ read_fault_line name))
 
--- What a run notes, by its status: at ReadFailed the line of a name that a run may read; at NoMemory and WriteFailed a front of
--- a line that a run may note; and else nothing.
-abbrev pub Notes : Files → (words : List (List ℕ)) → Status → (old new : Option (List ℕ)) → Type 0
-Notes files words ReadFailed old new = (name : List ℕ) × IsNamed files words name × (new ≡ with_text old (read_fault_line name))
-Notes files words NoMemory old new = (line : List ℕ) × IsLine files words line × TookFront old new line
-Notes files words WriteFailed old new = (line : List ℕ) × IsLine files words line × TookFront old new line
-Notes files words _ old new = new ≡ old
+-- What a run notes, by its status: at ReadFailed the line of a name that a run may read, which is the name of the last fault
+-- that the shelf counted, where it tells that; at NoMemory and WriteFailed a front of a line that a run may note; and else
+-- nothing.
+abbrev pub Notes : Files → (words : List (List ℕ)) → (fault_name : Option (List ℕ)) → Status → (old new : Option (List ℕ)) → Type 0
+Notes files words fault_name ReadFailed old new =
+    (name : List ℕ) × IsNamed files words name × IfSome fault_name (λ last. last ≡ name) × (new ≡ with_text old (read_fault_line name))
+Notes files words fault_name NoMemory old new = (line : List ℕ) × IsLine files words line × TookFront old new line
+Notes files words fault_name WriteFailed old new = (line : List ℕ) × IsLine files words line × TookFront old new line
+Notes files words fault_name _ old new = new ≡ old

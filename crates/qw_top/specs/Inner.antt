@@ -1,7 +1,4 @@
 -- What restates code for proofs. No public clause rests on it.
-pub mod FaultCounts
 pub mod Inputs
-pub mod Noted
 pub mod Stages
-pub mod Stop
 pub mod WholeFiles

@@ -97,11 +97,12 @@ pub record HasQuery (files : Files) (names : Names) (table : Table) (rows : List
   pub before : HasRows files names table rows
   pub asked : QueryIs files names.queries (table ∷ []) statement
 
--- the name of a file that a run may read
+-- The name of a file that a run may read: that of the schema file; where this was accepted, that of the table's file; and where
+-- both were accepted, that of the queries file.
 abbrev pub IsFileOf : Files → Names → List ℕ → Type 0
 IsFileOf files names name = (name ≡ names.schema)
     ⊎ ((table : Table) × SchemaIs files names.schema (table ∷ []) × (name ≡ table_file_of names.folder table.name))
-    ⊎ (name ≡ names.queries)
+    ⊎ ((table : Table) × (rows : List (List Val)) × HasRows files names table rows × (name ≡ names.queries))
 
 -- the same of the words that give the names
 abbrev pub IsNamed : Files → (words : List (List ℕ)) → List ℕ → Type 0

@@ -3,7 +3,7 @@
 ghost use Rattle.std.specs.Prelude.{◌≡◌, ◌+◌, ◌<◌, ◌≤◌, IfOk, IsErrOf, OnOk, length};
 ghost use Rattle.std.specs.String.{string_bytes};
 ghost use Rattle.qw_io.specs.Files.{OfFile};
-ghost use Rattle.qw_top.specs.Inner.FaultCounts.{CountsRead};
+ghost use Rattle.qw_top.specs.Shelves.{HasRead, failed_read, told_by};
 ghost use Rattle.qw_top.specs.FileNames.{table_file_of};
 ghost use Rattle.qw_top.specs.Inner.WholeFiles.{IsFront};
 
@@ -32,7 +32,7 @@ pub enum ReadFault {
 }
 
 impl From<IoFault> for ReadFault {
-    ghost use Rattle.qw_top.specs.Inner.FaultCounts.{read_fault_of};
+    ghost use Rattle.qw_top.specs.Shelves.{read_fault_of};
 
     ghost from_gives = { λ fault read. read ≡ read_fault_of fault };
 
@@ -76,9 +76,7 @@ pub fn read_whole<F: Shelf>(
     ensures too_long { IsErrOf result ReadFault.TooLong →
         OfFile (F.files files.old) name.now (λ file. limit < length file) }
 
-    ensures counts { CountsRead result (F.faults files.old) (F.faults files.new) }
-    ensures never_falls { F.faults files.old ≤ F.faults files.new }
-    ensures same_files { F.files files.new ≡ F.files files.old }
+    ensures shelf { HasRead (failed_read name.now result) (told_by F.Shelf files.old) (told_by F.Shelf files.new) }
 {
     let mut buffer = vec![in alloc; 0; PIECE].map_err(|_| ReadFault::NoMemory)?;
     read_pieces(alloc, files, name, limit, buffer.as_mut_slice())
@@ -100,9 +98,7 @@ fn read_pieces<F: Shelf>(
     ensures too_long { IsErrOf result ReadFault.TooLong →
         OfFile (F.files files.old) name.now (λ file. limit < length file) }
 
-    ensures counts { CountsRead result (F.faults files.old) (F.faults files.new) }
-    ensures never_falls { F.faults files.old ≤ F.faults files.new }
-    ensures same_files { F.files files.new ≡ F.files files.old }
+    ensures shelf { HasRead (failed_read name.now result) (told_by F.Shelf files.old) (told_by F.Shelf files.new) }
 {
     let mut bytes = Vec::new(alloc);
     while bytes.len() <= limit {
@@ -134,9 +130,7 @@ fn read_more<F: Shelf>(
         OfFile (F.files files.old) name.now (λ file. length file ≤ length bytes.old.items)) }
 
     ensures never_too_long { ¬ IsErrOf result ReadFault.TooLong }
-    ensures counts { CountsRead result (F.faults files.old) (F.faults files.new) }
-    ensures never_falls { F.faults files.old ≤ F.faults files.new }
-    ensures same_files { F.files files.new ≡ F.files files.old }
+    ensures shelf { HasRead (failed_read name.now result) (told_by F.Shelf files.old) (told_by F.Shelf files.new) }
 {
     let count = files.fetch(name, bytes.len() as u64, piece)?;
     bytes

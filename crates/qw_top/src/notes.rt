@@ -3,10 +3,10 @@
 ghost use Rattle.std.specs.Prelude.{◌≡◌, ◌≢◌, IsErrOf, IsTrue, OnOk, OnErr};
 ghost use Rattle.qw_io.specs.Faults.{IsCounted};
 ghost use Rattle.qw_top.specs.declared.status.Status.{Status};
-ghost use Rattle.qw_top.specs.Inner.FaultCounts.{CountsWrite};
-ghost use Rattle.qw_top.specs.Inner.Noted.{NotesLine, NotesStop};
+ghost use Rattle.qw_top.specs.declared.stop.Stop.{Stop};
+ghost use Rattle.qw_top.specs.Noted.{NotesLine, NotesStop};
 ghost use Rattle.qw_top.specs.Notes.{read_fault_line, want_of_memory_line};
-ghost use Rattle.qw_top.specs.Output.{TookFront, with_text};
+ghost use Rattle.qw_top.specs.Output.{CountsWrite, TookFront, with_text};
 
 use crate::output::{end_of_write, write_whole};
 use crate::status::Status;
@@ -19,6 +19,7 @@ pub fn note_stop<E: Sink>(notes: &mut E, stop: &Stop<'_>) -> Status
     ensures noted { NotesStop stop.now result (E.taken notes.old) (E.taken notes.new) }
     ensures whole { (IsTrue E.takes_memory → ⊥) → result ≡ Status.NoMemory
         → E.taken notes.new ≡ with_text (E.taken notes.old) want_of_memory_line }
+    ensures hides_none { (IsTrue E.takes_memory → ⊥) → result ≡ Status.NoMemory → stop.now ≡ Stop.NoMemory }
     ensures fault { result ≡ Status.WriteFailed → IsCounted (E.faults notes.old) (E.faults notes.new) }
     ensures no_fault { result ≢ Status.WriteFailed → E.faults notes.new ≡ E.faults notes.old }
 {

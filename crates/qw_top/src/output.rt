@@ -1,8 +1,7 @@
 //! Whole texts, written piece by piece.
 
 ghost use Rattle.std.specs.Prelude.{◌≡◌, ◌≤◌, IfErr, IsErrOf, IsTrue, OnOk, OnErr};
-ghost use Rattle.qw_top.specs.Inner.FaultCounts.{CountsWrite, write_fault_of};
-ghost use Rattle.qw_top.specs.Output.{TookFront, with_text};
+ghost use Rattle.qw_top.specs.Output.{CountsWrite, TookFront, with_text, write_fault_of};
 
 use crate::status::Status;
 use qw_io::{IoFault, Sink};

@@ -1,6 +1,6 @@
 //! A run, from the words of the command line on.
 
-ghost use Rattle.std.specs.Prelude.{◌≡◌, ◌≢◌, ◌≤◌, ◌⊎◌, ℕ, List, map, IsTrue, Option, Some};
+ghost use Rattle.std.specs.Prelude.{◌≡◌, ◌≢◌, ◌≤◌, ◌⊎◌, ℕ, List, map, IfSome, IsTrue, Option, Some};
 ghost use Rattle.std.specs.String.{string_bytes};
 ghost use Rattle.qw_io.specs.Faults.{IsCounted};
 ghost use Rattle.qw_types.specs.declared.schema.Table.{Table};
@@ -12,7 +12,7 @@ ghost use Rattle.qw_top.specs.declared.status.Status.{Status};
 ghost use Rattle.qw_top.specs.Delivered.{Leaves, LeavesBench, Notes};
 ghost use Rattle.qw_top.specs.Notes.{want_of_memory_line};
 ghost use Rattle.qw_top.specs.Output.{TookFront, with_text};
-ghost use Rattle.qw_top.specs.Top.{AreNames, Explains, HasQuery, IsFault, IsSettled, Names};
+ghost use Rattle.qw_top.specs.Top.{AreNames, Explains, HasQuery, IsFault, IsNamed, IsSettled, Names};
 
 use crate::notes::{note_stop, note_want_of_memory};
 use crate::status::Status;
@@ -57,13 +57,17 @@ pub fn qwasm<F: Shelf, O: Sink, E: Sink>(
     ensures kept_at_fault { O.faults out.new ≢ O.faults out.old
         → LeavesBench (F.files files.old) (map string_bytes words.now) kept.new
         (λ status report. TookFront (O.taken out.old) (O.taken out.new) report) }
-    ensures noted { Notes (F.files files.old) (map string_bytes words.now) result (E.taken notes.old) (E.taken notes.new) }
+    ensures noted { Notes (F.files files.old) (map string_bytes words.now) (F.fault_name files.new) result (E.taken notes.old) (E.taken notes.new) }
     ensures noted_whole { (IsTrue E.takes_memory → ⊥) → result ≡ Status.NoMemory
         → E.taken notes.new ≡ with_text (E.taken notes.old) want_of_memory_line }
     ensures silent_at_fault { O.faults out.new ≢ O.faults out.old → E.taken notes.new ≡ E.taken notes.old }
     ensures read_fault { result ≡ Status.ReadFailed → IsCounted (F.faults files.old) (F.faults files.new) }
     ensures no_read_fault { result ≢ Status.ReadFailed → result ≢ Status.WriteFailed → result ≢ Status.NoMemory
         → F.faults files.new ≡ F.faults files.old }
+    ensures want_hides_none { (IsTrue E.takes_memory → ⊥) → result ≡ Status.NoMemory → F.faults files.new ≡ F.faults files.old }
+    ensures fault_name { F.faults files.new ≢ F.faults files.old
+        → IfSome (F.fault_name files.new) (λ name. IsNamed (F.files files.old) (map string_bytes words.now) name) }
+    ensures same_files { F.files files.new ≡ F.files files.old }
     ensures write_fault { result ≡ Status.WriteFailed
         → IsCounted (O.faults out.old) (O.faults out.new) ⊎ IsCounted (E.faults notes.old) (E.faults notes.new) }
     ensures no_write_fault { result ≢ Status.WriteFailed

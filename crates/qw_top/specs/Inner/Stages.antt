@@ -1,6 +1,5 @@
 -- What the stages of a run hand on, and how they stop.
-use Rattle.std.specs.Prelude.{◌≡◌, ℕ, List, [], ◌∷◌, Option, Result, Err, length}
-use Rattle.qw_io.specs.Faults.{IsCounted}
+use Rattle.std.specs.Prelude.{◌≡◌, ℕ, List, [], ◌∷◌, Option, Some, None, Result, Err, length}
 use Rattle.qw_types.specs.declared.schema.Table.{Table}
 use Rattle.qw_types.specs.declared.value.Val.{Val}
 use Rattle.qw_meaning.specs.Statement.{Statement}
@@ -13,7 +12,7 @@ use Rattle.qw_top.specs.Delivered.{Asks, HasRun, ShowsEnd, status_of}
 use Rattle.qw_csv.specs.Loading.{AreIntegers}
 use Rattle.qw_top.specs.Output.{TookFront, with_text}
 use Rattle.qw_bench.specs.Seats.{Standing}
-use Rattle.qw_top.specs.Inner.Stop.{octets_of, refusal_status}
+use Rattle.qw_top.specs.Stop.{octets_of, refusal_status}
 use Rattle.qw_top.specs.Top.{AreNames, Explains, Files, FilesExplain, IsFileOf, IsNamed, Names}
 use Rattle.qw_top.specs.Inner.Inputs.{AreColumnsOf}
 
@@ -24,10 +23,10 @@ StopsAs refusal reason name (Refused other) = (other ≡ refusal) × reason
 StopsAs refusal reason name (Unread file) = octets_of file ≡ name
 StopsAs refusal reason name NoMemory = Unit {0}
 
--- a read that failed is counted, and no other answer is
-abbrev pub CountsStop : {T : Type 0} → Result T Stop → ℕ → ℕ → Type 0
-CountsStop (Err (Unread file)) before after = IsCounted before after
-CountsStop _ before after = after ≡ before
+-- the name of the file at which the reading failed that stopped a stage
+abbrev pub failed_stop : {T : Type 0} → Result T Stop → Option (List ℕ)
+failed_stop (Err (Unread file)) = Some (octets_of file)
+failed_stop _ = None
 
 -- the files of these names explain a stop
 abbrev pub FilesStop : Files → Names → Stop → Type 0

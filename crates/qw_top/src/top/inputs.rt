@@ -4,8 +4,9 @@ ghost use Rattle.std.specs.Prelude.{◌≡◌, ◌≤◌, [], ◌∷◌, IfOk, I
 ghost use Rattle.qw_types.specs.declared.schema.Table.{Table};
 ghost use Rattle.qw_csv.specs.Loading.{AreIntegers};
 ghost use Rattle.qw_top.specs.FileNames.{table_file_of};
-ghost use Rattle.qw_top.specs.Inner.Stages.{CountsStop, FilesStop, StopsAs};
-ghost use Rattle.qw_top.specs.Inner.Stop.{octets_of};
+ghost use Rattle.qw_top.specs.Inner.Stages.{FilesStop, StopsAs, failed_stop};
+ghost use Rattle.qw_top.specs.Shelves.{HasRead, told_by};
+ghost use Rattle.qw_top.specs.Stop.{octets_of};
 ghost use Rattle.qw_top.specs.Top.{HasQuery, IsFile, IsNoQuery, IsNoSchema, IsNoTable, IsTooLong, QueryIs, SchemaIs, TableIs};
 ghost use Rattle.qw_top.specs.Inner.Inputs.{IsOneTable, names_of};
 
@@ -46,9 +47,7 @@ pub fn prepare<'a, F: Shelf>(
         × HasQuery (F.files files.old) (names_of names.now) table run.loaded.rows run.query) }
     ensures one_table { IfOk result (λ run. IsOneTable run.schema) }
     ensures stops { IfErr result (λ stop. FilesStop (F.files files.old) (names_of names.now) stop) }
-    ensures counts { CountsStop result (F.faults files.old) (F.faults files.new) }
-    ensures never_falls { F.faults files.old ≤ F.faults files.new }
-    ensures same_files { F.files files.new ≡ F.files files.old }
+    ensures shelf { HasRead (failed_stop result) (told_by F.Shelf files.old) (told_by F.Shelf files.new) }
 {
     let schema = read_schema(alloc, names.schema, files)?;
     let loaded = read_table(alloc, names.folder, &schema, files)?;
@@ -79,9 +78,7 @@ fn read_schema<'a, F: Shelf>(
     ensures one_table { IfOk result (λ schema. IsOneTable schema) }
     ensures stops { IfErr result (λ stop.
         StopsAs Refusal.Schema (IsNoSchema (F.files files.old) name.now) name.now stop) }
-    ensures counts { CountsStop result (F.faults files.old) (F.faults files.new) }
-    ensures never_falls { F.faults files.old ≤ F.faults files.new }
-    ensures same_files { F.files files.new ≡ F.files files.old }
+    ensures shelf { HasRead (failed_stop result) (told_by F.Shelf files.old) (told_by F.Shelf files.new) }
 {
     let name = FileName::Given(name);
     let text = read_file(alloc, files, name, MAX_TEXT_FILE, Refusal::Schema)?;
@@ -106,9 +103,7 @@ fn read_table<'a, F: Shelf>(
         → loaded.width ≡ length table.columns) }
     ensures stops { IfErr result (λ stop. (table : Table) → schema.now ≡ table ∷ []
         → StopsAs Refusal.TableFile (IsNoTable (F.files files.old) folder.now table) (table_file_of folder.now table.name) stop) }
-    ensures counts { CountsStop result (F.faults files.old) (F.faults files.new) }
-    ensures never_falls { F.faults files.old ≤ F.faults files.new }
-    ensures same_files { F.files files.new ≡ F.files files.old }
+    ensures shelf { HasRead (failed_stop result) (told_by F.Shelf files.old) (told_by F.Shelf files.new) }
 {
     let table = one_table(schema);
     let name = table_file_name(alloc, folder, table.name.as_str()).map_err(|_| Stop::NoMemory)?;
@@ -130,9 +125,7 @@ fn read_query<'a, F: Shelf>(
     ensures accepted { IfOk result (λ query. QueryIs (F.files files.old) name.now schema.now query) }
     ensures stops { IfErr result (λ stop.
         StopsAs Refusal.Queries (IsNoQuery (F.files files.old) name.now schema.now) name.now stop) }
-    ensures counts { CountsStop result (F.faults files.old) (F.faults files.new) }
-    ensures never_falls { F.faults files.old ≤ F.faults files.new }
-    ensures same_files { F.files files.new ≡ F.files files.old }
+    ensures shelf { HasRead (failed_stop result) (told_by F.Shelf files.old) (told_by F.Shelf files.new) }
 {
     let name = FileName::Given(name);
     let text = read_file(alloc, files, name, MAX_TEXT_FILE, Refusal::Queries)?;
@@ -154,9 +147,7 @@ fn read_file<'a, F: Shelf>(
     ensures whole { IfOk result (λ bytes. IsFile (F.files files.old) (octets_of name.entry) limit bytes.items) }
     ensures stops { IfErr result (λ stop.
         StopsAs too_long (IsTooLong (F.files files.old) (octets_of name.entry) limit) (octets_of name.entry) stop) }
-    ensures counts { CountsStop result (F.faults files.old) (F.faults files.new) }
-    ensures never_falls { F.faults files.old ≤ F.faults files.new }
-    ensures same_files { F.files files.new ≡ F.files files.old }
+    ensures shelf { HasRead (failed_stop result) (told_by F.Shelf files.old) (told_by F.Shelf files.new) }
 {
     match read_whole(alloc, files, name.as_str(), limit) {
         Ok(bytes) => Ok(bytes),

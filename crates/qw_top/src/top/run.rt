@@ -7,7 +7,8 @@ ghost use Rattle.qw_types.specs.declared.schema.Table.{Table};
 ghost use Rattle.qw_emit.specs.Compiled.{IsCompiled};
 ghost use Rattle.qw_map.specs.Layout.{used};
 ghost use Rattle.qw_top.specs.Delivered.{Asks, HasRun};
-ghost use Rattle.qw_top.specs.Inner.Stages.{CountsStop, HasAsked, Stops};
+ghost use Rattle.qw_top.specs.Inner.Stages.{HasAsked, Stops, failed_stop};
+ghost use Rattle.qw_top.specs.Shelves.{HasRead, told_by};
 ghost use Rattle.qw_top.specs.Inner.Inputs.{IsOneTable};
 
 use super::QUANTUM;
@@ -43,7 +44,7 @@ pub fn run<'a, F: Shelf>(
     ensures asked { IfOk result (λ run.
         HasAsked (F.files files.old) (map string_bytes words.now) run.schema run.bench) }
     ensures stops { IfErr result (λ stop. Stops (F.files files.old) (map string_bytes words.now) stop) }
-    ensures counts { CountsStop result (F.faults files.old) (F.faults files.new) }
+    ensures shelf { HasRead (failed_stop result) (told_by F.Shelf files.old) (told_by F.Shelf files.new) }
 {
     let Prepared {
         schema,
@@ -65,7 +66,7 @@ fn accept<'a, F: Shelf>(
         × Asks (F.files files.old) (map string_bytes words.now) table run.loaded.rows run.query) }
     ensures one_table { IfOk result (λ run. IsOneTable run.schema) }
     ensures stops { IfErr result (λ stop. Stops (F.files files.old) (map string_bytes words.now) stop) }
-    ensures counts { CountsStop result (F.faults files.old) (F.faults files.new) }
+    ensures shelf { HasRead (failed_stop result) (told_by F.Shelf files.old) (told_by F.Shelf files.new) }
 {
     let names = run_words(words).ok_or(Stop::Refused(Refusal::Words))?;
     prepare(alloc, &names, files)

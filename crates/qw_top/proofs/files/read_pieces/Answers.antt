@@ -5,7 +5,7 @@ use Rattle.qw_top.proofs.files.read_pieces.Goals as goal
 pub returns-then-count-eq0-clause-whole : goal.returns-then-count-eq0-clause-whole
 returns-then-count-eq0-clause-whole g c =
     let at_end = c.in_ok-count.ensures.end c.if-count-eq0.true in
-    rw at_end.0 (IsFront-whole (g.F.Shelf.files c.args.files.now) c.args.name.now c.loop-bytes.bytes.items c.loop-bytes.invariant.front (rw (← c.loop-bytes.invariant.same_files) at_end.1))
+    rw at_end.0 (IsFront-whole (g.F.Shelf.files c.args.files.now) c.args.name.now c.loop-bytes.bytes.items c.loop-bytes.invariant.front (rw (← c.loop-bytes.invariant.shelf.same_files) at_end.1))
 
 pub returns-then-count-eq0-clause-within : goal.returns-then-count-eq0-clause-within
 returns-then-count-eq0-clause-within g c =

@@ -1,5 +1,5 @@
 use Rattle.qw_top.specs.declared.status.Status.TheVariants.{NoMemory}
-use Rattle.qw_top.proofs.DeliverLemmas.{delivered, delivered_explained, delivered_front, delivered_left, delivered_noted, delivered_reads, enough_explained, exactly_explained, runs_explained, stopped_explained, stopped_noted, want_noted, wanted_left}
+use Rattle.qw_top.proofs.DeliverLemmas.{delivered, delivered_explained, delivered_front, delivered_left, delivered_noted, delivered_reads, enough_explained, exactly_explained, fault_named, runs_explained, stopped_explained, stopped_noted, want_noted, wanted_left}
 use Rattle.qw_top.proofs.top.qwasm.Goals as goal
 
 pub returns-in-NoMemory-clause-left : goal.returns-in-NoMemory-clause-left
@@ -12,7 +12,7 @@ returns-in-NoMemory-clause-kept_at_fault g c changed =
     delivered_front _ _ _ NoMemory _ _ (delivered _ _ _ _ NoMemory _ _ c.in-Ok.ensures.asked c.in-NoMemory.ensures.writes)
 
 pub returns-in-NoMemory-clause-noted : goal.returns-in-NoMemory-clause-noted
-returns-in-NoMemory-clause-noted g c = want_noted _ _ _ _ _ c.note_want_of_memory.ensures.noted
+returns-in-NoMemory-clause-noted g c = want_noted _ _ _ _ _ _ c.note_want_of_memory.ensures.noted
 
 pub returns-in-Ok-clause-explained : goal.returns-in-Ok-clause-explained
 returns-in-Ok-clause-explained g c =
@@ -40,7 +40,7 @@ returns-in-Ok-clause-kept_at_fault g c changed =
 
 pub returns-in-Ok-clause-noted : goal.returns-in-Ok-clause-noted
 returns-in-Ok-clause-noted g c =
-    delivered_noted _ _ _ _ _ _ _ (delivered _ _ _ _ _ _ _ c.in-Ok.ensures.asked c.deliver-status.ensures.writes)
+    delivered_noted _ _ _ _ _ _ _ _ (delivered _ _ _ _ _ _ _ c.in-Ok.ensures.asked c.deliver-status.ensures.writes)
 
 pub returns-in-Ok-clause-read_fault : goal.returns-in-Ok-clause-read_fault
 returns-in-Ok-clause-read_fault g c is =
@@ -59,4 +59,7 @@ returns-clause-enough g c =
     enough_explained _ _ _ (stopped_explained _ _ c.in-Err.stop _ _ _ c.in-Err.ensures.stops c.note_stop.ensures.noted)
 
 pub returns-clause-noted : goal.returns-clause-noted
-returns-clause-noted g c = stopped_noted _ _ c.in-Err.stop _ _ _ c.in-Err.ensures.stops c.note_stop.ensures.noted
+returns-clause-noted g c = stopped_noted _ _ _ _ c.in-Err.stop _ _ _ c.in-Err.ensures.stops c.in-Err.ensures.shelf.counts c.note_stop.ensures.noted
+
+pub returns-clause-fault_name : goal.returns-clause-fault_name
+returns-clause-fault_name g c more = fault_named _ _ _ _ c.in-Err.stop c.in-Err.ensures.stops c.in-Err.ensures.shelf.counts more

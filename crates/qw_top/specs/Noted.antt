@@ -6,7 +6,7 @@ use Rattle.qw_top.specs.declared.stop.Stop.{Stop}
 use Rattle.qw_top.specs.declared.stop.Stop.TheVariants.{Refused, Unread, NoMemory as NoMemoryLeft}
 use Rattle.qw_top.specs.Notes.{read_fault_line, want_of_memory_line}
 use Rattle.qw_top.specs.Output.{TookFront, with_text}
-use Rattle.qw_top.specs.Inner.Stop.{octets_of, refusal_status}
+use Rattle.qw_top.specs.Stop.{octets_of, refusal_status}
 
 -- The line was taken, and the run ends as it would; or a front of it was, and the run ends with what kept the rest from
 -- being written.
