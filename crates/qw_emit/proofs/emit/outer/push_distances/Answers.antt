@@ -1,5 +1,5 @@
 use Rattle.std.proofs.Common.{arith}
-use Rattle.qw_emit.specs.Emit.{read_distances}
+use Rattle.qw_emit.specs.Inner.Emit.{read_distances}
 use Rattle.qw_emit.proofs.Pieces.{Adds-none, Adds-next, Adds-past, read_distances-append, AllByRecursion-at}
 use Rattle.qw_emit.proofs.emit.outer.push_distances.Goals as goal
 

@@ -1,6 +1,6 @@
 use Rattle.std.proofs.Common.{take}
-use Rattle.qw_emit.specs.Emit.{read_distances}
-use Rattle.qw_emit.specs.Sequences.{Adds}
+use Rattle.qw_emit.specs.Inner.Emit.{read_distances}
+use Rattle.qw_emit.specs.Inner.Sequences.{Adds}
 use Rattle.qw_emit.proofs.emit.outer.push_distances.Given as goal
 
 abbrev pub invariant-loop-number : goal.invariant-loop-number
