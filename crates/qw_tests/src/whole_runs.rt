@@ -2,12 +2,13 @@
 
 use crate::tables::{WORDS, shelf, words};
 use qw_bench::bench::Bench;
-use qw_io::{IoFault, MemoryShelf, MemorySink, Sink};
+use qw_io::{IoFault, MemorySink, Shelf, Sink};
 use qw_top::status::Status;
 use qw_top::top::qwasm;
 use std::alloc::{AllocError, Global};
 use std::test::Fail;
 
+mod file_limits;
 mod sizes;
 
 const SCHEMA: &[u8] = b"CREATE TABLE T (A INTEGER NOT NULL);";
@@ -201,9 +202,9 @@ const RUNS: [(&[u8], &[u8], &[u8], Status, &[u8]); 27] = [
 ];
 
 // What a run over these files came to: its end, and the bench.
-fn run<O: Sink>(
+fn run<F: Shelf, O: Sink>(
     alloc: Global,
-    files: &mut MemoryShelf,
+    files: &mut F,
     texts: &[&str],
     out: &mut O,
     notes: &mut MemorySink,
@@ -327,6 +328,32 @@ fn words_and_faults(rt: HostRuntime) -> Result<(), Fail> {
         assert_eq!(rt; out.bytes(), report);
         assert_eq!(rt; notes.bytes(), noted);
         assert_eq!(rt; kept.is_some(), keeps);
+    }
+    Ok(())
+}
+
+// A file that is refused ends the run, whatever is wrong with the files behind it, and nothing is noted.
+#[test]
+fn the_first_refusal_ends_a_run(rt: HostRuntime) -> Result<(), Fail> {
+    let alloc = rt.alloc();
+    let cases: [(&[u8], &[u8], [&str; 4], Status); 4] = [
+        (b"x", TABLE, ["run", "s", "d", "Q"], Status::SchemaRefused),
+        (b"x", TABLE, ["run", "s", "e", "q"], Status::SchemaRefused),
+        (
+            SCHEMA,
+            b"x",
+            ["run", "s", "d", "Q"],
+            Status::TableFileRefused,
+        ),
+        (b"x", b"x", ["run", "s", "d", "-"], Status::WordsRefused),
+    ];
+    for (schema, table, texts, end) in cases {
+        let mut files = shelf(alloc, schema, table, QUERY)?;
+        let mut out = MemorySink::new(alloc, 1, Vec::new(alloc));
+        let mut notes = MemorySink::new(alloc, 1, Vec::new(alloc));
+        let (status, _) = run(alloc, &mut files, &texts, &mut out, &mut notes)?;
+        assert_eq!(rt; status, end);
+        assert!(rt; out.bytes().is_empty() && notes.bytes().is_empty());
     }
     Ok(())
 }

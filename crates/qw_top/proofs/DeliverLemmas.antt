@@ -19,16 +19,17 @@ use Rattle.qw_top.specs.declared.stop.Refusal.TheVariants.{Words, Schema, TableF
 use Rattle.qw_top.specs.declared.stop.Stop.{Stop}
 use Rattle.qw_top.specs.declared.stop.Stop.TheVariants.{Refused, Unread, NoMemory as NoMemoryLeft}
 use Rattle.qw_top.specs.Delivered.{Asks, HasRun, IsLine, Leaves, LeavesBench, Notes, Reports, ShowsEnd, status_of}
-use Rattle.qw_top.specs.Noted.{NotesLine, NotesStop}
+use Rattle.qw_top.specs.Inner.Noted.{NotesLine, NotesStop}
 use Rattle.qw_map.specs.Layout.{used}
 use Rattle.qw_csv.specs.Loading.{Contents}
 use Rattle.qw_top.specs.Notes.{read_fault_line, want_of_memory_line}
-use Rattle.qw_top.specs.Output.{CountsWrite, TookFront, with_text, write_fault_of}
+use Rattle.qw_top.specs.Inner.Sinks.{CountsWrite, write_fault_of}
+use Rattle.qw_top.specs.Output.{TookFront, with_text}
 use Rattle.qw_bench.specs.Bench.{end_in}
 use Rattle.qw_bench.specs.Seats.{Standing, shared_of}
 use Rattle.qw_top.specs.Inner.Stages.{FilesStop, HasAsked, IsReport, Ran, Stops, Writes, failed_stop}
-use Rattle.qw_top.specs.Shelves.{Counts, Told}
-use Rattle.qw_top.specs.Stop.{octets_of, refusal_status}
+use Rattle.qw_top.specs.Inner.Shelves.{Counts, Told}
+use Rattle.qw_top.specs.Inner.Stop.{octets_of, refusal_status}
 use Rattle.qw_top.specs.Top.{AreNames, Explains, Files, FilesExplain, HasQuery, IsFault, IsNamed, IsSettled, Names}
 use Rattle.qw_top.specs.Inner.Inputs.{IsOneTable}
 use Rattle.qw_top.proofs.RunLemmas.{HasRun-pages, HasRun-shows}

@@ -23,7 +23,7 @@ use Rattle.qw_top.specs.FileNames.{table_file_of}
 use Rattle.qw_parse.specs.Parse.{ReadsQuery, ReadsSchema, integer_column, place_of, table_of}
 use Rattle.qw_csv.specs.Loading.{AreIntegers, Contents, Loads}
 use Rattle.qw_top.specs.Inner.Stages.{FilesStop, StopsAs}
-use Rattle.qw_top.specs.Stop.{refusal_status}
+use Rattle.qw_top.specs.Inner.Stop.{refusal_status}
 use Rattle.qw_top.specs.Top.{AreNames, Explains, Files, FilesExplain, HasQuery, HasRows, IsFault, IsFile, IsFileOf, IsNoQuery, IsNoSchema, IsNoTable, IsSettled, IsTooLong, Names, QueryIs, SchemaIs, TableIs}
 use Rattle.qw_top.specs.Inner.Inputs.{AreColumnsOf, IsOneTable}
 use Rattle.qw_csv.proofs.LoadingLaws.{same_loads, loads_or_fails}
@@ -164,6 +164,20 @@ pub used_within : (table : Table) (statement : Statement) (width : ℕ) → widt
 unfolding used
 used_within table statement width is (tested, within) =
     rw is (filtered_within statement (length table.columns) (range_with_len 0 most_columns) tested within)
+
+-- ---- kinds of ends
+
+pub settled_is_no_fault : (status : Status) → IsSettled status → IsFault status → ⊥
+settled_is_no_fault ReadFailed s f = s
+settled_is_no_fault WriteFailed s f = s
+settled_is_no_fault NoMemoryLeft s f = s
+settled_is_no_fault _ s f = f
+
+pub executed_is_neither : (status : Status) → (status ≡ Done) ⊎ (status ≡ PageLimitMet) → IsSettled status ⊎ IsFault status → ⊥
+executed_is_neither status (inl is) (inl s) = subst IsSettled is s
+executed_is_neither status (inl is) (inr f) = subst IsFault is f
+executed_is_neither status (inr is) (inl s) = subst IsSettled is s
+executed_is_neither status (inr is) (inr f) = subst IsFault is f
 
 -- ---- told files
 

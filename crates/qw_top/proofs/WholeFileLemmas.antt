@@ -6,7 +6,7 @@ use Rattle.std.proofs.Math.Seq.{take-add}
 use Rattle.qw_io.specs.Faults.{IsCounted}
 use Rattle.qw_io.specs.Files.{OfFile}
 use Rattle.qw_top.specs.Inner.WholeFiles.{IsFront}
-use Rattle.qw_top.specs.Shelves.{HasRead, Told}
+use Rattle.qw_top.specs.Inner.Shelves.{HasRead, Told}
 
 -- a front of a list, and a front of what stands behind it
 pub front-append : (bytes more file : List ℕ) → bytes ≡ take (length bytes) file → more ≡ take (length more) (drop (length bytes) file) → bytes ++ more ≡ take (length (bytes ++ more)) file

@@ -1,4 +1,8 @@
 -- What restates code for proofs. No public clause rests on it.
 pub mod Inputs
+pub mod Noted
+pub mod Shelves
+pub mod Sinks
 pub mod Stages
+pub mod Stop
 pub mod WholeFiles

@@ -2,11 +2,8 @@ pub mod Delivered
 pub mod FileNames
 pub mod Inner
 pub mod Limits
-pub mod Noted
 pub mod Notes
 pub mod Output
-pub mod Shelves
 pub mod Status
-pub mod Stop
 pub mod Top
 pub mod Words

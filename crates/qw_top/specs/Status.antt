@@ -4,13 +4,13 @@ use Rattle.qw_top.specs.declared.status.Status.{Status}
 use Rattle.qw_top.specs.declared.status.Status.TheVariants.{Done, WordsRefused, SchemaRefused, TableFileRefused, QueriesRefused, ReadFailed, WriteFailed, PageLimitMet, NoMemory}
 
 -- the number of a status
-abbrev pub code_of : Status → ℕ
-code_of Done = 0
-code_of WordsRefused = 2
-code_of SchemaRefused = 3
-code_of TableFileRefused = 4
-code_of QueriesRefused = 5
-code_of ReadFailed = 6
-code_of WriteFailed = 7
-code_of PageLimitMet = 8
-code_of NoMemory = 9
+abbrev pub exit_code : Status → ℕ
+exit_code Done = 0
+exit_code WordsRefused = 2
+exit_code SchemaRefused = 3
+exit_code TableFileRefused = 4
+exit_code QueriesRefused = 5
+exit_code ReadFailed = 6
+exit_code WriteFailed = 7
+exit_code PageLimitMet = 8
+exit_code NoMemory = 9

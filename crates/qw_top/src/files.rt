@@ -3,7 +3,7 @@
 ghost use Rattle.std.specs.Prelude.{◌≡◌, ◌+◌, ◌<◌, ◌≤◌, IfOk, IsErrOf, OnOk, length};
 ghost use Rattle.std.specs.String.{string_bytes};
 ghost use Rattle.qw_io.specs.Files.{OfFile};
-ghost use Rattle.qw_top.specs.Shelves.{HasRead, failed_read, told_by};
+ghost use Rattle.qw_top.specs.Inner.Shelves.{HasRead, failed_read, told_by};
 ghost use Rattle.qw_top.specs.FileNames.{table_file_of};
 ghost use Rattle.qw_top.specs.Inner.WholeFiles.{IsFront};
 
@@ -32,7 +32,7 @@ pub enum ReadFault {
 }
 
 impl From<IoFault> for ReadFault {
-    ghost use Rattle.qw_top.specs.Shelves.{read_fault_of};
+    ghost use Rattle.qw_top.specs.Inner.Shelves.{read_fault_of};
 
     ghost from_gives = { λ fault read. read ≡ read_fault_of fault };
 

@@ -4,9 +4,10 @@ ghost use Rattle.std.specs.Prelude.{◌≡◌, ◌≢◌, IsErrOf, IsTrue, OnOk,
 ghost use Rattle.qw_io.specs.Faults.{IsCounted};
 ghost use Rattle.qw_top.specs.declared.status.Status.{Status};
 ghost use Rattle.qw_top.specs.declared.stop.Stop.{Stop};
-ghost use Rattle.qw_top.specs.Noted.{NotesLine, NotesStop};
+ghost use Rattle.qw_top.specs.Inner.Sinks.{CountsWrite};
+ghost use Rattle.qw_top.specs.Inner.Noted.{NotesLine, NotesStop};
 ghost use Rattle.qw_top.specs.Notes.{read_fault_line, want_of_memory_line};
-ghost use Rattle.qw_top.specs.Output.{CountsWrite, TookFront, with_text};
+ghost use Rattle.qw_top.specs.Output.{TookFront, with_text};
 
 use crate::output::{end_of_write, write_whole};
 use crate::status::Status;

@@ -1,7 +1,8 @@
 //! Whole texts, written piece by piece.
 
 ghost use Rattle.std.specs.Prelude.{◌≡◌, ◌≤◌, IfErr, IsErrOf, IsTrue, OnOk, OnErr};
-ghost use Rattle.qw_top.specs.Output.{CountsWrite, TookFront, with_text, write_fault_of};
+ghost use Rattle.qw_top.specs.Inner.Sinks.{CountsWrite, write_fault_of};
+ghost use Rattle.qw_top.specs.Output.{TookFront, with_text};
 
 use crate::status::Status;
 use qw_io::{IoFault, Sink};

@@ -1,7 +1,7 @@
 //! How a run of the program ends.
 
 ghost use Rattle.std.specs.Prelude.{◌≡◌};
-ghost use Rattle.qw_top.specs.Status.{code_of};
+ghost use Rattle.qw_top.specs.Status.{exit_code};
 
 use qw_types::NoMemory;
 
@@ -41,7 +41,7 @@ impl From<NoMemory> for Status {
 impl Status {
     /// The number that the program ends with.
     pub fn code(self) -> u8
-        ensures { result ≡ code_of self }
+        ensures { result ≡ exit_code self }
     {
         match self {
             Status::Done => 0,
@@ -56,3 +56,16 @@ impl Status {
         }
     }
 }
+
+/// The numbers of all statuses.
+pub fn status_numbers()
+    ensures done { exit_code Status.Done ≡ 0 }
+    ensures words { exit_code Status.WordsRefused ≡ 2 }
+    ensures schema { exit_code Status.SchemaRefused ≡ 3 }
+    ensures table { exit_code Status.TableFileRefused ≡ 4 }
+    ensures queries { exit_code Status.QueriesRefused ≡ 5 }
+    ensures read { exit_code Status.ReadFailed ≡ 6 }
+    ensures write { exit_code Status.WriteFailed ≡ 7 }
+    ensures pages { exit_code Status.PageLimitMet ≡ 8 }
+    ensures no_memory { exit_code Status.NoMemory ≡ 9 }
+{}

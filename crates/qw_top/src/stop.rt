@@ -1,7 +1,7 @@
 //! Refusals, unread files and want of memory, as a run stops at them.
 
 ghost use Rattle.std.specs.Prelude.{◌≡◌};
-ghost use Rattle.qw_top.specs.Stop.{octets_of, refusal_status};
+ghost use Rattle.qw_top.specs.Inner.Stop.{octets_of, refusal_status};
 
 use crate::status::Status;
 use qw_types::NoMemory;

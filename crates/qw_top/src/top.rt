@@ -87,6 +87,17 @@ pub fn qwasm<F: Shelf, O: Sink, E: Sink>(
     }
 }
 
+/// The refusals are settled, faults of the outside and want of memory are faults, and the two ends of a run whose query
+/// was executed are neither.
+pub fn kinds_of_ends()
+    ensures settled { IsSettled Status.WordsRefused × IsSettled Status.SchemaRefused
+        × IsSettled Status.TableFileRefused × IsSettled Status.QueriesRefused }
+    ensures faults { IsFault Status.ReadFailed × IsFault Status.WriteFailed × IsFault Status.NoMemory }
+    ensures apart { (status : Status) → IsSettled status → IsFault status → ⊥ }
+    ensures executed { (status : Status) → (status ≡ Status.Done) ⊎ (status ≡ Status.PageLimitMet)
+        → ¬ (IsSettled status ⊎ IsFault status) }
+{}
+
 /// Words and told files settle one end of a run at most, which is a refusal. So a run that promises `Explains`
 /// ends with this refusal, or with a fault of the outside or want of memory.
 pub fn one_end()

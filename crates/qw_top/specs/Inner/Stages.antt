@@ -12,7 +12,7 @@ use Rattle.qw_top.specs.Delivered.{Asks, HasRun, ShowsEnd, status_of}
 use Rattle.qw_csv.specs.Loading.{AreIntegers}
 use Rattle.qw_top.specs.Output.{TookFront, with_text}
 use Rattle.qw_bench.specs.Seats.{Standing}
-use Rattle.qw_top.specs.Stop.{octets_of, refusal_status}
+use Rattle.qw_top.specs.Inner.Stop.{octets_of, refusal_status}
 use Rattle.qw_top.specs.Top.{AreNames, Explains, Files, FilesExplain, IsFileOf, IsNamed, Names}
 use Rattle.qw_top.specs.Inner.Inputs.{AreColumnsOf}
 

@@ -5,8 +5,8 @@ ghost use Rattle.qw_types.specs.declared.schema.Table.{Table};
 ghost use Rattle.qw_csv.specs.Loading.{AreIntegers};
 ghost use Rattle.qw_top.specs.FileNames.{table_file_of};
 ghost use Rattle.qw_top.specs.Inner.Stages.{FilesStop, StopsAs, failed_stop};
-ghost use Rattle.qw_top.specs.Shelves.{HasRead, told_by};
-ghost use Rattle.qw_top.specs.Stop.{octets_of};
+ghost use Rattle.qw_top.specs.Inner.Shelves.{HasRead, told_by};
+ghost use Rattle.qw_top.specs.Inner.Stop.{octets_of};
 ghost use Rattle.qw_top.specs.Top.{HasQuery, IsFile, IsNoQuery, IsNoSchema, IsNoTable, IsTooLong, QueryIs, SchemaIs, TableIs};
 ghost use Rattle.qw_top.specs.Inner.Inputs.{IsOneTable, names_of};
 

@@ -8,7 +8,7 @@ ghost use Rattle.qw_emit.specs.Compiled.{IsCompiled};
 ghost use Rattle.qw_map.specs.Layout.{used};
 ghost use Rattle.qw_top.specs.Delivered.{Asks, HasRun};
 ghost use Rattle.qw_top.specs.Inner.Stages.{HasAsked, Stops, failed_stop};
-ghost use Rattle.qw_top.specs.Shelves.{HasRead, told_by};
+ghost use Rattle.qw_top.specs.Inner.Shelves.{HasRead, told_by};
 ghost use Rattle.qw_top.specs.Inner.Inputs.{IsOneTable};
 
 use super::QUANTUM;

@@ -1,6 +1,6 @@
 use Rattle.std.proofs.Common.{length, ◌-◌, ◌+◌}
 use Rattle.qw_top.proofs.WholeFileLemmas.{Reads}
-use Rattle.qw_top.specs.Shelves.{told_by}
+use Rattle.qw_top.specs.Inner.Shelves.{told_by}
 use Rattle.qw_top.proofs.files.read_pieces.Given as goal
 
 abbrev pub invariant-loop-bytes : goal.invariant-loop-bytes
