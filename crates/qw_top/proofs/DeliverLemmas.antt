@@ -27,7 +27,7 @@ use Rattle.qw_top.specs.Inner.Sinks.{CountsWrite, write_fault_of}
 use Rattle.qw_top.specs.Output.{TookFront, with_text}
 use Rattle.qw_bench.specs.Bench.{end_in}
 use Rattle.qw_bench.specs.Seats.{Standing, shared_of}
-use Rattle.qw_top.specs.Inner.Stages.{FilesStop, HasAsked, IsReport, Ran, Stops, Writes, failed_stop}
+use Rattle.qw_top.specs.Inner.Stages.{FilesStop, HasAsked, IsReport, Ran, Stops, Writes, failed_at}
 use Rattle.qw_top.specs.Inner.Shelves.{Counts, Told}
 use Rattle.qw_top.specs.Inner.Stop.{octets_of, refusal_status}
 use Rattle.qw_top.specs.Top.{AreNames, Explains, Files, FilesExplain, HasQuery, IsFault, IsNamed, IsSettled, Names}
@@ -147,7 +147,7 @@ refusal_noted files words fault_name Schema old new same = same
 refusal_noted files words fault_name TableFile old new same = same
 refusal_noted files words fault_name Queries old new same = same
 
-pub stopped_noted : {T : Type 0} (files : Files) (words : List (List ℕ)) (before after : Told) (stop : Stop) (result : Status) (old new : Option (List ℕ)) → Stops files words stop → Counts (failed_stop {T = T} (Err stop)) before after →
+pub stopped_noted : (files : Files) (words : List (List ℕ)) (before after : Told) (stop : Stop) (result : Status) (old new : Option (List ℕ)) → Stops files words stop → Counts (failed_at stop) before after →
     NotesStop stop result old new → Notes files words after.fault_name result old new
 stopped_noted files words before after (Refused refusal) result old new why counts (is, same) =
     subst (λ (s : Status). Notes files words after.fault_name s old new) (sym is) (refusal_noted files words after.fault_name refusal old new same)
@@ -162,14 +162,14 @@ name_of_last files words None name named is = tt
 name_of_last files words (Some last) name named is = subst (λ (n : List ℕ). IsNamed files words n) (sym is) named
 
 -- a fault that the shelf counted is at a file that the run may read
-pub fault_named : {T : Type 0} (files : Files) (words : List (List ℕ)) (before after : Told) (stop : Stop) → Stops files words stop → Counts (failed_stop {T = T} (Err stop)) before after →
+pub fault_named : (files : Files) (words : List (List ℕ)) (before after : Told) (stop : Stop) → Stops files words stop → Counts (failed_at stop) before after →
     (after.faults ≡ before.faults → ⊥) → IfSome after.fault_name (λ name. IsNamed files words name)
 fault_named files words before after (Refused refusal) why counts more = absurd (more counts.0)
 fault_named files words before after (Unread file) named counts more = name_of_last files words after.fault_name (octets_of file) named counts.1
 fault_named files words before after NoMemoryLeft are counts more = absurd (more counts.0)
 
 -- where memory was wanted no fault was counted
-pub want_uncounted : {T : Type 0} (before after : Told) (stop : Stop) → stop ≡ NoMemoryLeft → Counts (failed_stop {T = T} (Err stop)) before after → after.faults ≡ before.faults
+pub want_uncounted : (before after : Told) (stop : Stop) → stop ≡ NoMemoryLeft → Counts (failed_at stop) before after → after.faults ≡ before.faults
 want_uncounted before after (Refused refusal) is counts = counts.0
 want_uncounted before after (Unread file) is counts = cc
 want_uncounted before after NoMemoryLeft is counts = counts.0
@@ -323,7 +323,7 @@ line_ends : (line : List ℕ) (result : Status) (old new : Option (List ℕ)) �
 line_ends line result old new (inl (is, took)) = inr is
 line_ends line result old new (inr (ends, front)) = ends
 
-pub wanted_left : (files : Files) (words : List (List ℕ)) (fault_name : Option (List ℕ)) (b : Standing) (result : Status) (old new before after : Option (List ℕ)) → Delivered files words b NoMemory old new → NotesLine want_of_memory_line NoMemory result before after → Leaves files words result (Some b) old new
+pub wanted_left : (files : Files) (words : List (List ℕ)) (b : Standing) (result : Status) (old new before after : Option (List ℕ)) → Delivered files words b NoMemory old new → NotesLine want_of_memory_line NoMemory result before after → Leaves files words result (Some b) old new
 wanted_left files words b result old new before after d noted =
     cut_left files words b d.report d.status result old new d.reports d.writes (line_ends want_of_memory_line result before after noted)
 

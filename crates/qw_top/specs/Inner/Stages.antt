@@ -1,5 +1,5 @@
 -- What the stages of a run hand on, and how they stop.
-use Rattle.std.specs.Prelude.{◌≡◌, ℕ, List, [], ◌∷◌, Option, Some, None, Result, Err, length}
+use Rattle.std.specs.Prelude.{◌≡◌, ℕ, List, [], ◌∷◌, Option, Some, None, Result, Ok, Err, length}
 use Rattle.qw_types.specs.declared.schema.Table.{Table}
 use Rattle.qw_types.specs.declared.value.Val.{Val}
 use Rattle.qw_meaning.specs.Statement.{Statement}
@@ -24,9 +24,14 @@ StopsAs refusal reason name (Unread file) = octets_of file ≡ name
 StopsAs refusal reason name NoMemory = Unit {0}
 
 -- the name of the file at which the reading failed that stopped a stage
+abbrev pub failed_at : Stop → Option (List ℕ)
+failed_at (Unread file) = Some (octets_of file)
+failed_at _ = None
+
+-- the same of a stage that may have stopped
 abbrev pub failed_stop : {T : Type 0} → Result T Stop → Option (List ℕ)
-failed_stop (Err (Unread file)) = Some (octets_of file)
-failed_stop _ = None
+failed_stop (Ok _) = None
+failed_stop (Err stop) = failed_at stop
 
 -- the files of these names explain a stop
 abbrev pub FilesStop : Files → Names → Stop → Type 0
