@@ -38,6 +38,7 @@ fn end_without_words<E: Sink>(error: &io::Error, notes: &mut E) -> Status
         → NotesLine want_of_memory_line Status.NoMemory result (E.taken notes.old) (E.taken notes.new) }
     ensures refused { error_kind error.now ≢ ErrorKind.OutOfMemory
         → (result ≡ Status.WordsRefused) × (E.taken notes.new ≡ E.taken notes.old) }
+    ensures no_fault { result ≢ Status.WriteFailed → E.faults notes.new ≡ E.faults notes.old }
 {
     if error.kind() == ErrorKind::OutOfMemory {
         note_want_of_memory(notes)
@@ -58,6 +59,7 @@ fn end<F: Shelf, O: Sink, E: Sink>(
         (O.taken out.old) (O.taken out.new) (E.taken notes.old) (E.taken notes.new)) }
     ensures wanted { IfErr words (λ error. error_kind error ≡ ErrorKind.OutOfMemory → (status : Status)
         × (exit_status result ≡ exit_code status)
+        × (status ≢ Status.WriteFailed → E.faults notes.new ≡ E.faults notes.old)
         × NotesLine want_of_memory_line Status.NoMemory status (E.taken notes.old) (E.taken notes.new)) }
     ensures refused { IfErr words (λ error. error_kind error ≢ ErrorKind.OutOfMemory
         → (exit_status result ≡ 2) × (E.taken notes.new ≡ E.taken notes.old)) }
