@@ -1,6 +1,6 @@
-pub mod DeliverLemmas
-pub mod OutputLemmas
-pub mod ReportLemmas
-pub mod RunLemmas
-pub mod TopLemmas
-pub mod WholeFileLemmas
+mod DeliverLemmas
+mod OutputLemmas
+mod ReportLemmas
+mod RunLemmas
+mod TopLemmas
+mod WholeFileLemmas
