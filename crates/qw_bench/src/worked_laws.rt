@@ -13,12 +13,25 @@ ghost use Rattle.qw_bench.specs.Bench.{AreRounds};
 /// turn for each, in order, and then one for the second alone; of two instructions, a turn for each. Nothing less, and no
 /// other order, is rounds until all have ended.
 pub fn rounds_of_two_instances()
-    ensures { (w : World) (memory : List ℕ) (s : Shared) → s ≡ record { memory = memory; instances =
-            (record { state = Running (record { globals = []; code = op (Const (I32 0)) done; operands = []; locals = []; contexts = [] });
-                world = w; most_steps = 9; ran = 0; end = None })
-            ∷ (record { state = Running (record { globals = []; code = op (Const (I32 0)) (op (Const (I32 0)) done); operands = []; locals = []; contexts = [] });
-                world = w; most_steps = 9; ran = 0; end = None })
-            ∷ [] }
+    ensures { (w : World) (memory : List ℕ) (s : Shared) → s ≡ record {
+      memory = memory;
+      instances =
+          (record {
+            state = Running (record { globals = []; code = op (Const (I32 0)) done; operands = []; locals = []; contexts = [] });
+            world = w;
+            most_steps = 9;
+            ran = 0;
+            end = None;
+          })
+          ∷ (record {
+            state = Running (record { globals = []; code = op (Const (I32 0)) (op (Const (I32 0)) done); operands = []; locals = []; contexts = [] });
+            world = w;
+            most_steps = 9;
+            ran = 0;
+            end = None;
+          })
+          ∷ [];
+    }
         → AreRounds 1 ((0, 1) ∷ (1, 1) ∷ (1, 1) ∷ []) s × AreRounds 2 ((0, 2) ∷ (1, 2) ∷ []) s
         × (AreRounds 1 ((0, 1) ∷ (1, 1) ∷ []) s → ⊥) × (AreRounds 1 ((1, 1) ∷ (0, 1) ∷ (1, 1) ∷ []) s → ⊥) }
 {}
