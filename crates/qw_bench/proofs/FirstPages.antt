@@ -125,7 +125,7 @@ module _ (d rows : ℕ) (starts memory m1 m2 m3 : List ℕ) (is1 : m1 ≡ with_n
       octet_apart m1 m2 (d + 4) (d + page) address is2 (⊎_elim (λ h. inl (omega arith)) (λ h. inr (omega arith)) apart)
       ∙ octet_apart memory m1 d (d + entry_offset (length starts)) address is1 (⊎_elim (λ h. inl h) (λ h. inr (omega arith)) apart)
 
-  pub same-below : SameBelow memory m3 d
+  same-below : SameBelow memory m3 d
   same-below k lt = entries.outside k (inl (omega arith)) ∙ head_kept k (inl lt)
 
   module _ (few : length starts ≤ most_columns) (small : d + page < 2 ^ 32) (inside : d + page ≤ length memory) (blank : IsBlank memory d) where
@@ -142,7 +142,7 @@ module _ (d rows : ℕ) (starts memory m1 m2 m3 : List ℕ) (is1 : m1 ≡ with_n
         let offset : d + entry_offset k + (r + j) ≡ d + (entry_offset k + (r + j)) = omega arith in
         rw sum (entries.between k (r + j) lt (omega arith) (omega arith) ∙ rw offset (blank_kept (entry_offset k + (r + j)) (omega arith) (omega arith))))
 
-    pub fresh : IsFresh m3 d starts rows
+    fresh : IsFresh m3 d starts rows
     fresh = record {
       free = number_at-same m3 m2 d 4 (λ address a b. entries.outside address (inl (omega arith)))
           ∙ number_apart m1 m2 (d + 4) (d + page) d is2 (inl (omega arith))
@@ -156,6 +156,16 @@ module _ (d rows : ℕ) (starts memory m1 m2 m3 : List ℕ) (is1 : m1 ≡ with_n
       rows_are = λ k lt. entries.rows_are k lt;
       zeros = λ k low high. entries.outside (d + k) (inr (omega arith)) ∙ blank_kept k (omega arith) high;
     }
+
+-- what the numbers of the head and the entries leave, as they are written
+pub written : (d rows n : ℕ) (starts memory m1 m2 m3 : List ℕ) → m1 ≡ with_number memory (d + 0) 4 (d + entry_offset (length starts)) →
+    m2 ≡ with_number m1 (d + 4) 4 (d + page) → n ≡ length starts → AreEntries m2 m3 d starts rows n →
+    SameBelow memory m3 d × (length starts ≤ most_columns → d + page < 2 ^ 32 → d + page ≤ length memory → IsBlank memory d → IsFresh m3 d starts rows)
+written d rows n starts memory m1 m2 m3 is1 is2 all entries =
+    let first : d + 0 ≡ d = omega arith in
+    let head = rw first at is1 in
+    let whole = rw all at entries in
+    (same-below d rows starts memory m1 m2 m3 head is2 whole, fresh d rows starts memory m1 m2 m3 head is2 whole)
 
 -- ---- the memory of a table and one instance
 

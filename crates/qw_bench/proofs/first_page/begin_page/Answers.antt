@@ -1,5 +1,5 @@
-use Rattle.std.proofs.Common.{◌≡◌, ◌+◌, ◌*◌, ◌≤◌, ◌∙◌, arith, length, refl}
-use Rattle.qw_bench.proofs.FirstPages.{entries_more, entries_none, fresh, same-below}
+use Rattle.std.proofs.Common.{◌+◌, ◌*◌, ◌≤◌, ◌∙◌, arith, length, refl}
+use Rattle.qw_bench.proofs.FirstPages.{entries_more, entries_none, written}
 use Rattle.qw_bench.proofs.first_page.begin_page.Goals as goal
 
 pub loop-index-init : goal.loop-index-init
@@ -27,22 +27,11 @@ loop-index-preserved c =
 
 pub returns-clause-fresh : goal.returns-clause-fresh
 returns-clause-fresh c =
-    let d = c.args.descriptor in
-    let memory = c.args.memory.now.octets in
-    let starts = c.args.starts.now in
-    let first : d + 0 ≡ d = omega arith in
-    let stored = rw first at c.put.ensures.stored in
-    let all : c.loop-index.index ≡ length starts = omega arith in
-    fresh d c.args.rows starts memory c.put.new.memory.octets c.put-2.new.memory.octets c.loop-index.memory.octets stored c.put-2.ensures.stored
-    (rw all at c.loop-index.invariant.entries) c.requires.few c.requires.small c.requires.inside c.requires.blank
+    (written c.args.descriptor c.args.rows c.loop-index.index c.args.starts.now c.args.memory.now.octets c.put.new.memory.octets c.put-2.new.memory.octets
+    c.loop-index.memory.octets c.put.ensures.stored c.put-2.ensures.stored (omega arith) c.loop-index.invariant.entries).1
+    c.requires.few c.requires.small c.requires.inside c.requires.blank
 
 pub returns-clause-below : goal.returns-clause-below
 returns-clause-below c =
-    let d = c.args.descriptor in
-    let memory = c.args.memory.now.octets in
-    let starts = c.args.starts.now in
-    let first : d + 0 ≡ d = omega arith in
-    let stored = rw first at c.put.ensures.stored in
-    let all : c.loop-index.index ≡ length starts = omega arith in
-    same-below d c.args.rows starts memory c.put.new.memory.octets c.put-2.new.memory.octets c.loop-index.memory.octets stored c.put-2.ensures.stored
-    (rw all at c.loop-index.invariant.entries)
+    (written c.args.descriptor c.args.rows c.loop-index.index c.args.starts.now c.args.memory.now.octets c.put.new.memory.octets c.put-2.new.memory.octets
+    c.loop-index.memory.octets c.put.ensures.stored c.put-2.ensures.stored (omega arith) c.loop-index.invariant.entries).0
