@@ -2,7 +2,7 @@
 use Rattle.std.specs.Prelude.{◌≡◌, ℕ, List, Option}
 use Rattle.std.specs.Process.{exit_status}
 use Rattle.std.specs.declared.process.ExitCode.{ExitCode}
-use Rattle.qw_bench.specs.Seats.{Standing}
+use Rattle.qw_bench.specs.Standing.{Standing}
 use Rattle.qw_top.specs.Delivered.{Leaves, Notes}
 use Rattle.qw_top.specs.Status.{exit_code}
 use Rattle.qw_top.specs.Top.{Explains, Files}
