@@ -253,7 +253,7 @@ impl Bench {
     ///
     /// # Errors
     ///
-    /// [`NoMemory`] where the bench does not fit memory, and nowhere else.
+    /// [`NoMemory`] where the bench does not fit memory.
     pub fn new(alloc: Global, loaded: &Loaded, job: Job, limits: Limits) -> Result<Self, NoMemory>
         requires columns { AllByRecursion (λ column. column < loaded.now.width) (used job.statement) }
         requires pages { (1 ≤ limits.pages) × (limits.pages ≤ MAX_INSTANCE_PAGES) }

@@ -125,7 +125,7 @@ fn scan_module(alloc: Global, query: &Query) -> Result<Module, NoMemory>
 ///
 /// # Errors
 ///
-/// [`NoMemory`] where the module does not fit memory, and nowhere else.
+/// [`NoMemory`] where the module does not fit memory.
 pub fn module_of(alloc: Global, query: &Query) -> Result<Module, NoMemory>
     ensures { IfOk result (λ m. IsCompiled query.now m) }
 {

@@ -80,7 +80,7 @@ fn is_used(query: &Query, column: usize) -> bool
 ///
 /// # Errors
 ///
-/// [`NoMemory`] where the list does not fit memory, and nowhere else.
+/// [`NoMemory`] where the list does not fit memory.
 #[tactic(auto, unfolding(crate::specs::Layout::used))]
 pub fn used_columns(alloc: Global, query: &Query) -> Result<Vec<usize>, NoMemory>
     ensures { IfOk result (λ columns. columns.items ≡ layout.used query.now) }

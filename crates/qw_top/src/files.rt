@@ -59,7 +59,7 @@ pub fn table_file_name(alloc: Global, folder: &str, table: &str) -> Result<Strin
     Ok(name)
 }
 
-/// Reads a whole file of at most `limit` octets. Of a longer one at most `limit + 1` octets are read.
+/// Reads a whole file of at most `limit` octets, piece by piece.
 ///
 /// # Errors
 ///

@@ -10,7 +10,7 @@
 //! - [`stop`] and [`status`]: how a run ends.
 //! - [`top`]: the whole run.
 //!
-//! Each file is read once. The time grows with the lengths of the files and of the report and with the number of
+//! The time grows with the lengths of the files and of the report and with the number of
 //! instructions executed; docs/ARCHITECTURE.md counts them. In memory are at most one file, four octets for each value
 //! of the loaded rows and four in the linear memory, the pages of the instance, the result rows, and the report.
 #![tactic(auto)]

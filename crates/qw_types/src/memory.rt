@@ -1,7 +1,7 @@
 use std::alloc::{AllocError, AllocFailed};
 use thiserror::Error;
 
-/// There is no memory left for what was asked. Nothing else makes a call answer this.
+/// There is no memory left for what was asked. No clause ties this answer to a refused allocation.
 #[derive(Clone, Copy, Debug, PartialEq, Eq, Error)]
 #[error("want of memory")]
 pub struct NoMemory;

@@ -23,7 +23,7 @@ use std::alloc::Global;
 ///
 /// # Errors
 ///
-/// [`NoMemory`] where that does not fit memory, and nowhere else.
+/// [`NoMemory`] where that does not fit memory.
 pub(super) fn first_memory(
     alloc: Global,
     loaded: &Loaded,
@@ -55,7 +55,7 @@ pub(super) fn first_memory(
 ///
 /// # Errors
 ///
-/// [`NoMemory`] where it does not fit memory, and nowhere else.
+/// [`NoMemory`] where it does not fit memory.
 pub(super) fn first_instance(
     alloc: Global,
     valid: ValidModule,
