@@ -3,7 +3,8 @@
 
 From the clauses of public functions, through the imports of their files, to each definition of specs/ that they reach.
 Prints a line for each spec file that has such definitions: their number and lines. With --check compares these with the
-tables of docs/BELIEVE.md, and ends with 1 where they differ or where a public clause rests on specs/Inner.
+tables of docs/BELIEVE.md instead, and ends with 1 where they differ, where a public clause rests on specs/Inner, or where
+docs/THEOREMS.md names an edit that isn't there.
 """
 import os
 import re
@@ -192,11 +193,12 @@ def main():
     call = closure(specs, values, roots("qw_top", {"qwasm"}))
     every = closure(specs, values, [r for c in crates for r in roots(c)]) | call
     told = {"The call": list(rows(specs, call)), "Beside the call": list(rows(specs, every - call))}
+    checks = "--check" in sys.argv
     for part, lines in told.items():
         print(f"{part}: {len(lines)} files, {sum(n for _, n, _ in lines)} definitions, {sum(n for _, _, n in lines)} lines")
-        for path, definitions, length in lines:
+        for path, definitions, length in [] if checks else lines:
             print(f"  {path} {definitions} {length}")
-    if "--check" not in sys.argv:
+    if not checks:
         return 0
     page = open(os.path.join(TOP, "docs", "BELIEVE.md"), encoding="utf-8").read()
     bad = [f"{p}: a public clause rests on it" for part in told.values() for p, _, _ in part if "/Inner/" in p]
@@ -205,6 +207,10 @@ def main():
         said = {(p, int(d), int(l)) for p, d, l in re.findall(r"^\| `([^`]+)` \| (\d+) \| (\d+) \|", section, flags=re.M)}
         bad += [f"{part}: {p} has {d} definitions in {l} lines, and docs/BELIEVE.md doesn't say so" for p, d, l in sorted(set(lines) - said)]
         bad += [f"{part}: docs/BELIEVE.md says {d} definitions in {l} lines of {p}" for p, d, l in sorted(said - set(lines))]
+    edits = {os.path.basename(e)[:-5] for e in files_below(CRATES, ".edit")}
+    promises = open(os.path.join(TOP, "docs", "THEOREMS.md"), encoding="utf-8").read().partition("| words |")[2].partition("\n\n")[0]
+    named = re.findall(r"`([a-z_0-9]+)`", " ".join(row.rstrip(" |").split("|")[-1] for row in promises.split("\n")))
+    bad += [f"docs/THEOREMS.md names the edit {e}, which isn't there" for e in named if e not in edits]
     for line in bad:
         print(f"believe: {line}")
     return 1 if bad else 0
