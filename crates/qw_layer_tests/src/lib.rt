@@ -1,0 +1,18 @@
+//! The tests of single layers below the bench that need more than one crate. They stand apart from those of whole runs, so that
+//! both are proved side by side.
+#![tactic(auto)]
+
+#[cfg(test)]
+mod emitted_modules;
+#[cfg(test)]
+mod execution;
+#[cfg(test)]
+mod linear_memory;
+#[cfg(test)]
+mod plain_rows;
+#[cfg(test)]
+mod texts;
+#[cfg(test)]
+mod tokens;
+#[cfg(test)]
+mod validity;
