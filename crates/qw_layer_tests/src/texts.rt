@@ -4,7 +4,7 @@ use qw_types::Ty;
 use std::test::Fail;
 
 // Schemas of a table T, and the names of its columns.
-const SCHEMAS: [(&[u8], &[&str]); 10] = [
+const SCHEMAS: [(&[u8], &[&str]); 11] = [
     (b"CREATE TABLE T ( A INTEGER NOT NULL )", &["A"]),
     (b"create table t(a integer not null);", &["A"]),
     (
@@ -12,6 +12,10 @@ const SCHEMAS: [(&[u8], &[&str]); 10] = [
         &["A"],
     ),
     (b"CREATE TABLE T(A INTEGER NOT NULL) ;", &["A"]),
+    (
+        b"-- one\nCREATE TABLE T ( A INTEGER -- two\nNOT NULL ) -- comment",
+        &["A"],
+    ),
     (b"  CREATE TABLE t ( a INTEGER NOT NULL )  ", &["A"]),
     (
         b"CREATE TABLE T(B INTEGER NOT NULL,A INTEGER NOT NULL)",
@@ -35,7 +39,7 @@ const SCHEMAS: [(&[u8], &[&str]); 10] = [
     ),
 ];
 
-const NO_SCHEMAS: [&[u8]; 28] = [
+const NO_SCHEMAS: [&[u8]; 27] = [
     b"",
     b";",
     b"CREATE TABLE T ( A INTEGER NOT NULL );;",
@@ -61,7 +65,6 @@ const NO_SCHEMAS: [&[u8]; 28] = [
     b"\"CREATE\" TABLE T ( A INTEGER NOT NULL )",
     b"CREATE TABLE 1 ( A INTEGER NOT NULL )",
     b"CREATE TABLET ( A INTEGER NOT NULL )",
-    b"CREATE TABLE T ( A INTEGER NOT NULL ) -- comment",
     b"\xEF\xBB\xBF\xEF\xBB\xBFCREATE TABLE T ( A INTEGER NOT NULL )",
     b"CREATE TABLE T\xC3\xA9 ( A INTEGER NOT NULL )",
 ];
@@ -70,7 +73,7 @@ const THREE_COLUMNS: &[u8] =
     b"CREATE TABLE T ( A INTEGER NOT NULL, B INTEGER NOT NULL, C INTEGER NOT NULL )";
 
 // Queries of a table of three columns: what they select, the place of the tested column, the comparison and the literal.
-const QUERIES: [(&[u8], &[usize], usize, Comparison, i64); 17] = [
+const QUERIES: [(&[u8], &[usize], usize, Comparison, i64); 18] = [
     (
         b"SELECT A FROM T WHERE A > 5",
         &[0],
@@ -184,6 +187,13 @@ const QUERIES: [(&[u8], &[usize], usize, Comparison, i64); 17] = [
         12,
     ),
     (
+        b"SELECT A FROM T -- all\nWHERE A > 5--5",
+        &[0],
+        0,
+        Comparison::Greater,
+        5,
+    ),
+    (
         b"SELECT A FROM T WHERE A>2147483648 ;",
         &[0],
         0,
@@ -192,7 +202,7 @@ const QUERIES: [(&[u8], &[usize], usize, Comparison, i64); 17] = [
     ),
 ];
 
-const NO_QUERIES: [&[u8]; 36] = [
+const NO_QUERIES: [&[u8]; 35] = [
     b"",
     b"SELECT A FROM T",
     b"SELECT FROM T WHERE A > 5",
@@ -225,7 +235,6 @@ const NO_QUERIES: [&[u8]; 36] = [
     b"SELECT \"A\" FROM T WHERE A > 5",
     b"SELECT A FROM T WHERE A > '5'",
     b"SELECT A FROM T WHERE A > A",
-    b"SELECT A FROM T -- all\nWHERE A > 5",
     b"SELECT * FROM T WHERE A > 5",
     b"\xEF\xBB\xBF\xEF\xBB\xBFSELECT A FROM T WHERE A > 5",
     b"SELECT A FROM T WHERE A > 5 '\xFF'",

@@ -37,14 +37,34 @@ const READ: [&[u8]; 12] = [
     b"\"a\"'b'c",
 ];
 
+// Texts with comments, and their tokens, each with a line feed after it.
+const COMMENTS: [(&[u8], &[u8]); 14] = [
+    (b"--", b""),
+    (b"-- \n", b""),
+    (b"a -- to the end", b"a\n"),
+    (b"a--b\nc", b"a\nc\n"),
+    (b"12--.5\n.5---5", b"12\n.5\n"),
+    (b"'s'--'t'\n\"d\"--\"e\"", b"'s'\n\"d\"\n"),
+    (b"=--=", b"=\n"),
+    (b"<--x\n>", b"<\n>\n"),
+    (b"--a\n\t--b\r\n--c\nd", b"d\n"),
+    (b"a--b\rc--d\ne", b"a\ne\n"),
+    (b"--'\"\nb", b"b\n"),
+    (b"--\x00?\xC3\xA9\xE2\x82\xAC\nb", b"b\n"),
+    (b"\xEF\xBB\xBF--a\n-", b"-\n"),
+    (b"-\n-/-a", b"-\n-\n/\n-\na\n"),
+];
+
 // Texts, and the octet at which they stop.
-const STOPS: [(&[u8], usize); 20] = [
+const STOPS: [(&[u8], usize); 22] = [
     (b"12a", 0),
     (b"1.2.3", 0),
     (b"x 5._", 2),
     (b".5.", 0),
-    (b"a--b", 1),
-    (b"-- comment", 0),
+    (b"--a\n?", 4),
+    (b"\xEF\xBB\xBF--a\n b ?", 10),
+    (b"--a\n\xEF\xBB\xBF", 4),
+    (b"'a--b\n", 0),
     (b"\"\"", 0),
     (b"'open", 0),
     (b"'it''s", 0),
@@ -78,6 +98,25 @@ fn tokens_of_a_text(rt: HostRuntime) -> Result<(), Fail> {
     Ok(())
 }
 
+/// The octets of a text's tokens, each with a line feed after it.
+fn listed(rt: &HostRuntime, text: &[u8]) -> Result<Vec<u8>, Fail> {
+    let found = tokens(rt.alloc(), text)?;
+    let mut listed = Vec::new(rt.alloc());
+    for token in found.as_slice() {
+        listed.extend_from_slice(token.octets)?;
+        listed.push(b'\n')?;
+    }
+    Ok(listed)
+}
+
+#[test]
+fn comments_between_tokens(rt: HostRuntime) -> Result<(), Fail> {
+    for (text, octets) in COMMENTS {
+        assert_eq!(rt; listed(&rt, text)?.as_slice(), octets, "{text:?}");
+    }
+    Ok(())
+}
+
 #[test]
 fn texts_at_the_edges(rt: HostRuntime) -> Result<(), Fail> {
     for text in READ {
@@ -90,6 +129,8 @@ fn texts_at_the_edges(rt: HostRuntime) -> Result<(), Fail> {
             "{text:?}"
         );
     }
-    assert_eq!(rt; stop(&rt, b"a \xFF"), Err(TokenFault::NotUtf8));
+    for text in [b"a \xFF", b"--\xFF"] {
+        assert_eq!(rt; stop(&rt, text), Err(TokenFault::NotUtf8), "{text:?}");
+    }
     Ok(())
 }

@@ -1,3 +1,4 @@
+mod TokenGap
 mod TokenLemmas
 mod TokenLongest
 pub mod TokenRun

@@ -11,8 +11,8 @@ use Rattle.std.proofs.lemmas.Slice.{between_to_end}
 use Rattle.std.proofs.lemmas.List.Sums.{sum_by-cons}
 use Rattle.qw_token.specs.declared.token.Kind.{Kind}
 use Rattle.qw_token.specs.declared.token.Kind.TheVariants.{Word, DelimitedIdentifier, CharacterString, Number, Symbol}
-use Rattle.qw_token.specs.Token.{Lexeme, after_run, is_word_octet, IsWord, doubled, quoted, is_number_octet, is_word_octet_or_point, IsNumber, is_single_symbol, is_double_symbol, IsSymbol, HasForm, symbol_goes_on, token_goes_on, begins_with, Begins}
-use Rattle.qw_token.specs.Inner.Lexer.{kind_at, after_quote, after_symbol, IsAfter}
+use Rattle.qw_token.specs.Token.{Lexeme, is_word_octet, IsWord, doubled, quoted, is_number_octet, is_word_octet_or_point, IsNumber, is_single_symbol, is_double_symbol, IsSymbol, HasForm, symbol_goes_on, token_goes_on, begins_with, Begins}
+use Rattle.qw_token.specs.Inner.Lexer.{after_run, kind_at, after_quote, after_symbol, IsAfter}
 
 -- ---- runs
 

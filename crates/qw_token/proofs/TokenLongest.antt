@@ -7,8 +7,8 @@ use Rattle.std.proofs.lemmas.List.{length-append}
 use Rattle.std.proofs.lemmas.List.Elements.{recursion_from_All}
 use Rattle.qw_token.specs.declared.token.Kind.{Kind}
 use Rattle.qw_token.specs.declared.token.Kind.TheVariants.{Word, DelimitedIdentifier, CharacterString, Number, Symbol}
-use Rattle.qw_token.specs.Token.{Lexeme, after_run, is_word_octet, doubled, is_number_octet, is_word_octet_or_point, is_double_symbol, IsSymbol, HasForm, Begins}
-use Rattle.qw_token.specs.Inner.Lexer.{kind_at, after_quote, after_symbol}
+use Rattle.qw_token.specs.Token.{Lexeme, is_word_octet, doubled, is_number_octet, is_word_octet_or_point, is_double_symbol, IsSymbol, HasForm, Begins}
+use Rattle.qw_token.specs.Inner.Lexer.{after_run, kind_at, after_quote, after_symbol}
 use Rattle.qw_token.proofs.TokenLemmas.{after_run-shorter, skip_octet, same_quote, after_quote_is, symbol_is_plain, double_is_single, plain_kind, word_kind, number_kind, number_octet_is_word, all_weaker, word_passes, after_kind_of, begins_after, behind_opening}
 use Rattle.qw_token.proofs.TokenRun.{not_empty}
 

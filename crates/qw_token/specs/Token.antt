@@ -1,5 +1,5 @@
--- The tokens of a text (ISO/IEC 9075:1992, 5.2 "token" and "separator", 5.3 "literal").
-use Rattle.std.specs.Prelude.{◌≡◌, ◌≢◌, ℕ, ◌+◌, ◌<◌, ◌≤◌, ◌==◌, Bool, false, ◌||◌, ◌&&◌, IsTrue, List, [], ◌∷◌, ◌++◌, length, map, take, drop, if◌then◌else◌, All, count_by, codes}
+-- The tokens of a text (ISO/IEC 9075:1992, 5.2 "token", "separator" and "comment", 5.3 "literal").
+use Rattle.std.specs.Prelude.{◌≡◌, ◌≢◌, ℕ, ◌+◌, ◌<◌, ◌≤◌, ◌==◌, Bool, false, ◌||◌, ◌&&◌, not, IsTrue, List, [], ◌∷◌, ◌++◌, length, map, take, drop, if◌then◌else◌, All, count_by, codes}
 use Rattle.std.specs.List.{AllByRecursion, list_any}
 use Rattle.std.specs.Str.{IsUtf8, bytes_eq}
 use Rattle.std.specs.Char.{is_ascii_alphabetic, is_ascii_digit}
@@ -27,10 +27,26 @@ lexemes ts = map lexeme ts
 abbrev pub is_separator : ℕ → Bool
 is_separator b = ((b == space) || (b == tab)) || ((b == line_feed) || (b == carriage_return))
 
--- what is left behind the longest front whose octets all pass the test
-abbrev pub after_run : (ℕ → Bool) → List ℕ → List ℕ
-after_run test [] = []
-after_run test (b ∷ bs) = if test b then after_run test bs else b ∷ bs
+-- whether the text has a first octet, and it passes the test
+abbrev pub begins_with : (ℕ → Bool) → List ℕ → Bool
+begins_with test [] = false
+begins_with test (b ∷ bs) = test b
+
+-- an octet of a comment behind its two minus signs: any but a line feed
+abbrev pub is_comment_octet : ℕ → Bool
+is_comment_octet b = not (b == line_feed)
+
+-- whether two minus signs begin the text
+abbrev pub begins_comment : List ℕ → Bool
+begins_comment [] = false
+begins_comment (b ∷ bs) = (b == minus) && begins_with (λ c. c == minus) bs
+
+-- Rest follows the gap at the front of the text: separators and comments, as far as they go. A comment ends before the
+-- next line feed or at the end of the text.
+pub data IsAfterGap : List ℕ → List ℕ → Type 0 where
+  no_more : (rest : List ℕ) → begins_with is_separator rest ≡ false → begins_comment rest ≡ false → IsAfterGap rest rest
+  separator : (b : ℕ) (text rest : List ℕ) → IsTrue (is_separator b) → IsAfterGap text rest → IsAfterGap (b ∷ text) rest
+  comment : (octets text rest : List ℕ) → AllByRecursion (λ b. IsTrue (is_comment_octet b)) octets → begins_with is_comment_octet text ≡ false → IsAfterGap text rest → IsAfterGap (minus ∷ minus ∷ (octets ++ text)) rest
 
 -- the text after a byte order mark, if one begins it
 abbrev pub after_mark : List ℕ → List ℕ
@@ -95,8 +111,7 @@ HasForm Symbol octets = IsSymbol octets
 
 -- ---- where a token ends
 
--- Whether a symbol can't end before this octet: a longer symbol or a number begins there. `--` is kept for
--- comments, which aren't read: no token begins there.
+-- Whether a symbol can't end before this octet: with it a longer symbol, a number or a comment begins.
 abbrev pub symbol_goes_on : List ℕ → ℕ → Bool
 symbol_goes_on [] c = false
 symbol_goes_on (b ∷ []) c = (is_double_symbol b c || ((b == period) && is_ascii_digit c)) || ((b == minus) && (c == minus))
@@ -110,11 +125,6 @@ token_goes_on CharacterString octets c = c == single_quote
 token_goes_on Number octets c = is_word_octet_or_point c
 token_goes_on Symbol octets c = symbol_goes_on octets c
 
--- whether the text has a first octet, and it passes the test
-abbrev pub begins_with : (ℕ → Bool) → List ℕ → Bool
-begins_with test [] = false
-begins_with test (b ∷ bs) = test b
-
 -- The token begins the text, and rest follows it.
 pub record Begins (text : List ℕ) (t : Lexeme) (rest : List ℕ) : Type 0 where
   pub parts : text ≡ t.octets ++ rest
@@ -123,10 +133,17 @@ pub record Begins (text : List ℕ) (t : Lexeme) (rest : List ℕ) : Type 0 wher
 
 -- ---- the tokens of a text
 
--- These tokens are at the front of the text, and rest follows them and what separates it from them.
+-- The token begins behind the gap at the front of the text, and rest follows the token.
+pub record IsNext (text : List ℕ) (t : Lexeme) (rest : List ℕ) : Type 0 where
+  pub start : List ℕ
+  pub gap : IsAfterGap text start
+  pub token : Begins start t rest
+  pub open token use *
+
+-- These tokens are at the front of the text, with the gap before each, and rest follows them and one more gap.
 abbrev pub Reads : List ℕ → List Lexeme → List ℕ → Type 0
-Reads text [] rest = after_run is_separator text ≡ rest
-Reads text (t ∷ ts) rest = (after : List ℕ) × Begins (after_run is_separator text) t after × Reads after ts rest
+Reads text [] rest = IsAfterGap text rest
+Reads text (t ∷ ts) rest = (after : List ℕ) × IsNext text t after × Reads after ts rest
 
 -- These are the tokens of the whole text.
 pub record AreTokens (text : List ℕ) (ts : List Lexeme) : Type 0 where

@@ -6,7 +6,7 @@ ghost use Rattle.std.specs.Prelude.{◌≡◌, ◌↔◌, ◌≤◌, ◌++◌, �
 ghost use Rattle.std.specs.Str.{IsUtf8};
 ghost use Rattle.qw_token.specs.Token.{Lexeme, lexemes, HasForm, Begins, AreTokens, StopsAt};
 
-use lexer::{after_mark, after_separators, first_token};
+use lexer::{after_gap, after_mark, first_token};
 use std::alloc::Global;
 use std::str;
 use thiserror::Error;
@@ -47,8 +47,8 @@ pub enum TokenFault {
     NoMemory,
 }
 
-/// The tokens of a text, in order. A byte order mark at the start of the text is passed over. Comments are
-/// not read: no token begins at `--`.
+/// The tokens of a text, in order. A byte order mark at the start of the text is passed over, and so are the
+/// separators and comments between tokens.
 ///
 /// # Errors
 ///
@@ -63,7 +63,7 @@ pub fn tokens(alloc: Global, text: &[u8]) -> Result<Vec<Token<'_>>, TokenFault>
         return Err(TokenFault::NotUtf8);
     }
     let mut found = Vec::new(alloc);
-    let mut rest = after_separators(after_mark(text));
+    let mut rest = after_gap(after_mark(text));
     while !rest.is_empty() {
         let Some((token, after)) = first_token(rest) else {
             return Err(TokenFault::NotToken {
@@ -71,7 +71,7 @@ pub fn tokens(alloc: Global, text: &[u8]) -> Result<Vec<Token<'_>>, TokenFault>
             });
         };
         found.push(token).map_err(|_| TokenFault::NoMemory)?;
-        rest = after_separators(after);
+        rest = after_gap(after);
     }
     Ok(found)
 }

@@ -1,14 +1,27 @@
--- Mirrors the functions of src/token/lexer.rt that read one token.
+-- Mirrors the functions of src/token/lexer.rt that pass a separator or a comment and that read a token.
 use Rattle.std.specs.Prelude.{◌≡◌, ◌<◌, ℕ, Bool, ◌==◌, ◌||◌, ◌&&◌, List, [], ◌∷◌, Option, Some, None, if◌then◌else◌}
 use Rattle.std.specs.Char.{is_ascii_alphabetic, is_ascii_digit}
 use Rattle.qw_token.specs.declared.token.Kind.{Kind}
 use Rattle.qw_token.specs.declared.token.Kind.TheVariants.{Word, DelimitedIdentifier, CharacterString, Number, Symbol}
 use Rattle.qw_types.specs.Octets.{double_quote, minus, period, single_quote}
-use Rattle.qw_token.specs.Token.{Begins, begins_with, is_single_symbol, is_double_symbol}
+use Rattle.qw_token.specs.Token.{Begins, begins_with, is_comment_octet, is_double_symbol, is_separator, is_single_symbol}
 
 -- an answer about an octet is what a test says of it
 abbrev pub Tells : (ℕ → Bool → Type 0) → (ℕ → Bool) → Type 0
 Tells answers test = (octet : ℕ) (answer : Bool) → octet < 256 → answers octet answer → answer ≡ test octet
+
+-- what is left behind the longest front whose octets all pass the test
+abbrev pub after_run : (ℕ → Bool) → List ℕ → List ℕ
+after_run test [] = []
+after_run test (b ∷ bs) = if test b then after_run test bs else b ∷ bs
+
+-- what follows the separator or the comment at the front of the text
+abbrev pub after_separator : List ℕ → Option (List ℕ)
+after_separator [] = None
+after_separator (b ∷ []) = if is_separator b then Some [] else None
+after_separator (b ∷ c ∷ bs) =
+    if (b == minus) && (c == minus) then Some (after_run is_comment_octet bs)
+    else (if is_separator b then Some (c ∷ bs) else None)
 
 -- the only kind of token that can begin the text
 abbrev pub kind_at : List ℕ → Kind

@@ -1,8 +1,8 @@
 //! The token at the front of a text.
 
 ghost use Rattle.std.specs.Prelude.{◌≡◌, ◌↔◌, Bool, IsTrue, List, MatchOption, ℕ, option_map};
-ghost use Rattle.qw_token.specs.Inner.Lexer.{Tells, kind_at, after_quote, after_symbol, IsAfter};
-ghost use Rattle.qw_token.specs.Token.{Lexeme, lexeme, is_separator, after_run, after_mark, is_word_octet, is_word_octet_or_point, is_single_symbol, is_double_symbol, IsNumber, Begins};
+ghost use Rattle.qw_token.specs.Inner.Lexer.{Tells, after_run, after_separator, kind_at, after_quote, after_symbol, IsAfter};
+ghost use Rattle.qw_token.specs.Token.{Lexeme, lexeme, is_separator, is_comment_octet, IsAfterGap, after_mark, is_word_octet, is_word_octet_or_point, is_single_symbol, is_double_symbol, IsNumber, Begins};
 
 use super::{Kind, Token};
 
@@ -20,11 +20,33 @@ fn is_separator(octet: u8) -> bool
     matches!(octet, b' ' | b'\t' | b'\n' | b'\r')
 }
 
-/// The text behind the separators at its front.
-pub(crate) fn after_separators(text: &[u8]) -> &[u8]
-    ensures { result.now ≡ after_run is_separator text.now }
+/// The text behind the separators and comments at its front.
+pub(crate) fn after_gap(text: &[u8]) -> &[u8]
+    ensures { IsAfterGap text.now result.now }
 {
-    after_run(text, is_separator)
+    let mut rest = text;
+    while let Some(after) = after_separator(rest) {
+        rest = after;
+    }
+    rest
+}
+
+/// The text behind the separator or the comment at its front, if there is one.
+fn after_separator(text: &[u8]) -> Option<&[u8]>
+    ensures { option_map (λ x. x.now) result ≡ after_separator text.now }
+{
+    match text {
+        [b'-', b'-', comment @ ..] => Some(after_line(comment)),
+        [first, after @ ..] if is_separator(*first) => Some(after),
+        _ => None,
+    }
+}
+
+/// The text from its first line feed on.
+fn after_line(text: &[u8]) -> &[u8]
+    ensures { result.now ≡ after_run is_comment_octet text.now }
+{
+    after_run(text, |octet| octet != b'\n')
 }
 
 /// The text behind the longest front whose octets all pass the test.

@@ -1,7 +1,6 @@
 use Rattle.std.proofs.Common.{◌≡◌, length}
 use Rattle.std.specs.Prelude.{ℕ, Bool}
-use Rattle.qw_token.specs.Inner.Lexer.{Tells}
-use Rattle.qw_token.specs.Token.{after_run}
+use Rattle.qw_token.specs.Inner.Lexer.{Tells, after_run}
 use Rattle.qw_token.proofs.token.lexer.after_run.Given as goal
 
 abbrev pub invariant-loop-rest : goal.invariant-loop-rest
