@@ -1,12 +1,11 @@
 //! The text of rows, and a query's part of the report.
 
-ghost use Rattle.std.specs.Prelude.{◌≡◌, ◌++◌, List, ℕ, map, IfOk, OnOk};
+ghost use Rattle.std.specs.Prelude.{◌≡◌, ◌<◌, ◌-◌, ◌^◌, ◌++◌, ◌∷◌, [], List, ℕ, length, map, IfOk, OnOk};
 ghost use Rattle.std.specs.String.{string_bytes};
-ghost use Rattle.csv.specs.Records.{fields_of};
 ghost use Rattle.qw_sink.specs.Sink.{AreRowsOf, line_of, printed, report_of_pages, report_of_rows, text_of_rows};
-ghost use Rattle.qw_sink.specs.Inner.Sink.{HasWritten};
+ghost use Rattle.qw_sink.specs.Inner.Sink.{HasBegun, HasWritten};
 
-use csv::{ByteRecord, Writer, WriterBuilder};
+use csv::{Writer, WriterBuilder};
 use qw_types::{NoMemory, Row, Text, Val};
 use std::alloc::{AllocError, Global};
 
@@ -38,10 +37,8 @@ pub fn report_text(
     ensures { IfOk result (λ text. text.items ≡ report_of_rows number header.now rows.now) }
 {
     let count = rows.len();
-    let mut text = format!(in alloc; "QUERY {number} ROWS {count}\n")?.into_bytes();
-    let rows = rows_text(alloc, header, rows)?;
-    text.extend_from_slice(rows.as_slice())?;
-    Ok(text)
+    let headline = format!(in alloc; "QUERY {number} ROWS {count}\n")?;
+    with_rows(alloc, headline.into_bytes(), header, rows)
 }
 
 /// A query's part of the report where a request for pages was past its limit: `QUERY k PAGES held asked limit`.
@@ -64,10 +61,22 @@ pub fn rows_text(alloc: Global, header: &[Head], rows: &[Row]) -> Result<Vec<u8>
     requires { AreRowsOf header.now rows.now }
     ensures { IfOk result (λ text. text.items ≡ text_of_rows header.now rows.now) }
 {
-    let mut writer = WriterBuilder::new().from_writer(Vec::new(alloc));
+    with_rows(alloc, Vec::new(alloc), header, rows)
+}
+
+/// A text, and after it the rows under their header. The lines go where the text is, so that no text is copied whole.
+fn with_rows(
+    alloc: Global,
+    text: Vec<u8>,
+    header: &[Head],
+    rows: &[Row],
+) -> Result<Vec<u8>, NoMemory>
+    ensures { IfOk result (λ whole. whole.items ≡ text.items ++ text_of_rows header.now rows.now) }
+{
+    let mut writer = WriterBuilder::new().from_writer(text);
     let written = write_rows(alloc, &mut writer, header, rows);
     match (written, writer.into_inner()) {
-        (Ok(()), Ok(text)) => Ok(text),
+        (Ok(()), Ok(whole)) => Ok(whole),
         _ => Err(NoMemory),
     }
 }
@@ -82,54 +91,68 @@ fn write_rows(
     ensures { OnOk result ((text : List ℕ) → HasWritten writer.old text
         → HasWritten writer.new (text ++ text_of_rows header.now rows.now)) }
 {
-    let mut line = ByteRecord::new(alloc);
-    set_names(&mut line, header)?;
-    write_line(writer, &line)?;
+    write_names(writer, header)?;
+    let mut digits = String::new(alloc);
     for row in rows {
-        set_values(alloc, &mut line, row.values())?;
-        write_line(writer, &line)?;
+        write_values(writer, &mut digits, row.values())?;
     }
     Ok(())
 }
 
-/// Makes a line of the names of the columns.
-fn set_names(line: &mut ByteRecord, header: &[Head]) -> Result<(), AllocError>
-    ensures { OnOk result (fields_of line.new ≡ map (λ h. h.name) header.now) }
-{
-    line.clear();
-    for head in header {
-        line.push_field(head.name.as_str().as_bytes())?;
-    }
-    Ok(())
-}
-
-/// Makes a line of the values of a row.
-fn set_values(alloc: Global, line: &mut ByteRecord, values: &[Val]) -> Result<(), AllocError>
-    ensures { OnOk result (fields_of line.new ≡ map printed values.now) }
-{
-    line.clear();
-    for value in values {
-        let text = value_text(alloc, *value)?;
-        line.push_field(text.as_bytes())?;
-    }
-    Ok(())
-}
-
-/// The text of a value.
-fn value_text(alloc: Global, value: Val) -> Result<String, AllocError>
-    ensures { IfOk result (λ text. string_bytes text ≡ printed value) }
-{
-    match value {
-        Val::Num(number) => format!(in alloc; "{number}"),
-    }
-}
-
-/// Writes a line of fields.
-fn write_line(writer: &mut Writer<Vec<u8>>, line: &ByteRecord) -> Result<(), NoMemory>
+/// Writes a line of the names of the columns.
+fn write_names(writer: &mut Writer<Vec<u8>>, header: &[Head]) -> Result<(), NoMemory>
     ensures { OnOk result ((text : List ℕ) → HasWritten writer.old text
-        → HasWritten writer.new (text ++ line_of (fields_of line.now))) }
+        → HasWritten writer.new (text ++ line_of (map (λ h. h.name) header.now))) }
 {
-    match writer.write_byte_record(line) {
+    for head in header {
+        write_field(writer, head.name.as_str().as_bytes())?;
+    }
+    end_line(writer)
+}
+
+/// Writes a line of the values of a row. Each value's text stands in `digits` for a while, so that a row takes no memory.
+fn write_values(
+    writer: &mut Writer<Vec<u8>>,
+    digits: &mut String,
+    values: &[Val],
+) -> Result<(), NoMemory>
+    ensures { OnOk result ((text : List ℕ) → HasWritten writer.old text
+        → HasWritten writer.new (text ++ line_of (map printed values.now))) }
+{
+    for value in values {
+        print(digits, *value)?;
+        write_field(writer, digits.as_bytes())?;
+    }
+    end_line(writer)
+}
+
+/// Puts the text of a value in the place of what was there.
+fn print(text: &mut String, value: Val) -> Result<(), AllocError>
+    ensures { OnOk result (string_bytes text.new ≡ printed value) }
+{
+    text.clear();
+    match value {
+        Val::Num(number) => write!(text, "{number}"),
+    }
+}
+
+/// Writes a field at the end of the line that has begun.
+fn write_field(writer: &mut Writer<Vec<u8>>, field: &[u8]) -> Result<(), NoMemory>
+    ensures { OnOk result ((text : List ℕ) (fields : List (List ℕ)) → length fields < 2 ^ 64 - 1 → HasBegun writer.old text fields
+        → HasBegun writer.new text (fields ++ field.now ∷ [])) }
+{
+    match writer.write_field(field) {
+        Ok(()) => Ok(()),
+        Err(_) => Err(NoMemory),
+    }
+}
+
+/// Ends the line that has begun.
+fn end_line(writer: &mut Writer<Vec<u8>>) -> Result<(), NoMemory>
+    ensures { OnOk result ((text : List ℕ) (fields : List (List ℕ)) → HasBegun writer.old text fields
+        → HasWritten writer.new (text ++ line_of fields)) }
+{
+    match writer.end_record() {
         Ok(()) => Ok(()),
         Err(_) => Err(NoMemory),
     }
