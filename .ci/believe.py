@@ -71,6 +71,10 @@ class Spec:
                 comment.append(line)
             elif not line or line.startswith(("use ", "infix")):
                 comment = [] if not line and not comment else comment
+            elif re.match(r"^(?:abbrev |unfoldable )?mutual$", line):
+                self.add(line, True, comment)
+                comment = []
+                self.definitions[-1].lines.append(line)
             elif head := re.match(r"^(?:abbrev |unfoldable )?(?:pub )?(record |data )?(\S+)", line):
                 if re.match(r"^(abbrev|unfoldable|pub|record|data) ", line):
                     self.add(head.group(2), head.group(1) == "data ", comment)
@@ -79,9 +83,9 @@ class Spec:
             else:
                 last = self.definitions[-1]
                 last.lines.append(line)
-                constructor = re.match(r"^  (\S+) :", line)
-                if last.is_data and constructor:
-                    self.names[constructor.group(1)] = last
+                inner = re.match(r"^ +(?:pub )?(?:data |record )?(\S+) :", line)
+                if last.is_data and inner:
+                    self.names[inner.group(1)] = last
 
     def add(self, name, is_data, comment):
         definition = Definition(self.module, name, is_data)

@@ -1,1 +1,3 @@
+mod CaseLemmas
+mod EvaluationLemmas
 mod PlainLemmas

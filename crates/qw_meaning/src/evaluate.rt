@@ -1,0 +1,450 @@
+//! The meaning of expressions as a slow program: it evaluates a tree at one row, operands from left to right. What
+//! compiled expressions give is compared with it. Nothing here takes memory.
+
+ghost use Rattle.std.specs.Prelude.{◌≡◌, ◌≤◌, IfOk, IsTrue, Ok, slice_get};
+ghost use Rattle.std.specs.List.{All};
+ghost use Rattle.qw_types.specs.Arithmetic.{fits};
+ghost use Rattle.qw_meaning.specs.Expression.{AreWithin, IsWithin, ScalesAllowed, among, cases, coalesced, largest_result, scale_of};
+ghost use Rattle.qw_meaning.specs.Evaluation.{answers, applied, cell_of, chosen, combined, compared, extracted, field_of, negated, raised, same_truth, tested_null, truth_of, value_fits, value_of};
+ghost use Rattle.qw_meaning.specs.declared.value.Value.TheVariants.{Null};
+ghost use Rattle.qw_meaning.specs.Tree.{choices_of, condition_of, expression_of, expressions_of, matches_of};
+ghost use Rattle.qw_meaning.specs.Inner.Results.{AreResultsWithin};
+
+use crate::expression::{Branches, Cond, Expr, Exprs, Field, Matches, Operator};
+use crate::query::Comparison;
+use crate::value::Value;
+use qw_types::{Code, Truth, arithmetic, truth};
+use std::cmp::Ordering;
+
+/// The value of an expression at a row, or the first exception that it raises.
+///
+/// # Errors
+///
+/// The exception, where the expression has no value.
+#[cycle(evaluate)]
+#[tactic(auto, using(crate::proofs::CaseLemmas::results_within, crate::proofs::CaseLemmas::operand_within, crate::proofs::CaseLemmas::operand_raises))]
+pub fn value(expr: &Expr, row: &[Value]) -> Result<Value, Code>
+    requires within { IsWithin (expression_of expr.now) }
+    requires fit { All (λ v. IsTrue (value_fits v)) row.now }
+    ensures value { result ≡ value_of (expression_of expr.now) (record { row = row.now }) }
+    ensures fits { IfOk result (λ v. IsTrue (value_fits v)) }
+{
+    match expr {
+        Expr::Null => Ok(Value::Null),
+        Expr::Number(number, _) => Ok(Value::Number(*number)),
+        Expr::Date(day) => Ok(Value::Date(*day)),
+        Expr::Column(index, _) => Ok(cell(row, *index)),
+        Expr::Arithmetic(operator, left, right) => {
+            let x = value(left, row)?;
+            let y = value(right, row)?;
+            combine(*operator, x, scale(left), y, scale(right))
+        }
+        Expr::Negative(operand) => Ok(negate(value(operand, row)?)),
+        Expr::Extract(field, operand) => Ok(extract(*field, value(operand, row)?)),
+        Expr::Case(branches) => branch(branches, largest_branch(branches), row),
+        Expr::Match(operand, matches) => {
+            let x = value(operand, row)?;
+            matched(matches, operand, x, largest_match(matches, operand), row)
+        }
+        Expr::Coalesce(arguments) => coalesce(arguments, largest_argument(arguments), row),
+        Expr::NullIf(left, right) => {
+            let x = value(left, row)?;
+            let y = value(right, row)?;
+            Ok(null_where(
+                compare(Comparison::Equal, x, scale(left), y, scale(right)),
+                x,
+            ))
+        }
+    }
+}
+
+/// The truth of a condition at a row, or the first exception that it raises.
+///
+/// # Errors
+///
+/// The exception, where the condition has no truth.
+#[cycle(evaluate)]
+#[tactic(auto, using(crate::proofs::CaseLemmas::among_within, crate::proofs::CaseLemmas::among_raises))]
+pub fn condition(cond: &Cond, row: &[Value]) -> Result<Truth, Code>
+    requires within { AreWithin (condition_of cond.now) }
+    requires fit { All (λ v. IsTrue (value_fits v)) row.now }
+    ensures { result ≡ truth_of (condition_of cond.now) (record { row = row.now }) }
+{
+    match cond {
+        Cond::Compare(comparison, left, right) => {
+            let x = value(left, row)?;
+            let y = value(right, row)?;
+            Ok(compare(*comparison, x, scale(left), y, scale(right)))
+        }
+        Cond::Between(operand, least, greatest) => {
+            let x = value(operand, row)?;
+            let low = value(least, row)?;
+            let above = compare(
+                Comparison::GreaterOrEqual,
+                x,
+                scale(operand),
+                low,
+                scale(least),
+            );
+            if is_same(above, Truth::False) {
+                return Ok(Truth::False);
+            }
+            let high = value(greatest, row)?;
+            let below = compare(
+                Comparison::LessOrEqual,
+                x,
+                scale(operand),
+                high,
+                scale(greatest),
+            );
+            Ok(truth::and(above, below))
+        }
+        Cond::In(operand, values) => {
+            let x = value(operand, row)?;
+            is_among(values, operand, x, row)
+        }
+        Cond::IsNull(operand) => Ok(test_null(value(operand, row)?)),
+        Cond::And(left, right) => match condition(left, row)? {
+            Truth::False => Ok(Truth::False),
+            first => Ok(truth::and(first, condition(right, row)?)),
+        },
+        Cond::Or(left, right) => match condition(left, row)? {
+            Truth::True => Ok(Truth::True),
+            first => Ok(truth::or(first, condition(right, row)?)),
+        },
+        Cond::Not(operand) => Ok(truth::not(condition(operand, row)?)),
+        Cond::Is(operand, wanted) => Ok(truth_if(is_same(condition(operand, row)?, *wanted))),
+    }
+}
+
+/// The result of the first branch whose condition is true, brought to a scale.
+#[cycle(evaluate)]
+fn branch(branches: &Branches, to: u8, row: &[Value]) -> Result<Value, Code>
+    requires within { IsWithin (cases to (choices_of branches.now)) }
+    requires fit { All (λ v. IsTrue (value_fits v)) row.now }
+    ensures value { result ≡ value_of (cases to (choices_of branches.now)) (record { row = row.now }) }
+    ensures fits { IfOk result (λ v. IsTrue (value_fits v)) }
+{
+    match branches {
+        Branches::Else(result) => raise(value(result, row)?, scale(result), to),
+        Branches::When(test, result, rest) => match condition(test, row)? {
+            Truth::True => raise(value(result, row)?, scale(result), to),
+            Truth::False | Truth::Unknown => branch(rest, to, row),
+        },
+    }
+}
+
+/// The result of the first branch whose value equals the operand's, brought to a scale.
+#[cycle(evaluate)]
+fn matched(
+    matches: &Matches,
+    operand: &Expr,
+    x: Value,
+    to: u8,
+    row: &[Value],
+) -> Result<Value, Code>
+    requires within { IsWithin (cases to (matches_of matches.now (expression_of operand.now))) }
+    requires fit { All (λ v. IsTrue (value_fits v)) row.now }
+    requires operand_fits { IsTrue (value_fits x) }
+    requires evaluated { value_of (expression_of operand.now) (record { row = row.now }) ≡ Ok x }
+    ensures value { result ≡ value_of (cases to (matches_of matches.now (expression_of operand.now))) (record { row = row.now }) }
+    ensures fits { IfOk result (λ v. IsTrue (value_fits v)) }
+{
+    match matches {
+        Matches::Last(wanted, result, other) => {
+            let y = value(wanted, row)?;
+            match compare(Comparison::Equal, x, scale(operand), y, scale(wanted)) {
+                Truth::True => raise(value(result, row)?, scale(result), to),
+                Truth::False | Truth::Unknown => raise(value(other, row)?, scale(other), to),
+            }
+        }
+        Matches::When(wanted, result, rest) => {
+            let y = value(wanted, row)?;
+            match compare(Comparison::Equal, x, scale(operand), y, scale(wanted)) {
+                Truth::True => raise(value(result, row)?, scale(result), to),
+                Truth::False | Truth::Unknown => matched(rest, operand, x, to, row),
+            }
+        }
+    }
+}
+
+/// The first argument that isn't null, brought to a scale, or the last one.
+#[cycle(evaluate)]
+fn coalesce(arguments: &Exprs, to: u8, row: &[Value]) -> Result<Value, Code>
+    requires within { IsWithin (cases to (coalesced (expressions_of arguments.now))) }
+    requires fit { All (λ v. IsTrue (value_fits v)) row.now }
+    ensures value { result ≡ value_of (cases to (coalesced (expressions_of arguments.now))) (record { row = row.now }) }
+    ensures fits { IfOk result (λ v. IsTrue (value_fits v)) }
+{
+    match arguments {
+        Exprs::Last(argument) => raise(value(argument, row)?, scale(argument), to),
+        Exprs::More(argument, rest) => {
+            let x = value(argument, row)?;
+            match test_null(x) {
+                Truth::True => coalesce(rest, to, row),
+                Truth::False | Truth::Unknown => raise(x, scale(argument), to),
+            }
+        }
+    }
+}
+
+/// Whether the operand's value equals one of some values, up to the first that it equals.
+#[cycle(evaluate)]
+fn is_among(values: &Exprs, operand: &Expr, x: Value, row: &[Value]) -> Result<Truth, Code>
+    requires within { AreWithin (among (expression_of operand.now) (expressions_of values.now)) }
+    requires fit { All (λ v. IsTrue (value_fits v)) row.now }
+    requires operand_fits { IsTrue (value_fits x) }
+    requires evaluated { value_of (expression_of operand.now) (record { row = row.now }) ≡ Ok x }
+    ensures { result ≡ truth_of (among (expression_of operand.now) (expressions_of values.now)) (record { row = row.now }) }
+{
+    match values {
+        Exprs::Last(wanted) => {
+            let y = value(wanted, row)?;
+            Ok(compare(Comparison::Equal, x, scale(operand), y, scale(wanted)))
+        }
+        Exprs::More(wanted, rest) => {
+            let y = value(wanted, row)?;
+            match compare(Comparison::Equal, x, scale(operand), y, scale(wanted)) {
+                Truth::True => Ok(Truth::True),
+                first => Ok(truth::or(first, is_among(rest, operand, x, row)?)),
+            }
+        }
+    }
+}
+
+/// The value of a column: null where the row has none.
+fn cell(row: &[Value], index: usize) -> Value
+    requires { All (λ v. IsTrue (value_fits v)) row.now }
+    ensures value { result ≡ cell_of (slice_get row.now index) }
+    ensures fits { IsTrue (value_fits result) }
+{
+    match row.get(index) {
+        None => Value::Null,
+        Some(value) => *value,
+    }
+}
+
+/// Null where a comparison is true, else the value.
+fn null_where(test: Truth, x: Value) -> Value
+    requires { IsTrue (value_fits x) }
+    ensures value { result ≡ chosen test Null x }
+    ensures fits { IsTrue (value_fits result) }
+{
+    match test {
+        Truth::True => Value::Null,
+        Truth::False | Truth::Unknown => x,
+    }
+}
+
+/// The digits behind the point of an expression's values, 0 where they are no numbers.
+#[cycle(scale)]
+#[tactic(auto, using(crate::proofs::CaseLemmas::cases_scale, crate::proofs::CaseLemmas::results_within))]
+pub fn scale(expr: &Expr) -> u8
+    requires within { IsWithin (expression_of expr.now) }
+    ensures value { result ≡ scale_of (expression_of expr.now) }
+    ensures bound { result ≤ 18 }
+{
+    match expr {
+        Expr::Null | Expr::Date(_) | Expr::Extract(_, _) => 0,
+        Expr::Number(_, scale) | Expr::Column(_, scale) => *scale,
+        Expr::Arithmetic(operator, left, right) => scale_after(
+            *operator,
+            scale(left),
+            scale(right),
+        ),
+        Expr::Negative(operand) => scale(operand),
+        Expr::Case(branches) => largest_branch(branches),
+        Expr::Match(operand, matches) => largest_match(matches, operand),
+        Expr::Coalesce(arguments) => largest_argument(arguments),
+        Expr::NullIf(left, _) => scale(left),
+    }
+}
+
+/// The largest scale of the results of a CASE.
+#[cycle(scale)]
+fn largest_branch(branches: &Branches) -> u8
+    requires within { AreResultsWithin (choices_of branches.now) }
+    ensures value { result ≡ largest_result (choices_of branches.now) }
+    ensures bound { result ≤ 18 }
+{
+    match branches {
+        Branches::Else(result) => scale(result),
+        Branches::When(_, result, rest) => scale(result).max(largest_branch(rest)),
+    }
+}
+
+/// The largest scale of the results of a CASE with an operand.
+#[cycle(scale)]
+fn largest_match(matches: &Matches, operand: &Expr) -> u8
+    requires within { AreResultsWithin (matches_of matches.now (expression_of operand.now)) }
+    ensures value { result ≡ largest_result (matches_of matches.now (expression_of operand.now)) }
+    ensures bound { result ≤ 18 }
+{
+    match matches {
+        Matches::Last(_, result, other) => scale(result).max(scale(other)),
+        Matches::When(_, result, rest) => scale(result).max(largest_match(rest, operand)),
+    }
+}
+
+/// The largest scale of the arguments of COALESCE.
+#[cycle(scale)]
+fn largest_argument(arguments: &Exprs) -> u8
+    requires within { AreResultsWithin (coalesced (expressions_of arguments.now)) }
+    ensures value { result ≡ largest_result (coalesced (expressions_of arguments.now)) }
+    ensures bound { result ≤ 18 }
+{
+    match arguments {
+        Exprs::Last(argument) => scale(argument),
+        Exprs::More(argument, rest) => scale(argument).max(largest_argument(rest)),
+    }
+}
+
+/// The scale of what an operator gives.
+fn scale_after(operator: Operator, left: u8, right: u8) -> u8
+    requires bounds { (left ≤ 18) × (right ≤ 18) }
+    requires allowed { ScalesAllowed operator left right }
+    ensures value { result ≡ Rattle.qw_meaning.specs.Expression.scale_after operator left right }
+    ensures bound { result ≤ 18 }
+{
+    match operator {
+        Operator::Add | Operator::Subtract => left.max(right),
+        Operator::Multiply => left + right,
+        Operator::Divide => left,
+    }
+}
+
+/// Two values under an operator.
+fn combine(operator: Operator, x: Value, sx: u8, y: Value, sy: u8) -> Result<Value, Code>
+    requires fit { IsTrue (value_fits x) × IsTrue (value_fits y) }
+    requires bounds { (sx ≤ 18) × (sy ≤ 18) }
+    requires allowed { ScalesAllowed operator sx sy }
+    ensures value { result ≡ combined operator x sx y sy }
+    ensures fits { IfOk result (λ v. IsTrue (value_fits v)) }
+{
+    match (x, y) {
+        (Value::Number(a), Value::Number(b)) => Ok(Value::Number(apply(operator, a, sx, b, sy)?)),
+        _ => Ok(Value::Null),
+    }
+}
+
+/// Two numbers under an operator.
+fn apply(operator: Operator, a: i64, sa: u8, b: i64, sb: u8) -> Result<i64, Code>
+    requires fit { IsTrue (fits a) × IsTrue (fits b) }
+    requires bounds { (sa ≤ 18) × (sb ≤ 18) }
+    requires allowed { ScalesAllowed operator sa sb }
+    ensures value { result ≡ applied operator a sa b sb }
+    ensures fits { IfOk result (λ v. IsTrue (fits v)) }
+{
+    match operator {
+        Operator::Add => arithmetic::add(a, sa, b, sb),
+        Operator::Subtract => arithmetic::sub(a, sa, b, sb),
+        Operator::Multiply => arithmetic::mul(a, sa, b, sb),
+        Operator::Divide => arithmetic::div(a, sa, b, sb),
+    }
+}
+
+/// A value with its sign turned.
+fn negate(x: Value) -> Value
+    requires fit { IsTrue (value_fits x) }
+    ensures value { result ≡ negated x }
+    ensures fits { IsTrue (value_fits result) }
+{
+    match x {
+        Value::Number(a) => Value::Number(-a),
+        Value::Null | Value::Date(_) => Value::Null,
+    }
+}
+
+/// A field of a date, as a number of scale 0.
+fn extract(field: Field, x: Value) -> Value
+    ensures value { result ≡ extracted field x }
+    ensures fits { IsTrue (value_fits result) }
+{
+    match x {
+        Value::Date(day) => Value::Number(i64::from(field_at(field, day))),
+        Value::Null | Value::Number(_) => Value::Null,
+    }
+}
+
+/// A field of a date that is kept as year * 10000 + month * 100 + day.
+fn field_at(field: Field, day: i32) -> i32
+    ensures { result ≡ field_of field day }
+{
+    match field {
+        Field::Year => day / 10_000,
+        Field::Month => day / 100 % 100,
+        Field::Day => day % 100,
+    }
+}
+
+/// A value at a scale that is no smaller.
+fn raise(x: Value, from: u8, to: u8) -> Result<Value, Code>
+    requires fit { IsTrue (value_fits x) }
+    requires scales { (from ≤ to) × (to ≤ 18) }
+    ensures value { result ≡ raised x from to }
+    ensures fits { IfOk result (λ v. IsTrue (value_fits v)) }
+{
+    match x {
+        Value::Number(a) => Ok(Value::Number(arithmetic::bring(a, from, to)?)),
+        Value::Null | Value::Date(_) => Ok(x),
+    }
+}
+
+/// How two values compare.
+fn compare(comparison: Comparison, x: Value, sx: u8, y: Value, sy: u8) -> Truth
+    requires fit { IsTrue (value_fits x) × IsTrue (value_fits y) }
+    requires bounds { (sx ≤ 18) × (sy ≤ 18) }
+    ensures { result ≡ compared comparison x sx y sy }
+{
+    match (x, y) {
+        (Value::Number(a), Value::Number(b)) => truth_if(answer(
+            comparison,
+            arithmetic::compare(a, sx, b, sy),
+        )),
+        (Value::Date(a), Value::Date(b)) => truth_if(answer(comparison, a.cmp(&b))),
+        _ => Truth::Unknown,
+    }
+}
+
+/// Whether an order answers a comparison.
+fn answer(comparison: Comparison, order: Ordering) -> bool
+    ensures { result ≡ answers comparison order }
+{
+    match comparison {
+        Comparison::Equal => order.is_eq(),
+        Comparison::NotEqual => order.is_ne(),
+        Comparison::Less => order.is_lt(),
+        Comparison::LessOrEqual => order.is_le(),
+        Comparison::Greater => order.is_gt(),
+        Comparison::GreaterOrEqual => order.is_ge(),
+    }
+}
+
+/// The truth of what is known.
+fn truth_if(holds: bool) -> Truth
+    ensures { result ≡ Rattle.qw_meaning.specs.Evaluation.truth_if holds }
+{
+    if holds { Truth::True } else { Truth::False }
+}
+
+/// Whether a value is null, which is never unknown.
+fn test_null(x: Value) -> Truth
+    ensures { result ≡ tested_null x }
+{
+    match x {
+        Value::Null => Truth::True,
+        Value::Number(_) | Value::Date(_) => Truth::False,
+    }
+}
+
+/// Whether two truth values are the same.
+fn is_same(t: Truth, u: Truth) -> bool
+    ensures { result ≡ same_truth t u }
+{
+    match (t, u) {
+        (Truth::True, Truth::True)
+        | (Truth::False, Truth::False)
+        | (Truth::Unknown, Truth::Unknown) => true,
+        _ => false,
+    }
+}
