@@ -133,7 +133,7 @@ def clauses(path, only=None):
     """The clauses of a file's public functions, and the values of its models."""
     text = open(path, encoding="utf-8").read()
     is_trait = re.search(r"^pub trait ", text, flags=re.M)
-    heads = list(re.finditer(r"^ *(pub )?(?:const )?fn ([a-z_0-9]+)", text, flags=re.M))
+    heads = list(re.finditer(r"^ *(pub )?(?:pub\([a-z]+\) )?(?:const )?fn ([a-z_0-9]+)", text, flags=re.M))
     for head, after in zip(heads, heads[1:] + [None]):
         if not (head.group(1) or is_trait) or (only and head.group(2) not in only):
             continue

@@ -1,15 +1,16 @@
--- The forms of the two texts (ISO/IEC 9075:1992, 5.2 "token", 5.3 "literal", 6.1 "data type", 6.4 "column reference",
--- 7.3 "table expression", 7.4 "from clause", 7.6 "where clause", 7.9 "query specification", 8.2 "comparison predicate",
--- 11.3 "table definition", 11.4 "column definition").
-use Rattle.std.specs.Prelude.{◌≡◌, ℕ, ℤ, pos, neg_ℤ, Bool, if◌then◌else◌, IsTrue, List, [], ◌∷◌, ◌++◌, ◌⊎◌, map, length, ◌<◌, ◌^◌, codes, Contains}
+-- What forms are made of, and the form of a query (ISO/IEC 9075:1992, 5.2 "token", 5.3 "literal", 5.4 "identifier", 6.4
+-- "column reference", 7.3 "table expression", 7.4 "from clause", 7.6 "where clause", 7.9 "query specification", 8.2
+-- "comparison predicate"). Those of a schema are in SchemaGrammar.
+use Rattle.std.specs.Prelude.{◌≡◌, ℕ, ℤ, pos, neg_ℤ, Bool, if◌then◌else◌, IsTrue, List, [], ◌∷◌, ◌++◌, ◌⊎◌, map, length, ◌<◌, ◌^◌, ◌-◌, ◌==◌, take, drop, codes, Contains}
 use Rattle.std.specs.List.{AllZip}
 use Rattle.std.specs.Char.{to_ascii_uppercase}
 use Rattle.std.specs.Str.Parse.{digits_value}
 use Rattle.qw_meaning.specs.declared.query.Comparison.{Comparison}
 use Rattle.qw_meaning.specs.declared.query.Comparison.TheVariants.{Equal, NotEqual, Less, LessOrEqual, Greater, GreaterOrEqual}
-use Rattle.qw_token.specs.declared.token.Kind.TheVariants.{Word}
+use Rattle.qw_token.specs.declared.token.Kind.TheVariants.{Word, DelimitedIdentifier}
 use Rattle.qw_types.specs.Digits.{are_digits}
-use Rattle.qw_token.specs.Token.{Lexeme, AreTokens}
+use Rattle.qw_types.specs.Octets.{double_quote}
+use Rattle.qw_token.specs.Token.{Lexeme, AreTokens, begins_with}
 
 -- with each ASCII letter in upper case
 abbrev pub folded : List ℕ → List ℕ
@@ -32,10 +33,25 @@ reserved =
 abbrev pub IsReserved : List ℕ → Type 0
 IsReserved name = Contains reserved name
 
--- what a form is made of: a key word, a regular identifier of this name, a symbol, an unsigned integer
+-- with each two octets of which the first is a quote as that quote
+abbrev pub undoubled : List ℕ → List ℕ
+undoubled [] = []
+undoubled (b ∷ []) = b ∷ []
+undoubled (b ∷ c ∷ bs) = if b == double_quote then b ∷ undoubled bs else b ∷ undoubled (c ∷ bs)
+
+-- what stands between the quotes of a delimited identifier, two quotes there being one
+abbrev pub unquoted : List ℕ → List ℕ
+unquoted octets = undoubled (take (length octets - 2) (drop 1 octets))
+
+-- The name that an identifier is (5.2, 5.4): a delimited one is kept as it is written, a regular one in upper case.
+abbrev pub name_of : List ℕ → List ℕ
+name_of octets = if begins_with (λ b. b == double_quote) octets then unquoted octets else folded octets
+
+-- what a form is made of: a key word, a regular identifier of this name, one that may be delimited, a symbol, an unsigned integer
 pub data Terminal : Type 0 where
   key_word : List ℕ → Terminal
   regular : List ℕ → Terminal
+  identifier : List ℕ → Terminal
   symbol : List ℕ → Terminal
   unsigned : ℕ → Terminal
 
@@ -43,6 +59,8 @@ pub data Terminal : Type 0 where
 abbrev pub Matches : Terminal → Lexeme → Type 0
 Matches (key_word word) t = folded t.octets ≡ word
 Matches (regular name) t = (t.kind ≡ Word) × (folded t.octets ≡ name) × (IsReserved name → ⊥)
+Matches (identifier name) t =
+    (((t.kind ≡ Word) × (IsReserved (folded t.octets) → ⊥)) ⊎ (t.kind ≡ DelimitedIdentifier)) × (name_of t.octets ≡ name)
 Matches (symbol octets) t = t.octets ≡ octets
 Matches (unsigned n) t = IsTrue (are_digits t.octets) × (digits_value 10 t.octets ≡ n)
 
@@ -61,18 +79,6 @@ behind_commas (form ∷ forms) = symbol (codes ",") ∷ (form ++ behind_commas f
 abbrev pub separated : List (List Terminal) → List Terminal
 separated [] = []
 separated (form ∷ forms) = form ++ behind_commas forms
-
--- ---- the schema
-
--- column INTEGER NOT NULL
-abbrev pub column_definition : List ℕ → List Terminal
-column_definition column = regular column ∷ key_word (codes "INTEGER") ∷ key_word (codes "NOT") ∷ key_word (codes "NULL") ∷ []
-
--- CREATE TABLE table ( column INTEGER NOT NULL {, column INTEGER NOT NULL} )
-abbrev pub create_table : List ℕ → List (List ℕ) → List Terminal
-create_table table columns =
-    key_word (codes "CREATE") ∷ key_word (codes "TABLE") ∷ regular table ∷ symbol (codes "(") ∷
-    (separated (map column_definition columns) ++ symbol (codes ")") ∷ [])
 
 -- ---- the query
 

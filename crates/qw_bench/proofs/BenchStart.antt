@@ -29,7 +29,8 @@ use Rattle.qw_bench.specs.declared.bench.Grant.{Grant}
 use Rattle.qw_bench.specs.declared.bench.Seat.{Seat}
 use Rattle.qw_bench.specs.Bench.{IsStart, IsStarting, Task, starting}
 use Rattle.qw_bench.specs.Inner.FirstMemory.{IsFirstMemory}
-use Rattle.qw_csv.specs.Loading.{AreLoaded, IsIntegerRow}
+use Rattle.qw_csv.specs.Contents.{IsIntegerRow}
+use Rattle.qw_types.specs.Limits.{most_columns, most_rows}
 use Rattle.qw_bench.specs.Standing.{end_of}
 use Rattle.qw_bench.specs.Inner.Seats.{AreSeats, HasGrants, IsEndOf, area_of, instance_of, standing_of, state_in, task_of, world_of}
 use Rattle.qw_columns.proofs.ColumnLemmas.{few_pages, within_pages}
@@ -121,7 +122,7 @@ pub end-begun : (seat : Seat) (last : Stepped) (program : Module) (number d : �
 end-begun seat last program number d begins told = end-by_state seat last (state_in seat) (subst IsBegun (sym begins) (begun-is _ _ (code_of (body_of program number)))) told
 
 module _ (width : ℕ) (rows : List (List Val)) (memory : Octets) (seat : Seat) (first : IsFirstMemory seat.query width rows memory.octets)
-    (loaded : AreLoaded (record { width = width; rows = rows })) (program : Module) (compiled : IsCompiled seat.query program)
+    (slim : width ≤ most_columns) (short : length rows ≤ most_rows) (typed : AllByRecursion (IsIntegerRow width) rows) (program : Module) (compiled : IsCompiled seat.query program)
     (narrow : AllByRecursion (λ column. column < width) (used seat.query)) (descriptor_is : seat.descriptor ≡ column_pages width (length rows) * page)
     (many : seat.rows ≡ length rows) (steps : 1 ≤ seat.limits.steps) (some_pages : 1 ≤ seat.limits.pages) (pages : seat.limits.pages ≤ 61628)
     (nothing : seat.granted.items ≡ []) (one_page : seat.held ≡ 1) (unrefused : seat.refused ≡ None) (none : seat.ran ≡ 0)
@@ -130,15 +131,15 @@ module _ (width : ℕ) (rows : List (List Val)) (memory : Octets) (seat : Seat) 
   starts = column_starts seat.query (length rows)
 
   few : column_pages width (length rows) ≤ 3907
-  few = few_pages width (length rows) loaded.few loaded.narrow
+  few = few_pages width (length rows) short slim
 
   ready : IsReady seat.query rows starts (column_pages width (length rows) * page) memory.octets
   ready = record {
     octets = first.octets;
     whole = omega (arith, first.size);
     size = omega (arith, first.size, few);
-    few = loaded.few;
-    typed = all_typed width rows (used seat.query) loaded.typed narrow;
+    few = short;
+    typed = all_typed width rows (used seat.query) typed narrow;
     many = length-map (used seat.query) (column_start (length rows));
     columns = columns-held width rows memory.octets (used seat.query) first.columns narrow;
     from = starts-from (length rows) (used seat.query);

@@ -9,7 +9,7 @@ use Rattle.std.proofs.lemmas.List.{append-nil}
 use Rattle.std.proofs.lemmas.Bool.Decides.{leb_tells}
 use Rattle.std.proofs.lemmas.Option.{none-some, slice_get_within, slice_get-get_or, slice_get-map}
 use Rattle.qw_types.specs.declared.value.Val.{Val}
-use Rattle.qw_types.specs.declared.value.Val.TheVariants.{Num}
+use Rattle.qw_types.specs.declared.value.Val.TheVariants.{Null, Num, Date, Text}
 use Rattle.qw_linear.specs.Memory.{page}
 use Rattle.qw_module.specs.Execution.{Config, State, Running, Returned, Raised, Trapped, Event, Silent, Loads, Stores, Grows, Raises, Traps, IsOver}
 use Rattle.qw_map.specs.Areas.{Area, World, SameIn, Others, AsksWithin, IsAnswered, world_after}
@@ -90,6 +90,9 @@ column-kept before after start column rows same room holds = record {
     stands : (row : ℕ) (v : Val) → row < length rows → StandsAt before (start + 4 * row) v → StandsAt after (start + 4 * row) v
     stands row (Num n) within h =
         integer_at-kept before after (record { start = start; size = 4 * length rows }) (start + 4 * row) same (omega arith) (omega arith) ∙ h
+    stands row Null within h = absurd h
+    stands row (Date d) within h = absurd h
+    stands row (Text octets) within h = absurd h
 
 -- ---- what an instance has after steps
 -- it has what it had, and what it was granted; it holds no more than it may

@@ -3,13 +3,14 @@
 ghost use Rattle.std.specs.Prelude.{◌≡◌, ◌≢◌, List, not, is_some, ◌↔◌, ◌+◌, ◌-◌, ◌*◌, ◌<◌, ◌≤◌, ◌^◌, ℕ, [], ◌∷◌, ◌++◌, None, length, IfOk, IfSome, IsSome, slice_get};
 ghost use Rattle.std.specs.List.{list_any};
 ghost use Rattle.std.specs.Vec.{vec_capacity};
+ghost use Rattle.qw_csv.specs.Contents.{AreIntegerKinds};
 ghost use Rattle.qw_linear.specs.Memory.{page};
 
 mod start;
 
 use crate::bench::start::{first_instance, first_memory};
 use qw_columns::columns::{MAX_COLUMN_PAGES, pages_needed};
-use qw_csv::loading::Loaded;
+use qw_csv::Loaded;
 use qw_linear::linear::{Linear, MAX_PAGES, PAGE};
 use qw_machine::machine::{Instance, Stepped};
 use qw_meaning::query::Query;
@@ -255,12 +256,13 @@ impl Bench {
     ///
     /// [`NoMemory`] where the bench does not fit memory.
     pub fn new(alloc: Global, loaded: &Loaded, job: Job, limits: Limits) -> Result<Self, NoMemory>
-        requires columns { AllByRecursion (λ column. column < loaded.now.width) (used job.statement) }
+        requires integers { AreIntegerKinds loaded.now.columns }
+        requires columns { AllByRecursion (λ column. column < length loaded.now.columns) (used job.statement) }
         requires pages { (1 ≤ limits.pages) × (limits.pages ≤ MAX_INSTANCE_PAGES) }
         requires steps { 1 ≤ limits.steps }
-        ensures tasks { IfOk result (λ bench. bench.tasks ≡ first_task loaded.now.width (length loaded.now.rows) job limits ∷ []) }
-        ensures start { IfOk result (λ bench. IsStart loaded.now.width loaded.now.rows bench.tasks bench.shared) }
-        ensures reserved { IfOk result (λ bench. bench.reserved ≡ column_pages loaded.now.width (length loaded.now.rows) + limits.pages) }
+        ensures tasks { IfOk result (λ bench. bench.tasks ≡ first_task (length loaded.now.columns) (length loaded.now.rows) job limits ∷ []) }
+        ensures start { IfOk result (λ bench. IsStart (length loaded.now.columns) loaded.now.rows bench.tasks bench.shared) }
+        ensures reserved { IfOk result (λ bench. bench.reserved ≡ column_pages (length loaded.now.columns) (length loaded.now.rows) + limits.pages) }
     {
         let Job { query, valid } = job;
         let memory = first_memory(alloc, loaded, &query, limits.pages)?;

@@ -1,5 +1,5 @@
 -- The columns of a table of INTEGERs, one after another.
-use Rattle.std.proofs.Common.{refl, [], ◌∷◌, ◌≡◌, ◌≤◌, ◌<◌, ◌+◌, ◌*◌, ◌%◌, ◌^◌, ◌∙◌, ⊎_elim, inl, ℕ, ℤ, zero, suc, List, Some, length, mul-le-mul, mul-le-mul_right, ap, arith, w32}
+use Rattle.std.proofs.Common.{refl, [], ◌∷◌, ◌≡◌, ◌≤◌, ◌<◌, ◌+◌, ◌*◌, ◌%◌, ◌^◌, ◌∙◌, ⊎_elim, inl, ℕ, ℤ, zero, suc, List, Option, Some, length, mul-le-mul, mul-le-mul_right, ap, arith, w32}
 use Rattle.std.specs.Prelude.{All, FitsSigned}
 use Rattle.std.specs.Int.{cast_signed, cast_unsigned}
 use Rattle.std.proofs.Math.Facts.{Fits-of_z}
@@ -11,7 +11,7 @@ use Rattle.std.proofs.lemmas.List.FromFn.{get_or-range_with_len, length-range_wi
 use Rattle.std.specs.List.{range_with_len}
 use Rattle.qw_types.specs.Limits.{most_columns, most_rows}
 use Rattle.qw_types.specs.declared.value.Val.{Val}
-use Rattle.qw_types.specs.declared.value.Val.TheVariants.{Num}
+use Rattle.qw_types.specs.declared.value.Val.TheVariants.{Date, Null, Num, Text}
 use Rattle.qw_linear.specs.Memory.{AreOctets, number_at, page, with_number, SameBelow}
 use Rattle.qw_linear.proofs.MemoryFacts.{number_at-apart, number_at-same, number_at-with_number}
 use Rattle.qw_types.specs.Value.{value_of}
@@ -82,11 +82,17 @@ holds_more memory address column rows count n fits is room first = record { each
     earlier row (Num m) lt there =
         ap (λ (k : ℕ). cast_signed w32 k) (number_at-apart memory (address + integer_size * count) 4 (cast_unsigned w32 n) (address + integer_size * row) 4 (inl (omega arith)))
         ∙ first.each row (Num m) lt there
+    earlier row Null lt there = first.each row Null lt there
+    earlier row (Date d) lt there = first.each row (Date d) lt there
+    earlier row (Text t) lt there = first.each row (Text t) lt there
 
     last : (row : ℕ) (value : Val) → row ≡ count → value_of rows row column ≡ Some value → StandsAt after (address + integer_size * row) value
     last row (Num m) same there =
         let number : n ≡ m = cc (is, same, there) in
         rw same (stands memory (address + integer_size * count) n fits room ∙ number)
+    last row Null same there = absurd (let e : ◌≡◌ {A = Option Val} (Some (Num n)) (Some Null) = cc (is, same, there) in cc e)
+    last row (Date d) same there = absurd (let e : ◌≡◌ {A = Option Val} (Some (Num n)) (Some (Date d)) = cc (is, same, there) in cc e)
+    last row (Text t) same there = absurd (let e : ◌≡◌ {A = Option Val} (Some (Num n)) (Some (Text t)) = cc (is, same, there) in cc e)
 
     each : (row : ℕ) (value : Val) → row < count + 1 → value_of rows row column ≡ Some value → StandsAt after (address + integer_size * row) value
     each row value lt there = ⊎_elim
@@ -123,6 +129,9 @@ column_kept before after limit address column rows same longer ends holds = reco
         let moved : number_at after (address + integer_size * row) 4 ≡ number_at before (address + integer_size * row) 4 =
         number_at-same after before (address + integer_size * row) 4 (λ k low high. same k (omega arith)) in
         ap (λ (k : ℕ). cast_signed w32 k) moved ∙ holds.each row (Num m) is
+    each row Null is = holds.each row Null is
+    each row (Date d) is = holds.each row (Date d) is
+    each row (Text t) is = holds.each row (Text t) is
 
 -- the first columns are held
 pub record HoldsColumns (memory : List ℕ) (rows : List (List Val)) (count : ℕ) : Type 0 where

@@ -1,10 +1,11 @@
 //! The columns in the linear memory.
 
 ghost use Rattle.std.specs.Prelude.{◌≡◌, ◌≤◌, ◌<◌, ◌+◌, ◌*◌, length, map, All, IfOk};
+ghost use Rattle.qw_csv.specs.Contents.{AreIntegerKinds};
 ghost use Rattle.qw_linear.specs.Memory.{AreOctets, page, SameBelow};
 ghost use Rattle.qw_map.specs.Columns.{Holds, HoldsColumn, column_pages, column_start, integer_size};
 
-use qw_csv::loading::Loaded;
+use qw_csv::Loaded;
 use qw_linear::linear::{Linear, PAGE};
 use qw_map::layout::{COLUMN_ALIGNMENT, COLUMNS_START, INTEGER_SIZE};
 use qw_types::NoMemory;
@@ -40,20 +41,21 @@ pub fn column_starts(alloc: Global, rows: usize, columns: &[usize]) -> Result<Ve
 
 /// How many pages the columns of a loaded table take. Nothing else stands on the last one.
 pub fn pages_needed(loaded: &Loaded) -> u32
-    ensures pages { result ≡ column_pages loaded.now.width (length loaded.now.rows) }
+    ensures pages { result ≡ column_pages (length loaded.now.columns) (length loaded.now.rows) }
     ensures limit { result ≤ MAX_COLUMN_PAGES }
 {
     let end = column_start(loaded.len(), loaded.width());
     end.div_ceil(PAGE as u32)
 }
 
-/// Grows an empty memory by the pages of the columns of a loaded table, and writes them.
+/// Grows an empty memory by the pages of the columns of a loaded table, which are INTEGER NOT NULL, and writes them.
 pub fn place(loaded: &Loaded, memory: &mut Linear)
+    requires integers { AreIntegerKinds loaded.now.columns }
     requires empty { length memory.old.octets ≡ 0 }
-    requires room { column_pages loaded.now.width (length loaded.now.rows) ≤ memory.old.reserved }
-    ensures holds { Holds loaded.now.width memory.new.octets loaded.now.rows }
+    requires room { column_pages (length loaded.now.columns) (length loaded.now.rows) ≤ memory.old.reserved }
+    ensures holds { Holds (length loaded.now.columns) memory.new.octets loaded.now.rows }
     ensures octets { AreOctets memory.new.octets }
-    ensures len { length memory.new.octets ≡ column_pages loaded.now.width (length loaded.now.rows) * page }
+    ensures len { length memory.new.octets ≡ column_pages (length loaded.now.columns) (length loaded.now.rows) * page }
     ensures reserved { memory.new.reserved ≡ memory.old.reserved }
 {
     memory.grow(pages_needed(loaded)).unwrap();
@@ -64,7 +66,8 @@ pub fn place(loaded: &Loaded, memory: &mut Linear)
 
 /// Writes one column, and changes nothing below it.
 fn write_column(loaded: &Loaded, memory: &mut Linear, column: usize)
-    requires column { column < loaded.now.width }
+    requires integers { AreIntegerKinds loaded.now.columns }
+    requires column { column < length loaded.now.columns }
     requires room { column_start (length loaded.now.rows) column + integer_size * length loaded.now.rows ≤ length memory.old.octets }
     ensures holds { HoldsColumn memory.new.octets (column_start (length loaded.now.rows) column) column loaded.now.rows }
     ensures below { SameBelow memory.old.octets memory.new.octets (column_start (length loaded.now.rows) column) }

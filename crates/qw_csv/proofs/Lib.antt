@@ -1,5 +1,8 @@
 mod CsvReaderLemmas
+mod FileLemmas
+pub mod KindLaws
 pub mod LoadingLaws
-mod NumberLemmas
+mod PushLemmas
 mod RecordLemmas
 mod RowLemmas
+mod StorageLemmas

@@ -1,5 +1,5 @@
 -- A file stands for one list of rows at most, or has one first fault at most.
-use Rattle.std.proofs.Common.{List, ℕ, zero, suc, ℤ, ◌≡◌, ◌<◌, ◌≤◌, ◌⊎◌, ◌+◌, ◌∙◌, ◌∷◌, ◌++◌, [], length, inl, inr, refl, sym, ap, arith, Option, Some, None}
+use Rattle.std.proofs.Common.{Bool, true, false, List, ℕ, zero, suc, ℤ, ◌≡◌, ◌<◌, ◌≤◌, ◌⊎◌, ◌+◌, ◌∙◌, ◌∷◌, ◌++◌, [], length, inl, inr, refl, sym, ap, arith, Option, Some, None}
 use Rattle.csv.specs.Machine.{Read, next_record}
 use Rattle.csv.specs.Reading.{AreRecords, Reached, default_config, strip_bom}
 use Rattle.csv.specs.declared.parser.State.{State}
@@ -8,34 +8,221 @@ use Rattle.qw_types.specs.declared.schema.Column.{Column}
 use Rattle.qw_types.specs.declared.schema.Table.{Table}
 use Rattle.qw_types.specs.Limits.{most_rows}
 use Rattle.qw_types.specs.declared.value.Ty.{Ty}
-use Rattle.qw_types.specs.declared.value.Ty.TheVariants.{Integer}
+use Rattle.qw_types.specs.declared.value.Ty.TheVariants as ty
+use Rattle.qw_types.specs.DateText.{ShowsDate}
+use Rattle.qw_types.specs.Numeral.{IsNumberFault, IsNumberOf}
+use Rattle.qw_types.specs.declared.numeral.FieldFault.{FieldFault}
+use Rattle.qw_types.specs.declared.numeral.FieldFault.TheVariants as form
 use Rattle.qw_types.specs.declared.value.Val.{Val}
-use Rattle.qw_types.specs.declared.value.Val.TheVariants.{Num}
-use Rattle.qw_csv.specs.declared.loading.FieldFault.{FieldFault}
-use Rattle.qw_csv.specs.declared.loading.FieldFault.TheVariants.{NotNumber, TooLarge}
+use Rattle.qw_types.specs.declared.value.Val.TheVariants as val
+use Rattle.qw_csv.specs.declared.cell.CellFault.{CellFault}
+use Rattle.qw_csv.specs.declared.cell.CellFault.TheVariants as cell
+use Rattle.qw_csv.specs.Field.{IsEmptyFault, IsEmptyFieldOf, IsFieldFault, IsFieldOf, IsTypedFault, IsTypedFieldOf}
 use Rattle.qw_csv.specs.declared.loading.LoadFault.{LoadFault}
 use Rattle.qw_csv.specs.declared.loading.LoadFault.TheVariants as fault
-use Rattle.qw_csv.specs.Loading.{AreAllRecords, AreFirstRecords, AreRecordsOf, Follows, IsFieldFault, IsFieldOf, IsFirstFault, IsFirstFieldFault, IsHeader, IsRecordFault, IsRecordOf, Loads, ShowsNumber}
-use Rattle.qw_csv.proofs.NumberLemmas.{shown_parts}
+use Rattle.qw_csv.specs.Loading.{AreAllRecords, AreFirstRecords, AreRecordsOf, Follows, IsFirstFault, IsFirstFieldFault, IsHeader, IsRecordFault, IsRecordOf, Loads}
+use Rattle.std.proofs.lemmas.Bool.{false≢true}
 
--- a text shows one number
-same_number : (text : List ℕ) (n m : ℤ) → ShowsNumber text n → ShowsNumber text m → n ≡ m
-same_number text n m a b = (shown_parts text n a).1 ∙ sym (shown_parts text m b).1
+-- a field stands for one value
+same_day : (field : List ℕ) (n m : ℤ) → ShowsDate field n → ShowsDate field m → n ≡ m
+same_day field n m a b = a.packed_is ∙ sym b.packed_is
 
-same_value : (ty : Ty) (field : List ℕ) (v w : Val) → IsFieldOf ty field v → IsFieldOf ty field w → v ≡ w
-same_value Integer field (Num n) (Num m) a b = ap Num (same_number field n m a.0 b.0)
+same_typed : (type : Ty) (field : List ℕ) (v w : Val) → IsTypedFieldOf type field v → IsTypedFieldOf type field w → v ≡ w
+same_typed ty.Integer field (val.Num n) (val.Num m) a b = ap val.Num (a.shows.value ∙ sym b.shows.value)
+same_typed (ty.Decimal p s) field (val.Num n) (val.Num m) a b = ap val.Num (a.shows.value ∙ sym b.shows.value)
+same_typed ty.Date field (val.Date n) (val.Date m) a b = ap val.Date (same_day field n m a b)
+same_typed (ty.Varchar l) field (val.Text n) (val.Text m) a b = ap val.Text (a.0 ∙ sym b.0)
+same_typed ty.Integer field val.Null w a b = elim a [ ]
+same_typed ty.Integer field (val.Num n) val.Null a b = elim b [ ]
+same_typed ty.Integer field (val.Num n) (val.Date m) a b = elim b [ ]
+same_typed ty.Integer field (val.Num n) (val.Text m) a b = elim b [ ]
+same_typed ty.Integer field (val.Date n) w a b = elim a [ ]
+same_typed ty.Integer field (val.Text n) w a b = elim a [ ]
+same_typed (ty.Decimal p s) field val.Null w a b = elim a [ ]
+same_typed (ty.Decimal p s) field (val.Num n) val.Null a b = elim b [ ]
+same_typed (ty.Decimal p s) field (val.Num n) (val.Date m) a b = elim b [ ]
+same_typed (ty.Decimal p s) field (val.Num n) (val.Text m) a b = elim b [ ]
+same_typed (ty.Decimal p s) field (val.Date n) w a b = elim a [ ]
+same_typed (ty.Decimal p s) field (val.Text n) w a b = elim a [ ]
+same_typed ty.Date field val.Null w a b = elim a [ ]
+same_typed ty.Date field (val.Num n) w a b = elim a [ ]
+same_typed ty.Date field (val.Date n) val.Null a b = elim b [ ]
+same_typed ty.Date field (val.Date n) (val.Num m) a b = elim b [ ]
+same_typed ty.Date field (val.Date n) (val.Text m) a b = elim b [ ]
+same_typed ty.Date field (val.Text n) w a b = elim a [ ]
+same_typed (ty.Varchar l) field val.Null w a b = elim a [ ]
+same_typed (ty.Varchar l) field (val.Num n) w a b = elim a [ ]
+same_typed (ty.Varchar l) field (val.Date n) w a b = elim a [ ]
+same_typed (ty.Varchar l) field (val.Text n) val.Null a b = elim b [ ]
+same_typed (ty.Varchar l) field (val.Text n) (val.Num m) a b = elim b [ ]
+same_typed (ty.Varchar l) field (val.Text n) (val.Date m) a b = elim b [ ]
+
+same_empty : (type : Ty) (never : Bool) (v w : Val) → IsEmptyFieldOf type never v → IsEmptyFieldOf type never w → v ≡ w
+same_empty type false val.Null val.Null a b = refl
+same_empty (ty.Varchar l) true (val.Text n) (val.Text m) a b = ap val.Text (a ∙ sym b)
+same_empty type false val.Null (val.Num _) a b = elim b [ ]
+same_empty type false val.Null (val.Date _) a b = elim b [ ]
+same_empty type false val.Null (val.Text m) a b = elim b [ ]
+same_empty type false (val.Num _) w a b = elim a [ ]
+same_empty type false (val.Date _) w a b = elim a [ ]
+same_empty type false (val.Text n) w a b = elim a [ ]
+same_empty ty.Integer true v w a b = elim a [ ]
+same_empty (ty.Decimal _ _) true v w a b = elim a [ ]
+same_empty ty.Date true v w a b = elim a [ ]
+same_empty (ty.Varchar l) true val.Null w a b = elim a [ ]
+same_empty (ty.Varchar l) true (val.Num _) w a b = elim a [ ]
+same_empty (ty.Varchar l) true (val.Date _) w a b = elim a [ ]
+same_empty (ty.Varchar l) true (val.Text n) val.Null a b = elim b [ ]
+same_empty (ty.Varchar l) true (val.Text n) (val.Num _) a b = elim b [ ]
+same_empty (ty.Varchar l) true (val.Text n) (val.Date _) a b = elim b [ ]
+
+same_value : (c : Column) (field : List ℕ) (v w : Val) → IsFieldOf c field v → IsFieldOf c field w → v ≡ w
+same_value c [] v w a b = same_empty c.ty c.not_null v w a b
+same_value c (o ∷ os) v w a b = same_typed c.ty (o ∷ os) v w a b
 
 -- a field that stands for a value isn't at fault
-value_or_fault : (ty : Ty) (field : List ℕ) (v : Val) (why : FieldFault) → IsFieldOf ty field v → IsFieldFault ty field why → ⊥
-value_or_fault Integer field (Num n) NotNumber a b = b n a.0
-value_or_fault Integer field (Num n) TooLarge a (m, shows, out) = out (rw (same_number field m n shows a.0) a.1)
+number_or_fault : (type : Ty) (field : List ℕ) (n : ℤ) (why : FieldFault) → IsNumberOf type field n → IsNumberFault type field why → ⊥
+number_or_fault type field n form.NotNumber a b = false≢true (sym b ∙ a.shows.form)
+number_or_fault type field n form.TooFine a b = false≢true (sym b.1 ∙ a.shows.fine)
+number_or_fault type field n form.TooLarge a b = b.1 (rw a.shows.value at a.range)
+number_or_fault type field n form.NotDate a b = b
+
+typed_or_fault : (type : Ty) (field : List ℕ) (v : Val) (why : CellFault) → IsTypedFieldOf type field v → IsTypedFault type field why → ⊥
+typed_or_fault ty.Integer field (val.Num n) (cell.Form why) a b = number_or_fault ty.Integer field n why a b
+typed_or_fault (ty.Decimal p s) field (val.Num n) (cell.Form why) a b = number_or_fault (ty.Decimal p s) field n why a b
+typed_or_fault ty.Date field (val.Date n) (cell.Form why) a b = b.1 n a
+typed_or_fault (ty.Varchar l) field (val.Text n) cell.NotUtf8 a b = b (rw a.0 at a.1.utf8)
+typed_or_fault (ty.Varchar l) field (val.Text n) cell.TextTooLong a b = omega (arith, rw a.0 at a.1.short, b.1)
+typed_or_fault ty.Integer field val.Null why a b = elim a [ ]
+typed_or_fault ty.Integer field (val.Num n) cell.NullForbidden a b = elim b [ ]
+typed_or_fault ty.Integer field (val.Num n) cell.TextTooLong a b = elim b [ ]
+typed_or_fault ty.Integer field (val.Num n) cell.NotUtf8 a b = elim b [ ]
+typed_or_fault ty.Integer field (val.Date n) why a b = elim a [ ]
+typed_or_fault ty.Integer field (val.Text n) why a b = elim a [ ]
+typed_or_fault (ty.Decimal p s) field val.Null why a b = elim a [ ]
+typed_or_fault (ty.Decimal p s) field (val.Num n) cell.NullForbidden a b = elim b [ ]
+typed_or_fault (ty.Decimal p s) field (val.Num n) cell.TextTooLong a b = elim b [ ]
+typed_or_fault (ty.Decimal p s) field (val.Num n) cell.NotUtf8 a b = elim b [ ]
+typed_or_fault (ty.Decimal p s) field (val.Date n) why a b = elim a [ ]
+typed_or_fault (ty.Decimal p s) field (val.Text n) why a b = elim a [ ]
+typed_or_fault ty.Date field val.Null why a b = elim a [ ]
+typed_or_fault ty.Date field (val.Num n) why a b = elim a [ ]
+typed_or_fault ty.Date field (val.Date n) cell.NullForbidden a b = elim b [ ]
+typed_or_fault ty.Date field (val.Date n) cell.TextTooLong a b = elim b [ ]
+typed_or_fault ty.Date field (val.Date n) cell.NotUtf8 a b = elim b [ ]
+typed_or_fault ty.Date field (val.Text n) why a b = elim a [ ]
+typed_or_fault (ty.Varchar l) field val.Null why a b = elim a [ ]
+typed_or_fault (ty.Varchar l) field (val.Num n) why a b = elim a [ ]
+typed_or_fault (ty.Varchar l) field (val.Date n) why a b = elim a [ ]
+typed_or_fault (ty.Varchar l) field (val.Text n) (cell.Form why) a b = elim b [ ]
+typed_or_fault (ty.Varchar l) field (val.Text n) cell.NullForbidden a b = elim b [ ]
+
+empty_or_fault : (type : Ty) (never : Bool) (v : Val) (why : CellFault) → IsEmptyFieldOf type never v → IsEmptyFault type never why → ⊥
+empty_or_fault ty.Integer false val.Null why a b = b
+empty_or_fault (ty.Decimal p s) false val.Null why a b = b
+empty_or_fault ty.Date false val.Null why a b = b
+empty_or_fault (ty.Varchar l) false val.Null why a b = b
+empty_or_fault (ty.Varchar l) true (val.Text n) why a b = b
+empty_or_fault ty.Integer false (val.Num _) why a b = elim a [ ]
+empty_or_fault ty.Integer false (val.Date _) why a b = elim a [ ]
+empty_or_fault ty.Integer false (val.Text n) why a b = elim a [ ]
+empty_or_fault ty.Integer true v why a b = elim a [ ]
+empty_or_fault (ty.Decimal p s) false (val.Num _) why a b = elim a [ ]
+empty_or_fault (ty.Decimal p s) false (val.Date _) why a b = elim a [ ]
+empty_or_fault (ty.Decimal p s) false (val.Text n) why a b = elim a [ ]
+empty_or_fault (ty.Decimal p s) true v why a b = elim a [ ]
+empty_or_fault ty.Date false (val.Num _) why a b = elim a [ ]
+empty_or_fault ty.Date false (val.Date _) why a b = elim a [ ]
+empty_or_fault ty.Date false (val.Text n) why a b = elim a [ ]
+empty_or_fault ty.Date true v why a b = elim a [ ]
+empty_or_fault (ty.Varchar l) false (val.Num _) why a b = elim a [ ]
+empty_or_fault (ty.Varchar l) false (val.Date _) why a b = elim a [ ]
+empty_or_fault (ty.Varchar l) false (val.Text n) why a b = elim a [ ]
+empty_or_fault (ty.Varchar l) true val.Null why a b = elim a [ ]
+empty_or_fault (ty.Varchar l) true (val.Num _) why a b = elim a [ ]
+empty_or_fault (ty.Varchar l) true (val.Date _) why a b = elim a [ ]
+
+value_or_fault : (c : Column) (field : List ℕ) (v : Val) (why : CellFault) → IsFieldOf c field v → IsFieldFault c field why → ⊥
+value_or_fault c [] v why a b = empty_or_fault c.ty c.not_null v why a b
+value_or_fault c (o ∷ os) v why a b = typed_or_fault c.ty (o ∷ os) v why a b
 
 -- and is at fault in one way
-same_field_fault : (ty : Ty) (field : List ℕ) (a b : FieldFault) → IsFieldFault ty field a → IsFieldFault ty field b → a ≡ b
-same_field_fault Integer field NotNumber NotNumber h k = refl
-same_field_fault Integer field NotNumber TooLarge h (m, shows, out) = absurd (h m shows)
-same_field_fault Integer field TooLarge NotNumber (m, shows, out) k = absurd (k m shows)
-same_field_fault Integer field TooLarge TooLarge h k = refl
+same_number_fault : (type : Ty) (field : List ℕ) (a b : FieldFault) → IsNumberFault type field a → IsNumberFault type field b → a ≡ b
+same_number_fault type field form.NotNumber form.NotNumber h k = refl
+same_number_fault type field form.NotNumber form.TooFine h k = absurd (false≢true (sym h ∙ k.0))
+same_number_fault type field form.NotNumber form.TooLarge h k = absurd (false≢true (sym h ∙ k.0.form))
+same_number_fault type field form.TooFine form.NotNumber h k = absurd (false≢true (sym k ∙ h.0))
+same_number_fault type field form.TooFine form.TooFine h k = refl
+same_number_fault type field form.TooFine form.TooLarge h k = absurd (false≢true (sym h.1 ∙ k.0.fine))
+same_number_fault type field form.TooLarge form.NotNumber h k = absurd (false≢true (sym k ∙ h.0.form))
+same_number_fault type field form.TooLarge form.TooFine h k = absurd (false≢true (sym k.1 ∙ h.0.fine))
+same_number_fault type field form.TooLarge form.TooLarge h k = refl
+same_number_fault type field form.NotDate b h k = absurd h
+same_number_fault type field a form.NotDate h k = absurd k
+
+same_typed_fault : (type : Ty) (field : List ℕ) (a b : CellFault) → IsTypedFault type field a → IsTypedFault type field b → a ≡ b
+same_typed_fault ty.Integer field (cell.Form a) (cell.Form b) h k = ap cell.Form (same_number_fault ty.Integer field a b h k)
+same_typed_fault (ty.Decimal p s) field (cell.Form a) (cell.Form b) h k = ap cell.Form (same_number_fault (ty.Decimal p s) field a b h k)
+same_typed_fault ty.Date field (cell.Form a) (cell.Form b) h k = ap cell.Form (h.0 ∙ sym k.0)
+same_typed_fault (ty.Varchar l) field cell.NotUtf8 cell.NotUtf8 h k = refl
+same_typed_fault (ty.Varchar l) field cell.NotUtf8 cell.TextTooLong h k = absurd (h k.0)
+same_typed_fault (ty.Varchar l) field cell.TextTooLong cell.NotUtf8 h k = absurd (k h.0)
+same_typed_fault (ty.Varchar l) field cell.TextTooLong cell.TextTooLong h k = refl
+same_typed_fault ty.Integer field (cell.Form a) cell.NullForbidden h k = elim k [ ]
+same_typed_fault ty.Integer field (cell.Form a) cell.TextTooLong h k = elim k [ ]
+same_typed_fault ty.Integer field (cell.Form a) cell.NotUtf8 h k = elim k [ ]
+same_typed_fault ty.Integer field cell.NullForbidden b h k = elim h [ ]
+same_typed_fault ty.Integer field cell.TextTooLong b h k = elim h [ ]
+same_typed_fault ty.Integer field cell.NotUtf8 b h k = elim h [ ]
+same_typed_fault (ty.Decimal p s) field (cell.Form a) cell.NullForbidden h k = elim k [ ]
+same_typed_fault (ty.Decimal p s) field (cell.Form a) cell.TextTooLong h k = elim k [ ]
+same_typed_fault (ty.Decimal p s) field (cell.Form a) cell.NotUtf8 h k = elim k [ ]
+same_typed_fault (ty.Decimal p s) field cell.NullForbidden b h k = elim h [ ]
+same_typed_fault (ty.Decimal p s) field cell.TextTooLong b h k = elim h [ ]
+same_typed_fault (ty.Decimal p s) field cell.NotUtf8 b h k = elim h [ ]
+same_typed_fault ty.Date field (cell.Form a) cell.NullForbidden h k = elim k [ ]
+same_typed_fault ty.Date field (cell.Form a) cell.TextTooLong h k = elim k [ ]
+same_typed_fault ty.Date field (cell.Form a) cell.NotUtf8 h k = elim k [ ]
+same_typed_fault ty.Date field cell.NullForbidden b h k = elim h [ ]
+same_typed_fault ty.Date field cell.TextTooLong b h k = elim h [ ]
+same_typed_fault ty.Date field cell.NotUtf8 b h k = elim h [ ]
+same_typed_fault (ty.Varchar l) field (cell.Form a) b h k = elim h [ ]
+same_typed_fault (ty.Varchar l) field cell.NullForbidden b h k = elim h [ ]
+same_typed_fault (ty.Varchar l) field cell.TextTooLong (cell.Form b) h k = elim k [ ]
+same_typed_fault (ty.Varchar l) field cell.TextTooLong cell.NullForbidden h k = elim k [ ]
+same_typed_fault (ty.Varchar l) field cell.NotUtf8 (cell.Form b) h k = elim k [ ]
+same_typed_fault (ty.Varchar l) field cell.NotUtf8 cell.NullForbidden h k = elim k [ ]
+
+same_empty_fault : (type : Ty) (never : Bool) (a b : CellFault) → IsEmptyFault type never a → IsEmptyFault type never b → a ≡ b
+same_empty_fault ty.Integer true cell.NullForbidden cell.NullForbidden h k = refl
+same_empty_fault (ty.Decimal p s) true cell.NullForbidden cell.NullForbidden h k = refl
+same_empty_fault ty.Date true cell.NullForbidden cell.NullForbidden h k = refl
+same_empty_fault ty.Integer false a b h k = elim h [ ]
+same_empty_fault ty.Integer true (cell.Form _) b h k = elim h [ ]
+same_empty_fault ty.Integer true cell.NullForbidden (cell.Form _) h k = elim k [ ]
+same_empty_fault ty.Integer true cell.NullForbidden cell.TextTooLong h k = elim k [ ]
+same_empty_fault ty.Integer true cell.NullForbidden cell.NotUtf8 h k = elim k [ ]
+same_empty_fault ty.Integer true cell.TextTooLong b h k = elim h [ ]
+same_empty_fault ty.Integer true cell.NotUtf8 b h k = elim h [ ]
+same_empty_fault (ty.Decimal p s) false a b h k = elim h [ ]
+same_empty_fault (ty.Decimal p s) true (cell.Form _) b h k = elim h [ ]
+same_empty_fault (ty.Decimal p s) true cell.NullForbidden (cell.Form _) h k = elim k [ ]
+same_empty_fault (ty.Decimal p s) true cell.NullForbidden cell.TextTooLong h k = elim k [ ]
+same_empty_fault (ty.Decimal p s) true cell.NullForbidden cell.NotUtf8 h k = elim k [ ]
+same_empty_fault (ty.Decimal p s) true cell.TextTooLong b h k = elim h [ ]
+same_empty_fault (ty.Decimal p s) true cell.NotUtf8 b h k = elim h [ ]
+same_empty_fault ty.Date false a b h k = elim h [ ]
+same_empty_fault ty.Date true (cell.Form _) b h k = elim h [ ]
+same_empty_fault ty.Date true cell.NullForbidden (cell.Form _) h k = elim k [ ]
+same_empty_fault ty.Date true cell.NullForbidden cell.TextTooLong h k = elim k [ ]
+same_empty_fault ty.Date true cell.NullForbidden cell.NotUtf8 h k = elim k [ ]
+same_empty_fault ty.Date true cell.TextTooLong b h k = elim h [ ]
+same_empty_fault ty.Date true cell.NotUtf8 b h k = elim h [ ]
+same_empty_fault (ty.Varchar _) never a b h k = elim h [ ]
+
+same_field_fault : (c : Column) (field : List ℕ) (a b : CellFault) → IsFieldFault c field a → IsFieldFault c field b → a ≡ b
+same_field_fault c [] a b h k = same_empty_fault c.ty c.not_null a b h k
+same_field_fault c (o ∷ os) a b h k = same_typed_fault c.ty (o ∷ os) a b h k
 
 -- a record stands for one row
 same_row : (columns : List Column) (fields : List (List ℕ)) (a b : List Val) → IsRecordOf columns fields a → IsRecordOf columns fields b → a ≡ b
@@ -46,7 +233,7 @@ same_row [] (f ∷ fs) vs ws h k = absurd h
 same_row (c ∷ cs) [] vs ws h k = absurd h
 same_row (c ∷ cs) (f ∷ fs) [] ws h k = absurd h
 same_row (c ∷ cs) (f ∷ fs) (v ∷ vs) [] h k = absurd k
-same_row (c ∷ cs) (f ∷ fs) (v ∷ vs) (w ∷ ws) h k = cc (same_value c.ty f v w h.0 k.0, same_row cs fs vs ws h.1 k.1)
+same_row (c ∷ cs) (f ∷ fs) (v ∷ vs) (w ∷ ws) h k = cc (same_value c f v w h.0 k.0, same_row cs fs vs ws h.1 k.1)
 
 same_rows : (columns : List Column) (records : List (List (List ℕ))) (a b : List (List Val)) → AreRecordsOf columns records a → AreRecordsOf columns records b → a ≡ b
 same_rows columns [] [] [] h k = refl
@@ -64,21 +251,21 @@ length_of (c ∷ cs) [] row h = absurd h
 length_of (c ∷ cs) (f ∷ fs) [] h = absurd h
 length_of (c ∷ cs) (f ∷ fs) (v ∷ vs) h = cc (length_of cs fs vs h.1)
 
-sound_fields : (columns : List Column) (fields : List (List ℕ)) (row : List Val) (index : ℕ) (why : FieldFault) → IsRecordOf columns fields row
+sound_fields : (columns : List Column) (fields : List (List ℕ)) (row : List Val) (index : ℕ) (why : CellFault) → IsRecordOf columns fields row
     → IsFirstFieldFault columns fields index why → ⊥
 sound_fields [] fields row index why h k = k
 sound_fields (c ∷ cs) [] row index why h k = k
 sound_fields (c ∷ cs) (f ∷ fs) [] index why h k = h
-sound_fields (c ∷ cs) (f ∷ fs) (v ∷ vs) zero why h k = value_or_fault c.ty f v why h.0 k
+sound_fields (c ∷ cs) (f ∷ fs) (v ∷ vs) zero why h k = value_or_fault c f v why h.0 k
 sound_fields (c ∷ cs) (f ∷ fs) (v ∷ vs) (suc index) why h k = sound_fields cs fs vs index why h.1 k.2
 
-same_first_fault : (columns : List Column) (fields : List (List ℕ)) (p q : ℕ) (a b : FieldFault) → IsFirstFieldFault columns fields p a
+same_first_fault : (columns : List Column) (fields : List (List ℕ)) (p q : ℕ) (a b : CellFault) → IsFirstFieldFault columns fields p a
     → IsFirstFieldFault columns fields q b → (p ≡ q) × (a ≡ b)
 same_first_fault [] fields p q a b h k = absurd h
 same_first_fault (c ∷ cs) [] p q a b h k = absurd h
-same_first_fault (c ∷ cs) (f ∷ fs) zero zero a b h k = (refl, same_field_fault c.ty f a b h k)
-same_first_fault (c ∷ cs) (f ∷ fs) zero (suc q) a b h k = absurd (value_or_fault c.ty f k.0 a k.1 h)
-same_first_fault (c ∷ cs) (f ∷ fs) (suc p) zero a b h k = absurd (value_or_fault c.ty f h.0 b h.1 k)
+same_first_fault (c ∷ cs) (f ∷ fs) zero zero a b h k = (refl, same_field_fault c f a b h k)
+same_first_fault (c ∷ cs) (f ∷ fs) zero (suc q) a b h k = absurd (value_or_fault c f k.0 a k.1 h)
+same_first_fault (c ∷ cs) (f ∷ fs) (suc p) zero a b h k = absurd (value_or_fault c f h.0 b h.1 k)
 same_first_fault (c ∷ cs) (f ∷ fs) (suc p) (suc q) a b h k = let (e, why) = same_first_fault cs fs p q a b h.2 k.2 in (ap suc e, why)
 
 -- so a record within the limit that stands for a row isn't at fault

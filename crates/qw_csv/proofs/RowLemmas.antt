@@ -1,157 +1,142 @@
--- The rows that the records read so far stand for.
-use Rattle.std.proofs.Common.{Bor, IsTrue, ◌==◌, ◌↔◌, List, ℕ, ℤ, zero, suc, ◌≡◌, ◌≤◌, ◌<◌, ◌+◌, ◌*◌, ◌∷◌, ◌++◌, [], length, get_or, take, drop, map, mul-le-mul, refl, ap, sym, ◌∙◌, Some, arith, length-drop, length-take-le, add-one}
-use Rattle.std.specs.Prelude.{All}
+-- Rows that are kept column by column.
+use Rattle.std.proofs.Common.{◌≡◌, ◌≤◌, ◌<◌, ◌∙◌, ℕ, zero, suc, List, [], ◌∷◌, ◌++◌, length, refl, sym, ap, arith, length-append, Option, Some, ⊎_elim, subst}
+use Rattle.std.specs.Prelude.{IsTrue, nat_eq, slice_get, slice_index_or}
 use Rattle.std.specs.List.{AllByRecursion}
-use Rattle.std.proofs.Math.Seq.{take-length}
-use Rattle.std.proofs.lemmas.Bool.{eqb-true}
-use Rattle.std.proofs.lemmas.List.{length-map, take-append-le, drop-append-le, get_or-drop, get_or-take}
-use Rattle.std.proofs.lemmas.List.Elements.{All-drop, All-head, All-tail, All-take}
-use Rattle.std.proofs.lemmas.Nat.{mul-add-lt}
-use Rattle.std.proofs.lemmas.Option.{slice_get-map, slice_get-get_or}
-use Rattle.csv.specs.Reading.{AreRecords, default_config, strip_bom}
-use Rattle.csv.specs.declared.parser.State.TheVariants.{StartRecord}
-use Rattle.csv.specs.declared.reader.Reader.{Reader}
-use Rattle.qw_types.specs.Value.{IsOfType, value_of}
-use Rattle.qw_types.specs.declared.schema.Column.{Column}
-use Rattle.qw_types.specs.declared.schema.Table.{Table}
-use Rattle.qw_types.specs.Limits.{most_rows}
-use Rattle.qw_types.specs.declared.value.Ty.TheVariants.{Integer}
+use Rattle.std.specs.Option.{option_and_then}
+use Rattle.std.proofs.lemmas.Bool.{cases_lt}
+use Rattle.std.proofs.lemmas.Bool.Decides.{nat_tests}
+use Rattle.qw_types.specs.Value.{IsOfKind, value_of}
 use Rattle.qw_types.specs.declared.value.Val.{Val}
-use Rattle.qw_types.specs.declared.value.Val.TheVariants.{Num}
-use Rattle.qw_csv.specs.declared.loading.LoadFault.{LoadFault}
-use Rattle.qw_csv.specs.declared.loading.LoadFault.TheVariants as fault
-use Rattle.qw_csv.specs.Loading.{AreKept, AreLoaded, AreRecordsOf, Follows, IsFirstFault, IsHeader, IsIntegerRow, IsRecordFault, IsRecordOf, Loads, rows_of}
-use Rattle.qw_csv.specs.Inner.Loading.{HasRead}
+use Rattle.qw_types.specs.declared.value.Val.TheVariants.{Null}
+use Rattle.qw_csv.specs.Contents.{AreLoaded, IsRowOf}
+use Rattle.qw_csv.specs.declared.storage.Kind.{Kind}
+use Rattle.qw_csv.specs.declared.storage.Values.{Values}
+use Rattle.qw_csv.specs.Inner.Rows.{AreAllKept, AreStored, row_in, rows_in}
+use Rattle.qw_csv.specs.Inner.Storage.{AreKept, values_in}
+use Rattle.qw_csv.proofs.StorageLemmas.{all_push}
 
--- ---- rows that stand one after another
+-- ---- lists
 
-pub length-rows_of : (count width : ℕ) (numbers : List ℤ) → length (rows_of count width numbers) ≡ count
-unfolding rows_of
-length-rows_of zero width numbers = refl
-length-rows_of (suc count) width numbers = ap suc (length-rows_of count width (drop width numbers))
+get_front : {X : Type 0} (xs : List X) (x : X) (i : ℕ) → i < length xs → slice_get (xs ++ x ∷ []) i ≡ slice_get xs i
+get_front [] x i lt = absurd (omega arith)
+get_front (y ∷ xs) x zero lt = refl
+get_front (y ∷ xs) x (suc i) lt = get_front xs x i (omega arith)
 
--- the numbers of one row more
-rows_of-more : (count width : ℕ) (numbers more : List ℤ) → length numbers ≡ count * width → length more ≡ width
-    → rows_of (suc count) width (numbers ++ more) ≡ rows_of count width numbers ++ map Num more ∷ []
-unfolding rows_of
-rows_of-more zero width [] more full wide = rw (sym wide, take-length more) refl
-rows_of-more zero width (n ∷ numbers) more full wide = absurd (omega arith)
-rows_of-more (suc count) width numbers more full wide =
-    let room : width ≤ length numbers = omega arith in
-    let front : take width (numbers ++ more) ≡ take width numbers = take-append-le width numbers more room in
-    let back : drop width (numbers ++ more) ≡ drop width numbers ++ more = drop-append-le width numbers more room in
-    let rest : length (drop width numbers) ≡ count * width = omega (arith, length-drop width numbers) in
-    rw (front, back) (ap (λ (rows : List (List Val)). map Num (take width numbers) ∷ rows) (rows_of-more count width (drop width numbers) more rest wide))
+get_last : {X : Type 0} (xs : List X) (x : X) (i : ℕ) → i ≡ length xs → slice_get (xs ++ x ∷ []) i ≡ Some x
+get_last [] x zero is = refl
+get_last [] x (suc i) is = absurd (omega (arith, is))
+get_last (y ∷ xs) x zero is = absurd (omega (arith, is))
+get_last (y ∷ xs) x (suc i) is = get_last xs x i (omega (arith, is))
 
--- no row is none of them
-pub rows_of-none : (count width : ℕ) (numbers : List ℤ) → IsTrue (count == 0) ↔ (rows_of count width numbers ≡ [])
-unfolding rows_of
-rows_of-none zero width numbers = ((λ yes. refl), (λ h. refl))
-rows_of-none (suc count) width numbers = ((λ yes. absurd (never (eqb-true (suc count) 0 yes))), (λ h. cc h))
+pub index_front : (xs : List Val) (x : Val) (i : ℕ) → i < length xs → slice_index_or (xs ++ x ∷ []) i Null ≡ slice_index_or xs i Null
+index_front [] x i lt = absurd (omega arith)
+index_front (y ∷ xs) x zero lt = refl
+index_front (y ∷ xs) x (suc i) lt = index_front xs x i (omega arith)
+
+pub index_last : (xs : List Val) (x : Val) (i : ℕ) → i ≡ length xs → slice_index_or (xs ++ x ∷ []) i Null ≡ x
+index_last [] x zero is = refl
+index_last [] x (suc i) is = absurd (omega (arith, is))
+index_last (y ∷ xs) x zero is = absurd (omega (arith, is))
+index_last (y ∷ xs) x (suc i) is = index_last xs x i (omega (arith, is))
+
+all_at : (P : Val → Type 0) (xs : List Val) (i : ℕ) → AllByRecursion P xs → i < length xs → P (slice_index_or xs i Null)
+all_at P [] i all lt = absurd (omega arith)
+all_at P (x ∷ xs) zero all lt = all.0
+all_at P (x ∷ xs) (suc i) all lt = all_at P xs i all.1 (omega arith)
+
+-- ---- rows
+
+pub length-rows_in : (count : ℕ) (columns : List Values) → length (rows_in count columns) ≡ count
+unfolding rows_in
+length-rows_in zero columns = refl
+length-rows_in (suc count) columns = length-append (rows_in count columns) (row_in count columns ∷ []) ∙ omega (arith, length-rows_in count columns)
+
+pub row_there : (count row : ℕ) (columns : List Values) → row < count → slice_get (rows_in count columns) row ≡ Some (row_in row columns)
+unfolding rows_in
+row_there zero row columns lt = absurd (omega arith)
+row_there (suc count) row columns lt = ⊎_elim
+    (λ (before : row < count). get_front (rows_in count columns) (row_in count columns) row (omega (arith, before, length-rows_in count columns)) ∙ row_there count row columns before)
+    (λ (past : count ≤ row). let same : row ≡ count = omega arith in rw same (get_last (rows_in count columns) (row_in count columns) count (sym (length-rows_in count columns))))
+    (cases_lt row count)
+
+-- a row's value is its column's
+pub value_there : (columns : List Values) (column row : ℕ) (kept : Values) → slice_get columns column ≡ Some kept → slice_get (row_in row columns) column ≡ Some (slice_index_or (values_in kept) row Null)
+value_there [] column row kept is = cc is
+value_there (k ∷ columns) zero row kept is = cc is
+value_there (k ∷ columns) (suc column) row kept is = value_there columns column row kept is
+
+-- and a value that is found in a column is found in its row
+pub found : (count : ℕ) (columns : List Values) (row column : ℕ) (kept : Values) (value : Val) → row < count → slice_get columns column ≡ Some kept
+    → slice_get (values_in kept) row ≡ Some value → value_of (rows_in count columns) row column ≡ Some value
+found count columns row column kept value lt there is =
+    ap (λ (o : Option (List Val)). option_and_then (λ values. slice_get values column) o) (row_there count row columns lt)
+    ∙ value_there columns column row kept there ∙ ap (λ (v : Val). Some v) (index_is (values_in kept) row value is)
   where
-    never : suc count ≡ 0 → ⊥
-    never h = omega arith
+    index_is : (values : List Val) (i : ℕ) (v : Val) → slice_get values i ≡ Some v → slice_index_or values i Null ≡ v
+    index_is [] i v e = cc e
+    index_is (w ∷ values) zero v e = cc e
+    index_is (w ∷ values) (suc i) v e = index_is values i v e
 
--- how many numbers there are
-pub few_numbers : (count width : ℕ) (numbers : List ℤ) → AreKept count width numbers → length numbers ≤ 64000000
-few_numbers count width numbers h =
-    let most : count * width ≤ 1000000 * 64 = mul-le-mul h.few h.narrow in
-    omega (arith, h.full)
+-- a column is kept by its kind
+pub record Column (count : ℕ) (kind : Kind) (columns : List Values) (column : ℕ) : Type 0 where
+  pub kept : Values
+  pub there : slice_get columns column ≡ Some kept
+  pub valid : AreKept kind kept
+  pub long : length (values_in kept) ≡ count
 
--- the number of a row and a column is one of these
-pub number_there : (count width row column : ℕ) (numbers : List ℤ) → AreKept count width numbers → row < length (rows_of count width numbers) → column < width
-    → (row * width + column < length numbers) × (row < count)
-number_there count width row column numbers h row_in column_in =
-    let there : row < count = rw (length-rows_of count width numbers) at row_in in
-    (omega (arith, h.full, mul-add-lt row width column count there column_in), there)
+pub column_there : (count : ℕ) (kinds : List Kind) (columns : List Values) (column : ℕ) (kind : Kind) → AreAllKept count kinds columns → slice_get kinds column ≡ Some kind → Column count kind columns column
+column_there count [] [] column kind all is = cc is
+column_there count [] (k ∷ columns) column kind all is = absurd all
+column_there count (k ∷ kinds) [] column kind all is = absurd all
+column_there count (k ∷ kinds) (kept ∷ columns) zero kind all is = let e : k ≡ kind = cc is in record { kept = kept; there = refl; valid = subst (λ (x : Kind). AreKept x kept) e all.0; long = all.1 }
+column_there count (k ∷ kinds) (kept ∷ columns) (suc column) kind all is =
+    let h = column_there count kinds columns column kind all.2 is in record { kept = h.kept; there = h.there; valid = h.valid; long = h.long }
 
--- a value in a row
-pub value_of-rows : (count width row column : ℕ) (numbers : List ℤ) (d : ℤ) → length numbers ≡ count * width → row < count → column < width
-    → value_of (rows_of count width numbers) row column ≡ Some (Num (get_or numbers (row * width + column) d))
-unfolding rows_of
-value_of-rows zero width row column numbers d full there wide = absurd (omega arith)
-value_of-rows (suc count) width zero column numbers d full there wide =
-    let room : width ≤ length numbers = omega arith in
-    let long : column < length (take width numbers) = omega (arith, length-take-le width numbers room) in
-    let same : get_or (take width numbers) column d ≡ get_or numbers column d = get_or-take width numbers column d wide in
-    let index : column ≡ 0 * width + column = omega arith in
-    slice_get-map Num (take width numbers) column
-    ∙ rw (slice_get-get_or (take width numbers) column d long, same) (ap (λ (i : ℕ). Some (Num (get_or numbers i d))) index)
-value_of-rows (suc count) width (suc row) column numbers d full there wide =
-    let rest : length (drop width numbers) ≡ count * width = omega (arith, length-drop width numbers) in
-    let index : width + (row * width + column) ≡ suc row * width + column = omega arith in
-    let same : get_or (drop width numbers) (row * width + column) d ≡ get_or numbers (suc row * width + column) d =
-    get_or-drop width numbers (row * width + column) d ∙ ap (λ (i : ℕ). get_or numbers i d) index in
-    value_of-rows count width row column (drop width numbers) d rest (omega arith) wide ∙ ap (λ (n : ℤ). Some (Num n)) same
+pub same_width : (count : ℕ) (kinds : List Kind) (columns : List Values) → AreAllKept count kinds columns → length columns ≡ length kinds
+same_width count [] [] all = refl
+same_width count [] (k ∷ columns) all = absurd all
+same_width count (k ∷ kinds) [] all = absurd all
+same_width count (k ∷ kinds) (kept ∷ columns) all = ap (λ (n : ℕ). suc n) (same_width count kinds columns all.2)
 
--- each row is of the table's columns
-typed_row : (numbers : List ℤ) → All (λ n. IsOfType Integer (Num n)) numbers → AllByRecursion (IsOfType Integer) (map Num numbers)
-typed_row [] h = tt
-typed_row (n ∷ numbers) h =
-    (All-head (λ n. IsOfType Integer (Num n)) n numbers h, typed_row numbers (All-tail (λ n. IsOfType Integer (Num n)) n numbers h))
+-- ---- what the rows are
 
-typed_rows : (count width : ℕ) (numbers : List ℤ) → length numbers ≡ count * width → All (λ n. IsOfType Integer (Num n)) numbers
-    → AllByRecursion (IsIntegerRow width) (rows_of count width numbers)
-unfolding rows_of
-typed_rows zero width numbers full h = tt
-typed_rows (suc count) width numbers full h =
-    let wide : length (take width numbers) ≡ width = length-take-le width numbers (omega arith) in
-    let rest : length (drop width numbers) ≡ count * width = omega (arith, length-drop width numbers) in (
-      (length-map (take width numbers) Num ∙ wide, typed_row (take width numbers) (All-take (λ n. IsOfType Integer (Num n)) width numbers h)),
-      typed_rows count width (drop width numbers) rest (All-drop (λ n. IsOfType Integer (Num n)) width numbers h),
-    )
+typed_row : (count row : ℕ) (kinds : List Kind) (columns : List Values) → row < count → AreAllKept count kinds columns → IsRowOf kinds (row_in row columns)
+typed_row count row [] [] lt all = tt
+typed_row count row [] (k ∷ columns) lt all = absurd all
+typed_row count row (k ∷ kinds) [] lt all = absurd all
+typed_row count row (k ∷ kinds) (kept ∷ columns) lt (valid, long, rest) =
+    (all_at (IsOfKind k.ty k.not_null) (values_in kept) row valid.typed (omega (arith, lt, long)), typed_row count row kinds columns lt rest)
 
--- what is kept keeps the limits of a loaded table
-pub kept_loaded : (count width : ℕ) (numbers : List ℤ) → AreKept count width numbers → AreLoaded (record { width = width; rows = rows_of count width numbers })
-kept_loaded count width numbers h = record {
+typed_rows : (count some : ℕ) (kinds : List Kind) (columns : List Values) → some ≤ count → AreAllKept count kinds columns → AllByRecursion (IsRowOf kinds) (rows_in some columns)
+unfolding rows_in
+typed_rows count zero kinds columns le all = tt
+typed_rows count (suc some) kinds columns le all =
+    all_push (IsRowOf kinds) (rows_in some columns) (row_in some columns) (typed_rows count some kinds columns (omega arith) all) (typed_row count some kinds columns (omega arith) all)
+
+pub stored_loaded : (count : ℕ) (kinds : List Kind) (columns : List Values) → AreStored count kinds columns → AreLoaded (record { columns = kinds; rows = rows_in count columns })
+stored_loaded count kinds columns h = record {
   some = h.some;
   narrow = h.narrow;
-  few = rw (length-rows_of count width numbers) h.few;
-  typed = typed_rows count width numbers h.full h.typed;
+  few = rw (length-rows_in count columns) h.few;
+  typed = typed_rows count count kinds columns (omega arith) h.kept;
 }
 
--- ---- the records of a file
+pub no_rows : (count : ℕ) (columns : List Values) → (IsTrue (nat_eq count 0) → rows_in count columns ≡ []) × (rows_in count columns ≡ [] → IsTrue (nat_eq count 0))
+unfolding rows_in
+no_rows zero columns = (λ h. refl, λ h. refl)
+no_rows (suc count) columns = (λ h. absurd (more h), λ h. absurd (none_of h))
+  where
+    more : IsTrue (nat_eq (suc count) 0) → ⊥
+    more h = grind (arith, nat_tests)
 
--- no record stands for no row
-pub no_rows : (columns : List Column) (width : ℕ) → AreRecordsOf columns [] (rows_of 0 width [])
-unfolding rows_of
-no_rows columns width = tt
+    none_of : rows_in count columns ++ row_in count columns ∷ [] ≡ [] → ⊥
+    none_of h = let e : length (rows_in count columns ++ row_in count columns ∷ []) ≡ 0 = ap length h in omega (arith, e, length-append (rows_in count columns) (row_in count columns ∷ []))
 
--- one more record stands for one more row
-records_push : (columns : List Column) (records : List (List (List ℕ))) (rows : List (List Val)) (next : List (List ℕ)) (row : List Val)
-    → AreRecordsOf columns records rows → IsRecordOf columns next row → AreRecordsOf columns (records ++ next ∷ []) (rows ++ row ∷ [])
-records_push columns [] [] next row h n = (n, tt)
-records_push columns [] (r ∷ rows) next row h n = absurd h
-records_push columns (x ∷ records) [] next row h n = absurd h
-records_push columns (x ∷ records) (r ∷ rows) next row h n = (h.0, records_push columns records rows next row h.1 n)
-
-pub rows_push : (columns : List Column) (records : List (List (List ℕ))) (count width : ℕ) (numbers more : List ℤ) (next : List (List ℕ))
-    → length numbers ≡ count * width → length more ≡ width → AreRecordsOf columns records (rows_of count width numbers) → IsRecordOf columns next (map Num more)
-    → AreRecordsOf columns (records ++ next ∷ []) (rows_of (count + 1) width (numbers ++ more))
-rows_push columns records count width numbers more next full wide h r =
-    rw (add-one, rows_of-more count width numbers more full wide) (records_push columns records (rows_of count width numbers) next (map Num more) h r)
-
--- all records read: the file stands for the rows
-pub loads_all : (table : Table) (bytes : List ℕ) (header : List (List ℕ)) (records : List (List (List ℕ))) (count width : ℕ) (numbers : List ℤ)
-    → AreRecords default_config StartRecord (strip_bom bytes) (header ∷ records) → IsHeader table.columns header → count ≤ most_rows
-    → AreRecordsOf table.columns records (rows_of count width numbers) → Loads table bytes (rows_of count width numbers)
-loads_all table bytes header records count width numbers all named few each =
-    record { header = header; records = records; all = all; named = named; few = rw (length-rows_of count width numbers) few; each = each }
-
--- a record at fault after the rows: the first fault of the file
-fault_after : (table : Table) (bytes : List ℕ) (rows : List (List Val)) (next : List (List ℕ)) (e : LoadFault)
-    → Follows table bytes rows next → IsRecordFault table.columns (length rows + 1) next e → IsFirstFault table bytes e
-fault_after table bytes rows next fault.BadHeader f h = absurd h
-fault_after table bytes rows next (fault.FieldCount row) f h = (rows, next, f, h)
-fault_after table bytes rows next (fault.Field row index why) f h = (rows, next, f, h)
-fault_after table bytes rows next fault.TooManyRows f h = (rows, next, f, h)
-fault_after table bytes rows next fault.NoMemory f h = absurd h
-
-pub fails_at : (table : Table) (bytes : List ℕ) (header : List (List ℕ)) (records : List (List (List ℕ))) (count width : ℕ) (numbers : List ℤ)
-    (reader : Reader (Bor (List ℕ))) (next : List (List ℕ)) (e : LoadFault) → HasRead reader (strip_bom bytes) (header ∷ (records ++ next ∷ []))
-    → IsHeader table.columns header → AreRecordsOf table.columns records (rows_of count width numbers) → IsRecordFault table.columns (count + 1) next e
-    → IsFirstFault table bytes e
-fails_at table bytes header records count width numbers reader next e read named each h =
-    let same : count ≡ length (rows_of count width numbers) = sym (length-rows_of count width numbers) in
-    fault_after table bytes (rows_of count width numbers) next e
-    (record { header = header; records = records; first = (reader.state, read.rest, read.reached); named = named; each = each }) (rw same at h)
+-- a column that is found is kept by some kind
+pub column_found : (count : ℕ) (kinds : List Kind) (columns : List Values) (column : ℕ) (kept : Values) → AreAllKept count kinds columns → slice_get columns column ≡ Some kept
+    → ((kind : Kind) × AreKept kind kept) × (length (values_in kept) ≡ count)
+column_found count [] [] column kept all is = cc is
+column_found count [] (k ∷ columns) column kept all is = absurd all
+column_found count (k ∷ kinds) [] column kept all is = absurd all
+column_found count (k ∷ kinds) (v ∷ columns) zero kept all is = let e : v ≡ kept = cc is in rw (← e) ((k, all.0), all.1)
+column_found count (k ∷ kinds) (v ∷ columns) (suc column) kept all is = column_found count kinds columns column kept all.2 is

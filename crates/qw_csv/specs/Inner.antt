@@ -1,2 +1,4 @@
 -- What restates code for proofs. No public clause rests on it.
 pub mod Loading
+pub mod Rows
+pub mod Storage

@@ -1,46 +1,22 @@
 -- What a table file stands for: records of comma-separated values, the first of which names the columns.
-use Rattle.std.specs.Prelude.{◌≡◌, ◌≢◌, ◌⊎◌, ◌≤◌, ◌+◌, ◌*◌, ℕ, zero, suc, ℤ, pos, neg_ℤ, List, [], ◌∷◌, ◌++◌, length, map, take, drop, true, IsTrue, All}
+use Rattle.std.specs.Prelude.{◌≡◌, ◌≢◌, ◌⊎◌, ◌≤◌, ◌+◌, ℕ, zero, suc, List, [], ◌∷◌, ◌++◌, length, map}
 use Rattle.std.specs.Char.{to_ascii_lowercase}
-use Rattle.std.specs.List.{AllByRecursion}
-use Rattle.std.specs.Str.Parse.{digits_value}
 use Rattle.csv.specs.Reading.{AreRecords, Reached, default_config, strip_bom}
 use Rattle.csv.specs.declared.parser.State.{State}
 use Rattle.csv.specs.declared.parser.State.TheVariants.{StartRecord}
-use Rattle.qw_types.specs.Value.{IsOfType}
 use Rattle.qw_types.specs.declared.schema.Column.{Column}
 use Rattle.qw_types.specs.declared.schema.Table.{Table}
-use Rattle.qw_types.specs.Limits.{most_columns, most_rows}
-use Rattle.qw_types.specs.declared.value.Ty.{Ty}
-use Rattle.qw_types.specs.declared.value.Ty.TheVariants.{Integer}
+use Rattle.qw_types.specs.Limits.{most_rows}
 use Rattle.qw_types.specs.declared.value.Val.{Val}
-use Rattle.qw_types.specs.declared.value.Val.TheVariants.{Num}
-use Rattle.qw_types.specs.Digits.{are_digits}
-use Rattle.qw_types.specs.Octets.{minus, plus}
-use Rattle.qw_csv.specs.declared.loading.FieldFault.{FieldFault}
-use Rattle.qw_csv.specs.declared.loading.FieldFault.TheVariants.{NotNumber, TooLarge}
+use Rattle.qw_csv.specs.Field.{IsFieldFault, IsFieldOf}
+use Rattle.qw_csv.specs.declared.cell.CellFault.{CellFault}
 use Rattle.qw_csv.specs.declared.loading.LoadFault.{LoadFault}
 use Rattle.qw_csv.specs.declared.loading.LoadFault.TheVariants as fault
-
--- the text shows the number: digits, with a sign before them or none (ISO/IEC 9075:1992, 5.3 "signed numeric literal")
-abbrev pub ShowsNumber : List ℕ → ℤ → Type 0
-ShowsNumber text n = (digits : List ℕ) × IsTrue (are_digits digits)
-    × (((text ≡ digits) × (n ≡ pos (digits_value 10 digits)))
-    ⊎ ((text ≡ plus ∷ digits) × (n ≡ pos (digits_value 10 digits)))
-    ⊎ ((text ≡ minus ∷ digits) × (n ≡ neg_ℤ (pos (digits_value 10 digits)))))
-
--- a field stands for a value of a type
-abbrev pub IsFieldOf : Ty → List ℕ → Val → Type 0
-IsFieldOf Integer field (Num n) = ShowsNumber field n × IsOfType Integer (Num n)
-
--- why a field stands for no value of a type: it shows no number, or one that is out of the type's range
-abbrev pub IsFieldFault : Ty → List ℕ → FieldFault → Type 0
-IsFieldFault Integer field NotNumber = (n : ℤ) → ShowsNumber field n → ⊥
-IsFieldFault Integer field TooLarge = (n : ℤ) × ShowsNumber field n × (IsOfType Integer (Num n) → ⊥)
 
 -- a record stands for a row: it has a field for each column, which stands for the value there
 abbrev pub IsRecordOf : List Column → List (List ℕ) → List Val → Type 0
 IsRecordOf [] [] [] = Unit {0}
-IsRecordOf (column ∷ columns) (field ∷ fields) (value ∷ values) = IsFieldOf column.ty field value × IsRecordOf columns fields values
+IsRecordOf (column ∷ columns) (field ∷ fields) (value ∷ values) = IsFieldOf column field value × IsRecordOf columns fields values
 IsRecordOf _ _ _ = ⊥
 
 -- records stand for rows, one for one
@@ -80,10 +56,10 @@ pub record Follows (table : Table) (bytes : List ℕ) (rows : List (List Val)) (
   pub each : AreRecordsOf table.columns records rows
 
 -- the first field that is at fault, by its column's index counted from 0: those before it stand for values
-abbrev pub IsFirstFieldFault : List Column → List (List ℕ) → ℕ → FieldFault → Type 0
-IsFirstFieldFault (column ∷ columns) (field ∷ fields) zero why = IsFieldFault column.ty field why
+abbrev pub IsFirstFieldFault : List Column → List (List ℕ) → ℕ → CellFault → Type 0
+IsFirstFieldFault (column ∷ columns) (field ∷ fields) zero why = IsFieldFault column field why
 IsFirstFieldFault (column ∷ columns) (field ∷ fields) (suc index) why =
-    (value : Val) × IsFieldOf column.ty field value × IsFirstFieldFault columns fields index why
+    (value : Val) × IsFieldOf column field value × IsFirstFieldFault columns fields index why
 IsFirstFieldFault _ _ index why = ⊥
 
 -- what is wrong with the data record of this number, counted from 1
@@ -101,36 +77,3 @@ IsFirstFault table bytes fault.BadHeader = AreAllRecords bytes []
     ⊎ ((header : List (List ℕ)) × AreFirstRecords bytes (header ∷ []) × (IsHeader table.columns header → ⊥))
 IsFirstFault table bytes why = (rows : List (List Val)) × (next : List (List ℕ))
     × Follows table bytes rows next × IsRecordFault table.columns (length rows + 1) next why
-
--- each column is an INTEGER that can't be null
-abbrev pub AreIntegers : List Column → Type 0
-AreIntegers columns = AllByRecursion (λ (column : Column). (column.ty ≡ Integer) × (column.not_null ≡ true)) columns
-
--- what a loaded table holds: how many columns it has, and its rows
-pub record Contents : Type 0 where
-  pub width : ℕ
-  pub rows : List (List Val)
-
--- a row of so many INTEGERs
-abbrev pub IsIntegerRow : ℕ → List Val → Type 0
-IsIntegerRow width row = (length row ≡ width) × AllByRecursion (IsOfType Integer) row
-
--- the limits of a loaded table, whose rows have a value for each column
-pub record AreLoaded (contents : Contents) : Type 0 where
-  pub some : 1 ≤ contents.width
-  pub narrow : contents.width ≤ most_columns
-  pub few : length contents.rows ≤ most_rows
-  pub typed : AllByRecursion (IsIntegerRow contents.width) contents.rows
-
--- so many rows, of so many numbers each, that stand one after another
-unfoldable pub rows_of : (count width : ℕ) → List ℤ → List (List Val)
-rows_of zero width numbers = []
-rows_of (suc count) width numbers = map Num (take width numbers) ∷ rows_of count width (drop width numbers)
-
--- numbers that stand for so many rows of so many columns
-pub record AreKept (count width : ℕ) (numbers : List ℤ) : Type 0 where
-  pub some : 1 ≤ width
-  pub narrow : width ≤ most_columns
-  pub few : count ≤ most_rows
-  pub full : length numbers ≡ count * width
-  pub typed : All (λ n. IsOfType Integer (Num n)) numbers

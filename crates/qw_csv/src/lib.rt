@@ -1,6 +1,16 @@
-//! The rows of a table's file (RFC 4180).
+//! The rows of a table's file (RFC 4180), of columns of every type.
 //!
 //! - [`loading::load`]: the rows that the octets stand for, or the first fault of the file.
+//! - [`loaded::Loaded`]: rows in memory, their values by row and column.
+//! - [`cell::Cell`]: a value, its text lent; [`cell::CellFault`]: why a field stands for none.
+//! - [`storage::Kind`]: which values a column has.
 #![tactic(auto)]
 
+pub mod cell;
+pub mod loaded;
 pub mod loading;
+pub mod storage;
+
+pub use cell::{Cell, CellFault};
+pub use loaded::Loaded;
+pub use storage::Kind;

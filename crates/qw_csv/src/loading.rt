@@ -1,39 +1,31 @@
 //! A table's file (RFC 4180), read into its rows.
 
-ghost use Rattle.std.specs.Prelude.{◌≡◌, ◌≢◌, ◌≤◌, ◌<◌, ◌+◌, ◌↔◌, ℕ, ℤ, List, [], ◌∷◌, ◌++◌, length, map, slice_index_or, IsTrue, Some, IfOk, IfErr, OnOk, MatchResult};
+ghost use Rattle.std.specs.Prelude.{◌≡◌, ◌≢◌, ◌≤◌, ◌<◌, ◌+◌, ◌↔◌, ℕ, List, [], ◌∷◌, ◌++◌, length, map, slice_index_or, IsTrue, IfOk, IfErr, OnOk};
 ghost use Rattle.std.specs.Bool.{MatchBool};
 ghost use Rattle.std.specs.Char.{to_ascii_lowercase};
-ghost use Rattle.std.specs.Str.Parse.{without_leading_sign};
+ghost use Rattle.std.specs.List.{AllByRecursion};
 ghost use Rattle.csv.specs.Reading.{AreRecords, default_config, error_kind, stops_reader, strip_bom};
 ghost use Rattle.csv.specs.Records.{fields_of};
 ghost use Rattle.csv.specs.declared.parser.State.TheVariants.{StartRecord};
+ghost use Rattle.qw_types.specs.Schema.{AreColumns};
+ghost use Rattle.qw_types.specs.Value.{IsSized};
 ghost use Rattle.qw_types.specs.declared.schema.Column.{Column};
 ghost use Rattle.qw_types.specs.declared.schema.Table.{Table};
 ghost use Rattle.qw_types.specs.declared.value.Val.{Val};
-ghost use Rattle.qw_types.specs.declared.value.Val.TheVariants.{Num};
-ghost use Rattle.qw_types.specs.declared.value.Ty.TheVariants.{Integer};
-ghost use Rattle.qw_types.specs.Value.{value_of};
 ghost use Rattle.qw_csv.specs.declared.loading.LoadFault.{LoadFault};
-ghost use Rattle.qw_csv.specs.Loading.{AreIntegers, AreLoaded, Contents, IsFieldFault, IsFieldOf, IsFirstFault, IsHeader, IsRecordFault, IsRecordOf, Loads};
+ghost use Rattle.qw_csv.specs.Contents.{kind_of};
+ghost use Rattle.qw_csv.specs.Loading.{IsFirstFault, IsHeader, IsRecordFault, IsRecordOf, Loads};
 ghost use Rattle.qw_csv.specs.Inner.Loading.{HasRead};
+ghost use Rattle.qw_csv.specs.Inner.Rows.{AreAllKept, rows_in};
 
+use crate::cell::{CellFault, cell_of};
+use crate::loaded::Loaded;
+use crate::storage::{Values, kind_of};
 use csv::{ByteRecord, Reader, ReaderBuilder};
-use qw_types::digits::are_digits;
 use qw_types::schema::MAX_ROWS;
-use qw_types::{Column, Table};
-use std::alloc::{AllocFailed, Global};
-use std::marker::Model;
+use qw_types::{Column, NoMemory, Table};
+use std::alloc::{AllocError, AllocFailed, Global};
 use thiserror::Error;
-
-/// Why a field stands for no value of its column's type.
-#[derive(Clone, Copy, Debug, PartialEq, Eq, Error)]
-pub enum FieldFault {
-    #[error("not a number")]
-    NotNumber,
-    /// A number that is out of the type's range.
-    #[error("too large")]
-    TooLarge,
-}
 
 /// Why a file can't be loaded. Data records are numbered from 1, columns from 0.
 #[derive(Clone, Copy, Debug, PartialEq, Eq, Error)]
@@ -51,13 +43,33 @@ pub enum LoadFault {
     Field {
         row: usize,
         column: usize,
-        fault: FieldFault,
+        fault: CellFault,
     },
     /// More data records than a table may have.
     #[error("too many rows")]
     TooManyRows,
     #[error("want of memory")]
     NoMemory,
+}
+
+impl From<NoMemory> for LoadFault {
+    ghost use Rattle.qw_csv.specs.declared.loading.LoadFault.TheVariants.{NoMemory};
+
+    ghost from_gives = { λ _ e. e ≡ NoMemory };
+
+    fn from(_e: NoMemory) -> LoadFault {
+        LoadFault::NoMemory
+    }
+}
+
+impl From<AllocError> for LoadFault {
+    ghost use Rattle.qw_csv.specs.declared.loading.LoadFault.TheVariants.{NoMemory};
+
+    ghost from_gives = { λ _ e. e ≡ NoMemory };
+
+    fn from(_e: AllocError) -> LoadFault {
+        LoadFault::NoMemory
+    }
 }
 
 impl<T: Drop> From<AllocFailed<T>> for LoadFault {
@@ -70,68 +82,14 @@ impl<T: Drop> From<AllocFailed<T>> for LoadFault {
     }
 }
 
-/// The rows of a table of INTEGER columns. Contracts see how many columns it has, and the rows as
-/// lists of values.
-#[derive(Debug, Drop)]
-pub struct Loaded {
-    width: usize,
-    len: usize,
-    // The rows one after another, in the order of the file.
-    values: Vec<i32>,
-}
-
-impl Model for Loaded {
-    ghost use Rattle.qw_csv.specs.Loading.{AreKept, Contents, rows_of};
-
-    ghost Value = { Contents };
-
-    ghost view = { λ a. record { width = a.width; rows = rows_of a.len a.width a.values.items } };
-
-    ghost invariant = { λ a. AreKept a.len a.width a.values.items };
-}
-
-impl Loaded {
-    /// How many columns the table has.
-    pub fn width(&self) -> usize
-        ensures { result ≡ self.now.width }
-    {
-        self.width
-    }
-
-    /// How many rows the table has.
-    pub fn len(&self) -> usize
-        ensures rows { result ≡ length self.now.rows }
-        ensures limits { AreLoaded self.now }
-    {
-        self.len
-    }
-
-    /// Whether the table has no row.
-    pub fn is_empty(&self) -> bool
-        ensures { IsTrue result ↔ (self.now.rows ≡ []) }
-    {
-        self.len == 0
-    }
-
-    /// The value of a column in a row, both counted from 0.
-    pub fn value(&self, row: usize, column: usize) -> i32
-        requires row { row < length self.now.rows }
-        requires column { column < self.now.width }
-        ensures { value_of self.now.rows row column ≡ Some (Num result) }
-    {
-        self.values[row * self.width + column]
-    }
-}
-
 /// Loads the file of a table. A byte order mark at its start and empty lines are passed over.
 ///
 /// # Errors
 ///
 /// The first fault from the start of the file. Want of memory may come instead of any answer.
 pub fn load(alloc: Global, table: &Table, bytes: &[u8]) -> Result<Loaded, LoadFault>
-    requires { AreIntegers table.now.columns }
     ensures rows { IfOk result (λ loaded. Loads table.now bytes.now loaded.rows) }
-    ensures width { IfOk result (λ loaded. loaded.width ≡ length table.now.columns) }
+    ensures kinds { IfOk result (λ loaded. loaded.columns ≡ map kind_of table.now.columns) }
     ensures fault { IfErr result (λ e. e ≢ LoadFault.NoMemory → IsFirstFault table.now bytes.now e) }
 {
     let mut reader = reader_of(alloc, bytes);
@@ -168,10 +126,9 @@ fn reader_of<'a>(alloc: Global, bytes: &'a [u8]) -> Reader<&'a [u8]>
 
 /// Loads what a reader gives. It works through a reference, so that no return leaves a reader behind.
 fn load_from(alloc: Global, table: &Table, reader: &mut Reader<&[u8]>) -> Result<Loaded, LoadFault>
-    requires { AreIntegers table.now.columns }
     ensures rows { IfOk result (λ loaded. (bytes : List ℕ) → HasRead reader.old (strip_bom bytes) []
         → Loads table.now bytes loaded.rows) }
-    ensures width { IfOk result (λ loaded. loaded.width ≡ length table.now.columns) }
+    ensures kinds { IfOk result (λ loaded. loaded.columns ≡ map kind_of table.now.columns) }
     ensures fault { IfErr result (λ e. (bytes : List ℕ) → HasRead reader.old (strip_bom bytes) []
         → e ≢ LoadFault.NoMemory → IsFirstFault table.now bytes e) }
 {
@@ -189,29 +146,58 @@ fn rows_after_header(
     reader: &mut Reader<&[u8]>,
     row: &mut ByteRecord,
 ) -> Result<Loaded, LoadFault>
-    requires { AreIntegers table.now.columns }
     ensures rows { IfOk result (λ loaded. (bytes : List ℕ) (header : List (List ℕ))
         → HasRead reader.old (strip_bom bytes) (header ∷ []) → IsHeader table.now.columns header
         → Loads table.now bytes loaded.rows) }
-    ensures width { IfOk result (λ loaded. loaded.width ≡ length table.now.columns) }
+    ensures kinds { IfOk result (λ loaded. loaded.columns ≡ map kind_of table.now.columns) }
     ensures fault { IfErr result (λ e. (bytes : List ℕ) (header : List (List ℕ))
         → HasRead reader.old (strip_bom bytes) (header ∷ []) → IsHeader table.now.columns header
         → e ≢ LoadFault.NoMemory → IsFirstFault table.now bytes e) }
 {
     let columns = table.columns.as_slice();
-    let width = columns.len();
-    let mut values = Vec::new(alloc);
+    let mut values = no_values(alloc, columns)?;
     for len in 0..MAX_ROWS {
         if !next_record(reader, row)? {
-            return Ok(Loaded { width, len, values });
+            return loaded(alloc, columns, values, len);
         }
-        push_row(&mut values, columns, row, len + 1)?;
+        push_row(&mut values, columns, row, len)?;
     }
     if next_record(reader, row)? {
         return Err(LoadFault::TooManyRows);
     }
-    let len = MAX_ROWS;
-    Ok(Loaded { width, len, values })
+    loaded(alloc, columns, values, MAX_ROWS)
+}
+
+/// For each column no values.
+fn no_values(alloc: Global, columns: &[Column]) -> Result<Vec<Values>, NoMemory>
+    ensures { IfOk result (λ values. AreAllKept 0 (map kind_of columns.now) values.items) }
+{
+    let mut values = Vec::with_capacity(alloc, columns.len())?;
+    for column in columns {
+        values.push(Values::new(alloc, kind_of(column)))?;
+    }
+    Ok(values)
+}
+
+/// So many rows of the columns, kept in these values.
+fn loaded(
+    alloc: Global,
+    columns: &[Column],
+    values: Vec<Values>,
+    len: usize,
+) -> Result<Loaded, LoadFault>
+    requires limits { AreColumns columns.now }
+    requires few { len ≤ MAX_ROWS }
+    requires kept { AreAllKept len (map kind_of columns.now) values.items }
+    ensures rows { IfOk result (λ loaded. loaded.rows ≡ rows_in len values.items) }
+    ensures kinds { IfOk result (λ loaded. loaded.columns ≡ map kind_of columns.now) }
+    ensures memory { IfErr result (λ e. e ≡ LoadFault.NoMemory) }
+{
+    let mut kinds = Vec::with_capacity(alloc, columns.len())?;
+    for column in columns {
+        kinds.push(kind_of(column))?;
+    }
+    Ok(Loaded::new(kinds, values, len))
 }
 
 /// Reads the next record, if there is one, of any number of fields. So an error tells that there was no memory, or that the
@@ -263,29 +249,35 @@ fn is_name(text: &[u8], column: &Column) -> bool
     text.eq_ignore_ascii_case(column.name.as_str().as_bytes())
 }
 
-/// Pushes the values of the data record with this number.
+/// Pushes the values of the data record after so many rows.
 fn push_row(
-    values: &mut Vec<i32>,
+    values: &mut Vec<Values>,
     columns: &[Column],
     row: &ByteRecord,
-    number: usize,
+    len: usize,
 ) -> Result<(), LoadFault>
-    requires integers { AreIntegers columns.now }
-    requires few { number ≤ MAX_ROWS }
-    ensures pushed { OnOk result ((numbers : List ℤ) × (values.new.items ≡ values.old.items ++ numbers)
-        × (length numbers ≡ length columns.now) × IsRecordOf columns.now (fields_of row.now) (map Num numbers)) }
-    ensures fault { IfErr result (λ e. e ≢ LoadFault.NoMemory → IsRecordFault columns.now number (fields_of row.now) e) }
+    requires few { len < MAX_ROWS }
+    requires sized { AllByRecursion (λ (c : Column). IsSized c.ty) columns.now }
+    requires kept { AreAllKept len (map kind_of columns.now) values.old.items }
+    ensures pushed { OnOk result ((more : List Val) × IsRecordOf columns.now (fields_of row.now) more
+        × AreAllKept (len + 1) (map kind_of columns.now) values.new.items
+        × (rows_in (len + 1) values.new.items ≡ rows_in len values.old.items ++ more ∷ [])) }
+    ensures fault { IfErr result (λ e. e ≢ LoadFault.NoMemory → IsRecordFault columns.now (len + 1) (fields_of row.now) e) }
 {
     if row.len() != columns.len() {
-        return Err(LoadFault::FieldCount { row: number });
+        return Err(LoadFault::FieldCount { row: len + 1 });
     }
-    for column in 0..columns.len() {
-        match integer_of(field(row, column)) {
-            Ok(value) => values.push(value)?,
+    for index in 0..columns.len() {
+        let column = &columns[index];
+        match cell_of(column, field(row, index)) {
+            Ok(cell) => {
+                let kept = &mut values[index];
+                kept.push(kind_of(column), cell)?;
+            }
             Err(fault) => {
                 return Err(LoadFault::Field {
-                    row: number,
-                    column,
+                    row: len + 1,
+                    column: index,
                     fault,
                 });
             }
@@ -300,28 +292,4 @@ fn field(row: &ByteRecord, index: usize) -> &[u8]
     ensures { result.now ≡ slice_index_or (fields_of row.now) index [] }
 {
     row.get(index).unwrap()
-}
-
-/// The value of a field of an INTEGER column.
-fn integer_of(field: &[u8]) -> Result<i32, FieldFault>
-    ensures { MatchResult result (λ n. IsFieldOf Integer field.now (Num n))
-        (IsFieldFault Integer field.now) }
-{
-    if !are_digits(without_sign(field)) {
-        return Err(FieldFault::NotNumber);
-    }
-    match std::str::from_utf8(field) {
-        Ok(text) => text.parse::<i32>().or(Err(FieldFault::TooLarge)),
-        Err(_) => Err(FieldFault::NotNumber),
-    }
-}
-
-/// The field without the sign before its digits, if it has one.
-fn without_sign(field: &[u8]) -> &[u8]
-    ensures { result.now ≡ without_leading_sign field.now }
-{
-    match field {
-        [b'+' | b'-', digits @ ..] => digits,
-        _ => field,
-    }
 }

@@ -7,13 +7,13 @@ use Rattle.std.proofs.lemmas.Bool.{cases_Bool, or_right, or_cases, eqb-true}
 use Rattle.std.specs.Option.{option_map}
 use Rattle.std.proofs.lemmas.Option.{none-some, same_Some, slice_get-get_or, slice_get-map}
 use Rattle.qw_types.specs.declared.value.Val.{Val}
-use Rattle.qw_types.specs.declared.value.Val.TheVariants.{Num}
+use Rattle.qw_types.specs.declared.value.Val.TheVariants.{Null, Num, Date, Text}
 use Rattle.qw_linear.proofs.MemoryFacts.{number_at-below}
 use Rattle.qw_map.specs.Areas.{Area, lies_in_one}
 use Rattle.qw_meaning.specs.Statement.{Statement, IsStatement}
 use Rattle.qw_meaning.specs.Meaning.{True, False, condition, is_true, results, compares}
 use Rattle.qw_types.specs.Value.{value_of}
-use Rattle.qw_map.specs.Columns.{StandsAt}
+use Rattle.qw_map.specs.Columns.{StandsAt, integer_at}
 use Rattle.qw_emit.specs.Compiled.{IsReady}
 use Rattle.qw_emit.specs.Inner.Emit.{scan_of, index_in, other_columns, local_of}
 use Rattle.qw_map.specs.Layout.{used, cell_types, column_areas}
@@ -66,9 +66,12 @@ decided : (b : Bool) → is_true (if b then True else False) ≡ b
 decided true = refl
 decided false = refl
 
--- a value is a number
-some-number : (o : Option Val) → (v : Val) × (o ≡ Some v) → (n : ℤ) × (o ≡ Some (Num n))
-some-number o (Num n, there) = (n, there)
+-- a value that stands in memory is a number
+standing-number : (memory : List ℕ) (at : ℕ) (v : Val) → StandsAt memory at v → (n : ℤ) × (v ≡ Num n) × (integer_at memory at ≡ n)
+standing-number memory at Null stands = absurd stands
+standing-number memory at (Num n) stands = (n, refl, stands)
+standing-number memory at (Date d) stands = absurd stands
+standing-number memory at (Text octets) stands = absurd stands
 
 -- the cells are those of the selected columns
 pub cells-of : (statement : Statement) → IsStatement statement → (columns : List ℕ) → AllByRecursion (λ column. is_among column (used statement) ≡ true) columns →
@@ -127,11 +130,12 @@ module _ (statement : Statement) (is : IsStatement statement) (rows : List (List
       let below : index < length starts = omega (arith, ready.many, index-below statement is column among) in
       let wide : column < length row = all-among (λ c. c < length row) (used statement) (row-typed (used statement) rows ready.typed i row there) column among in
       let start : slice_get starts index ≡ Some (get_or starts index 0) = slice_get-get_or starts index 0 below in
-      let found = some-number (slice_get row column) (slice_get-some row column wide) in
-      let value : value_of rows i column ≡ Some (Num found.0) = rw there found.1 in
-      let stands : StandsAt memory (get_or starts index 0 + 4 * i) (Num found.0) =
-      (ready.columns index (get_or starts index 0) column start (index-there column (used statement) among)).each i (Num found.0) value in
-      found.1 ∙ ap (λ (n : ℤ). Some (Num n)) (sym stands ∙ sym (bits-number the_setting (scan_of statement) the_table i index))
+      let found = slice_get-some row column wide in
+      let value : value_of rows i column ≡ Some found.0 = rw there found.1 in
+      let stands : StandsAt memory (get_or starts index 0 + 4 * i) found.0 =
+      (ready.columns index (get_or starts index 0) column start (index-there column (used statement) among)).each i found.0 value in
+      let number = standing-number memory (get_or starts index 0 + 4 * i) found.0 stands in
+      found.1 ∙ ap Some number.1 ∙ ap (λ (n : ℤ). Some (Num n)) (sym number.2 ∙ sym (bits-number the_setting (scan_of statement) the_table i index))
 
   -- the cells of a row are the values that are selected of it
   row-selected : (i : ℕ) (row : List Val) → slice_get rows i ≡ Some row → (columns : List ℕ) →

@@ -1,5 +1,5 @@
 //! Worked cases of the definitions, with numbers, stated as contracts: `SELECT A FROM T WHERE A > 5` over the rows (4), (1),
-//! (7), and weights of code. No function here computes anything.
+//! (7), and weights of modules. No function here computes anything.
 
 ghost use Rattle.std.specs.Prelude.{◌≡◌, ℕ, pos, List, [], ◌∷◌, replicate, Some, None};
 ghost use Rattle.qw_types.specs.declared.value.Ty.TheVariants.{Integer};
@@ -10,7 +10,6 @@ ghost use Rattle.qw_module.specs.declared.module.Function.{Function};
 ghost use Rattle.qw_module.specs.declared.module.Module.{Module};
 ghost use Rattle.qw_module.specs.Execution.{Config, Running, Returned, Raised, Trapped};
 ghost use Rattle.qw_module.specs.Start.{weight};
-ghost use Rattle.qw_module.specs.Syntax.{done, op, block, loop, if_else, br, br_if};
 ghost use Rattle.qw_module.specs.Validity.{code_of_body, sequences_of};
 ghost use Rattle.qw_meaning.specs.declared.query.Comparison.TheVariants.{Greater};
 ghost use Rattle.qw_map.specs.Layout.{rows_at};
@@ -60,17 +59,6 @@ pub fn page_bound_of_wide_rows()
         (replicate 62 (Num (pos 7) ∷ [])) ≡ 2 }
     ensures first_of_three { page_bound (record { columns = replicate 64 0; tested = 0; comparison = Greater; literal = pos 5 })
         (replicate 63 (Num (pos 7) ∷ [])) ≡ 3 }
-{}
-
-/// Each instruction counts once, with those of all sequences that it holds: of a choice, both arms.
-pub fn weights_of_code()
-    ensures nothing { weight done ≡ 0 }
-    ensures plain { weight (op (o.LocalGet 0) (op (o.LocalSet 1) done)) ≡ 2 }
-    ensures branches { weight (br_if 1 (br 0 done)) ≡ 2 }
-    ensures of_block { weight (block None (op (o.LocalGet 0) (br_if 0 done)) (op (o.LocalGet 1) done)) ≡ 4 }
-    ensures of_loop { weight (loop None (op (o.LocalGet 0) (br_if 0 done)) (op (o.LocalGet 1) done)) ≡ 4 }
-    ensures of_choice { weight (if_else None (br 1 done) (op (o.LocalGet 0) (op (o.LocalSet 1) done)) (op (o.LocalGet 1) done)) ≡ 5 }
-    ensures nested { weight (block None (loop None (op (o.LocalGet 0) (br_if 1 (br 0 done))) done) (op (o.LocalGet 1) done)) ≡ 6 }
 {}
 
 /// A numbered body counts as the code that it stands for: a block around a loop of two instructions, and a branch, are 5; a

@@ -5,6 +5,8 @@
 #[cfg(test)]
 mod emitted_modules;
 #[cfg(test)]
+mod exact_comparisons;
+#[cfg(test)]
 mod execution;
 #[cfg(test)]
 mod linear_memory;
@@ -16,3 +18,5 @@ mod texts;
 mod tokens;
 #[cfg(test)]
 mod validity;
+#[cfg(test)]
+mod worked_queries;

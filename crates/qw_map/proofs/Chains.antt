@@ -3,7 +3,7 @@ use Rattle.std.proofs.Common.{◌≡◌, ℕ, zero, suc, ◌+◌, ◌*◌, ◌�
 use Rattle.std.specs.Int.{cast_signed}
 use Rattle.std.proofs.lemmas.Bool.{eq-eqb}
 use Rattle.qw_types.specs.declared.value.Ty.{Ty}
-use Rattle.qw_types.specs.declared.value.Ty.TheVariants.{Integer}
+use Rattle.qw_types.specs.declared.value.Ty.TheVariants.{Integer, Decimal, Date, Varchar}
 use Rattle.qw_types.specs.declared.value.Val.{Val}
 use Rattle.qw_types.specs.declared.value.Val.TheVariants.{Num}
 use Rattle.qw_linear.specs.Memory.{number_at}
@@ -30,6 +30,10 @@ cells-same m m' (Integer ∷ types) at same =
       same (at + 8) 1 (omega arith) (omega arith),
       cells-same m m' types (at + 16) (λ a w low high. same a w (omega arith) (omega arith)),
     ) refl
+-- those of other types are read as none
+cells-same m m' (Decimal precision scale ∷ types) at same = refl
+cells-same m m' (Date ∷ types) at same = refl
+cells-same m m' (Varchar limit ∷ types) at same = refl
 
 -- The rows that were found so far, the last first, are chained from the descriptor on; the last link stands at `link`, and all
 -- of it lies below `high`, each row behind the one before it.

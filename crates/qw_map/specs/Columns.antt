@@ -22,6 +22,7 @@ integer_at memory address = cast_signed w32 (number_at memory address integer_si
 -- a value stands at an address
 abbrev pub StandsAt : List ℕ → ℕ → Val → Type 0
 StandsAt memory address (Num n) = integer_at memory address ≡ n
+StandsAt memory address _ = ⊥
 
 -- memory has room for a column of INTEGERs from an address on, and the values of all rows stand there in order
 pub record HoldsColumn (memory : List ℕ) (address column : ℕ) (rows : List (List Val)) : Type 0 where

@@ -80,6 +80,7 @@ abbrev pub cell_at : List ℕ → ℕ → Ty → Option Val
 cell_at memory at Integer =
     let value = cast_signed w64 (number_at memory at 8) in
     if (number_at memory (at + 8) 1 == 0) && is_integer value then Some (Num value) else None
+cell_at memory at _ = None
 
 -- a value before others, where both are there
 abbrev pub before : {T : Type 0} → Option T → Option (List T) → Option (List T)

@@ -7,23 +7,24 @@ use Rattle.qw_types.specs.declared.truth.Truth.{Truth}
 use Rattle.qw_types.specs.declared.truth.Truth.TheVariants.{True, False, Unknown}
 use Rattle.qw_meaning.specs.declared.expression.Operator.{Operator}
 use Rattle.qw_meaning.specs.declared.query.Comparison.TheVariants.{Equal}
-use Rattle.qw_meaning.specs.declared.value.Value.{Value}
-use Rattle.qw_meaning.specs.declared.value.Value.TheVariants.{Null, Number, Date}
+use Rattle.qw_types.specs.declared.value.Val.{Val}
+use Rattle.qw_types.specs.declared.value.Val.TheVariants.{Null, Num, Date, Text}
 use Rattle.qw_meaning.specs.Expression.{Expression, Condition, Expressions, last, more, arithmetic, both, either, negation_of, is, is_null, among, scale_of}
 use Rattle.qw_meaning.specs.Evaluation.{Environment, HasNull, combined, compared, or_else, same_truth, tested_null, truth_if, truth_of, value_of}
 
 pub left_first : (operator : Operator) (a b : Expression) (env : Environment) (code : Code) → value_of a env ≡ Err code → value_of (arithmetic operator a b) env ≡ Err code
 left_first operator a b env code h = rw h refl
 
-null_second : (operator : Operator) (x : Value) (sx sy : ℕ) → ◌≡◌ {A = Result Value Code} (combined operator x sx Null sy) (Ok Null)
+null_second : (operator : Operator) (x : Val) (sx sy : ℕ) → ◌≡◌ {A = Result Val Code} (combined operator x sx Null sy) (Ok Null)
 null_second operator Null sx sy = refl
-null_second operator (Number a) sx sy = refl
+null_second operator (Num a) sx sy = refl
 null_second operator (Date d) sx sy = refl
+null_second operator (Text t) sx sy = refl
 
-pub null_left : (operator : Operator) (a b : Expression) (env : Environment) (y : Value) → value_of a env ≡ Ok Null → value_of b env ≡ Ok y → value_of (arithmetic operator a b) env ≡ Ok Null
+pub null_left : (operator : Operator) (a b : Expression) (env : Environment) (y : Val) → value_of a env ≡ Ok Null → value_of b env ≡ Ok y → value_of (arithmetic operator a b) env ≡ Ok Null
 null_left operator a b env y ha hb = rw (ha, hb) refl
 
-pub null_right : (operator : Operator) (a b : Expression) (env : Environment) (x : Value) → value_of a env ≡ Ok x → value_of b env ≡ Ok Null → value_of (arithmetic operator a b) env ≡ Ok Null
+pub null_right : (operator : Operator) (a b : Expression) (env : Environment) (x : Val) → value_of a env ≡ Ok x → value_of b env ≡ Ok Null → value_of (arithmetic operator a b) env ≡ Ok Null
 null_right operator a b env x ha hb = rw (ha, hb) (null_second operator x (scale_of a) (scale_of b))
 
 pub and_skips : (c d : Condition) (env : Environment) → truth_of c env ≡ Ok False → truth_of (both c d) env ≡ Ok False
@@ -39,11 +40,12 @@ pub or_goes_on : (c d : Condition) (env : Environment) (code : Code) → truth_o
 or_goes_on c d env code hc hd = rw (hc, hd) refl
 
 -- a comparison with null is never false
-null_not_false : (r : Result Value Code) (sx sy : ℕ) → (r >>= (λ x. Ok (compared Equal x sx Null sy))) ≢ Ok False
+null_not_false : (r : Result Val Code) (sx sy : ℕ) → (r >>= (λ x. Ok (compared Equal x sx Null sy))) ≢ Ok False
 null_not_false (Err code) sx sy e = cc
 null_not_false (Ok Null) sx sy e = cc
-null_not_false (Ok (Number a)) sx sy e = cc
+null_not_false (Ok (Num a)) sx sy e = cc
 null_not_false (Ok (Date d)) sx sy e = cc
+null_not_false (Ok (Text t)) sx sy e = cc
 
 -- OR is false only where both sides are
 or_false : (t u : Result Truth Code) → (t >>= (λ v. or_else v u)) ≡ Ok False → (t ≡ Ok False) × (u ≡ Ok False)
@@ -75,11 +77,12 @@ negated_true (Ok Unknown) e = absurd cc
 pub not_among : (x : Expression) (values : Expressions) (env : Environment) → HasNull env values → truth_of (negation_of (among x values)) env ≢ Ok True
 not_among x values env h e = among_not_false x values env h (negated_true (truth_of (among x values) env) e)
 
-null_known : (r : Result Value Code) → (r >>= (λ x. Ok (tested_null x))) ≢ Ok Unknown
+null_known : (r : Result Val Code) → (r >>= (λ x. Ok (tested_null x))) ≢ Ok Unknown
 null_known (Err code) e = cc
 null_known (Ok Null) e = cc
-null_known (Ok (Number a)) e = cc
+null_known (Ok (Num a)) e = cc
 null_known (Ok (Date d)) e = cc
+null_known (Ok (Text t)) e = cc
 
 pub is_null_known : (x : Expression) (env : Environment) → truth_of (is_null x) env ≢ Ok Unknown
 is_null_known x env = null_known (value_of x env)

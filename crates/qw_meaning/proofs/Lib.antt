@@ -1,3 +1,7 @@
 mod CaseLemmas
 mod EvaluationLemmas
+mod FlowLemmas
+mod OutcomeLemmas
 mod PlainLemmas
+pub mod SelectLemmas
+pub mod TypingLemmas

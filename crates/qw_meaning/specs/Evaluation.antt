@@ -4,32 +4,34 @@ use Rattle.std.specs.Prelude.{◌≡◌, ◌⊎◌, ℕ, ℤ, pos, neg_ℤ, int_
 use Rattle.std.specs.Ordering.{int_cmp, is_eq, is_lt, is_le, is_gt, is_ge}
 use Rattle.std.specs.declared.cmp.Ordering.{Ordering}
 use Rattle.qw_types.specs.Arithmetic.{◌>>=◌, bring, difference_of, fits, order_of, product_of, quotient_of, sum_of}
+use Rattle.qw_types.specs.TextOrder.{text_order}
 use Rattle.qw_types.specs.Truth.{conjunction, disjunction, negation}
 use Rattle.qw_types.specs.declared.code.Code.{Code}
 use Rattle.qw_types.specs.declared.truth.Truth.{Truth}
 use Rattle.qw_types.specs.declared.truth.Truth.TheVariants.{True, False, Unknown}
-use Rattle.qw_meaning.specs.declared.value.Value.{Value}
-use Rattle.qw_meaning.specs.declared.value.Value.TheVariants.{Null, Number, Date}
+use Rattle.qw_types.specs.declared.value.Val.{Val}
+use Rattle.qw_types.specs.declared.value.Val.TheVariants.{Null, Num, Date, Text}
 use Rattle.qw_meaning.specs.declared.expression.Operator.{Operator}
 use Rattle.qw_meaning.specs.declared.expression.Operator.TheVariants.{Add, Subtract, Multiply, Divide}
 use Rattle.qw_meaning.specs.declared.expression.Field.{Field}
 use Rattle.qw_meaning.specs.declared.expression.Field.TheVariants.{Year, Month, Day}
 use Rattle.qw_meaning.specs.declared.query.Comparison.{Comparison}
 use Rattle.qw_meaning.specs.declared.query.Comparison.TheVariants.{Equal, NotEqual, Less, LessOrEqual, Greater, GreaterOrEqual}
-use Rattle.qw_meaning.specs.Expression.{Expression, Condition, Expressions, last, more, null, number, date, column, arithmetic, negative, extract, brought, choice, comparison, is_null, both, either, negation_of, is, scale_of}
+use Rattle.qw_meaning.specs.Expression.{Expression, Condition, Expressions, last, more, null, number, date, text, column, arithmetic, negative, extract, brought, choice, comparison, is_null, both, either, negation_of, is, scale_of}
 
 -- what an expression is evaluated in
 pub record Environment : Type 0 where
-  pub row : List Value
+  pub row : List Val
 
 -- whether a value has at most 18 digits, where it is a number
-abbrev pub value_fits : Value → Bool
+abbrev pub value_fits : Val → Bool
 value_fits Null = true
-value_fits (Number v) = fits v
+value_fits (Num v) = fits v
 value_fits (Date d) = true
+value_fits (Text t) = true
 
 -- the value of a column (6.4)
-abbrev pub cell_of : Option Value → Value
+abbrev pub cell_of : Option Val → Val
 cell_of None = Null
 cell_of (Some value) = value
 
@@ -40,22 +42,26 @@ applied Subtract a sa b sb = difference_of a sa b sb
 applied Multiply a sa b sb = product_of a b
 applied Divide a sa b sb = quotient_of a sa b sb
 
-abbrev pub as_number : Result ℤ Code → Result Value Code
-as_number (Ok v) = Ok (Number v)
+abbrev pub as_number : Result ℤ Code → Result Val Code
+as_number (Ok v) = Ok (Num v)
 as_number (Err code) = Err code
 
--- an operator with a null operand gives null (6.12)
-abbrev pub combined : Operator → Value → ℕ → Value → ℕ → Result Value Code
-combined operator (Number a) sa (Number b) sb = as_number (applied operator a sa b sb)
-combined operator (Number a) sa Null sb = Ok Null
-combined operator (Number a) sa (Date b) sb = Ok Null
+-- An operator with a null operand gives null (6.12). Other operands than numbers are not typed; what is said of them here and below only
+-- makes the meaning total.
+abbrev pub combined : Operator → Val → ℕ → Val → ℕ → Result Val Code
+combined operator (Num a) sa (Num b) sb = as_number (applied operator a sa b sb)
+combined operator (Num a) sa Null sb = Ok Null
+combined operator (Num a) sa (Date b) sb = Ok Null
+combined operator (Num a) sa (Text b) sb = Ok Null
 combined operator Null sa b sb = Ok Null
 combined operator (Date a) sa b sb = Ok Null
+combined operator (Text a) sa b sb = Ok Null
 
-abbrev pub negated : Value → Value
+abbrev pub negated : Val → Val
 negated Null = Null
-negated (Number a) = Number (neg_ℤ a)
+negated (Num a) = Num (neg_ℤ a)
 negated (Date d) = Null
+negated (Text t) = Null
 
 -- a field of a date (6.6)
 abbrev pub field_of : Field → ℤ → ℤ
@@ -63,16 +69,18 @@ field_of Year d = int_div d (pos 10000)
 field_of Month d = int_rem (int_div d (pos 100)) (pos 100)
 field_of Day d = int_rem d (pos 100)
 
-abbrev pub extracted : Field → Value → Value
+abbrev pub extracted : Field → Val → Val
 extracted field Null = Null
-extracted field (Number a) = Null
-extracted field (Date d) = Number (field_of field d)
+extracted field (Num a) = Null
+extracted field (Date d) = Num (field_of field d)
+extracted field (Text t) = Null
 
 -- a value at a scale; what is no number stays
-abbrev pub raised : Value → ℕ → ℕ → Result Value Code
+abbrev pub raised : Val → ℕ → ℕ → Result Val Code
 raised Null from to = Ok Null
-raised (Number a) from to = as_number (bring a from to)
+raised (Num a) from to = as_number (bring a from to)
 raised (Date d) from to = Ok (Date d)
+raised (Text t) from to = Ok (Text t)
 
 -- whether an order answers a comparison (8.2)
 abbrev pub answers : Comparison → Ordering → Bool
@@ -87,20 +95,27 @@ abbrev pub truth_if : Bool → Truth
 truth_if true = True
 truth_if false = False
 
--- a comparison with null is unknown; numbers compare by exact value, dates as they follow one another (8.2)
-abbrev pub compared : Comparison → Value → ℕ → Value → ℕ → Truth
-compared op (Number a) sa (Number b) sb = truth_if (answers op (order_of a sa b sb))
-compared op (Number a) sa Null sb = Unknown
-compared op (Number a) sa (Date b) sb = Unknown
+-- a comparison with null is unknown; numbers compare by exact value, dates as they follow one another, texts by octets (8.2)
+abbrev pub compared : Comparison → Val → ℕ → Val → ℕ → Truth
 compared op Null sa b sb = Unknown
+compared op (Num a) sa Null sb = Unknown
+compared op (Num a) sa (Num b) sb = truth_if (answers op (order_of a sa b sb))
+compared op (Num a) sa (Date b) sb = Unknown
+compared op (Num a) sa (Text b) sb = Unknown
 compared op (Date a) sa Null sb = Unknown
-compared op (Date a) sa (Number b) sb = Unknown
+compared op (Date a) sa (Num b) sb = Unknown
 compared op (Date a) sa (Date b) sb = truth_if (answers op (int_cmp a b))
+compared op (Date a) sa (Text b) sb = Unknown
+compared op (Text a) sa Null sb = Unknown
+compared op (Text a) sa (Num b) sb = Unknown
+compared op (Text a) sa (Date b) sb = Unknown
+compared op (Text a) sa (Text b) sb = truth_if (answers op (text_order a b))
 
-abbrev pub tested_null : Value → Truth
+abbrev pub tested_null : Val → Truth
 tested_null Null = True
-tested_null (Number a) = False
+tested_null (Num a) = False
 tested_null (Date d) = False
+tested_null (Text t) = False
 
 -- whether two truth values are the same
 abbrev pub same_truth : Truth → Truth → Bool
@@ -132,10 +147,11 @@ chosen False first second = second
 chosen Unknown first second = second
 
 abbrev mutual
-  pub value_of : Expression → Environment → Result Value Code
+  pub value_of : Expression → Environment → Result Val Code
   value_of null env = Ok Null
-  value_of (number v s) env = Ok (Number v)
+  value_of (number v s) env = Ok (Num v)
   value_of (date d) env = Ok (Date d)
+  value_of (text t) env = Ok (Text t)
   value_of (column i s) env = Ok (cell_of (slice_get env.row i))
   value_of (arithmetic operator a b) env =
       value_of a env >>= (λ x. value_of b env >>= (λ y. combined operator x (scale_of a) y (scale_of b)))

@@ -1,7 +1,8 @@
 -- Typed expressions and conditions (ISO/IEC 9075:1992, 6.11 and 8.12), apart from any tree of the code: no addresses, and nothing that
 -- abbreviates. What an abbreviation stands for is below.
-use Rattle.std.specs.Prelude.{ℕ, ℤ, ◌+◌, ◌≤◌, max, IsTrue}
-use Rattle.qw_types.specs.Arithmetic.{fits}
+use Rattle.std.specs.Prelude.{ℕ, ℤ, ◌+◌, max, List}
+use Rattle.qw_types.specs.declared.value.Ty.{Ty}
+use Rattle.qw_types.specs.declared.value.Ty.TheVariants as type
 use Rattle.qw_types.specs.declared.truth.Truth.{Truth}
 use Rattle.qw_meaning.specs.declared.expression.Operator.{Operator}
 use Rattle.qw_meaning.specs.declared.expression.Operator.TheVariants.{Add, Subtract, Multiply, Divide}
@@ -17,8 +18,10 @@ mutual
     number : ℤ → ℕ → Expression
     -- a date, as year * 10000 + month * 100 + day
     date : ℤ → Expression
-    -- a column of the row, counted from 0, and its scale
-    column : ℕ → ℕ → Expression
+    -- a text, as its octets
+    text : List ℕ → Expression
+    -- a column of the row, counted from 0, and its type
+    column : ℕ → Ty → Expression
     arithmetic : Operator → Expression → Expression → Expression
     negative : Expression → Expression
     extract : Field → Expression → Expression
@@ -35,6 +38,13 @@ mutual
     negation_of : Condition → Condition
     is : Condition → Truth → Condition
 
+-- the scale of a type, 0 where it is no number (4.4)
+abbrev pub type_scale : Ty → ℕ
+type_scale type.Integer = 0
+type_scale (type.Decimal p s) = s
+type_scale type.Date = 0
+type_scale (type.Varchar n) = 0
+
 -- the scale of a result (6.12): the larger one; for a product the sum, for a quotient the dividend's
 abbrev pub scale_after : Operator → ℕ → ℕ → ℕ
 scale_after Add sa sb = max sa sb
@@ -47,40 +57,13 @@ abbrev pub scale_of : Expression → ℕ
 scale_of null = 0
 scale_of (number v s) = s
 scale_of (date d) = 0
-scale_of (column i s) = s
+scale_of (text t) = 0
+scale_of (column i ty) = type_scale ty
 scale_of (arithmetic operator a b) = scale_after operator (scale_of a) (scale_of b)
 scale_of (negative a) = scale_of a
 scale_of (extract field a) = 0
 scale_of (brought a s) = s
 scale_of (choice c a b) = max (scale_of a) (scale_of b)
-
--- the scales that an operator takes
-abbrev pub ScalesAllowed : Operator → ℕ → ℕ → Type 0
-ScalesAllowed Add sa sb = Unit {0}
-ScalesAllowed Subtract sa sb = Unit {0}
-ScalesAllowed Multiply sa sb = sa + sb ≤ 18
-ScalesAllowed Divide sa sb = sa + sb ≤ 18
-
--- literals fit, and no scale is above 18
-abbrev mutual
-  pub IsWithin : Expression → Type 0
-  IsWithin null = Unit {0}
-  IsWithin (number v s) = IsTrue (fits v) × (s ≤ 18)
-  IsWithin (date d) = Unit {0}
-  IsWithin (column i s) = s ≤ 18
-  IsWithin (arithmetic operator a b) = IsWithin a × (IsWithin b × ScalesAllowed operator (scale_of a) (scale_of b))
-  IsWithin (negative a) = IsWithin a
-  IsWithin (extract field a) = IsWithin a
-  IsWithin (brought a s) = IsWithin a × ((scale_of a ≤ s) × (s ≤ 18))
-  IsWithin (choice c a b) = AreWithin c × (IsWithin a × IsWithin b)
-
-  pub AreWithin : Condition → Type 0
-  AreWithin (comparison op a b) = IsWithin a × IsWithin b
-  AreWithin (is_null a) = IsWithin a
-  AreWithin (both c d) = AreWithin c × AreWithin d
-  AreWithin (either c d) = AreWithin c × AreWithin d
-  AreWithin (negation_of c) = AreWithin c
-  AreWithin (is c t) = AreWithin c
 
 -- x BETWEEN a AND b is x >= a AND x <= b (8.3)
 abbrev pub between : Expression → Expression → Expression → Condition

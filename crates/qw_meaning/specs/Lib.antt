@@ -1,8 +1,14 @@
+pub mod Columns
 pub mod Conjuncts
 pub mod Evaluation
 pub mod Expression
+pub mod Flow
 pub mod Inner
 pub mod Meaning
+pub mod Outcome
+pub mod Select
 pub mod Statement
 pub mod Tree
+pub mod Typing
+pub mod Value
 pub mod WorkedRows

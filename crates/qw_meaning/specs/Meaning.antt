@@ -4,7 +4,7 @@ use Rattle.std.specs.List.{filter_map}
 use Rattle.std.specs.Ordering.{int_eq}
 use Rattle.std.specs.Option.{option_map_or}
 use Rattle.qw_types.specs.declared.value.Val.{Val}
-use Rattle.qw_types.specs.declared.value.Val.TheVariants.{Num}
+use Rattle.qw_types.specs.declared.value.Val.TheVariants.{Null, Num, Date, Text}
 use Rattle.qw_meaning.specs.declared.query.Comparison.{Comparison}
 use Rattle.qw_meaning.specs.declared.query.Comparison.TheVariants.{Equal, NotEqual, Less, LessOrEqual, Greater, GreaterOrEqual}
 use Rattle.qw_meaning.specs.Statement.{Statement}
@@ -24,9 +24,15 @@ compares LessOrEqual a b = int_le a b
 compares Greater a b = int_lt b a
 compares GreaterOrEqual a b = int_le b a
 
--- whether two values compare so (8.2); it is unknown only where one is null
+-- whether two values compare so (8.2); it is unknown where one is null, and, for want of a rule, where one is no number
 abbrev pub compared : Comparison → Val → Val → Truth
 compared comparison (Num a) (Num b) = if compares comparison a b then True else False
+compared comparison (Num a) Null = Unknown
+compared comparison (Num a) (Date b) = Unknown
+compared comparison (Num a) (Text b) = Unknown
+compared comparison Null b = Unknown
+compared comparison (Date a) b = Unknown
+compared comparison (Text a) b = Unknown
 
 -- the search condition of the WHERE clause at a row: the column's value compares with the literal
 abbrev pub condition : Statement → List Val → Truth

@@ -4,20 +4,21 @@ use Rattle.qw_meaning.specs.declared.expression.Cond.{Cond}
 use Rattle.qw_meaning.specs.declared.expression.Exprs.{Exprs}
 use Rattle.qw_meaning.specs.declared.expression.Branches.{Branches}
 use Rattle.qw_meaning.specs.declared.expression.Matches.{Matches}
-use Rattle.qw_meaning.specs.declared.expression.Expr.TheVariants.{Null, Number, Date, Column, Arithmetic', Negative', Extract', Case', Match', Coalesce', NullIf'}
+use Rattle.qw_meaning.specs.declared.expression.Expr.TheVariants.{Null, Number, Date, Text, Column, Arithmetic', Negative', Extract', Case', Match', Coalesce', NullIf'}
 use Rattle.qw_meaning.specs.declared.expression.Cond.TheVariants.{Compare', Between', In', IsNull', And', Or', Not', Is'}
 use Rattle.qw_meaning.specs.declared.expression.Exprs.TheVariants as Exprs
 use Rattle.qw_meaning.specs.declared.expression.Branches.TheVariants as Branches
 use Rattle.qw_meaning.specs.declared.expression.Matches.TheVariants as Matches
 use Rattle.qw_meaning.specs.declared.query.Comparison.TheVariants.{Equal}
-use Rattle.qw_meaning.specs.Expression.{Expression, Condition, null, number, date, column, arithmetic, negative, extract, comparison, is_null, both, either, negation_of, is, Expressions, last, more, Choices, otherwise, when, among, between, case, coalesced, null_if}
+use Rattle.qw_meaning.specs.Expression.{Expression, Condition, null, number, date, text, column, arithmetic, negative, extract, comparison, is_null, both, either, negation_of, is, Expressions, last, more, Choices, otherwise, when, among, between, case, coalesced, null_if}
 
 abbrev mutual
   pub expression_of : Expr → Expression
   expression_of Null = null
   expression_of (Number v s) = number v s
   expression_of (Date d) = date d
-  expression_of (Column i s) = column i s
+  expression_of (Text t) = text t
+  expression_of (Column i ty) = column i ty
   expression_of (Arithmetic' operator _ a _ b) = arithmetic operator (expression_of a) (expression_of b)
   expression_of (Negative' _ a) = negative (expression_of a)
   expression_of (Extract' field _ a) = extract field (expression_of a)

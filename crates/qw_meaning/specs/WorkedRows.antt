@@ -1,16 +1,23 @@
--- The rows of the worked cases: ID INTEGER, PRICE DECIMAL(9,2), SOLD DATE.
-use Rattle.std.specs.Prelude.{pos, [], ◌∷◌}
-use Rattle.qw_meaning.specs.declared.value.Value.TheVariants.{Null, Number, Date}
+-- The rows of the worked cases: ID INTEGER NOT NULL, PRICE DECIMAL(9,2), SOLD DATE, LABEL VARCHAR(20).
+use Rattle.std.specs.Prelude.{ℕ, pos, List, [], ◌∷◌}
+use Rattle.qw_types.specs.declared.value.Val.TheVariants.{Null, Num, Date, Text}
 use Rattle.qw_meaning.specs.Evaluation.{Environment}
 
--- 1, 10.00, 1998-09-02
+-- 'pen', 'ink'
+abbrev pub pen : List ℕ
+pen = 112 ∷ 101 ∷ 110 ∷ []
+
+abbrev pub ink : List ℕ
+ink = 105 ∷ 110 ∷ 107 ∷ []
+
+-- 1, 10.00, 1998-09-02, 'pen'
 abbrev pub first_item : Environment
-first_item = record { row = Number (pos 1) ∷ Number (pos 1000) ∷ Date (pos 19980902) ∷ [] }
+first_item = record { row = Num (pos 1) ∷ Num (pos 1000) ∷ Date (pos 19980902) ∷ Text pen ∷ [] }
 
--- 2, null, 1998-09-03
+-- 2, null, 1998-09-03, 'ink'
 abbrev pub second_item : Environment
-second_item = record { row = Number (pos 2) ∷ Null ∷ Date (pos 19980903) ∷ [] }
+second_item = record { row = Num (pos 2) ∷ Null ∷ Date (pos 19980903) ∷ Text ink ∷ [] }
 
--- 3, 0.50, null
+-- 3, 0.50, null, 'pen'
 abbrev pub third_item : Environment
-third_item = record { row = Number (pos 3) ∷ Number (pos 50) ∷ Null ∷ [] }
+third_item = record { row = Num (pos 3) ∷ Num (pos 50) ∷ Null ∷ Text pen ∷ [] }

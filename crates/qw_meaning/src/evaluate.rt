@@ -2,18 +2,21 @@
 //! compiled expressions give is compared with it. Nothing here takes memory.
 
 ghost use Rattle.std.specs.Prelude.{◌≡◌, ◌≤◌, IfOk, IsTrue, Ok, slice_get};
-ghost use Rattle.std.specs.List.{All};
 ghost use Rattle.qw_types.specs.Arithmetic.{fits};
-ghost use Rattle.qw_meaning.specs.Expression.{AreWithin, IsWithin, ScalesAllowed, among, cases, coalesced, largest_result, scale_of};
+ghost use Rattle.qw_types.specs.declared.value.Val.TheVariants.{Null};
+ghost use Rattle.qw_meaning.specs.declared.query.Comparison.TheVariants.{GreaterOrEqual, LessOrEqual};
+ghost use Rattle.qw_meaning.specs.Columns.{HasColumns, HaveColumns, HoldsIn};
+ghost use Rattle.qw_meaning.specs.Expression.{among, cases, coalesced, largest_result, scale_of};
 ghost use Rattle.qw_meaning.specs.Evaluation.{answers, applied, cell_of, chosen, combined, compared, extracted, field_of, negated, raised, same_truth, tested_null, truth_of, value_fits, value_of};
-ghost use Rattle.qw_meaning.specs.declared.value.Value.TheVariants.{Null};
 ghost use Rattle.qw_meaning.specs.Tree.{choices_of, condition_of, expression_of, expressions_of, matches_of};
-ghost use Rattle.qw_meaning.specs.Inner.Results.{AreResultsWithin};
+ghost use Rattle.qw_meaning.specs.Typing.{AreTyped, IsTyped, ScalesAllowed};
+ghost use Rattle.qw_meaning.specs.Value.{val_of, valued};
+ghost use Rattle.qw_meaning.specs.Inner.Results.{AreResultsTyped};
 
 use crate::expression::{Branches, Cond, Expr, Exprs, Field, Matches, Operator};
 use crate::query::Comparison;
-use crate::value::Value;
-use qw_types::{Code, Truth, arithmetic, truth};
+use crate::value::{Value, lent};
+use qw_types::{Code, Truth, Ty, Val, arithmetic, text_order, truth};
 use std::cmp::Ordering;
 
 /// The value of an expression at a row, or the first exception that it raises.
@@ -22,17 +25,18 @@ use std::cmp::Ordering;
 ///
 /// The exception, where the expression has no value.
 #[cycle(evaluate)]
-#[tactic(auto, using(crate::proofs::CaseLemmas::results_within, crate::proofs::CaseLemmas::operand_within, crate::proofs::CaseLemmas::operand_raises))]
-pub fn value(expr: &Expr, row: &[Value]) -> Result<Value, Code>
-    requires within { IsWithin (expression_of expr.now) }
-    requires fit { All (λ v. IsTrue (value_fits v)) row.now }
-    ensures value { result ≡ value_of (expression_of expr.now) (record { row = row.now }) }
-    ensures fits { IfOk result (λ v. IsTrue (value_fits v)) }
+#[tactic(auto, using(crate::proofs::CaseLemmas::results_typed, crate::proofs::CaseLemmas::operand_typed, crate::proofs::CaseLemmas::operand_raises))]
+pub fn value<'a>(expr: &'a Expr, row: &'a [Val]) -> Result<Value<'a>, Code>
+    requires typed { IsTyped (expression_of expr.now) }
+    requires columns { HasColumns (HoldsIn row.now) (expression_of expr.now) }
+    ensures value { valued result ≡ value_of (expression_of expr.now) (record { row = row.now }) }
+    ensures fits { IfOk result (λ v. IsTrue (value_fits (val_of v))) }
 {
     match expr {
         Expr::Null => Ok(Value::Null),
         Expr::Number(number, _) => Ok(Value::Number(*number)),
         Expr::Date(day) => Ok(Value::Date(*day)),
+        Expr::Text(text) => Ok(Value::Text(text)),
         Expr::Column(index, _) => Ok(cell(row, *index)),
         Expr::Arithmetic(operator, left, right) => {
             let x = value(left, row)?;
@@ -64,10 +68,10 @@ pub fn value(expr: &Expr, row: &[Value]) -> Result<Value, Code>
 ///
 /// The exception, where the condition has no truth.
 #[cycle(evaluate)]
-#[tactic(auto, using(crate::proofs::CaseLemmas::among_within, crate::proofs::CaseLemmas::among_raises))]
-pub fn condition(cond: &Cond, row: &[Value]) -> Result<Truth, Code>
-    requires within { AreWithin (condition_of cond.now) }
-    requires fit { All (λ v. IsTrue (value_fits v)) row.now }
+#[tactic(auto, using(crate::proofs::CaseLemmas::among_typed, crate::proofs::CaseLemmas::among_raises))]
+pub fn condition(cond: &Cond, row: &[Val]) -> Result<Truth, Code>
+    requires typed { AreTyped (condition_of cond.now) }
+    requires columns { HaveColumns (HoldsIn row.now) (condition_of cond.now) }
     ensures { result ≡ truth_of (condition_of cond.now) (record { row = row.now }) }
 {
     match cond {
@@ -79,24 +83,12 @@ pub fn condition(cond: &Cond, row: &[Value]) -> Result<Truth, Code>
         Cond::Between(operand, least, greatest) => {
             let x = value(operand, row)?;
             let low = value(least, row)?;
-            let above = compare(
-                Comparison::GreaterOrEqual,
-                x,
-                scale(operand),
-                low,
-                scale(least),
-            );
+            let above = at_least(x, scale(operand), low, scale(least));
             if is_same(above, Truth::False) {
                 return Ok(Truth::False);
             }
             let high = value(greatest, row)?;
-            let below = compare(
-                Comparison::LessOrEqual,
-                x,
-                scale(operand),
-                high,
-                scale(greatest),
-            );
+            let below = at_most(x, scale(operand), high, scale(greatest));
             Ok(truth::and(above, below))
         }
         Cond::In(operand, values) => {
@@ -119,11 +111,11 @@ pub fn condition(cond: &Cond, row: &[Value]) -> Result<Truth, Code>
 
 /// The result of the first branch whose condition is true, brought to a scale.
 #[cycle(evaluate)]
-fn branch(branches: &Branches, to: u8, row: &[Value]) -> Result<Value, Code>
-    requires within { IsWithin (cases to (choices_of branches.now)) }
-    requires fit { All (λ v. IsTrue (value_fits v)) row.now }
-    ensures value { result ≡ value_of (cases to (choices_of branches.now)) (record { row = row.now }) }
-    ensures fits { IfOk result (λ v. IsTrue (value_fits v)) }
+fn branch<'a>(branches: &'a Branches, to: u8, row: &'a [Val]) -> Result<Value<'a>, Code>
+    requires typed { IsTyped (cases to (choices_of branches.now)) }
+    requires columns { HasColumns (HoldsIn row.now) (cases to (choices_of branches.now)) }
+    ensures value { valued result ≡ value_of (cases to (choices_of branches.now)) (record { row = row.now }) }
+    ensures fits { IfOk result (λ v. IsTrue (value_fits (val_of v))) }
 {
     match branches {
         Branches::Else(result) => raise(value(result, row)?, scale(result), to),
@@ -136,19 +128,19 @@ fn branch(branches: &Branches, to: u8, row: &[Value]) -> Result<Value, Code>
 
 /// The result of the first branch whose value equals the operand's, brought to a scale.
 #[cycle(evaluate)]
-fn matched(
-    matches: &Matches,
-    operand: &Expr,
-    x: Value,
+fn matched<'a>(
+    matches: &'a Matches,
+    operand: &'a Expr,
+    x: Value<'a>,
     to: u8,
-    row: &[Value],
-) -> Result<Value, Code>
-    requires within { IsWithin (cases to (matches_of matches.now (expression_of operand.now))) }
-    requires fit { All (λ v. IsTrue (value_fits v)) row.now }
-    requires operand_fits { IsTrue (value_fits x) }
-    requires evaluated { value_of (expression_of operand.now) (record { row = row.now }) ≡ Ok x }
-    ensures value { result ≡ value_of (cases to (matches_of matches.now (expression_of operand.now))) (record { row = row.now }) }
-    ensures fits { IfOk result (λ v. IsTrue (value_fits v)) }
+    row: &'a [Val],
+) -> Result<Value<'a>, Code>
+    requires typed { IsTyped (cases to (matches_of matches.now (expression_of operand.now))) }
+    requires columns { HasColumns (HoldsIn row.now) (cases to (matches_of matches.now (expression_of operand.now))) }
+    requires operand_fits { IsTrue (value_fits (val_of x)) }
+    requires evaluated { value_of (expression_of operand.now) (record { row = row.now }) ≡ Ok (val_of x) }
+    ensures value { valued result ≡ value_of (cases to (matches_of matches.now (expression_of operand.now))) (record { row = row.now }) }
+    ensures fits { IfOk result (λ v. IsTrue (value_fits (val_of v))) }
 {
     match matches {
         Matches::Last(wanted, result, other) => {
@@ -170,11 +162,11 @@ fn matched(
 
 /// The first argument that isn't null, brought to a scale, or the last one.
 #[cycle(evaluate)]
-fn coalesce(arguments: &Exprs, to: u8, row: &[Value]) -> Result<Value, Code>
-    requires within { IsWithin (cases to (coalesced (expressions_of arguments.now))) }
-    requires fit { All (λ v. IsTrue (value_fits v)) row.now }
-    ensures value { result ≡ value_of (cases to (coalesced (expressions_of arguments.now))) (record { row = row.now }) }
-    ensures fits { IfOk result (λ v. IsTrue (value_fits v)) }
+fn coalesce<'a>(arguments: &'a Exprs, to: u8, row: &'a [Val]) -> Result<Value<'a>, Code>
+    requires typed { IsTyped (cases to (coalesced (expressions_of arguments.now))) }
+    requires columns { HasColumns (HoldsIn row.now) (cases to (coalesced (expressions_of arguments.now))) }
+    ensures value { valued result ≡ value_of (cases to (coalesced (expressions_of arguments.now))) (record { row = row.now }) }
+    ensures fits { IfOk result (λ v. IsTrue (value_fits (val_of v))) }
 {
     match arguments {
         Exprs::Last(argument) => raise(value(argument, row)?, scale(argument), to),
@@ -190,11 +182,16 @@ fn coalesce(arguments: &Exprs, to: u8, row: &[Value]) -> Result<Value, Code>
 
 /// Whether the operand's value equals one of some values, up to the first that it equals.
 #[cycle(evaluate)]
-fn is_among(values: &Exprs, operand: &Expr, x: Value, row: &[Value]) -> Result<Truth, Code>
-    requires within { AreWithin (among (expression_of operand.now) (expressions_of values.now)) }
-    requires fit { All (λ v. IsTrue (value_fits v)) row.now }
-    requires operand_fits { IsTrue (value_fits x) }
-    requires evaluated { value_of (expression_of operand.now) (record { row = row.now }) ≡ Ok x }
+fn is_among<'a>(
+    values: &'a Exprs,
+    operand: &'a Expr,
+    x: Value<'a>,
+    row: &'a [Val],
+) -> Result<Truth, Code>
+    requires typed { AreTyped (among (expression_of operand.now) (expressions_of values.now)) }
+    requires columns { HaveColumns (HoldsIn row.now) (among (expression_of operand.now) (expressions_of values.now)) }
+    requires operand_fits { IsTrue (value_fits (val_of x)) }
+    requires evaluated { value_of (expression_of operand.now) (record { row = row.now }) ≡ Ok (val_of x) }
     ensures { result ≡ truth_of (among (expression_of operand.now) (expressions_of values.now)) (record { row = row.now }) }
 {
     match values {
@@ -213,22 +210,20 @@ fn is_among(values: &Exprs, operand: &Expr, x: Value, row: &[Value]) -> Result<T
 }
 
 /// The value of a column: null where the row has none.
-fn cell(row: &[Value], index: usize) -> Value
-    requires { All (λ v. IsTrue (value_fits v)) row.now }
-    ensures value { result ≡ cell_of (slice_get row.now index) }
-    ensures fits { IsTrue (value_fits result) }
+fn cell(row: &[Val], index: usize) -> Value<'_>
+    ensures { val_of result ≡ cell_of (slice_get row.now index) }
 {
     match row.get(index) {
         None => Value::Null,
-        Some(value) => *value,
+        Some(value) => lent(value),
     }
 }
 
 /// Null where a comparison is true, else the value.
-fn null_where(test: Truth, x: Value) -> Value
-    requires { IsTrue (value_fits x) }
-    ensures value { result ≡ chosen test Null x }
-    ensures fits { IsTrue (value_fits result) }
+fn null_where(test: Truth, x: Value<'_>) -> Value<'_>
+    requires { IsTrue (value_fits (val_of x)) }
+    ensures value { val_of result ≡ chosen test Null (val_of x.entry) }
+    ensures fits { IsTrue (value_fits (val_of result)) }
 {
     match test {
         Truth::True => Value::Null,
@@ -238,15 +233,16 @@ fn null_where(test: Truth, x: Value) -> Value
 
 /// The digits behind the point of an expression's values, 0 where they are no numbers.
 #[cycle(scale)]
-#[tactic(auto, using(crate::proofs::CaseLemmas::cases_scale, crate::proofs::CaseLemmas::results_within))]
+#[tactic(auto, using(crate::proofs::CaseLemmas::cases_scale, crate::proofs::CaseLemmas::results_typed))]
 pub fn scale(expr: &Expr) -> u8
-    requires within { IsWithin (expression_of expr.now) }
+    requires typed { IsTyped (expression_of expr.now) }
     ensures value { result ≡ scale_of (expression_of expr.now) }
     ensures bound { result ≤ 18 }
 {
     match expr {
-        Expr::Null | Expr::Date(_) | Expr::Extract(_, _) => 0,
-        Expr::Number(_, scale) | Expr::Column(_, scale) => *scale,
+        Expr::Null | Expr::Date(_) | Expr::Text(_) | Expr::Extract(_, _) => 0,
+        Expr::Number(_, scale) => *scale,
+        Expr::Column(_, ty) => type_scale(*ty),
         Expr::Arithmetic(operator, left, right) => scale_after(
             *operator,
             scale(left),
@@ -262,8 +258,8 @@ pub fn scale(expr: &Expr) -> u8
 
 /// The largest scale of the results of a CASE.
 #[cycle(scale)]
-fn largest_branch(branches: &Branches) -> u8
-    requires within { AreResultsWithin (choices_of branches.now) }
+pub(crate) fn largest_branch(branches: &Branches) -> u8
+    requires typed { AreResultsTyped (choices_of branches.now) }
     ensures value { result ≡ largest_result (choices_of branches.now) }
     ensures bound { result ≤ 18 }
 {
@@ -275,8 +271,8 @@ fn largest_branch(branches: &Branches) -> u8
 
 /// The largest scale of the results of a CASE with an operand.
 #[cycle(scale)]
-fn largest_match(matches: &Matches, operand: &Expr) -> u8
-    requires within { AreResultsWithin (matches_of matches.now (expression_of operand.now)) }
+pub(crate) fn largest_match(matches: &Matches, operand: &Expr) -> u8
+    requires typed { AreResultsTyped (matches_of matches.now (expression_of operand.now)) }
     ensures value { result ≡ largest_result (matches_of matches.now (expression_of operand.now)) }
     ensures bound { result ≤ 18 }
 {
@@ -288,14 +284,27 @@ fn largest_match(matches: &Matches, operand: &Expr) -> u8
 
 /// The largest scale of the arguments of COALESCE.
 #[cycle(scale)]
-fn largest_argument(arguments: &Exprs) -> u8
-    requires within { AreResultsWithin (coalesced (expressions_of arguments.now)) }
+pub(crate) fn largest_argument(arguments: &Exprs) -> u8
+    requires typed { AreResultsTyped (coalesced (expressions_of arguments.now)) }
     ensures value { result ≡ largest_result (coalesced (expressions_of arguments.now)) }
     ensures bound { result ≤ 18 }
 {
     match arguments {
         Exprs::Last(argument) => scale(argument),
         Exprs::More(argument, rest) => scale(argument).max(largest_argument(rest)),
+    }
+}
+
+/// The scale of a type, 0 where its values are no numbers.
+fn type_scale(ty: Ty) -> u8
+    ensures { result ≡ Rattle.qw_meaning.specs.Expression.type_scale ty }
+{
+    match ty {
+        Ty::Decimal {
+            precision: _,
+            scale,
+        } => scale,
+        Ty::Integer | Ty::Date | Ty::Varchar { length: _ } => 0,
     }
 }
 
@@ -314,12 +323,18 @@ fn scale_after(operator: Operator, left: u8, right: u8) -> u8
 }
 
 /// Two values under an operator.
-fn combine(operator: Operator, x: Value, sx: u8, y: Value, sy: u8) -> Result<Value, Code>
-    requires fit { IsTrue (value_fits x) × IsTrue (value_fits y) }
+fn combine<'a>(
+    operator: Operator,
+    x: Value<'a>,
+    sx: u8,
+    y: Value<'a>,
+    sy: u8,
+) -> Result<Value<'a>, Code>
+    requires fit { IsTrue (value_fits (val_of x)) × IsTrue (value_fits (val_of y)) }
     requires bounds { (sx ≤ 18) × (sy ≤ 18) }
     requires allowed { ScalesAllowed operator sx sy }
-    ensures value { result ≡ combined operator x sx y sy }
-    ensures fits { IfOk result (λ v. IsTrue (value_fits v)) }
+    ensures value { valued result ≡ combined operator (val_of x.entry) sx (val_of y.entry) sy }
+    ensures fits { IfOk result (λ v. IsTrue (value_fits (val_of v))) }
 {
     match (x, y) {
         (Value::Number(a), Value::Number(b)) => Ok(Value::Number(apply(operator, a, sx, b, sy)?)),
@@ -344,25 +359,25 @@ fn apply(operator: Operator, a: i64, sa: u8, b: i64, sb: u8) -> Result<i64, Code
 }
 
 /// A value with its sign turned.
-fn negate(x: Value) -> Value
-    requires fit { IsTrue (value_fits x) }
-    ensures value { result ≡ negated x }
-    ensures fits { IsTrue (value_fits result) }
+fn negate(x: Value<'_>) -> Value<'_>
+    requires fit { IsTrue (value_fits (val_of x)) }
+    ensures value { val_of result ≡ negated (val_of x.entry) }
+    ensures fits { IsTrue (value_fits (val_of result)) }
 {
     match x {
         Value::Number(a) => Value::Number(-a),
-        Value::Null | Value::Date(_) => Value::Null,
+        Value::Null | Value::Date(_) | Value::Text(_) => Value::Null,
     }
 }
 
 /// A field of a date, as a number of scale 0.
-fn extract(field: Field, x: Value) -> Value
-    ensures value { result ≡ extracted field x }
-    ensures fits { IsTrue (value_fits result) }
+fn extract(field: Field, x: Value<'_>) -> Value<'_>
+    ensures value { val_of result ≡ extracted field (val_of x.entry) }
+    ensures fits { IsTrue (value_fits (val_of result)) }
 {
     match x {
         Value::Date(day) => Value::Number(i64::from(field_at(field, day))),
-        Value::Null | Value::Number(_) => Value::Null,
+        Value::Null | Value::Number(_) | Value::Text(_) => Value::Null,
     }
 }
 
@@ -378,23 +393,23 @@ fn field_at(field: Field, day: i32) -> i32
 }
 
 /// A value at a scale that is no smaller.
-fn raise(x: Value, from: u8, to: u8) -> Result<Value, Code>
-    requires fit { IsTrue (value_fits x) }
+fn raise(x: Value<'_>, from: u8, to: u8) -> Result<Value<'_>, Code>
+    requires fit { IsTrue (value_fits (val_of x)) }
     requires scales { (from ≤ to) × (to ≤ 18) }
-    ensures value { result ≡ raised x from to }
-    ensures fits { IfOk result (λ v. IsTrue (value_fits v)) }
+    ensures value { valued result ≡ raised (val_of x.entry) from to }
+    ensures fits { IfOk result (λ v. IsTrue (value_fits (val_of v))) }
 {
     match x {
         Value::Number(a) => Ok(Value::Number(arithmetic::bring(a, from, to)?)),
-        Value::Null | Value::Date(_) => Ok(x),
+        Value::Null | Value::Date(_) | Value::Text(_) => Ok(x),
     }
 }
 
 /// How two values compare.
-fn compare(comparison: Comparison, x: Value, sx: u8, y: Value, sy: u8) -> Truth
-    requires fit { IsTrue (value_fits x) × IsTrue (value_fits y) }
+fn compare(comparison: Comparison, x: Value<'_>, sx: u8, y: Value<'_>, sy: u8) -> Truth
+    requires fit { IsTrue (value_fits (val_of x)) × IsTrue (value_fits (val_of y)) }
     requires bounds { (sx ≤ 18) × (sy ≤ 18) }
-    ensures { result ≡ compared comparison x sx y sy }
+    ensures { result ≡ compared comparison (val_of x.entry) sx (val_of y.entry) sy }
 {
     match (x, y) {
         (Value::Number(a), Value::Number(b)) => truth_if(answer(
@@ -402,8 +417,27 @@ fn compare(comparison: Comparison, x: Value, sx: u8, y: Value, sy: u8) -> Truth
             arithmetic::compare(a, sx, b, sy),
         )),
         (Value::Date(a), Value::Date(b)) => truth_if(answer(comparison, a.cmp(&b))),
+        (Value::Text(a), Value::Text(b)) => truth_if(answer(comparison, text_order::compare(a, b))),
         _ => Truth::Unknown,
     }
+}
+
+/// Whether a value is another or above it.
+fn at_least(x: Value<'_>, sx: u8, y: Value<'_>, sy: u8) -> Truth
+    requires fit { IsTrue (value_fits (val_of x)) × IsTrue (value_fits (val_of y)) }
+    requires bounds { (sx ≤ 18) × (sy ≤ 18) }
+    ensures { result ≡ compared GreaterOrEqual (val_of x.entry) sx (val_of y.entry) sy }
+{
+    compare(Comparison::GreaterOrEqual, x, sx, y, sy)
+}
+
+/// Whether a value is another or below it.
+fn at_most(x: Value<'_>, sx: u8, y: Value<'_>, sy: u8) -> Truth
+    requires fit { IsTrue (value_fits (val_of x)) × IsTrue (value_fits (val_of y)) }
+    requires bounds { (sx ≤ 18) × (sy ≤ 18) }
+    ensures { result ≡ compared LessOrEqual (val_of x.entry) sx (val_of y.entry) sy }
+{
+    compare(Comparison::LessOrEqual, x, sx, y, sy)
 }
 
 /// Whether an order answers a comparison.
@@ -428,12 +462,12 @@ fn truth_if(holds: bool) -> Truth
 }
 
 /// Whether a value is null, which is never unknown.
-fn test_null(x: Value) -> Truth
-    ensures { result ≡ tested_null x }
+fn test_null(x: Value<'_>) -> Truth
+    ensures { result ≡ tested_null (val_of x.entry) }
 {
     match x {
         Value::Null => Truth::True,
-        Value::Number(_) | Value::Date(_) => Truth::False,
+        Value::Number(_) | Value::Date(_) | Value::Text(_) => Truth::False,
     }
 }
 

@@ -1,7 +1,7 @@
-//! Typed expressions and conditions. Scales stand where a tree can't tell them: at literals and columns.
+//! Typed expressions and conditions. Types stand where a tree can't tell them: a scale at a number, a type at a column.
 
 use crate::query::Comparison;
-use qw_types::Truth;
+use qw_types::{Text, Truth, Ty};
 
 /// An operator on two numbers (ISO/IEC 9075:1992, 6.12).
 #[derive(Clone, Copy, Debug, PartialEq, Eq)]
@@ -30,8 +30,10 @@ pub enum Expr {
     Number(i64, u8),
     /// A date, as year * 10000 + month * 100 + day.
     Date(i32),
-    /// A column of the row, counted from 0, and its scale, 0 for a column that holds no numbers.
-    Column(usize, u8),
+    /// A text.
+    Text(Text),
+    /// A column of the row, counted from 0, and its type.
+    Column(usize, Ty),
     /// `left operator right`.
     Arithmetic(Operator, Box<Expr>, Box<Expr>),
     /// `- operand`.

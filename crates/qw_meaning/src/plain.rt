@@ -6,6 +6,7 @@ ghost use Rattle.std.specs.List.{filter_map};
 ghost use Rattle.qw_meaning.specs.Meaning.{Rows, compares, condition, is_true, outcome, results, selected};
 
 use crate::query::{Comparison, Query};
+use crate::value::{lent, owned};
 use qw_types::{NoMemory, Row, Val};
 use std::alloc::Global;
 
@@ -40,7 +41,7 @@ fn is_kept(query: &Query, row: &Row) -> bool
 {
     match row.values().get(query.tested()) {
         Some(Val::Num(value)) => holds(query.comparison(), *value, query.literal()),
-        None => false,
+        Some(Val::Null | Val::Date(_) | Val::Text(_)) | None => false,
     }
 }
 
@@ -64,17 +65,17 @@ fn selected_row(alloc: Global, query: &Query, row: &Row) -> Result<Row, NoMemory
 {
     let mut values = Vec::new(alloc);
     for column in query.columns() {
-        add_value(row, *column, &mut values)?;
+        add_value(alloc, row, *column, &mut values)?;
     }
     Ok(Row::new(values))
 }
 
 /// Adds the value of a column, where the row has it.
-fn add_value(row: &Row, column: usize, values: &mut Vec<Val>) -> Result<(), NoMemory>
+fn add_value(alloc: Global, row: &Row, column: usize, values: &mut Vec<Val>) -> Result<(), NoMemory>
     ensures { OnOk result (values.new.items ≡ values.old.items ++ filter_map (λ c. slice_get row.now c) (column ∷ [])) }
 {
     if let Some(value) = row.values().get(column) {
-        values.push(*value)?;
+        values.push(owned(alloc, lent(value))?)?;
     }
     Ok(())
 }

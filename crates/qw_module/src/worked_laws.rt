@@ -9,6 +9,7 @@ ghost use Rattle.qw_module.specs.Step.{op_wants, Leaves, Throws, next};
 ghost use Rattle.qw_module.specs.Typing.{OpTyped, Typed};
 ghost use Rattle.qw_module.specs.Syntax.{done, op, block, loop, if_else, br, br_if};
 ghost use Rattle.qw_module.specs.Soundness.{scope_of};
+ghost use Rattle.qw_module.specs.Start.{weight};
 ghost use Rattle.qw_module.specs.Validity.{IsValidMemory, IsValidGlobal};
 ghost use Rattle.qw_module.specs.declared.instruction.Sign.TheVariants.{Signed, Unsigned};
 ghost use Rattle.qw_module.specs.declared.instruction.Op.TheVariants as o;
@@ -88,6 +89,17 @@ pub fn steps()
         ≡ Some (record { event = Silent; state = Running (record { globals = []; code = br 0 done; operands = []; locals = []; contexts = label done 1 (6 ∷ []) done ∷ [] }); memory = [] }) }
     ensures other { next (λ _. true) (record { globals = []; code = if_else (Some I32) (br 0 done) (br 1 done) done; operands = 0 ∷ 6 ∷ []; locals = []; contexts = [] }) []
         ≡ Some (record { event = Silent; state = Running (record { globals = []; code = br 1 done; operands = []; locals = []; contexts = label done 1 (6 ∷ []) done ∷ [] }); memory = [] }) }
+{}
+
+/// Each instruction counts once, with those of all sequences that it holds: of a choice, both arms.
+pub fn weights_of_code()
+    ensures nothing { weight done ≡ 0 }
+    ensures plain { weight (op (o.LocalGet 0) (op (o.LocalSet 1) done)) ≡ 2 }
+    ensures branches { weight (br_if 1 (br 0 done)) ≡ 2 }
+    ensures of_block { weight (block None (op (o.LocalGet 0) (br_if 0 done)) (op (o.LocalGet 1) done)) ≡ 4 }
+    ensures of_loop { weight (loop None (op (o.LocalGet 0) (br_if 0 done)) (op (o.LocalGet 1) done)) ≡ 4 }
+    ensures of_choice { weight (if_else None (br 1 done) (op (o.LocalGet 0) (op (o.LocalSet 1) done)) (op (o.LocalGet 1) done)) ≡ 5 }
+    ensures nested { weight (block None (loop None (op (o.LocalGet 0) (br_if 1 (br 0 done))) done) (op (o.LocalGet 1) done)) ≡ 6 }
 {}
 
 /// A memory's limits (3.2.1, 3.2.4) and a global's first value (3.4.4), on both sides of each.

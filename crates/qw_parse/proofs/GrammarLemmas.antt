@@ -1,4 +1,4 @@
--- The readers read the grammar's rules exactly: a lemma for each rule.
+-- The readers of src/parse/form.rt read the grammar's rules exactly: a lemma for each rule.
 use Rattle.std.proofs.Common.{◌≡◌, ℕ, ◌<◌, ◌^◌, Bool, cond, ltb, ◌&&◌, not, true, false, List, [], ◌∷◌, length, map, Option, Some, None, refl, sym, ap, subst, ◌∙◌, arith, inl, inr}
 use Rattle.std.specs.Prelude.{◌⊎◌, ℤ, pos, neg_ℤ, codes}
 use Rattle.std.specs.Str.{bytes_eq}
@@ -9,13 +9,11 @@ use Rattle.qw_meaning.specs.declared.query.Comparison.{Comparison}
 use Rattle.qw_meaning.specs.declared.query.Comparison.TheVariants.{Equal, NotEqual, Less, LessOrEqual, Greater, GreaterOrEqual}
 use Rattle.qw_token.specs.Token.{Lexeme}
 use Rattle.qw_types.specs.Digits.{are_digits}
-use Rattle.qw_ast.specs.Grammar.{folded, Terminal, key_word, regular, symbol, unsigned, Matches, separated, column_definition, column_reference, create_table, comparison_symbol, signed_literal, signed, Source, Selection, table_expression, query_specification}
-use Rattle.qw_parse.specs.declared.parse.form.Item.{Item}
-use Rattle.qw_parse.specs.declared.parse.form.Item.TheVariants.{ColumnDefinition, ColumnReference}
-use Rattle.qw_parse.specs.Inner.Parser.{is_word, is_reserved, matches, regular_of, literal_of, comparison_of, comma, regular_at, unsigned_at, literal_at, comparison_at, column_definition_at, item_at, list_at, table_at, create_table_at, table_expression_at, query_specification_at}
+use Rattle.qw_ast.specs.Grammar.{folded, key_word, regular, symbol, unsigned, Matches, separated, column_reference, comparison_symbol, signed_literal, signed, Source, Selection, table_expression, query_specification}
+use Rattle.qw_parse.specs.Inner.Parser.{is_word, is_reserved, matches, regular_of, literal_of, comparison_of, comma, regular_at, unsigned_at, literal_at, comparison_at, list_at, table_expression_at, query_specification_at}
 use Rattle.qw_parse.proofs.TerminalLemmas.{guard_some, other_than, is_word-Decides, not_reserved-Decides}
-use Rattle.qw_parse.proofs.FormLemmas.{ReadsExactly, Anything, token_exactly, both_exactly, behind_exactly, before_exactly, made_exactly, same_exactly, optional_exactly}
-use Rattle.qw_parse.proofs.ListLemmas.{NoComma, list_exactly}
+use Rattle.qw_parse.proofs.FormLemmas.{ReadsExactly, Anything, token_exactly, both_exactly, behind_exactly, made_exactly, same_exactly, optional_exactly}
+use Rattle.qw_parse.proofs.ListLemmas.{StopsList, list_exactly}
 
 -- ---- a name
 
@@ -63,7 +61,7 @@ literal_exactly =
 
 -- ---- a comparison
 
-choice_some : {A : Type 0} (b : Bool) (x y : A) (o : Option A) → cond b (Some x) o ≡ Some y → ((b ≡ true) × (x ≡ y)) ⊎ (o ≡ Some y)
+pub choice_some : {A : Type 0} (b : Bool) (x y : A) (o : Option A) → cond b (Some x) o ≡ Some y → ((b ≡ true) × (x ≡ y)) ⊎ (o ≡ Some y)
 choice_some true x y o e = inl (refl, cc)
 choice_some false x y o e = inr e
 
@@ -101,25 +99,7 @@ comparison_exactly =
     token_exactly (λ c. symbol (comparison_symbol c)) (λ c. c) (λ (t : Lexeme). comparison_of t.octets) comparison_found
     (λ c t h. ap comparison_of h ∙ comparison_of_symbol c)
 
--- ---- items of lists
-
-column_definition_exactly : ReadsExactly column_definition (λ name. name) Anything column_definition_at
-unfolding column_definition_at
-column_definition_exactly =
-    before_exactly (key_word (codes "INTEGER") ∷ key_word (codes "NOT") ∷ key_word (codes "NULL") ∷ []) regular_exactly (λ ts rest h. tt)
-
--- the terminals of an item with the name
-abbrev pub item_form : Item → List ℕ → List Terminal
-item_form ColumnDefinition name = column_definition name
-item_form ColumnReference name = column_reference name
-
-pub item_exactly : (item : Item) → ReadsExactly (item_form item) (λ name. name) Anything (item_at item)
-item_exactly ColumnDefinition = column_definition_exactly
-item_exactly ColumnReference = regular_exactly
-
-pub some_terminals : (item : Item) (name : List ℕ) → 0 < length (item_form item name)
-some_terminals ColumnDefinition name = omega arith
-some_terminals ColumnReference name = omega arith
+-- ---- names
 
 -- names, one at least
 abbrev pub Names : Type 0
@@ -129,27 +109,11 @@ same_names : (names : List (List ℕ)) → map (λ name. name) names ≡ names
 same_names [] = refl
 same_names (name ∷ names) = ap (λ x. name ∷ x) (same_names names)
 
-names_exactly : (item : Item) → ReadsExactly (λ (names : Names). separated (map (item_form item) names.0)) (λ (names : Names). names.0) NoComma (list_at (item_at item))
-names_exactly item = same_exactly (λ (names : Names). names.0) (λ names. same_names names.0) (list_exactly (item_exactly item) (some_terminals item))
+pub some_terminals : (name : List ℕ) → 0 < length (column_reference name)
+some_terminals name = omega arith
 
--- ---- CREATE TABLE
-
-table_exactly : ReadsExactly (λ table. key_word (codes "CREATE") ∷ key_word (codes "TABLE") ∷ regular table ∷ symbol (codes "(") ∷ []) (λ name. name) Anything table_at
-unfolding table_at
-table_exactly =
-    behind_exactly (key_word (codes "CREATE") ∷ key_word (codes "TABLE") ∷ [])
-    (before_exactly (symbol (codes "(") ∷ []) regular_exactly (λ ts rest h. tt))
-
-no_comma : (t : Lexeme) → Matches (symbol (codes ")")) t → Matches comma t → ⊥
-no_comma t e f = let both : codes ")" ≡ codes "," = sym e ∙ f in cc
-
-pub create_table_exactly : ReadsExactly (λ (w : List ℕ × Names). create_table w.0 w.1.0) (λ (w : List ℕ × Names). (w.0, w.1.0)) Anything create_table_at
-unfolding create_table_at
-create_table_exactly =
-    both_exactly table_exactly
-    (before_exactly (symbol (codes ")") ∷ []) (names_exactly ColumnDefinition)
-    (λ ts rest h. other_than comma (symbol (codes ")")) ts h.0 h.1 no_comma))
-    (λ w ts rest h. tt)
+names_exactly : ReadsExactly (λ (names : Names). separated (map column_reference names.0)) (λ (names : Names). names.0) (StopsList Anything) (list_at regular_at)
+names_exactly = same_exactly (λ (names : Names). names.0) (λ names. same_names names.0) (list_exactly regular_exactly some_terminals (λ ts rest one. tt))
 
 -- ---- SELECT
 
@@ -186,5 +150,5 @@ unfolding query_specification_at
 query_specification_exactly =
     made_exactly _
     (behind_exactly (key_word (codes "SELECT") ∷ [])
-    (both_exactly (names_exactly ColumnReference) table_expression_exactly
-    (λ w ts rest h. other_than comma (key_word (codes "FROM")) ts h.0 h.1 from_is_no_comma)))
+    (both_exactly names_exactly table_expression_exactly
+    (λ w ts rest h. (other_than comma (key_word (codes "FROM")) ts h.0 h.1 from_is_no_comma, tt))))

@@ -1,8 +1,12 @@
-mod DeclareLemmas
 mod FormLemmas
 mod GrammarLemmas
+mod JudgeLemmas
 mod ListLemmas
 mod LiteralLemmas
+mod NameLemmas
 pub mod ParserLemmas
 mod ResolveLemmas
+pub mod SchemaLemmas
+mod StatementLemmas
+mod TableLemmas
 mod TerminalLemmas

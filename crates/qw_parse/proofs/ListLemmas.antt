@@ -5,8 +5,8 @@ use Rattle.qw_token.specs.declared.token.Token.{Token}
 use Rattle.qw_token.specs.Token.{Lexeme, lexeme, lexemes}
 use Rattle.qw_ast.specs.Grammar.{Terminal, Matches, behind_commas, separated}
 use Rattle.qw_parse.specs.Inner.Parser.{comma, terminal_at, behind, further_within, further, list_at}
-use Rattle.qw_parse.proofs.TerminalLemmas.{bind_some, cases_option, none_not_some, some_same, takes_shorter, terminal_exactly, Fronts, fronts_append, fronts_split, fronts_shorter}
-use Rattle.qw_parse.proofs.FormLemmas.{ReadsExactly, Anything}
+use Rattle.qw_parse.proofs.TerminalLemmas.{bind_some, cases_option, none_not_some, some_same, takes_shorter, TakesOne, terminal_exactly, Fronts, fronts_append, fronts_split, fronts_shorter}
+use Rattle.qw_parse.proofs.FormLemmas.{ReadsExactly}
 
 pub behind_behind : {A : Type 0} (front more : List A) (o : Option (List A × List Lexeme)) → behind front (behind more o) ≡ behind (front ++ more) o
 behind_behind front more None = refl
@@ -104,7 +104,15 @@ exactly_shortens {form = form} reads some ts x e = let w = reads.takes ts x e in
 abbrev pub NoComma : List Lexeme → Type 0
 NoComma rest = terminal_at comma rest ≡ None
 
-module _ {W A : Type 0} {form : W → List Terminal} {tree : W → A} {read : List Lexeme → Option (A × List Lexeme)} (reads : ReadsExactly form tree Anything read) where
+-- no comma follows, and what follows stops an item
+abbrev pub StopsList : (List Lexeme → Type 0) → List Lexeme → Type 0
+StopsList Stops rest = NoComma rest × Stops rest
+
+-- a comma stops an item
+abbrev pub CommaStops : (List Lexeme → Type 0) → Type 0
+CommaStops Stops = (ts rest : List Lexeme) → TakesOne (Matches comma) ts rest → Stops ts
+
+module _ {W A : Type 0} {form : W → List Terminal} {tree : W → A} {Stops : List Lexeme → Type 0} {read : List Lexeme → Option (A × List Lexeme)} (reads : ReadsExactly form tree Stops read) where
   within_takes : (most : ℕ) (ts : List Lexeme) (x : List A × List Lexeme) → further_within most read ts ≡ Some x → (ws : List W) × (map tree ws ≡ x.0) × Fronts (behind_commas (map form ws)) ts x.1
   within_takes zero ts x e = absurd (none_within read ts x e)
   within_takes (suc most) ts x e =
@@ -129,12 +137,16 @@ module _ {W A : Type 0} {form : W → List Terminal} {tree : W → A} {read : Li
         ]
       ]
 
-  further_is : Shortens read → (ws : List W) (ts rest : List Lexeme) → Fronts (behind_commas (map form ws)) ts rest → NoComma rest → further read ts ≡ Some (map tree ws, rest)
-  further_is shortens [] ts rest h none = ap (further read) h ∙ further_end read rest none
-  further_is shortens (w ∷ ws) ts rest h none =
+  behind_stops : CommaStops Stops → (ws : List W) (ts rest : List Lexeme) → Fronts (behind_commas (map form ws)) ts rest → Stops rest → Stops ts
+  behind_stops stops [] ts rest h ends = subst Stops (sym h) ends
+  behind_stops stops (w ∷ ws) ts rest h ends = stops ts h.0 h.1
+
+  further_is : Shortens read → CommaStops Stops → (ws : List W) (ts rest : List Lexeme) → Fronts (behind_commas (map form ws)) ts rest → StopsList Stops rest → further read ts ≡ Some (map tree ws, rest)
+  further_is shortens stops [] ts rest h none = ap (further read) h ∙ further_end read rest none.0
+  further_is shortens stops (w ∷ ws) ts rest h none =
       let parts = fronts_split (form w) (behind_commas (map form ws)) h.0 rest h.2 in
-      further_more read shortens ts h.0 (tree w, parts.0) ((terminal_exactly comma ts h.0).1 h.1) (reads.is w h.0 parts.0 parts.1 tt)
-      ∙ ap (behind (tree w ∷ [])) (further_is shortens ws parts.0 rest parts.2 none)
+      further_more read shortens ts h.0 (tree w, parts.0) ((terminal_exactly comma ts h.0).1 h.1) (reads.is w h.0 parts.0 parts.1 (behind_stops stops ws parts.0 rest parts.2 none.1))
+      ∙ ap (behind (tree w ∷ [])) (further_is shortens stops ws parts.0 rest parts.2 none)
 
   -- one item at least
   abbrev Some_of : Type 0
@@ -153,17 +165,17 @@ module _ {W A : Type 0} {form : W → List Terminal} {tree : W → A} {read : Li
             (fronts_append (form w.0) (behind_commas (map form ws.0)) ts first.0.1 more.0.1 w.2 ws.2),
       )
 
-  list_is : Shortens read → (ws : List W) (ts rest : List Lexeme) → 0 < length ws → Fronts (separated (map form ws)) ts rest → NoComma rest → list_at read ts ≡ Some (map tree ws, rest)
-  list_is shortens [] ts rest some h none = absurd (omega (arith, some))
-  list_is shortens (w ∷ ws) ts rest some h none =
+  list_is : Shortens read → CommaStops Stops → (ws : List W) (ts rest : List Lexeme) → 0 < length ws → Fronts (separated (map form ws)) ts rest → StopsList Stops rest → list_at read ts ≡ Some (map tree ws, rest)
+  list_is shortens stops [] ts rest some h none = absurd (omega (arith, some))
+  list_is shortens stops (w ∷ ws) ts rest some h none =
       let parts = fronts_split (form w) (behind_commas (map form ws)) ts rest h in
-      list_begins read ts (tree w, parts.0) (reads.is w ts parts.0 parts.1 tt)
-      ∙ ap (behind (tree w ∷ [])) (further_is shortens ws parts.0 rest parts.2 none)
+      list_begins read ts (tree w, parts.0) (reads.is w ts parts.0 parts.1 (behind_stops stops ws parts.0 rest parts.2 none.1))
+      ∙ ap (behind (tree w ∷ [])) (further_is shortens stops ws parts.0 rest parts.2 none)
 
--- a list of one item at least, where each has a token
-pub list_exactly : {W A : Type 0} {form : W → List Terminal} {tree : W → A} {read : List Lexeme → Option (A × List Lexeme)} → ReadsExactly form tree Anything read → ((w : W) → 0 < length (form w))
-    → ReadsExactly (λ (ws : (ws : List W) × (0 < length ws)). separated (map form ws.0)) (λ (ws : (ws : List W) × (0 < length ws)). map tree ws.0) NoComma (list_at read)
-list_exactly reads some = record {
+-- a list of one item at least, where each has a token, and a comma stops each
+pub list_exactly : {W A : Type 0} {form : W → List Terminal} {tree : W → A} {Stops : List Lexeme → Type 0} {read : List Lexeme → Option (A × List Lexeme)} → ReadsExactly form tree Stops read → ((w : W) → 0 < length (form w)) → CommaStops Stops
+    → ReadsExactly (λ (ws : (ws : List W) × (0 < length ws)). separated (map form ws.0)) (λ (ws : (ws : List W) × (0 < length ws)). map tree ws.0) (StopsList Stops) (list_at read)
+list_exactly reads some stops = record {
   takes = list_takes reads;
-  is = λ ws ts rest h none. list_is reads (exactly_shortens reads some) ws.0 ts rest ws.1 h none;
+  is = λ ws ts rest h none. list_is reads (exactly_shortens reads some) stops ws.0 ts rest ws.1 h none;
 }

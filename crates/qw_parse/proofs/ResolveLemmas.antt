@@ -1,5 +1,5 @@
 -- Indices of columns, and the one meaning of names.
-use Rattle.std.proofs.Common.{◌≡◌, ℕ, zero, suc, ◌+◌, ◌<◌, ◌≤◌, List, [], ◌∷◌, ◌++◌, length, map, take, get_or, Option, Some, None, refl, sym, ap, ◌∙◌, arith}
+use Rattle.std.proofs.Common.{◌≡◌, ℕ, zero, suc, ◌+◌, ◌<◌, ◌≤◌, ◌&&◌, List, [], ◌∷◌, ◌++◌, length, map, take, get_or, Option, Some, None, refl, sym, ap, ◌∙◌, arith}
 use Rattle.std.specs.Prelude.{ℤ}
 use Rattle.std.specs.List.{AllByRecursion}
 use Rattle.std.specs.Str.{bytes_eq}
@@ -13,7 +13,7 @@ use Rattle.qw_types.specs.Schema.{AreColumns}
 use Rattle.qw_meaning.specs.declared.query.Comparison.{Comparison}
 use Rattle.qw_meaning.specs.Statement.{most_items, Statement, IsStatement}
 use Rattle.qw_ast.specs.Grammar.{folded, Selection}
-use Rattle.qw_parse.specs.Parse.{index_of, Means}
+use Rattle.qw_parse.specs.Parse.{index_of, is_integer, Means}
 use Rattle.qw_ast.specs.Inner.Views.{folded_names}
 
 -- ---- indices
@@ -51,7 +51,7 @@ indices_same (x ∷ xs) (y ∷ ys) e =
 
 index_below : (columns : List Column) (name : List ℕ) (index : ℕ) → index_of columns name ≡ Some index → index < length columns
 index_below [] name index e = absurd cc
-index_below (column ∷ columns) name index e = (position-Some (λ (c : Column). bytes_eq name c.name) (column ∷ columns) index column e).0
+index_below (column ∷ columns) name index e = (position-Some (λ (c : Column). bytes_eq name c.name && (is_integer c.ty && c.not_null)) (column ∷ columns) index column e).0
 
 indices_within : (columns : List Column) (names : List (List ℕ)) (indices : List ℕ) (most : ℕ) → length columns ≤ most → map (index_of columns) names ≡ map Some indices → AllByRecursion (λ index. index < most) indices
 indices_within columns [] [] most few e = tt

@@ -6,15 +6,15 @@ use Rattle.std.specs.List.{AllZip, list_any}
 use Rattle.std.specs.Str.{bytes_eq}
 use Rattle.std.specs.Str.Parse.{digits_value}
 use Rattle.std.proofs.lemmas.Bool.{cases_Bool, or_left, or_right, not-true, false≢true}
-use Rattle.std.proofs.lemmas.Bool.Decides.{Decides-and, Decides-eqb}
+use Rattle.std.proofs.lemmas.Bool.Decides.{Decides-and, Decides-or, Decides-eqb}
 use Rattle.std.proofs.lemmas.Map.Views.{Contains-from_any}
 use Rattle.std.proofs.lemmas.Slice.Eq.{bytes_eq-Decides}
 use Rattle.qw_token.specs.declared.token.Kind.{Kind}
 use Rattle.qw_token.specs.declared.token.Kind.TheVariants.{Word, DelimitedIdentifier, CharacterString, Number, Symbol}
 use Rattle.qw_token.specs.Token.{Lexeme}
 use Rattle.qw_types.specs.Digits.{are_digits}
-use Rattle.qw_ast.specs.Grammar.{folded, reserved, IsReserved, Terminal, key_word, regular, symbol, unsigned, Matches}
-use Rattle.qw_parse.specs.Inner.Parser.{◌>>=◌, is_word, is_reserved, matches, terminal_at, fixed_at}
+use Rattle.qw_ast.specs.Grammar.{folded, name_of, reserved, IsReserved, Terminal, key_word, regular, identifier, symbol, unsigned, Matches}
+use Rattle.qw_parse.specs.Inner.Parser.{◌>>=◌, is_word, is_delimited, is_identifier, is_reserved, matches, terminal_at, fixed_at}
 
 -- ---- options
 
@@ -45,7 +45,14 @@ is_word-Decides CharacterString = (λ e. cc, λ e. cc)
 is_word-Decides Number = (λ e. cc, λ e. cc)
 is_word-Decides Symbol = (λ e. cc, λ e. cc)
 
-any_from_contains : (words : List (List ℕ)) (name : List ℕ) → Contains words name → list_any (bytes_eq name) words ≡ true
+pub is_delimited-Decides : (k : Kind) → Decides (is_delimited k) (k ≡ DelimitedIdentifier)
+is_delimited-Decides Word = (λ e. cc, λ e. cc)
+is_delimited-Decides DelimitedIdentifier = (λ e. refl, λ e. refl)
+is_delimited-Decides CharacterString = (λ e. cc, λ e. cc)
+is_delimited-Decides Number = (λ e. cc, λ e. cc)
+is_delimited-Decides Symbol = (λ e. cc, λ e. cc)
+
+pub any_from_contains : (words : List (List ℕ)) (name : List ℕ) → Contains words name → list_any (bytes_eq name) words ≡ true
 any_from_contains words name h = any_at words name h.0 h.1 h.2
   where
     any_at : (words : List (List ℕ)) (name : List ℕ) (k : ℕ) → k < length words → get_or words k name ≡ name → list_any (bytes_eq name) words ≡ true
@@ -62,12 +69,20 @@ not_reserved-Decides name = (
   ],
 )
 
+pub is_identifier-Decides : (t : Lexeme) → Decides (is_identifier t) (((t.kind ≡ Word) × (IsReserved (folded t.octets) → ⊥)) ⊎ (t.kind ≡ DelimitedIdentifier))
+is_identifier-Decides t =
+    Decides-or (is_word t.kind && not (is_reserved (folded t.octets))) (is_delimited t.kind)
+    (Decides-and (is_word t.kind) (not (is_reserved (folded t.octets))) (is_word-Decides t.kind) (not_reserved-Decides (folded t.octets)))
+    (is_delimited-Decides t.kind)
+
 pub matches-Decides : (p : Terminal) (t : Lexeme) → Decides (matches p t) (Matches p t)
 matches-Decides (key_word word) t = bytes_eq-Decides (folded t.octets) word
 matches-Decides (regular name) t =
     let parts = Decides-and (is_word t.kind) (bytes_eq (folded t.octets) name && not (is_reserved name)) (is_word-Decides t.kind)
     (Decides-and (bytes_eq (folded t.octets) name) (not (is_reserved name)) (bytes_eq-Decides (folded t.octets) name) (not_reserved-Decides name)) in
     (λ e. let h = parts.0 e in (h.0, h.1.0, h.1.1), λ h. parts.1 (h.0, (h.1, h.2)))
+matches-Decides (identifier name) t =
+    Decides-and (is_identifier t) (bytes_eq (name_of t.octets) name) (is_identifier-Decides t) (bytes_eq-Decides (name_of t.octets) name)
 matches-Decides (symbol octets) t = bytes_eq-Decides t.octets octets
 matches-Decides (unsigned n) t =
     Decides-and (are_digits t.octets) (nat_eq (digits_value 10 t.octets) n) (λ e. e, λ e. e) (Decides-eqb (digits_value 10 t.octets) n)

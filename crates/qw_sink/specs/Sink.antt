@@ -1,16 +1,31 @@
 -- The text of rows, and what the report says of a query.
-use Rattle.std.specs.Prelude.{◌≡◌, ℕ, List, ◌++◌, length, map, All, codes}
+use Rattle.std.specs.Prelude.{◌≡◌, ℕ, ◌*◌, ◌/◌, ◌%◌, List, [], ◌++◌, length, map, All, codes, unsigned_abs}
 use Rattle.std.specs.Fmt.{decimal, signed_decimal}
 use Rattle.std.specs.List.{flat_map}
 use Rattle.csv.specs.Writing.{default_writer, row_text}
 use Rattle.qw_types.specs.declared.value.Val.{Val}
-use Rattle.qw_types.specs.declared.value.Val.TheVariants.{Num}
+use Rattle.qw_types.specs.declared.value.Val.TheVariants.{Null, Num, Date, Text}
 use Rattle.qw_sink.specs.declared.sink.Head.{Head}
 use Rattle.qw_sink.specs.declared.sink.Kind.TheVariants.{Number}
 
--- a value as it is printed: a number in decimal digits, after "-" where it is below 0
+-- one digit of a number behind a text: that of this power of ten
+abbrev pub with_digit : List ℕ → ℕ → ℕ → List ℕ
+with_digit before n power = before ++ decimal (n / power % 10)
+
+-- two digits, of a month or a day
+abbrev pub with_two : List ℕ → ℕ → ℕ → List ℕ
+with_two before n power = with_digit (with_digit before n (10 * power)) n power
+
+-- a date that is kept as year * 10000 + month * 100 + day, as YYYY-MM-DD
+abbrev pub date_text : ℕ → List ℕ
+date_text n = with_two (with_two (with_two (with_two [] n 1000000) n 10000 ++ codes "-") n 100 ++ codes "-") n 1
+
+-- a value as it is printed: null as the empty field, a number in decimal digits, after "-" where it is below 0, a text as it is
 abbrev pub printed : Val → List ℕ
+printed Null = []
 printed (Num n) = signed_decimal n
+printed (Date d) = date_text (unsigned_abs d)
+printed (Text octets) = octets
 
 -- a line of fields (RFC 4180), which are quoted only where they have to be; it ends with a line feed
 abbrev pub line_of : List (List ℕ) → List ℕ

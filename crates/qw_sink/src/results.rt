@@ -107,5 +107,6 @@ fn value_at(memory: &Linear, cell: u64, ty: Ty) -> Val
 {
     match ty {
         Ty::Integer => Val::Num(memory.load64(cell).unwrap().cast_signed()),
+        _ => unreachable!(),
     }
 }

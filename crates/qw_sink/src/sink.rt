@@ -1,20 +1,23 @@
 //! The text of rows, and a query's part of the report.
 
-ghost use Rattle.std.specs.Prelude.{◌≡◌, ◌<◌, ◌-◌, ◌^◌, ◌++◌, ◌∷◌, [], List, ℕ, length, map, IfOk, OnOk};
+ghost use Rattle.std.specs.Prelude.{◌≡◌, ◌≤◌, ◌<◌, ◌-◌, ◌^◌, ◌++◌, ◌∷◌, [], List, ℕ, length, map, IfOk, OnOk};
 ghost use Rattle.std.specs.String.{string_bytes};
-ghost use Rattle.qw_sink.specs.Sink.{AreRowsOf, line_of, printed, report_of_pages, report_of_rows, text_of_rows};
+ghost use Rattle.qw_sink.specs.Sink.{AreRowsOf, date_text, line_of, printed, report_of_pages, report_of_rows, text_of_rows, with_digit, with_two};
 ghost use Rattle.qw_sink.specs.Inner.Sink.{HasBegun, HasWritten};
 
 use csv::{Writer, WriterBuilder};
 use qw_types::{NoMemory, Row, Text, Val};
 use std::alloc::{AllocError, Global};
 
-/// The kind of a result's column. Nothing is printed by it yet: every scale is 0, and every value is printed as a
-/// whole number.
+/// The kind of a result's column. Rows are printed where all columns are numbers of scale 0.
 #[derive(Clone, Copy, Debug, PartialEq, Eq)]
 pub enum Kind {
-    /// Numbers, with their scale: how many digits stand after the point. Today it is 0.
+    /// Numbers, with their scale: how many digits stand after the point.
     Number(u8),
+    /// Dates.
+    Date,
+    /// Texts.
+    Text,
 }
 
 /// A column of a result.
@@ -120,20 +123,54 @@ fn write_values(
         → HasWritten writer.new (text ++ line_of (map printed values.now))) }
 {
     for value in values {
-        print(digits, *value)?;
+        print(digits, value)?;
         write_field(writer, digits.as_bytes())?;
     }
     end_line(writer)
 }
 
 /// Puts the text of a value in the place of what was there.
-fn print(text: &mut String, value: Val) -> Result<(), AllocError>
-    ensures { OnOk result (string_bytes text.new ≡ printed value) }
+fn print(text: &mut String, value: &Val) -> Result<(), AllocError>
+    ensures { OnOk result (string_bytes text.new ≡ printed value.now) }
 {
     text.clear();
     match value {
+        Val::Null => Ok(()),
         Val::Num(number) => write!(text, "{number}"),
+        Val::Date(day) => print_date(text, day.unsigned_abs()),
+        Val::Text(octets) => text.push_str(octets.as_str()),
     }
+}
+
+/// Adds a date that is kept as one number, as YYYY-MM-DD, to an empty text.
+fn print_date(text: &mut String, day: u32) -> Result<(), AllocError>
+    requires { string_bytes text.old ≡ [] }
+    ensures { OnOk result (string_bytes text.new ≡ date_text day) }
+{
+    print_two(text, day, 1_000_000)?;
+    print_two(text, day, 10_000)?;
+    text.push_str("-")?;
+    print_two(text, day, 100)?;
+    text.push_str("-")?;
+    print_two(text, day, 1)
+}
+
+/// Adds two digits of a number, of which the second is that of this power of ten.
+fn print_two(text: &mut String, number: u32, power: u32) -> Result<(), AllocError>
+    requires { (1 ≤ power) × (power ≤ 1000000) }
+    ensures { OnOk result (string_bytes text.new ≡ with_two (string_bytes text.old) number power) }
+{
+    print_digit(text, number, 10 * power)?;
+    print_digit(text, number, power)
+}
+
+/// Adds the digit of a power of ten.
+fn print_digit(text: &mut String, number: u32, power: u32) -> Result<(), AllocError>
+    requires { 1 ≤ power }
+    ensures { OnOk result (string_bytes text.new ≡ with_digit (string_bytes text.old) number power) }
+{
+    let digit = number / power % 10;
+    write!(text, "{digit}")
 }
 
 /// Writes a field at the end of the line that has begun.

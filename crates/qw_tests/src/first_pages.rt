@@ -1,10 +1,12 @@
 // The octets of tables, of the first pages of instances and of what a run writes there, as docs/FORMATS.md says.
 
-use crate::tables::{WORDS, shelf, wide, words};
+ghost use Rattle.qw_csv.specs.Contents.{AreIntegerKinds};
+
+use crate::tables::{WORDS, loaded_integers, shelf, wide, words};
 use qw_bench::bench::Bench;
 use qw_bench::first_page::begin_page;
 use qw_columns::columns::{column_starts, pages_needed, place};
-use qw_csv::loading::{Loaded, load};
+use qw_csv::Loaded;
 use qw_io::MemorySink;
 use qw_linear::linear::{Linear, PAGE};
 use qw_top::top::qwasm;
@@ -105,7 +107,9 @@ const NO_ROWS: [(u64, [u8; 8]); 10] = [
 ];
 
 // The memory of the columns and one page more, which tells of the first two of them.
-fn two_pages(alloc: Global, loaded: &Loaded) -> Result<Linear, NoMemory> {
+fn two_pages(alloc: Global, loaded: &Loaded) -> Result<Linear, NoMemory>
+    requires { AreIntegerKinds loaded.now.columns }
+{
     let starts = column_starts(alloc, loaded.len(), &[0, 1])?;
     let pages = pages_needed(loaded);
     let mut memory = Linear::new(alloc, pages + 1)?;
@@ -147,11 +151,11 @@ fn left(alloc: Global, query: &[u8]) -> Result<Bench, Fail> {
 #[test]
 fn octets_of_two_columns(rt: HostRuntime) -> Result<(), Fail> {
     let table = wide(rt.alloc())?;
-    let loaded = load(rt.alloc(), &table, FILE)?;
+    let loaded = loaded_integers(rt.alloc(), &table, FILE)?;
     let memory = two_pages(rt.alloc(), &loaded)?;
     assert_eq!(rt; memory.size(), 2);
     assert_eq!(rt; differs(&memory, &OCTETS), None);
-    let loaded = load(rt.alloc(), &table, b"A,B\n4,-1\n1,256\n")?;
+    let loaded = loaded_integers(rt.alloc(), &table, b"A,B\n4,-1\n1,256\n")?;
     let memory = two_pages(rt.alloc(), &loaded)?;
     assert_eq!(rt; memory.size(), 2);
     assert_eq!(rt; differs(&memory, &TWO_ROWS), None);

@@ -15,7 +15,11 @@ mod reports;
 #[cfg(test)]
 mod schedules;
 #[cfg(test)]
+mod step_limits;
+#[cfg(test)]
 mod table_files;
+#[cfg(test)]
+mod table_values;
 #[cfg(test)]
 mod tables;
 #[cfg(test)]

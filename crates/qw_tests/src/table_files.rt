@@ -2,22 +2,26 @@
 // clause says.
 
 use crate::tables::{narrow, sevens, wide};
-use qw_csv::loading::{FieldFault, LoadFault, Loaded, load};
+use qw_csv::loading::{LoadFault, load};
+use qw_csv::{Cell, CellFault, Loaded};
+use qw_types::FieldFault;
 use std::alloc::Global;
 use std::test::Fail;
 
 // The values, row by row.
-fn values(alloc: Global, loaded: &Loaded) -> Result<Vec<i32>, Fail> {
+fn values(alloc: Global, loaded: &Loaded) -> Result<Vec<i64>, Fail> {
     let mut values = Vec::new(alloc);
     for row in 0..loaded.len() {
         for column in 0..loaded.width() {
-            values.push(loaded.value(row, column))?;
+            if let Cell::Num(number) = loaded.cell(row, column) {
+                values.push(number)?;
+            }
         }
     }
     Ok(values)
 }
 
-const LOADED: [(&[u8], &[i32]); 12] = [
+const LOADED: [(&[u8], &[i64]); 12] = [
     (b"A", &[]),
     (b"a\n7\n", &[7]),
     (b"A\r\n7\r\n8", &[7, 8]),
@@ -32,9 +36,13 @@ const LOADED: [(&[u8], &[i32]); 12] = [
     (b"\"a\"\n1\n2\n3\n", &[1, 2, 3]),
 ];
 
-const NOT_NUMBER: FieldFault = FieldFault::NotNumber;
+const NOT_NUMBER: CellFault = CellFault::Form(FieldFault::NotNumber);
 
-const TOO_LARGE: FieldFault = FieldFault::TooLarge;
+const TOO_LARGE: CellFault = CellFault::Form(FieldFault::TooLarge);
+
+const TOO_FINE: CellFault = CellFault::Form(FieldFault::TooFine);
+
+const NULL: CellFault = CellFault::NullForbidden;
 
 const REFUSED: [(&[u8], LoadFault); 8] = [
     (b"", LoadFault::BadHeader),
@@ -48,10 +56,10 @@ const REFUSED: [(&[u8], LoadFault); 8] = [
 ];
 
 // Files, and the record and the column of the field at fault.
-const REFUSED_FIELDS: [(&[u8], usize, usize, FieldFault); 10] = [
-    (b"A\n7.0\n", 1, 0, NOT_NUMBER),
-    (b"A\n7\n 7\n", 2, 0, NOT_NUMBER),
-    (b"A\n\"\"\n", 1, 0, NOT_NUMBER),
+const REFUSED_FIELDS: [(&[u8], usize, usize, CellFault); 10] = [
+    (b"A\n7.5\n", 1, 0, TOO_FINE),
+    (b"A\n7\n7 7\n", 2, 0, NOT_NUMBER),
+    (b"A\n\"\"\n", 1, 0, NULL),
     (b"A\n+\n", 1, 0, NOT_NUMBER),
     (b"A\n-+7\n", 1, 0, NOT_NUMBER),
     (b"A\n\xFF\n", 1, 0, NOT_NUMBER),
@@ -61,7 +69,7 @@ const REFUSED_FIELDS: [(&[u8], usize, usize, FieldFault); 10] = [
     (b"A\n99999999999\nx\n", 1, 0, TOO_LARGE),
 ];
 
-const WIDE_LOADED: [(&[u8], &[i32]); 5] = [
+const WIDE_LOADED: [(&[u8], &[i64]); 5] = [
     (b"A,B", &[]),
     (b"a,b\n7,8\n", &[7, 8]),
     (b"A,B\r\n1,2\r\n3,4\r\n5,6", &[1, 2, 3, 4, 5, 6]),
@@ -79,8 +87,8 @@ const WIDE_REFUSED: [(&[u8], LoadFault); 6] = [
 ];
 
 // Files of two columns, and the record and the column of the field at fault.
-const WIDE_REFUSED_FIELDS: [(&[u8], usize, usize, FieldFault); 4] = [
-    (b"A,B\n7,\n", 1, 1, NOT_NUMBER),
+const WIDE_REFUSED_FIELDS: [(&[u8], usize, usize, CellFault); 4] = [
+    (b"A,B\n7,\n", 1, 1, NULL),
     (b"A,B\n7,8\n9999999999,x\n", 2, 0, TOO_LARGE),
     (b"A,B\n7,x\nx,7\n", 1, 1, NOT_NUMBER),
     (b"A,B\n7,2147483648\n1\n", 1, 1, TOO_LARGE),

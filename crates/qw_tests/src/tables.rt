@@ -2,10 +2,11 @@
 
 ghost use Rattle.std.specs.Prelude.{◌≡◌, ◌≤◌, [], ◌∷◌, IfOk, true};
 ghost use Rattle.qw_types.specs.declared.value.Ty.TheVariants.{Integer};
-ghost use Rattle.qw_csv.specs.Loading.{AreIntegers};
+ghost use Rattle.qw_csv.specs.Contents.{AreIntegerKinds, AreIntegers};
 
 use qw_bench::bench::{Bench, Job, Limits, MAX_INSTANCE_PAGES};
-use qw_csv::loading::load;
+use qw_csv::Loaded;
+use qw_csv::loading::{LoadFault, load};
 use qw_emit::emit::module_of;
 use qw_io::{MemoryShelf, NamedFile};
 use qw_meaning::query::{Comparison, Query};
@@ -109,13 +110,22 @@ pub fn asking(alloc: Global, comparison: Comparison, literal: i64) -> Result<Que
     Ok(Query::new(columns, 0, comparison, literal))
 }
 
+/// The file of a table of INTEGER NOT NULL columns, loaded.
+pub fn loaded_integers(alloc: Global, table: &Table, file: &[u8]) -> Result<Loaded, LoadFault>
+    requires { AreIntegers table.now.columns }
+    ensures { IfOk result (λ loaded. AreIntegerKinds loaded.columns) }
+{
+    let loaded = load(alloc, table, file)?;
+    Ok(loaded)
+}
+
 /// A bench of `SELECT A FROM T WHERE A > 5` over a table's file, before its first turn.
 pub fn bench_of(alloc: Global, table: &Table, file: &[u8], limits: Limits) -> Result<Bench, Fail>
     requires integers { AreIntegers table.now.columns }
     requires pages { (1 ≤ limits.pages) × (limits.pages ≤ MAX_INSTANCE_PAGES) }
     requires steps { 1 ≤ limits.steps }
 {
-    let loaded = load(alloc, table, file)?;
+    let loaded = loaded_integers(alloc, table, file)?;
     if loaded.width() == 0 {
         return Err("no column".into());
     }

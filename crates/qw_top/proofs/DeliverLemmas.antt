@@ -1,5 +1,5 @@
 -- How the stages of a run compose into what it leaves.
-use Rattle.std.proofs.Common.{◌≡◌, ◌⊎◌, ℕ, zero, ◌≤◌, ◌<◌, List, [], ◌∷◌, Option, Some, None, inl, inr, refl, sym, subst, Result, Ok, Err, length, ap, ◌∙◌, arith}
+use Rattle.std.proofs.Common.{◌≡◌, ◌⊎◌, ℕ, zero, ◌≤◌, ◌<◌, List, [], ◌∷◌, Option, Some, None, inl, inr, refl, sym, subst, Result, Ok, Err, length, map, ap, ◌∙◌, arith}
 use Rattle.std.specs.List.{AllByRecursion}
 use Rattle.std.specs.Prelude.{IfErr, IfSome, OnErr, OnOk}
 use Rattle.std.proofs.lemmas.List.{take_all, append-nil}
@@ -21,7 +21,9 @@ use Rattle.qw_top.specs.declared.stop.Stop.TheVariants.{Refused, Unread, NoMemor
 use Rattle.qw_top.specs.Delivered.{Asks, HasRun, IsLine, Leaves, LeavesBench, Notes, Reports, ShowsEnd, status_of}
 use Rattle.qw_top.specs.Inner.Noted.{NotesLine, NotesStop}
 use Rattle.qw_map.specs.Layout.{used}
-use Rattle.qw_csv.specs.Loading.{Contents}
+use Rattle.std.proofs.lemmas.List.{length-map}
+use Rattle.qw_csv.specs.Contents.{AreIntegerKinds, Contents, kind_of}
+use Rattle.qw_csv.proofs.KindLaws.{integer_kinds}
 use Rattle.qw_top.specs.Notes.{read_fault_line, want_of_memory_line}
 use Rattle.qw_top.specs.Inner.Sinks.{CountsWrite, write_fault_of}
 use Rattle.qw_top.specs.Output.{TookFront, with_text}
@@ -30,8 +32,7 @@ use Rattle.qw_bench.specs.Standing.{Standing}
 use Rattle.qw_top.specs.Inner.Stages.{FilesStop, HasAsked, IsReport, Ran, Stops, Writes, failed_at}
 use Rattle.qw_top.specs.Inner.Shelves.{Counts, Told}
 use Rattle.qw_top.specs.Inner.Stop.{octets_of, refusal_status}
-use Rattle.qw_top.specs.Top.{AreNames, Explains, Files, FilesExplain, HasQuery, IsFault, IsNamed, IsSettled, Names}
-use Rattle.qw_top.specs.Inner.Inputs.{IsOneTable}
+use Rattle.qw_top.specs.Top.{AreNames, Explains, Files, FilesExplain, HasQuery, IsFault, IsNamed, IsSettled, Names, IsOneTable}
 use Rattle.qw_top.proofs.RunLemmas.{HasRun-pages, HasRun-shows}
 use Rattle.qw_top.proofs.TopLemmas.{AreNames-unique, Explains-unique, HasQuery-unique, ReadsQuery-columns, used_within}
 
@@ -187,9 +188,13 @@ no_steps schema b limit ran is =
     let same : ran.run.end ≡ Steps limit = let e = is ∙ ran.run.ended in cc in
     subst (λ (end : End). ShowsEnd ran.table ran.rows ran.statement b end shown.0) same shown.1
 
+-- as many columns are loaded as are declared
+same_width : (contents : Contents) (table : Table) → contents.columns ≡ map kind_of table.columns → length contents.columns ≡ length table.columns
+same_width contents table wide = ap length wide ∙ length-map table.columns kind_of
+
 -- a bench that has run what was asked for
 pub has_asked : (files : Files) (words : List (List ℕ)) (schema : List Table) (contents : Contents) (statement : Statement) (b : Standing) → IsOneTable schema →
-    ((table : Table) × (schema ≡ table ∷ []) × (contents.width ≡ length table.columns) × Asks files words table contents.rows statement) → HasRun contents.width contents.rows statement b → HasAsked files words schema b
+    ((table : Table) × (schema ≡ table ∷ []) × (contents.columns ≡ map kind_of table.columns) × Asks files words table contents.rows statement) → HasRun (length contents.columns) contents.rows statement b → HasAsked files words schema b
 has_asked files words schema contents statement b one (table, is, wide, asks) run = (
   record {
     table = table;
@@ -198,16 +203,22 @@ has_asked files words schema contents statement b one (table, is, wide, asks) ru
     one = is;
     integers = subst (λ (s : List Table). IsOneTable s) is one;
     columns = ReadsQuery-columns table asks.asked.asked.text statement asks.asked.asked.reads;
-    run = subst (λ width. HasRun width contents.rows statement b) wide run;
+    run = subst (λ width. HasRun width contents.rows statement b) (same_width contents table wide) run;
   },
   asks,
 )
 
+-- its columns are INTEGERs
+pub asked_integers : (files : Files) (words : List (List ℕ)) (schema : List Table) (contents : Contents) (statement : Statement) → IsOneTable schema →
+    ((table : Table) × (schema ≡ table ∷ []) × (contents.columns ≡ map kind_of table.columns) × Asks files words table contents.rows statement) → AreIntegerKinds contents.columns
+asked_integers files words schema contents statement one (table, is, wide, asks) =
+    rw wide (integer_kinds table.columns (subst (λ (s : List Table). IsOneTable s) is one))
+
 -- it uses columns of the table alone
 pub asked_within : (files : Files) (words : List (List ℕ)) (schema : List Table) (contents : Contents) (statement : Statement) →
-    ((table : Table) × (schema ≡ table ∷ []) × (contents.width ≡ length table.columns) × Asks files words table contents.rows statement) → AllByRecursion (λ column. column < contents.width) (used statement)
+    ((table : Table) × (schema ≡ table ∷ []) × (contents.columns ≡ map kind_of table.columns) × Asks files words table contents.rows statement) → AllByRecursion (λ column. column < length contents.columns) (used statement)
 asked_within files words schema contents statement (table, is, wide, asks) =
-    used_within table statement contents.width wide (ReadsQuery-columns table asks.asked.asked.text statement asks.asked.asked.reads)
+    used_within table statement (length contents.columns) (same_width contents table wide) (ReadsQuery-columns table asks.asked.asked.text statement asks.asked.asked.reads)
 
 status_of-pages : (end : End) → status_of end ≡ PageLimitMet → (held : ℕ) × (asked : ℕ) × (limit : ℕ) × (end ≡ Pages held asked limit)
 status_of-pages EndedDone is = cc

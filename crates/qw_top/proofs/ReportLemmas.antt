@@ -11,6 +11,7 @@ use Rattle.qw_types.specs.declared.schema.Table.{Table}
 use Rattle.qw_types.specs.declared.value.Ty.{Ty}
 use Rattle.qw_types.specs.declared.value.Ty.TheVariants.{Integer}
 use Rattle.qw_types.specs.declared.value.Val.{Val}
+use Rattle.qw_csv.specs.Contents.{AreIntegers}
 use Rattle.qw_linear.specs.Memory.{number_at}
 use Rattle.qw_map.specs.Areas.{Area, lies_in_one}
 use Rattle.qw_map.specs.Turns.{Instance}
@@ -66,8 +67,13 @@ widths_in (Some t) (Some i) memory rows statement same is =
 
 -- ---- the header
 
-kind_of-number : (ty : Ty) → kind_of ty ≡ Number 0
-kind_of-number Integer = refl
+kind_of-number : (column : Column) → column.ty ≡ Integer → kind_of column.ty ≡ Number 0
+kind_of-number column is = rw is refl
+
+integer_at : (columns : List Column) (place : ℕ) (column : Column) → AreIntegers columns → slice_get columns place ≡ Some column → column.ty ≡ Integer
+integer_at [] place column are found = absurd cc
+integer_at (first ∷ columns) zero column are found = let same : first ≡ column = cc in subst (λ (c : Column). c.ty ≡ Integer) same are.0.0
+integer_at (first ∷ columns) (suc place) column are found = integer_at columns place column are.1 found
 
 abbrev pub heads : List Column → List ℕ → List Head
 heads columns places = filter_map (λ place. option_map head_of (slice_get columns place)) places
@@ -80,12 +86,12 @@ there_at (column ∷ columns) (suc place) within = there_at columns place (omega
 head_added : (columns : List Column) (place : ℕ) (places : List ℕ) (column : Column) → slice_get columns place ≡ Some column → heads columns (place ∷ places) ≡ head_of column ∷ heads columns places
 head_added columns place places column is = rw is refl
 
-pub header-kinds : (columns : List Column) (places : List ℕ) → AllByRecursion (λ place. place < length columns) places → All (λ (h : Head). h.kind ≡ Number 0) (heads columns places)
-header-kinds columns [] within = All-nil (λ (h : Head). h.kind ≡ Number 0)
-header-kinds columns (place ∷ places) within =
+pub header-kinds : (columns : List Column) (places : List ℕ) → AreIntegers columns → AllByRecursion (λ place. place < length columns) places → All (λ (h : Head). h.kind ≡ Number 0) (heads columns places)
+header-kinds columns [] are within = All-nil (λ (h : Head). h.kind ≡ Number 0)
+header-kinds columns (place ∷ places) are within =
     let column = there_at columns place within.0 in
     rw (head_added columns place places column.0 column.1)
-    (All-cons (λ (h : Head). h.kind ≡ Number 0) (head_of column.0) (heads columns places) (kind_of-number column.0.ty) (header-kinds columns places within.1))
+    (All-cons (λ (h : Head). h.kind ≡ Number 0) (head_of column.0) (heads columns places) (kind_of-number column.0 (integer_at columns place column.0 are column.1)) (header-kinds columns places are within.1))
 
 pub length-header : (columns : List Column) (places : List ℕ) → AllByRecursion (λ place. place < length columns) places → length (heads columns places) ≡ length places
 length-header columns [] within = refl
@@ -111,12 +117,12 @@ header-more columns places i column within lt is =
 
 -- the result rows of an instance are rows of its statement's header
 pub rows_in-header : (b : Standing) (table : Table) (rows : List (List Val)) (statement : Statement) → IsSomeAnd (slice_get b.tasks 0) (λ task. task.statement ≡ statement) →
-    AreColumnsOf table statement → rows_in b 0 ≡ Some rows → AreRowsOf (header_of table statement) rows
-rows_in-header b table rows statement task columns is =
+    AreIntegers table.columns → AreColumnsOf table statement → rows_in b 0 ≡ Some rows → AreRowsOf (header_of table statement) rows
+rows_in-header b table rows statement task integers columns is =
     let cells : length (cell_types statement) ≡ length statement.columns = length-map statement.columns (λ column. Integer) in
     let width = cells ∙ sym (length-header table.columns statement.columns columns.1) in
     record {
-      kinds = header-kinds table.columns statement.columns columns.1;
+      kinds = header-kinds table.columns statement.columns integers columns.1;
       widths = subst (λ width. All (λ (row : List Val). length row ≡ width) rows) width
           (widths_in (slice_get b.tasks 0) (slice_get b.shared.instances 0) b.shared.memory rows statement task is);
     }

@@ -1,12 +1,13 @@
 -- How the reading of the files goes on from stage to stage, and that told files settle one end.
 use Rattle.std.proofs.Common.{◌≡◌, ◌⊎◌, ℕ, zero, suc, Bool, ◌<◌, ◌≤◌, List, [], ◌∷◌, Option, Some, None, inl, inr, refl, sym, subst, length, ap, ◌∙◌, arith, map}
-use Rattle.std.specs.Prelude.{IsSomeAnd, slice_get, true, false, ◌==◌, ◌||◌, if◌then◌else◌, filter}
+use Rattle.std.specs.Prelude.{IsSomeAnd, slice_get, true, false, ◌==◌, ◌&&◌, ◌||◌, if◌then◌else◌, filter}
 use Rattle.std.specs.Str.{bytes_eq}
 use Rattle.std.specs.List.{AllByRecursion, list_any, position_or_len, range_with_len}
 use Rattle.std.proofs.lemmas.Bool.{eqb-true}
 use Rattle.std.proofs.lemmas.List.Folds.{find_at}
 use Rattle.std.proofs.lemmas.List.Quantifiers.{position-Some}
 use Rattle.qw_types.specs.declared.schema.Column.{Column}
+use Rattle.qw_types.specs.declared.value.Ty.TheVariants.{Integer}
 use Rattle.qw_types.specs.Limits.{most_columns}
 use Rattle.qw_types.specs.declared.schema.Table.{Table}
 use Rattle.qw_types.specs.declared.value.Val.{Val}
@@ -16,32 +17,28 @@ use Rattle.qw_top.specs.Limits.{most_table_octets, most_text_octets}
 use Rattle.qw_top.specs.declared.status.Status.{Status}
 use Rattle.qw_top.specs.declared.status.Status.TheVariants.{Done, PageLimitMet, WordsRefused, SchemaRefused, TableFileRefused, QueriesRefused, ReadFailed, WriteFailed, NoMemory as NoMemoryLeft}
 use Rattle.qw_top.specs.declared.stop.Refusal.{Refusal}
-use Rattle.qw_top.specs.declared.stop.Refusal.TheVariants.{TableFile, Queries}
+use Rattle.qw_top.specs.declared.stop.Refusal.TheVariants.{Schema, TableFile, Queries}
 use Rattle.qw_top.specs.declared.stop.Stop.{Stop}
 use Rattle.qw_top.specs.declared.stop.Stop.TheVariants.{Refused, Unread, NoMemory}
 use Rattle.qw_top.specs.FileNames.{table_file_of}
-use Rattle.qw_parse.specs.Parse.{ReadsQuery, ReadsSchema, integer_column, index_of, table_of}
-use Rattle.qw_csv.specs.Loading.{AreIntegers, Contents, Loads}
+use Rattle.qw_parse.specs.declared.parse.SchemaFault.{SchemaFault}
+use Rattle.qw_parse.specs.declared.parse.SchemaFault.TheVariants as schema_faults
+use Rattle.qw_parse.specs.Parse.{IsRefused, ReadsQuery, ReadsSchema, index_of, is_integer, table_of}
+use Rattle.qw_csv.specs.Contents.{Contents, kind_of}
+use Rattle.qw_csv.specs.Loading.{Loads}
 use Rattle.qw_top.specs.Inner.Stages.{FilesStop, StopsAs}
 use Rattle.qw_top.specs.Inner.Stop.{refusal_status}
-use Rattle.qw_top.specs.Top.{AreNames, Explains, Files, FilesExplain, HasQuery, HasRows, IsFault, IsFile, IsFileOf, IsNoQuery, IsNoSchema, IsNoTable, IsSettled, IsTooLong, Names, QueryIs, SchemaIs, TableIs}
-use Rattle.qw_top.specs.Inner.Inputs.{AreColumnsOf, IsOneTable}
+use Rattle.qw_top.specs.Top.{AreNames, DeclaresNothing, Explains, Files, FilesExplain, HasQuery, HasRows, IsFault, IsFile, IsFileOf, IsNoQuery, IsNoSchema, IsNoTable, IsOneTable, IsSettled, IsTooLong, Names, QueryIs, SchemaIs, TableIs}
+use Rattle.qw_top.specs.Inner.Inputs.{AreColumnsOf}
 use Rattle.qw_csv.proofs.LoadingLaws.{same_loads, loads_or_fails}
-use Rattle.qw_parse.proofs.ParserLemmas.{ReadsQuery-unique, ReadsSchema-unique}
+use Rattle.qw_parse.proofs.ParserLemmas.{ReadsQuery-unique}
+use Rattle.qw_parse.proofs.SchemaLemmas.{ReadsSchema-unique, reads_or_refused}
 
 -- a stage that stopped for a reason of its own, or at a file that a run may read, is explained
 pub StopsAs-explained : (files : Files) (names : Names) (refusal : Refusal) (reason : Type 0) (name : List ℕ) (stop : Stop) → (reason → FilesExplain files names (refusal_status refusal)) → IsFileOf files names name → StopsAs refusal reason name stop → FilesStop files names stop
 StopsAs-explained files names refusal reason name (Refused other) why named (is, holds) = subst (λ (r : Refusal). FilesExplain files names (refusal_status r)) (sym is) (why holds)
 StopsAs-explained files names refusal reason name (Unread file) why named is = subst (λ (octets : List ℕ). IsFileOf files names octets) (sym is) named
 StopsAs-explained files names refusal reason name NoMemory why named stops = tt
-
-integers_of : (names : List (List ℕ)) → AreIntegers (map integer_column names)
-integers_of [] = tt
-integers_of (name ∷ names) = ((refl, refl), integers_of names)
-
--- a schema that was read has one table, of INTEGER columns
-pub ReadsSchema-one : (text : List ℕ) (schema : List Table) → ReadsSchema text schema → IsOneTable schema
-ReadsSchema-one text schema reads = rw reads.declares (integers_of reads.columns)
 
 -- the one table of a schema
 pub only_table : (schema : List Table) → IsOneTable schema → (table : Table) × (schema ≡ table ∷ [])
@@ -61,8 +58,8 @@ table_stops files now names schema stop same declared one stops =
 
 -- what was accepted before the queries file
 pub rows_accepted : (files now : Files) (names : Names) (schema : List Table) (contents : Contents) → now ≡ files → SchemaIs files names.schema schema → IsOneTable schema →
-    ((table : Table) → schema ≡ table ∷ [] → TableIs now names.folder table contents.rows) → ((table : Table) → schema ≡ table ∷ [] → contents.width ≡ length table.columns) →
-    (table : Table) × (schema ≡ table ∷ []) × (contents.width ≡ length table.columns) × HasRows files names table contents.rows
+    ((table : Table) → schema ≡ table ∷ [] → TableIs now names.folder table contents.rows) → ((table : Table) → schema ≡ table ∷ [] → contents.columns ≡ map kind_of table.columns) →
+    (table : Table) × (schema ≡ table ∷ []) × (contents.columns ≡ map kind_of table.columns) × HasRows files names table contents.rows
 rows_accepted files now names schema contents same declared one loaded wide =
     let t = only_table schema one in (
       t.0,
@@ -76,7 +73,7 @@ rows_accepted files now names schema contents same declared one loaded wide =
 
 -- where the queries' stage stopped, after a table that was accepted
 pub queries_stop : (files now : Files) (names : Names) (schema : List Table) (contents : Contents) (stop : Stop) → now ≡ files →
-    ((table : Table) × (schema ≡ table ∷ []) × (contents.width ≡ length table.columns) × HasRows files names table contents.rows) → StopsAs Queries (IsNoQuery now names.queries schema) names.queries stop → FilesStop files names stop
+    ((table : Table) × (schema ≡ table ∷ []) × (contents.columns ≡ map kind_of table.columns) × HasRows files names table contents.rows) → StopsAs Queries (IsNoQuery now names.queries schema) names.queries stop → FilesStop files names stop
 queries_stop files now names schema contents stop same (table, is, wide, held) stops =
     StopsAs-explained files names Queries (IsNoQuery now names.queries schema) names.queries stop
     (λ none. (table, contents.rows, held, subst (λ (s : List Table). IsNoQuery files names.queries s) is (subst (λ (f : Files). IsNoQuery f names.queries schema) same none)))
@@ -85,8 +82,8 @@ queries_stop files now names schema contents stop same (table, is, wide, held) s
 
 -- all was accepted
 pub all_accepted : (files now : Files) (names : Names) (schema : List Table) (contents : Contents) (statement : Statement) → now ≡ files →
-    ((table : Table) × (schema ≡ table ∷ []) × (contents.width ≡ length table.columns) × HasRows files names table contents.rows) → QueryIs now names.queries schema statement →
-    (table : Table) × (schema ≡ table ∷ []) × (contents.width ≡ length table.columns) × HasQuery files names table contents.rows statement
+    ((table : Table) × (schema ≡ table ∷ []) × (contents.columns ≡ map kind_of table.columns) × HasRows files names table contents.rows) → QueryIs now names.queries schema statement →
+    (table : Table) × (schema ≡ table ∷ []) × (contents.columns ≡ map kind_of table.columns) × HasQuery files names table contents.rows statement
 all_accepted files now names schema contents statement same (table, is, wide, held) asked = (
   table,
   is,
@@ -104,8 +101,8 @@ only_element x y (suc k) h = cc
 -- a place that was found is one of the columns
 place_within : (columns : List Column) (name : List ℕ) (place : ℕ) → index_of columns name ≡ Some place → place < length columns
 place_within columns name place is =
-    let other : Column = integer_column [] in
-    (position-Some (λ (c : Column). bytes_eq name c.name) columns place other is).0
+    let other : Column = record { name = []; ty = Integer; not_null = true } in
+    (position-Some (λ (c : Column). bytes_eq name c.name && (is_integer c.ty && c.not_null)) columns place other is).0
 
 places_within : (columns : List Column) (names : List (List ℕ)) (places : List ℕ) → map (index_of columns) names ≡ map Some places → AllByRecursion (λ place. place < length columns) places
 places_within columns names [] is = tt
@@ -206,7 +203,7 @@ pub SchemaIs-refused : (told : List ℕ → Option (List ℕ)) (name : List ℕ)
 SchemaIs-refused told name schema h (inl long) = IsFile-short told name most_text_octets h.text h.file long
 SchemaIs-refused told name schema h (inr (text, file, none)) =
     let e = IsFile-unique told name most_text_octets h.text text h.file file in
-    none schema (subst (λ (t : List ℕ). ReadsSchema t schema) e h.reads)
+    none schema (subst (λ (t : List ℕ). ReadsSchema t schema) e h.reads) h.taken
 
 -- a table file stands for one list of rows at most, and is refused only where it stands for none
 pub TableIs-unique : (told : List ℕ → Option (List ℕ)) (folder : List ℕ) (table : Table) (a b : List (List Val)) → TableIs (Some told) folder table a → TableIs (Some told) folder table b → a ≡ b
@@ -333,3 +330,29 @@ Explains-unique told words status other h k s t =
             FilesExplain-unique told names status other why (subst (λ (n : Names). FilesExplain (Some told) n other) (AreNames-unique words names' names are' are) why') s t
       ]
     ]
+
+-- a text that is refused declares nothing that a run takes
+pub declares_nothing : (text : List ℕ) (fault : SchemaFault) → IsRefused text fault → DeclaresNothing text
+declares_nothing text fault refused schema reads taken = reads_or_refused text schema fault reads refused
+
+-- nor does one that declares other tables
+pub declares_others : (text : List ℕ) (tables : List Table) → ReadsSchema text tables → (IsOneTable tables → ⊥) → DeclaresNothing text
+declares_others text tables reads others schema declared taken = others (subst IsOneTable (ReadsSchema-unique text schema tables declared reads) taken)
+
+-- how a run stops at a schema that is none
+module _ (files : Files) (name text : List ℕ) (file : IsFile files name most_text_octets text) where
+  stopped : (fault : SchemaFault) (stop : Stop) → (fault ≡ schema_faults.NoMemory → ⊥) → (fault ≡ schema_faults.NoMemory) ⊎ IsRefused text fault →
+      ((fault ≡ schema_faults.NoMemory → ⊥) → stop ≡ Refused Schema) → StopsAs Schema (IsNoSchema files name) name stop
+  stopped fault stop other (inl is) refused = absurd (other is)
+  stopped fault stop other (inr why) refused = rw (refused other) (refl, inr (text, file, declares_nothing text fault why))
+
+  pub schema_stops : (fault : SchemaFault) (stop : Stop) → (fault ≡ schema_faults.NoMemory) ⊎ IsRefused text fault → (fault ≡ schema_faults.NoMemory → stop ≡ NoMemory) →
+      ((fault ≡ schema_faults.NoMemory → ⊥) → stop ≡ Refused Schema) → StopsAs Schema (IsNoSchema files name) name stop
+  schema_stops schema_faults.NoMemory stop why memory refused = rw (memory refl) tt
+  schema_stops schema_faults.NotUtf8 stop why memory refused = stopped schema_faults.NotUtf8 stop (λ same. cc) why refused
+  schema_stops (schema_faults.NotToken at) stop why memory refused = stopped (schema_faults.NotToken at) stop (λ same. cc) why refused
+  schema_stops (schema_faults.NotGrammar k) stop why memory refused = stopped (schema_faults.NotGrammar k) stop (λ same. cc) why refused
+  schema_stops (schema_faults.TooDeep k) stop why memory refused = stopped (schema_faults.TooDeep k) stop (λ same. cc) why refused
+  schema_stops (schema_faults.TooMany k what limit) stop why memory refused = stopped (schema_faults.TooMany k what limit) stop (λ same. cc) why refused
+  schema_stops (schema_faults.Duplicate k) stop why memory refused = stopped (schema_faults.Duplicate k) stop (λ same. cc) why refused
+  schema_stops (schema_faults.BadSize k) stop why memory refused = stopped (schema_faults.BadSize k) stop (λ same. cc) why refused

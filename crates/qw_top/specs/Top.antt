@@ -6,18 +6,19 @@ use Rattle.qw_io.specs.Files.{OfFile}
 use Rattle.qw_types.specs.declared.schema.Column.{Column}
 use Rattle.qw_types.specs.declared.schema.Table.{Table}
 use Rattle.qw_types.specs.declared.value.Ty.{Ty}
-use Rattle.qw_types.specs.declared.value.Ty.TheVariants.{Integer}
+use Rattle.qw_types.specs.declared.value.Ty.TheVariants as type
 use Rattle.qw_types.specs.declared.value.Val.{Val}
 use Rattle.qw_top.specs.Limits.{most_table_octets, most_text_octets, default_limits}
 use Rattle.qw_csv.specs.declared.loading.LoadFault.{LoadFault}
 use Rattle.qw_meaning.specs.Statement.{Statement}
 use Rattle.qw_sink.specs.declared.sink.Head.{Head}
 use Rattle.qw_sink.specs.declared.sink.Kind.{Kind}
-use Rattle.qw_sink.specs.declared.sink.Kind.TheVariants.{Number}
+use Rattle.qw_sink.specs.declared.sink.Kind.TheVariants as kind
 use Rattle.qw_top.specs.declared.status.Status.{Status}
 use Rattle.qw_top.specs.declared.status.Status.TheVariants.{Done, WordsRefused, SchemaRefused, TableFileRefused, QueriesRefused, ReadFailed, WriteFailed, PageLimitMet, NoMemory}
 use Rattle.qw_top.specs.FileNames.{table_file_of}
 use Rattle.qw_emit.specs.Compiled.{page_bound}
+use Rattle.qw_csv.specs.Contents.{AreIntegers}
 use Rattle.qw_csv.specs.Loading.{IsFirstFault, Loads}
 use Rattle.qw_parse.specs.Parse.{ReadsQuery, ReadsSchema}
 use Rattle.qw_top.specs.Words.{IsRun}
@@ -36,17 +37,24 @@ pub record IsFile (files : Files) (name : List ℕ) (limit : ℕ) (bytes : List 
 abbrev pub IsTooLong : Files → List ℕ → ℕ → Type 0
 IsTooLong files name limit = OfFile files name (λ file. limit < length file)
 
--- the schema file of this name declares these tables
+-- A schema that a run takes: one table, whose columns are INTEGERs that are declared NOT NULL. Runs take no other yet.
+abbrev pub IsOneTable : List Table → Type 0
+IsOneTable [] = ⊥
+IsOneTable (table ∷ []) = AreIntegers table.columns
+IsOneTable (table ∷ next ∷ tables) = ⊥
+
+-- the schema file of this name declares these tables, and a run takes them
 pub record SchemaIs (files : Files) (name : List ℕ) (schema : List Table) : Type 0 where
   pub text : List ℕ
   pub file : IsFile files name most_text_octets text
   pub reads : ReadsSchema text schema
+  pub taken : IsOneTable schema
 
--- a text that declares no tables
+-- a text that declares no tables that a run takes
 abbrev pub DeclaresNothing : List ℕ → Type 0
-DeclaresNothing text = (schema : List Table) → ReadsSchema text schema → ⊥
+DeclaresNothing text = (schema : List Table) → ReadsSchema text schema → IsOneTable schema → ⊥
 
--- the schema file of this name is refused: it is too long, or its text declares no tables
+-- the schema file of this name is refused: it is too long, or its text declares no tables that a run takes
 abbrev pub IsNoSchema : Files → List ℕ → Type 0
 IsNoSchema files name = IsTooLong files name most_text_octets
     ⊎ ((text : List ℕ) × IsFile files name most_text_octets text × DeclaresNothing text)
@@ -147,9 +155,12 @@ IsFault WriteFailed = Unit {0}
 IsFault NoMemory = Unit {0}
 IsFault _ = ⊥
 
--- how the values of a type are printed: an INTEGER with no digits behind a point
+-- how the values of a type are printed: a number with so many digits behind a point, of an INTEGER with none
 abbrev pub kind_of : Ty → Kind
-kind_of Integer = Number 0
+kind_of type.Integer = kind.Number 0
+kind_of (type.Decimal precision scale) = kind.Number scale
+kind_of type.Date = kind.Date
+kind_of (type.Varchar limit) = kind.Text
 
 -- what the header says of a column
 abbrev pub head_of : Column → Head

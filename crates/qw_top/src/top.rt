@@ -25,6 +25,7 @@ use std::alloc::Global;
 mod inputs;
 mod report;
 mod run;
+mod taken;
 
 /// How many instructions an instance runs before the next one has its turn: so many that the cost of a turn
 /// doesn't count, and so few that instances alternate.

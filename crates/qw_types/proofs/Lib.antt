@@ -1,4 +1,7 @@
 pub mod ArithmeticLaws
-pub mod DigitLemmas
 mod ArithmeticLemmas
+mod DateLemmas
+pub mod DigitLemmas
+mod NumeralLemmas
+mod TextOrderLemmas
 mod ValueLemmas

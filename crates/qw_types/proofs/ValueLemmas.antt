@@ -46,33 +46,27 @@ and_associates Unknown Unknown True = refl
 and_associates Unknown Unknown False = refl
 and_associates Unknown Unknown Unknown = refl
 
--- the laws of OR are those of AND under NOT
+-- OR is AND under NOT, so its laws are those of AND
+or_is : (a b : Truth) → disjunction a b ≡ negation (conjunction (negation a) (negation b))
+or_is True b = refl
+or_is False b = sym (negated_twice b)
+or_is Unknown True = refl
+or_is Unknown False = refl
+or_is Unknown Unknown = refl
+
 pub negated_or : (a b : Truth) → negation (disjunction a b) ≡ conjunction (negation a) (negation b)
-negated_or True b = refl
-negated_or False b = refl
-negated_or Unknown True = refl
-negated_or Unknown False = refl
-negated_or Unknown Unknown = refl
+negated_or a b = ap negation (or_is a b) ∙ negated_twice (conjunction (negation a) (negation b))
 
 pub or_commutes : (a b : Truth) → disjunction a b ≡ disjunction b a
-or_commutes True True = refl
-or_commutes True False = refl
-or_commutes True Unknown = refl
-or_commutes False True = refl
-or_commutes False False = refl
-or_commutes False Unknown = refl
-or_commutes Unknown True = refl
-or_commutes Unknown False = refl
-or_commutes Unknown Unknown = refl
+or_commutes a b = or_is a b ∙ ap negation (and_commutes (negation a) (negation b)) ∙ sym (or_is b a)
 
 pub or_associates : (a b c : Truth) → disjunction (disjunction a b) c ≡ disjunction a (disjunction b c)
-or_associates True b c = refl
-or_associates False b c = refl
-or_associates Unknown True c = refl
-or_associates Unknown False c = refl
-or_associates Unknown Unknown True = refl
-or_associates Unknown Unknown False = refl
-or_associates Unknown Unknown Unknown = refl
+or_associates a b c =
+    or_is (disjunction a b) c
+    ∙ ap (λ t. negation (conjunction t (negation c))) (negated_or a b)
+    ∙ ap negation (and_associates (negation a) (negation b) (negation c))
+    ∙ ap (λ t. negation (conjunction (negation a) t)) (sym (negated_or b c))
+    ∙ sym (or_is a (disjunction b c))
 
 -- a product with a positive number keeps the order
 times_less : (x y : ℤ) (k : ℕ) → 0 < k → x <ℤ y → (x *ℤ pos k) <ℤ (y *ℤ pos k)

@@ -1,7 +1,12 @@
 pub mod Arithmetic
+pub mod Calendar
+pub mod DateText
 pub mod Digits
+pub mod Inner
 pub mod Limits
+pub mod Numeral
 pub mod Octets
 pub mod Schema
+pub mod TextOrder
 pub mod Truth
 pub mod Value

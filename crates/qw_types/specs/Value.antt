@@ -1,15 +1,60 @@
--- Which values a type has.
-use Rattle.std.specs.Prelude.{ℕ, pos, negsuc, ◌≤ℤ◌, List, Option, slice_get}
+-- Which values a type and a column have.
+use Rattle.std.specs.Prelude.{◌≡◌, ℕ, pos, negsuc, ℤ, ◌≤◌, ◌≤ℤ◌, ◌<◌, ◌^◌, Bool, false, unsigned_abs, length, List, Option, slice_get, IsUtf8, chars}
 use Rattle.std.specs.Option.{option_and_then}
+use Rattle.qw_types.specs.Calendar.{IsDate, packed}
+use Rattle.qw_types.specs.declared.schema.Column.{Column}
 use Rattle.qw_types.specs.declared.value.Ty.{Ty}
-use Rattle.qw_types.specs.declared.value.Ty.TheVariants.{Integer}
+use Rattle.qw_types.specs.declared.value.Ty.TheVariants as ty
 use Rattle.qw_types.specs.declared.value.Val.{Val}
-use Rattle.qw_types.specs.declared.value.Val.TheVariants.{Num}
+use Rattle.qw_types.specs.declared.value.Val.TheVariants as val
 
--- A value of the type: an INTEGER is from -2^31 to 2^31 - 1 (ISO/IEC 9075:1992, 4.4, leaves its
--- precision to the implementation).
+-- a day of the calendar, as the number year * 10000 + month * 100 + day
+pub record IsDay (number : ℤ) : Type 0 where
+  pub year : ℕ
+  pub month : ℕ
+  pub day : ℕ
+  pub there : IsDate year month day
+  pub packed_is : number ≡ pos (packed year month day)
+
+-- a text of at most so many characters: UTF-8, whose characters are Unicode scalar values
+pub record IsTextOf (length_limit : ℕ) (octets : List ℕ) : Type 0 where
+  pub utf8 : IsUtf8 octets
+  pub short : length (chars octets) ≤ length_limit
+
+-- A value of the type that isn't null (ISO/IEC 9075:1992, 4.4, 4.5, 4.2): an INTEGER is from -2^31 to 2^31 - 1 (its
+-- precision is the implementation's), a DECIMAL has at most as many digits as its precision says.
 abbrev pub IsOfType : Ty → Val → Type 0
-IsOfType Integer (Num number) = (negsuc 2147483647 ≤ℤ number) × (number ≤ℤ pos 2147483647)
+IsOfType ty.Integer (val.Num number) = (negsuc 2147483647 ≤ℤ number) × (number ≤ℤ pos 2147483647)
+IsOfType (ty.Decimal precision scale) (val.Num number) = unsigned_abs number < 10 ^ precision
+IsOfType ty.Date (val.Date number) = IsDay number
+IsOfType (ty.Varchar limit) (val.Text octets) = IsTextOf limit octets
+IsOfType _ _ = ⊥
+
+-- a value of a type, or null where that isn't forbidden
+abbrev pub IsOfKind : Ty → (not_null : Bool) → Val → Type 0
+IsOfKind type not_null val.Null = not_null ≡ false
+IsOfKind type not_null (val.Num number) = IsOfType type (val.Num number)
+IsOfKind type not_null (val.Date number) = IsOfType type (val.Date number)
+IsOfKind type not_null (val.Text octets) = IsOfType type (val.Text octets)
+
+-- a value of a column: null where the column isn't declared NOT NULL, else a value of its type (11.4)
+abbrev pub IsOfColumn : Column → Val → Type 0
+IsOfColumn column value = IsOfKind column.ty column.not_null value
+
+-- A type of a size that it may have: a DECIMAL's precision is from 1 to 18 and its scale at most that, a VARCHAR's length is
+-- from 1 to 1,000 (11.1 leaves the greatest ones to the implementation).
+abbrev pub IsSized : Ty → Type 0
+IsSized ty.Integer = Unit {0}
+IsSized (ty.Decimal precision scale) = (1 ≤ precision) × (precision ≤ 18) × (scale ≤ precision)
+IsSized ty.Date = Unit {0}
+IsSized (ty.Varchar limit) = (1 ≤ limit) × (limit ≤ 1000)
+
+-- a type of numbers
+abbrev pub IsNumeric : Ty → Type 0
+IsNumeric ty.Integer = Unit {0}
+IsNumeric (ty.Decimal precision scale) = Unit {0}
+IsNumeric ty.Date = ⊥
+IsNumeric (ty.Varchar limit) = ⊥
 
 -- the value of a column in a row, both counted from 0
 abbrev pub value_of : List (List Val) → ℕ → ℕ → Option Val

@@ -4,8 +4,9 @@
 //! - [`arithmetic`]: exact arithmetic on whole numbers with scales; [`code::Code`]: the exceptions that it raises.
 //! - [`value_laws`]: what holds of both, and worked cases.
 //! - [`digits`]: whether octets are digits.
+//! - [`numeral::read_number`], [`date_text::read_date`]: a number or a date from its text.
 //! - [`value::Ty`] and [`value::Val`]: a column's type, and a value of a row.
-//! - [`text::Text`]: a text, which contracts see as its octets.
+//! - [`text::Text`]: a text, which contracts see as its octets; [`text_order`]: how texts compare.
 //! - [`row::Row`]: the values of one row, which contracts see as a list.
 //! - [`schema::Schema`]: the declared tables, each with its columns.
 //! - [`worked_laws`]: worked cases of the definitions, with numbers.
@@ -15,11 +16,14 @@
 
 pub mod arithmetic;
 pub mod code;
+pub mod date_text;
 pub mod digits;
 pub mod memory;
+pub mod numeral;
 pub mod row;
 pub mod schema;
 pub mod text;
+pub mod text_order;
 pub mod truth;
 pub mod value;
 pub mod value_laws;
@@ -27,6 +31,7 @@ pub mod worked_laws;
 
 pub use code::Code;
 pub use memory::NoMemory;
+pub use numeral::FieldFault;
 pub use row::Row;
 pub use schema::{Column, Columns, Schema, Table};
 pub use text::Text;

@@ -17,7 +17,7 @@ pub const MAX_ROWS: usize = 1_000_000;
 /// A column as it is declared (ISO/IEC 9075:1992, 11.4 "column definition").
 #[derive(Debug, Drop)]
 pub struct Column {
-    /// The name as it is kept: a regular identifier in upper case.
+    /// The name as it is kept: a regular identifier in upper case, a delimited one as it is written, without its quotes.
     pub name: Text,
     /// The declared data type.
     pub ty: Ty,
@@ -34,7 +34,7 @@ pub struct Table {
     pub columns: Columns,
 }
 
-/// The columns of a table, in order: from 1 to [`MAX_COLUMNS`], no two of one name.
+/// The columns of a table, in order: from 1 to [`MAX_COLUMNS`], no two of one name, each of a type of a size that it may have.
 #[derive(Debug, Drop)]
 pub struct Columns {
     columns: Vec<Column>,
@@ -54,8 +54,8 @@ impl Model for Columns {
 }
 
 impl Columns {
-    /// Takes the columns as they are. That they keep the limits ([`MAX_COLUMNS`]) and that their names
-    /// differ is not tested here: the caller knows it.
+    /// Takes the columns as they are. That they keep the limits ([`MAX_COLUMNS`] and the sizes of types) and that
+    /// their names differ is not tested here: the caller knows it.
     pub fn new(columns: Vec<Column>) -> Self
         requires { AreColumns columns.items }
         ensures { result ≡ columns.items }

@@ -4,7 +4,7 @@ ghost use Rattle.std.specs.String.{string_bytes};
 use std::marker::Model;
 
 /// A text. Contracts see it as its UTF-8 octets.
-#[derive(Debug, Drop)]
+#[derive(Clone, Debug, Drop)]
 pub struct Text {
     text: String,
 }

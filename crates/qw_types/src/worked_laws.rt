@@ -1,9 +1,14 @@
 //! Worked cases of the definitions, with numbers, stated as contracts. No function here computes anything.
 
-ghost use Rattle.std.specs.Prelude.{◌≡◌, pos, negsuc, [], ◌∷◌, Some, None};
-ghost use Rattle.qw_types.specs.declared.value.Ty.TheVariants.{Integer};
+ghost use Rattle.std.specs.Prelude.{◌≡◌, ℤ, pos, negsuc, [], ◌∷◌, true, false, Some, None};
+ghost use Rattle.qw_types.specs.Calendar.{IsDate};
+ghost use Rattle.qw_types.specs.DateText.{ShowsDate};
+ghost use Rattle.qw_types.specs.Numeral.{ShowsNumber, is_fine, is_number};
+ghost use Rattle.qw_types.specs.declared.value.Ty.TheVariants as ty;
+ghost use Rattle.qw_types.specs.declared.value.Ty.TheVariants.{Decimal, Integer, Varchar};
+ghost use Rattle.qw_types.specs.declared.value.Val.TheVariants as val;
 ghost use Rattle.qw_types.specs.declared.value.Val.TheVariants.{Num};
-ghost use Rattle.qw_types.specs.Value.{IsOfType, value_of};
+ghost use Rattle.qw_types.specs.Value.{IsOfType, IsSized, value_of};
 
 /// An INTEGER is from -2147483648 to 2147483647, and no number past these bounds is one.
 pub fn integer_bounds()
@@ -19,4 +24,65 @@ pub fn values_of_two_rows()
     ensures second { value_of ((Num (pos 4) ∷ Num (negsuc 0) ∷ []) ∷ (Num (pos 7) ∷ Num (pos 9) ∷ []) ∷ []) 1 0 ≡ Some (Num (pos 7)) }
     ensures no_column { value_of ((Num (pos 4) ∷ Num (negsuc 0) ∷ []) ∷ (Num (pos 7) ∷ Num (pos 9) ∷ []) ∷ []) 1 2 ≡ None }
     ensures no_row { value_of ((Num (pos 4) ∷ Num (negsuc 0) ∷ []) ∷ (Num (pos 7) ∷ Num (pos 9) ∷ []) ∷ []) 2 0 ≡ None }
+{}
+
+/// A DECIMAL(3, 1) is from -99.9 to 99.9, whole numbers of tenths.
+pub fn decimal_bounds()
+    ensures least { IsOfType (Decimal 3 1) (Num (negsuc 998)) }
+    ensures greatest { IsOfType (Decimal 3 1) (Num (pos 999)) }
+    ensures below { IsOfType (Decimal 3 1) (Num (negsuc 999)) → ⊥ }
+    ensures above { IsOfType (Decimal 3 1) (Num (pos 1000)) → ⊥ }
+    ensures no_text { IsOfType (Decimal 3 1) (val.Text (49 ∷ [])) → ⊥ }
+{}
+
+/// A DATE is a day of the years 1 to 9999: of the centuries only every fourth has a 29th of February.
+pub fn dates_of_the_calendar()
+    ensures first { IsDate 1 1 1 }
+    ensures last { IsDate 9999 12 31 }
+    ensures leap { IsDate 2000 2 29 × IsDate 1996 2 29 }
+    ensures common { (IsDate 1900 2 29 → ⊥) × (IsDate 1997 2 29 → ⊥) }
+    ensures short { IsDate 1998 4 30 × (IsDate 1998 4 31 → ⊥) × (IsDate 1998 9 31 → ⊥) }
+    ensures beside { (IsDate 0 1 1 → ⊥) × (IsDate 10000 1 1 → ⊥) × (IsDate 1998 13 1 → ⊥) × (IsDate 1998 0 1 → ⊥) × (IsDate 1998 1 0 → ⊥) }
+    ensures number { IsOfType ty.Date (val.Date (pos 19980902)) }
+    ensures no_number { IsOfType ty.Date (val.Date (pos 19980931)) → ⊥ }
+{}
+
+/// A VARCHAR(2) has texts of two characters of up to four octets each: "zß" has three octets, and "zß水" is too long.
+pub fn characters_are_counted()
+    ensures short { IsOfType (Varchar 2) (val.Text (122 ∷ 195 ∷ 159 ∷ [])) }
+    ensures long { IsOfType (Varchar 2) (val.Text (122 ∷ 195 ∷ 159 ∷ 230 ∷ 176 ∷ 180 ∷ [])) → ⊥ }
+    ensures broken { IsOfType (Varchar 2) (val.Text (122 ∷ 195 ∷ [])) → ⊥ }
+    ensures empty { IsOfType (Varchar 2) (val.Text []) }
+{}
+
+/// The sizes that types may have.
+pub fn sizes_of_types()
+    ensures some { IsSized Integer × IsSized ty.Date × IsSized (Decimal 18 18) × IsSized (Decimal 1 0) × IsSized (Varchar 1) × IsSized (Varchar 1000) }
+    ensures precision { (IsSized (Decimal 0 0) → ⊥) × (IsSized (Decimal 19 0) → ⊥) }
+    ensures scale { IsSized (Decimal 2 3) → ⊥ }
+    ensures length { (IsSized (Varchar 0) → ⊥) × (IsSized (Varchar 1001) → ⊥) }
+{}
+
+/// Numbers from their texts, in hundredths: " 1.50 ", "+.5", "5." and "-0.00" show some, and "1.500" shows what "1.50" does.
+pub fn numbers_of_texts()
+    ensures spaces { ShowsNumber 2 (32 ∷ 49 ∷ 46 ∷ 53 ∷ 48 ∷ 32 ∷ []) (pos 150) }
+    ensures fraction { ShowsNumber 2 (43 ∷ 46 ∷ 53 ∷ []) (pos 50) }
+    ensures whole { ShowsNumber 2 (53 ∷ 46 ∷ []) (pos 500) }
+    ensures zero { ShowsNumber 2 (45 ∷ 48 ∷ 46 ∷ 48 ∷ 48 ∷ []) (pos 0) }
+    ensures negative { ShowsNumber 2 (45 ∷ 49 ∷ []) (negsuc 99) }
+    ensures zeros { ShowsNumber 2 (49 ∷ 46 ∷ 53 ∷ 48 ∷ 48 ∷ []) (pos 150) }
+{}
+
+/// Texts that show none: "", "+", ".", "1e3", "1.2.3", "1 2" and "--1"; and 1.505 is too fine in hundredths.
+pub fn texts_without_numbers()
+    ensures none { (is_number [] ≡ false) × (is_number (43 ∷ []) ≡ false) × (is_number (46 ∷ []) ≡ false) × (is_number (49 ∷ 101 ∷ 51 ∷ []) ≡ false)
+        × (is_number (49 ∷ 46 ∷ 50 ∷ 46 ∷ 51 ∷ []) ≡ false) × (is_number (49 ∷ 32 ∷ 50 ∷ []) ≡ false) × (is_number (45 ∷ 45 ∷ 49 ∷ []) ≡ false) }
+    ensures fine { (is_number (49 ∷ 46 ∷ 53 ∷ 48 ∷ 53 ∷ []) ≡ true) × (is_fine 2 (49 ∷ 46 ∷ 53 ∷ 48 ∷ 53 ∷ []) ≡ false) }
+{}
+
+/// " 1998-09-02 " shows the date, "1998-9-2" and "1998-09-31" show none.
+pub fn dates_of_texts()
+    ensures spaces { ShowsDate (32 ∷ 49 ∷ 57 ∷ 57 ∷ 56 ∷ 45 ∷ 48 ∷ 57 ∷ 45 ∷ 48 ∷ 50 ∷ 32 ∷ []) (pos 19980902) }
+    ensures short { (number : ℤ) → ShowsDate (49 ∷ 57 ∷ 57 ∷ 56 ∷ 45 ∷ 57 ∷ 45 ∷ 50 ∷ []) number → ⊥ }
+    ensures no_day { (number : ℤ) → ShowsDate (49 ∷ 57 ∷ 57 ∷ 56 ∷ 45 ∷ 48 ∷ 57 ∷ 45 ∷ 51 ∷ 49 ∷ []) number → ⊥ }
 {}

@@ -1,7 +1,6 @@
--- Mirrors the trees of src/tree.rt, with their names in upper case and without where they lie in memory.
+-- Mirrors the trees of src/tree.rt, with the names of a query in upper case, and without where they lie in memory.
 use Rattle.std.specs.Prelude.{ℕ, List, map}
 use Rattle.std.specs.Borrow.{Bor}
-use Rattle.qw_ast.specs.declared.tree.TableDefinition.{TableDefinition}
 use Rattle.qw_ast.specs.declared.tree.TableExpression.{TableExpression}
 use Rattle.qw_ast.specs.declared.tree.QuerySpecification.{QuerySpecification}
 use Rattle.qw_ast.specs.Grammar.{folded, Source, Selection}
@@ -9,10 +8,6 @@ use Rattle.qw_ast.specs.Grammar.{folded, Source, Selection}
 -- each name in upper case
 abbrev pub folded_names : List (Bor (List ℕ)) → List (List ℕ)
 folded_names names = map (λ name. folded name.now) names
-
--- the names of the table and of its columns
-abbrev pub definition : TableDefinition → List ℕ × List (List ℕ)
-definition d = (folded d.table.now, folded_names d.columns.items)
 
 -- what stands behind a select list
 abbrev pub source : TableExpression → Source

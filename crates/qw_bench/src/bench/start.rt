@@ -1,6 +1,7 @@
 //! What a bench begins with: the memory of a table and of one instance, and the instance.
 
 ghost use Rattle.std.specs.Prelude.{◌≡◌, ◌+◌, ◌≤◌, ℕ, length, IfOk};
+ghost use Rattle.qw_csv.specs.Contents.{AreIntegerKinds};
 ghost use Rattle.qw_map.specs.Columns.{column_pages};
 ghost use Rattle.qw_module.specs.Start.{begun};
 ghost use Rattle.qw_module.specs.Validity.{IsShaped};
@@ -9,7 +10,7 @@ ghost use Rattle.qw_bench.specs.Inner.FirstMemory.{IsFirstMemory};
 use crate::bench::MAX_INSTANCE_PAGES;
 use crate::first_page::begin_page;
 use qw_columns::columns::{column_starts, pages_needed, place};
-use qw_csv::loading::Loaded;
+use qw_csv::Loaded;
 use qw_linear::linear::{Linear, PAGE};
 use qw_machine::machine::{Instance, InstanceFault};
 use qw_map::layout::used_columns;
@@ -30,9 +31,10 @@ pub(super) fn first_memory(
     query: &Query,
     pages: u32,
 ) -> Result<Linear, NoMemory>
-    requires { (1 ≤ pages) × (pages ≤ MAX_INSTANCE_PAGES) }
-    ensures first { IfOk result (λ memory. IsFirstMemory query.now loaded.now.width loaded.now.rows memory.octets) }
-    ensures reserved { IfOk result (λ memory. memory.reserved ≡ column_pages loaded.now.width (length loaded.now.rows) + pages) }
+    requires integers { AreIntegerKinds loaded.now.columns }
+    requires pages { (1 ≤ pages) × (pages ≤ MAX_INSTANCE_PAGES) }
+    ensures first { IfOk result (λ memory. IsFirstMemory query.now (length loaded.now.columns) loaded.now.rows memory.octets) }
+    ensures reserved { IfOk result (λ memory. memory.reserved ≡ column_pages (length loaded.now.columns) (length loaded.now.rows) + pages) }
 {
     let columns = used_columns(alloc, query)?;
     let starts = column_starts(alloc, loaded.len(), columns.as_slice())?;

@@ -1,12 +1,19 @@
--- Mirrors the conversion of token faults.
+-- Mirrors the conversions of token faults.
 use Rattle.qw_parse.specs.declared.parse.ParseFault.{ParseFault}
-use Rattle.qw_parse.specs.declared.parse.ParseFault.TheVariants.{Refused, NoMemory}
+use Rattle.qw_parse.specs.declared.parse.ParseFault.TheVariants as parse_faults
+use Rattle.qw_parse.specs.declared.parse.SchemaFault.{SchemaFault}
+use Rattle.qw_parse.specs.declared.parse.SchemaFault.TheVariants as schema_faults
 use Rattle.qw_token.specs.declared.token.TokenFault.{TokenFault}
-use Rattle.qw_token.specs.declared.token.TokenFault.TheVariants.{NotUtf8, NotToken}
-use Rattle.qw_token.specs.declared.token.TokenFault.TheVariants as token_faults
+use Rattle.qw_token.specs.declared.token.TokenFault.TheVariants.{NotUtf8, NotToken, NoMemory}
 
 -- a fault in the tokens of a text, as one of the text
 abbrev pub parse_fault_of : TokenFault → ParseFault
-parse_fault_of NotUtf8 = Refused
-parse_fault_of (NotToken at) = Refused
-parse_fault_of token_faults.NoMemory = NoMemory
+parse_fault_of NotUtf8 = parse_faults.Refused
+parse_fault_of (NotToken at) = parse_faults.Refused
+parse_fault_of NoMemory = parse_faults.NoMemory
+
+-- the same, of a schema
+abbrev pub schema_fault_of : TokenFault → SchemaFault
+schema_fault_of NotUtf8 = schema_faults.NotUtf8
+schema_fault_of (NotToken at) = schema_faults.NotToken at
+schema_fault_of NoMemory = schema_faults.NoMemory

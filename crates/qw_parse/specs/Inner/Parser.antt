@@ -1,18 +1,16 @@
--- Mirrors the readers of src/parse/form.rt, and the tests of src/parse/word.rt, literal.rt and declare.rt. A reader answers
+-- Mirrors the readers of src/parse/form.rt, and the tests of src/parse/word.rt and literal.rt. A reader answers
 -- what it found and the tokens behind that. Each way to put readers together has its lemma in proofs/FormLemmas and
 -- proofs/ListLemmas.
-use Rattle.std.specs.Prelude.{ℕ, zero, suc, ◌^◌, nat_lt, nat_eq, Bool, true, false, ◌&&◌, not, List, [], ◌∷◌, ◌++◌, length, ℤ, pos, neg_ℤ, codes, Option, Some, None, if◌then◌else◌}
+use Rattle.std.specs.Prelude.{ℕ, zero, suc, ◌^◌, nat_lt, nat_eq, Bool, true, false, ◌&&◌, ◌||◌, not, List, [], ◌∷◌, ◌++◌, length, ℤ, pos, neg_ℤ, codes, Option, Some, None, if◌then◌else◌}
 use Rattle.std.specs.List.{list_any}
 use Rattle.std.specs.Option.{option_map_or}
 use Rattle.std.specs.Str.{bytes_eq}
 use Rattle.std.specs.Str.Parse.{digits_value}
 use Rattle.qw_token.specs.declared.token.Kind.{Kind}
-use Rattle.qw_token.specs.declared.token.Kind.TheVariants.{Word}
+use Rattle.qw_token.specs.declared.token.Kind.TheVariants.{Word, DelimitedIdentifier}
 use Rattle.qw_types.specs.Digits.{are_digits}
 use Rattle.qw_token.specs.Token.{Lexeme}
-use Rattle.qw_ast.specs.Grammar.{folded, reserved, Terminal, key_word, regular, symbol, unsigned, Source, Selection}
-use Rattle.qw_parse.specs.declared.parse.form.Item.{Item}
-use Rattle.qw_parse.specs.declared.parse.form.Item.TheVariants.{ColumnDefinition, ColumnReference}
+use Rattle.qw_ast.specs.Grammar.{folded, name_of, reserved, Terminal, key_word, regular, identifier, symbol, unsigned, Source, Selection}
 use Rattle.qw_meaning.specs.declared.query.Comparison.{Comparison}
 use Rattle.qw_meaning.specs.declared.query.Comparison.TheVariants.{Equal, NotEqual, Less, LessOrEqual, Greater, GreaterOrEqual}
 
@@ -31,10 +29,20 @@ is_word _ = false
 abbrev pub is_reserved : List ℕ → Bool
 is_reserved name = list_any (bytes_eq name) reserved
 
+-- whether the kind is that of delimited identifiers
+abbrev pub is_delimited : Kind → Bool
+is_delimited DelimitedIdentifier = true
+is_delimited _ = false
+
+-- whether the token is an identifier
+abbrev pub is_identifier : Lexeme → Bool
+is_identifier t = (is_word t.kind && not (is_reserved (folded t.octets))) || is_delimited t.kind
+
 -- whether the token matches the terminal
 abbrev pub matches : Terminal → Lexeme → Bool
 matches (key_word word) t = bytes_eq (folded t.octets) word
 matches (regular name) t = is_word t.kind && (bytes_eq (folded t.octets) name && not (is_reserved name))
+matches (identifier name) t = is_identifier t && bytes_eq (name_of t.octets) name
 matches (symbol octets) t = bytes_eq t.octets octets
 matches (unsigned n) t = are_digits t.octets && nat_eq (digits_value 10 t.octets) n
 
@@ -55,6 +63,14 @@ token_at find (t ∷ ts) = do
 -- the name that a regular identifier is, in upper case
 abbrev pub regular_of : Lexeme → Option (List ℕ)
 regular_of t = if is_word t.kind && not (is_reserved (folded t.octets)) then Some (folded t.octets) else None
+
+-- the name that an identifier is
+abbrev pub identifier_of : Lexeme → Option (List ℕ)
+identifier_of t = if is_identifier t then Some (name_of t.octets) else None
+
+-- the number that digits are
+abbrev pub number_of : Lexeme → Option ℕ
+number_of t = if are_digits t.octets then Some (digits_value 10 t.octets) else None
 
 -- the number that digits are, if it fits
 abbrev pub literal_of : List ℕ → Option ℤ
@@ -80,6 +96,11 @@ comparison_of octets =
 abbrev pub fixed_at : List Terminal → List Lexeme → Option (List Lexeme)
 fixed_at [] ts = Some ts
 fixed_at (terminal ∷ terminals) ts = terminal_at terminal ts >>= (λ rest. fixed_at terminals rest)
+
+-- the octets behind the octet of a delimited identifier, without the second quote where it is one
+abbrev pub behind_octet : ℕ → List ℕ → List ℕ
+behind_octet b [] = []
+behind_octet b (c ∷ cs) = if nat_eq b 34 then cs else c ∷ cs
 
 -- what is read behind the terminals
 abbrev pub behind_at : {A : Type 0} → List Terminal → (List Lexeme → Option (A × List Lexeme)) → List Lexeme → Option (A × List Lexeme)
@@ -108,6 +129,16 @@ made_at make read ts = do
 -- what the first reads behind the terminal, or where that isn't there what the second reads
 abbrev pub optional_at : {A : Type 0} → Terminal → (List Lexeme → Option (A × List Lexeme)) → (List Lexeme → Option (A × List Lexeme)) → List Lexeme → Option (A × List Lexeme)
 optional_at terminal first second ts = option_map_or (λ rest. first rest) (terminal_at terminal ts) (second ts)
+
+-- x, and no token for it
+abbrev pub given : {A : Type 0} → A → List Lexeme → Option (A × List Lexeme)
+given x ts = Some (x, ts)
+
+-- what the second reads behind what the first read
+abbrev pub then_at : {A B : Type 0} → (List Lexeme → Option (A × List Lexeme)) → (A → List Lexeme → Option (B × List Lexeme)) → List Lexeme → Option (B × List Lexeme)
+then_at first second ts = do
+  x ← first ts
+  second x.0 x.1
 
 -- a comma
 abbrev pub comma : Terminal
@@ -143,6 +174,17 @@ is_end [] = true
 is_end (t ∷ []) = bytes_eq t.octets (codes ";")
 is_end (t ∷ u ∷ ts) = false
 
+-- whether no token is left
+abbrev pub is_none : List Lexeme → Bool
+is_none [] = true
+is_none (t ∷ ts) = false
+
+-- what is read of all tokens
+abbrev pub all_of : {A : Type 0} → (List Lexeme → Option (A × List Lexeme)) → List Lexeme → Option A
+all_of read ts = do
+  x ← read ts
+  if is_none x.1 then Some x.0 else None
+
 -- what is read of the whole
 abbrev pub whole_of : {A : Type 0} → (List Lexeme → Option (A × List Lexeme)) → List Lexeme → Option A
 whole_of read ts = do
@@ -167,25 +209,6 @@ literal_at ts = optional_at (symbol (codes "-")) (made_at neg_ℤ unsigned_at) u
 unfoldable pub comparison_at : List Lexeme → Option (Comparison × List Lexeme)
 comparison_at ts = token_at (λ (t : Lexeme). comparison_of t.octets) ts
 
--- a column definition, by its name
-unfoldable pub column_definition_at : List Lexeme → Option (List ℕ × List Lexeme)
-column_definition_at ts =
-    before_at regular_at (key_word (codes "INTEGER") ∷ key_word (codes "NOT") ∷ key_word (codes "NULL") ∷ []) ts
-
--- an item of a list, by its name
-abbrev pub item_at : Item → List Lexeme → Option (List ℕ × List Lexeme)
-item_at ColumnDefinition ts = column_definition_at ts
-item_at ColumnReference ts = regular_at ts
-
--- CREATE TABLE table (
-unfoldable pub table_at : List Lexeme → Option (List ℕ × List Lexeme)
-table_at ts =
-    behind_at (key_word (codes "CREATE") ∷ key_word (codes "TABLE") ∷ []) (before_at regular_at (symbol (codes "(") ∷ [])) ts
-
--- a table definition, by the names of the table and of the columns
-unfoldable pub create_table_at : List Lexeme → Option ((List ℕ × List (List ℕ)) × List Lexeme)
-create_table_at ts = both_at table_at (before_at (list_at (item_at ColumnDefinition)) (symbol (codes ")") ∷ [])) ts
-
 -- what stands behind a select list
 unfoldable pub table_expression_at : List Lexeme → Option (Source × List Lexeme)
 table_expression_at ts =
@@ -197,11 +220,4 @@ table_expression_at ts =
 unfoldable pub query_specification_at : List Lexeme → Option (Selection × List Lexeme)
 query_specification_at ts =
     made_at (λ (x : List (List ℕ) × Source). record { columns = x.0; source = x.1 })
-    (behind_at (key_word (codes "SELECT") ∷ []) (both_at (list_at (item_at ColumnReference)) table_expression_at)) ts
-
--- ---- names that differ
-
--- whether no name comes twice
-abbrev pub are_distinct : List (List ℕ) → Bool
-are_distinct [] = true
-are_distinct (name ∷ names) = not (list_any (bytes_eq name) names) && are_distinct names
+    (behind_at (key_word (codes "SELECT") ∷ []) (both_at (list_at regular_at) table_expression_at)) ts

@@ -1,113 +1,141 @@
-//! The schema that the names of a table definition declare.
+//! The tables that the statements of a schema declare.
 
-ghost use Rattle.std.specs.Prelude.{◌≡◌, ◌<◌, length, IfOk, IsErrOf, map};
-ghost use Rattle.std.specs.List.{AllByRecursion, list_any};
-ghost use Rattle.std.specs.Str.{IsAscii, bytes_eq};
+ghost use Rattle.std.specs.Prelude.{◌≡◌, ◌⊎◌, ◌≤◌, ◌<◌, [], Ok, Err, length, map, option_map, IfOk, IfErr, IfSome, MatchOption};
+ghost use Rattle.std.specs.List.{list_any};
+ghost use Rattle.std.specs.Str.{bytes_eq};
 ghost use Rattle.qw_types.specs.Schema.{AreColumns};
-ghost use Rattle.qw_ast.specs.Grammar.{folded};
-ghost use Rattle.qw_parse.specs.Parse.{integer_column, one_table};
-ghost use Rattle.qw_parse.specs.Inner.Parser.{are_distinct};
-ghost use Rattle.qw_ast.specs.Inner.Views.{folded_names};
+ghost use Rattle.qw_parse.specs.Inner.Judges.{AreSized, checked, columns_of, is_named, is_twice, judged, judged_from, name_in};
+ghost use Rattle.qw_parse.specs.Inner.Tables.{read_of};
+ghost use Rattle.qw_parse.specs.Inner.Written.{definition_read};
+ghost use Rattle.qw_token.specs.Token.{lexemes};
 
-use super::ParseFault;
-use super::word::is_same_name;
-use qw_ast::tree::TableDefinition;
+use super::statement::is_too_deep;
+use super::table::create_table;
+use super::{Count, SchemaFault};
+use qw_ast::tree::{ColumnDefinition, TableDefinition};
+use qw_token::token::Token;
 use qw_types::schema::MAX_COLUMNS;
-use qw_types::{Column, Columns, NoMemory, Schema, Table, Text, Ty};
+use qw_types::{Column, Columns, NoMemory, Table, Text};
 use std::alloc::Global;
 
-/// The schema of the table, with its names in upper case.
+/// The tables that the statements declare, one each.
 ///
 /// # Errors
 ///
-/// `Refused` where there are too many columns or two of one name, and `NoMemory`.
-#[tactic(auto, using(crate::proofs::DeclareLemmas::are_columns, crate::proofs::DeclareLemmas::too_many, crate::proofs::DeclareLemmas::not_distinct))]
+/// The first fault of the first statement that has one, and `NoMemory`.
 pub(crate) fn declared(
     alloc: Global,
-    definition: &TableDefinition<'_>,
-) -> Result<Schema, ParseFault>
-    requires table_ascii { IsAscii definition.now.table.now }
-    requires columns_ascii { AllByRecursion (λ name. IsAscii name.now) definition.now.columns.items }
-    requires some { 0 < length definition.now.columns.items }
-    ensures limits { IfOk result (λ schema. AreColumns (map integer_column (folded_names definition.now.columns.items))) }
-    ensures declares { IfOk result (λ schema. schema ≡ one_table (folded definition.now.table.now) (folded_names definition.now.columns.items)) }
-    ensures refused { IsErrOf result ParseFault.Refused → AreColumns (map integer_column (folded_names definition.now.columns.items)) → ⊥ }
+    statements: &[&[Token<'_>]],
+) -> Result<Vec<Table>, SchemaFault>
+    ensures tables { IfOk result (λ tables. judged_from [] 1 (map (λ s. lexemes s.now) statements.now) ≡ Ok tables.items) }
+    ensures fault { IfErr result (λ fault. (fault ≡ SchemaFault.NoMemory) ⊎ (judged_from [] 1 (map (λ s. lexemes s.now) statements.now) ≡ Err fault)) }
 {
-    let names = definition.columns.as_slice();
-    if MAX_COLUMNS < names.len() {
-        return Err(ParseFault::Refused);
+    let mut tables = Vec::new(alloc);
+    for (index, tokens) in statements.iter().enumerate() {
+        let table = judged(alloc, tables.as_slice(), index + 1, tokens)?;
+        tables.push(table).map_err(|_| SchemaFault::NoMemory)?;
     }
-    if !are_distinct(names) {
-        return Err(ParseFault::Refused);
-    }
-    Ok(one_table(alloc, definition.table, names)?)
+    Ok(tables)
 }
 
-/// Whether the name is one of the others.
-fn is_one_of(name: &[u8], others: &[&[u8]]) -> bool
-    ensures { result ≡ list_any (λ other. bytes_eq (folded name.now) (folded other.now)) others.now }
+/// The table that a statement declares behind those, where the statement has this number.
+fn judged(
+    alloc: Global,
+    before: &[Table],
+    statement: usize,
+    tokens: &[Token<'_>],
+) -> Result<Table, SchemaFault>
+    ensures table { IfOk result (λ table. judged before.now statement (lexemes tokens.now) ≡ Ok table) }
+    ensures fault { IfErr result (λ fault. (fault ≡ SchemaFault.NoMemory) ⊎ (judged before.now statement (lexemes tokens.now) ≡ Err fault)) }
 {
-    others.iter().any(|other| is_same_name(name, other))
-}
-
-/// Whether no name comes twice.
-fn are_distinct(names: &[&[u8]]) -> bool
-    ensures { result ≡ are_distinct (folded_names names.now) }
-{
-    for (index, name) in names.iter().enumerate() {
-        if is_one_of(name, &names[index + 1..]) {
-            return false;
-        }
+    if is_too_deep(tokens) {
+        return Err(SchemaFault::TooDeep { statement });
     }
-    true
+    let Some(definition) = create_table(alloc, tokens)? else {
+        return Err(SchemaFault::NotGrammar { statement });
+    };
+    checked(alloc, before, statement, definition)
 }
 
-/// The name in upper case.
-fn folded_text(alloc: Global, name: &[u8]) -> Result<Text, NoMemory>
-    requires { IsAscii name.now }
-    ensures { IfOk result (λ text. text ≡ folded name.now) }
+/// The table of the definition, if it keeps the limits and no name comes again.
+fn checked(
+    alloc: Global,
+    before: &[Table],
+    statement: usize,
+    definition: TableDefinition,
+) -> Result<Table, SchemaFault>
+    requires some { 0 < length definition.columns.items }
+    requires sized { AreSized (map read_of definition.columns.items) }
+    ensures table { IfOk result (λ table. checked before.now statement (definition_read definition) ≡ Ok table) }
+    ensures fault { IfErr result (λ fault. (fault ≡ SchemaFault.NoMemory) ⊎ (checked before.now statement (definition_read definition) ≡ Err fault)) }
 {
-    let mut text = String::new(alloc);
-    for octet in name {
-        text.push(char::from(octet.to_ascii_uppercase()))?;
+    let TableDefinition { name, columns } = definition;
+    if MAX_COLUMNS < columns.len() {
+        return Err(SchemaFault::TooMany {
+            statement,
+            what: Count::Columns,
+            limit: MAX_COLUMNS,
+        });
     }
-    Ok(Text::new(text))
-}
-
-/// A column that is declared INTEGER NOT NULL.
-fn integer_column(alloc: Global, name: &[u8]) -> Result<Column, NoMemory>
-    requires { IsAscii name.now }
-    ensures { IfOk result (λ column. column ≡ integer_column (folded name.now)) }
-{
-    Ok(Column {
-        name: folded_text(alloc, name)?,
-        ty: Ty::Integer,
-        not_null: true,
+    if is_named(before, &name) || is_twice(columns.as_slice()) {
+        return Err(SchemaFault::Duplicate { statement });
+    }
+    let Some(columns) = columns_of(alloc, columns)? else {
+        return Err(SchemaFault::BadSize { statement });
+    };
+    Ok(Table {
+        name,
+        columns: Columns::new(columns),
     })
 }
 
-/// Such columns of these names, in order.
-fn integer_columns(alloc: Global, names: &[&[u8]]) -> Result<Vec<Column>, NoMemory>
-    requires { AllByRecursion (λ name. IsAscii name.now) names.now }
-    ensures { IfOk result (λ columns. columns.items ≡ map integer_column (folded_names names.now)) }
+/// Whether one of the tables has the name.
+fn is_named(tables: &[Table], name: &Text) -> bool
+    ensures { result ≡ is_named tables.now name.now }
 {
-    let mut columns = Vec::new(alloc);
-    for name in names {
-        columns.push(integer_column(alloc, name)?)?;
-    }
-    Ok(columns)
+    tables
+        .iter()
+        .any(|table| name.as_str() == table.name.as_str())
 }
 
-/// A schema of one table of such columns, under these names in upper case.
-fn one_table(alloc: Global, table: &[u8], names: &[&[u8]]) -> Result<Schema, NoMemory>
-    requires table_ascii { IsAscii table.now }
-    requires columns_ascii { AllByRecursion (λ name. IsAscii name.now) names.now }
-    requires limits { AreColumns (map integer_column (folded_names names.now)) }
-    ensures { IfOk result (λ schema. schema ≡ one_table (folded table.now) (folded_names names.now)) }
+/// Whether one of the columns has the name.
+fn is_among(columns: &[ColumnDefinition], name: &Text) -> bool
+    ensures { result ≡ list_any (λ (c : ColumnDefinition). bytes_eq name.now c.name) columns.now }
 {
-    let table = Table {
-        name: folded_text(alloc, table)?,
-        columns: Columns::new(integer_columns(alloc, names)?),
-    };
-    Ok(Schema::new(vec![in alloc; table]?))
+    columns
+        .iter()
+        .any(|column| name.as_str() == column.name.as_str())
+}
+
+/// Whether a name comes again behind one of the columns.
+fn is_twice(columns: &[ColumnDefinition]) -> bool
+    ensures { result ≡ is_twice (map name_in (map read_of columns.now)) }
+{
+    for (index, column) in columns.iter().enumerate() {
+        if is_among(&columns[index + 1..], &column.name) {
+            return true;
+        }
+    }
+    false
+}
+
+/// The columns, if the sizes of each type are taken.
+fn columns_of(
+    alloc: Global,
+    definitions: Vec<ColumnDefinition>,
+) -> Result<Option<Vec<Column>>, NoMemory>
+    ensures { IfOk result (λ columns. option_map (λ c. c.items) columns ≡ columns_of (map read_of definitions.items)) }
+{
+    let mut columns = Vec::new(alloc);
+    for definition in definitions {
+        let Some(ty) = definition.ty else {
+            return Ok(None);
+        };
+        columns.push(Column {
+            name: definition.name,
+            ty,
+            not_null: definition.not_null,
+        })?;
+    }
+    Ok(Some(columns))
 }

@@ -1,29 +1,22 @@
-//! The forms of the statements, read from left to right.
+//! The form of a query, read from left to right, and what other forms are made of.
 
 ghost use Rattle.std.specs.Prelude.{◌≡◌, ◌≤ℤ◌, pos, IfOk, IfSome, option_map};
 ghost use Rattle.qw_ast.specs.Grammar.{folded, key_word, symbol};
-ghost use Rattle.qw_parse.specs.Inner.Parser.{terminal_at, regular_at, unsigned_at, literal_at, comparison_of, comparison_at, is_end, column_definition_at, item_at, list_at, whole_of, table_at, create_table_at, table_expression_at, query_specification_at};
+ghost use Rattle.qw_parse.specs.Inner.Parser.{terminal_at, regular_at, unsigned_at, literal_at, comparison_of, comparison_at, is_end, list_at, whole_of, table_expression_at, query_specification_at};
 ghost use Rattle.qw_token.specs.Token.{lexemes};
-ghost use Rattle.qw_ast.specs.Inner.Views.{definition, folded_names, source, selection};
+ghost use Rattle.qw_ast.specs.Inner.Views.{folded_names, source, selection};
 
 use super::literal::literal_of;
 use super::word::{folds_to, is_reserved};
-use qw_ast::tree::{QuerySpecification, TableDefinition, TableExpression};
+use qw_ast::tree::{QuerySpecification, TableExpression};
 use qw_meaning::query::Comparison;
 use qw_token::token::{Kind, Token};
 use qw_types::NoMemory;
 use std::alloc::Global;
 
-/// What stands in a list, between the commas.
-#[derive(Clone, Copy, Debug)]
-pub(crate) enum Item {
-    ColumnDefinition,
-    ColumnReference,
-}
-
 /// The tokens behind the key word.
 #[tactic(auto, unfolding(crate::specs::Inner::Parser::terminal_at))]
-fn key_word<'t, 'a>(tokens: &'t [Token<'a>], word: &[u8]) -> Option<&'t [Token<'a>]>
+pub(crate) fn key_word<'t, 'a>(tokens: &'t [Token<'a>], word: &[u8]) -> Option<&'t [Token<'a>]>
     ensures { option_map (λ x. lexemes x.now) result ≡ terminal_at (key_word word.now) (lexemes tokens.now) }
 {
     match tokens {
@@ -34,7 +27,7 @@ fn key_word<'t, 'a>(tokens: &'t [Token<'a>], word: &[u8]) -> Option<&'t [Token<'
 
 /// The tokens behind the symbol.
 #[tactic(auto, unfolding(crate::specs::Inner::Parser::terminal_at))]
-fn symbol<'t, 'a>(tokens: &'t [Token<'a>], octets: &[u8]) -> Option<&'t [Token<'a>]>
+pub(crate) fn symbol<'t, 'a>(tokens: &'t [Token<'a>], octets: &[u8]) -> Option<&'t [Token<'a>]>
     ensures { option_map (λ x. lexemes x.now) result ≡ terminal_at (symbol octets.now) (lexemes tokens.now) }
 {
     match tokens {
@@ -45,7 +38,7 @@ fn symbol<'t, 'a>(tokens: &'t [Token<'a>], octets: &[u8]) -> Option<&'t [Token<'
 
 /// The regular identifier in front, as it stands in the text, and the tokens behind it.
 #[tactic(auto, unfolding(crate::specs::Inner::Parser::regular_at, crate::specs::Inner::Parser::token_at))]
-fn regular<'t, 'a>(tokens: &'t [Token<'a>]) -> Option<(&'a [u8], &'t [Token<'a>])>
+pub(crate) fn regular<'t, 'a>(tokens: &'t [Token<'a>]) -> Option<(&'a [u8], &'t [Token<'a>])>
     ensures { option_map (λ x. (folded x.0.now, lexemes x.1.now)) result ≡ regular_at (lexemes tokens.now) }
 {
     match tokens {
@@ -118,84 +111,25 @@ fn comparison<'t, 'a>(tokens: &'t [Token<'a>]) -> Option<(Comparison, &'t [Token
     Some((comparison_of(first.octets)?, rest))
 }
 
-/// The name in the column definition in front, and the tokens behind that.
-#[tactic(auto, unfolding(crate::specs::Inner::Parser::column_definition_at))]
-fn column_definition<'t, 'a>(tokens: &'t [Token<'a>]) -> Option<(&'a [u8], &'t [Token<'a>])>
-    ensures { option_map (λ x. (folded x.0.now, lexemes x.1.now)) result ≡ column_definition_at (lexemes tokens.now) }
-{
-    let (name, rest) = regular(tokens)?;
-    let rest = key_word(rest, b"INTEGER")?;
-    let rest = key_word(rest, b"NOT")?;
-    let rest = key_word(rest, b"NULL")?;
-    Some((name, rest))
-}
-
-/// The name in the item in front, and the tokens behind the item.
-fn one_item<'t, 'a>(item: Item, tokens: &'t [Token<'a>]) -> Option<(&'a [u8], &'t [Token<'a>])>
-    ensures { option_map (λ x. (folded x.0.now, lexemes x.1.now)) result ≡ item_at item (lexemes tokens.now) }
-{
-    match item {
-        Item::ColumnDefinition => column_definition(tokens),
-        Item::ColumnReference => regular(tokens),
-    }
-}
-
-/// The names in the items in front, with a comma between each two, and the tokens behind them.
+/// The names in front, with a comma between each two, and the tokens behind them.
 fn list<'t, 'a>(
     alloc: Global,
-    kind: Item,
     tokens: &'t [Token<'a>],
 ) -> Result<Option<(Vec<&'a [u8]>, &'t [Token<'a>])>, NoMemory>
-    ensures { IfOk result (λ read. option_map (λ x. (folded_names x.0.items, lexemes x.1.now)) read ≡ list_at (item_at kind) (lexemes tokens.now)) }
+    ensures { IfOk result (λ read. option_map (λ x. (folded_names x.0.items, lexemes x.1.now)) read ≡ list_at regular_at (lexemes tokens.now)) }
 {
-    let Some((first, mut rest)) = one_item(kind, tokens) else {
+    let Some((first, mut rest)) = regular(tokens) else {
         return Ok(None);
     };
     let mut names = vec![in alloc; first]?;
     while let Some(behind_comma) = symbol(rest, b",") {
-        let Some((name, after)) = one_item(kind, behind_comma) else {
+        let Some((name, after)) = regular(behind_comma) else {
             return Ok(None);
         };
         names.push(name)?;
         rest = after;
     }
     Ok(Some((names, rest)))
-}
-
-/// The name of the table that is created, and the tokens behind the `(`.
-#[tactic(auto, unfolding(crate::specs::Inner::Parser::table_at))]
-fn table<'t, 'a>(tokens: &'t [Token<'a>]) -> Option<(&'a [u8], &'t [Token<'a>])>
-    ensures { option_map (λ x. (folded x.0.now, lexemes x.1.now)) result ≡ table_at (lexemes tokens.now) }
-{
-    let rest = key_word(tokens, b"CREATE")?;
-    let rest = key_word(rest, b"TABLE")?;
-    let (table, rest) = regular(rest)?;
-    let rest = symbol(rest, b"(")?;
-    Some((table, rest))
-}
-
-/// The names of the table and of its columns.
-#[tactic(auto, unfolding(crate::specs::Inner::Parser::create_table_at))]
-pub(crate) fn create_table<'a>(
-    alloc: Global,
-    tokens: &[Token<'a>],
-) -> Result<Option<TableDefinition<'a>>, NoMemory>
-    ensures { IfOk result (λ read. option_map definition read ≡ whole_of create_table_at (lexemes tokens.now)) }
-{
-    let Some((table, rest)) = table(tokens) else {
-        return Ok(None);
-    };
-    let Some((columns, rest)) = list(alloc, Item::ColumnDefinition, rest)? else {
-        return Ok(None);
-    };
-    let Some(rest) = symbol(rest, b")") else {
-        return Ok(None);
-    };
-    if is_end(rest) {
-        Ok(Some(TableDefinition { table, columns }))
-    } else {
-        Ok(None)
-    }
 }
 
 /// What stands behind a select list, and the tokens behind it.
@@ -231,7 +165,7 @@ pub(crate) fn query_specification<'a>(
     let Some(rest) = key_word(tokens, b"SELECT") else {
         return Ok(None);
     };
-    let Some((columns, rest)) = list(alloc, Item::ColumnReference, rest)? else {
+    let Some((columns, rest)) = list(alloc, rest)? else {
         return Ok(None);
     };
     let Some((source, rest)) = table_expression(rest) else {

@@ -1,16 +1,16 @@
 //! The statement that the names of a query mean over a schema.
 
-ghost use Rattle.std.specs.Prelude.{◌≡◌, ◌<◌, ℕ, List, length, IfOk, IsErrOf, map, option_map, Some, MatchOption};
+ghost use Rattle.std.specs.Prelude.{◌≡◌, ◌<◌, ◌&&◌, ℕ, List, length, IfOk, IsErrOf, map, option_map, Some, MatchOption};
 ghost use Rattle.qw_meaning.specs.Statement.{Statement};
 ghost use Rattle.qw_ast.specs.Grammar.{folded};
-ghost use Rattle.qw_parse.specs.Parse.{Means, table_of, index_of};
+ghost use Rattle.qw_parse.specs.Parse.{Means, table_of, index_of, is_integer};
 ghost use Rattle.qw_ast.specs.Inner.Views.{folded_names, selection};
 
 use super::ParseFault;
 use super::word::folds_to;
 use qw_ast::tree::QuerySpecification;
 use qw_meaning::query::{MAX_ITEMS, Query};
-use qw_types::{Column, NoMemory, Schema, Table};
+use qw_types::{Column, NoMemory, Schema, Table, Ty};
 use std::alloc::Global;
 
 /// The statement that the names mean over the schema's tables.
@@ -54,13 +54,19 @@ fn table_named<'s>(tables: &'s [Table], name: &[u8]) -> Option<&'s Table>
         .find(|table| folds_to(name, table.name.as_str().as_bytes()))
 }
 
-/// The index of the column of the name.
+/// Whether a statement can use the column: so far only those that are INTEGER NOT NULL.
+fn is_usable(column: &Column) -> bool
+    ensures { result ≡ (is_integer column.now.ty && column.now.not_null) }
+{
+    matches!(column.ty, Ty::Integer) && column.not_null
+}
+
+/// The index of the column of the name, if a statement can use it.
 fn index_named(columns: &[Column], name: &[u8]) -> Option<usize>
     ensures { result ≡ index_of columns.now (folded name.now) }
 {
-    columns
-        .iter()
-        .position(|column| folds_to(name, column.name.as_str().as_bytes()))
+    columns.iter().position(|column| folds_to(name, column.name.as_str().as_bytes())
+        && is_usable(column))
 }
 
 /// The indices of the columns of the names, if there is one of each.

@@ -81,13 +81,6 @@ pub(crate) fn folds_to(octets: &[u8], word: &[u8]) -> bool
             .all(|(octet, letter)| octet.to_ascii_uppercase() == *letter)
 }
 
-/// Whether two names are one in upper case.
-pub(crate) fn is_same_name(name: &[u8], other: &[u8]) -> bool
-    ensures { result ≡ bytes_eq (folded name.now) (folded other.now) }
-{
-    name.eq_ignore_ascii_case(other)
-}
-
 /// Whether the octets in upper case are one of the words.
 fn is_among(words: &[&str], octets: &[u8]) -> bool
     ensures { result ≡ list_any (λ word. bytes_eq (folded octets.now) word.now) words.now }

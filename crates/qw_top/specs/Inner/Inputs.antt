@@ -1,10 +1,9 @@
 -- What the stages that read the files know.
 use Rattle.std.specs.List.{AllByRecursion}
-use Rattle.std.specs.Prelude.{◌<◌, List, [], ◌∷◌, length}
+use Rattle.std.specs.Prelude.{◌<◌, length}
 use Rattle.qw_types.specs.declared.schema.Table.{Table}
 use Rattle.qw_meaning.specs.Statement.{Statement}
 use Rattle.qw_top.specs.declared.words.RunWords.{RunWords}
-use Rattle.qw_csv.specs.Loading.{AreIntegers}
 use Rattle.qw_top.specs.Top.{Names}
 
 -- the names that words which were read give
@@ -15,9 +14,3 @@ names_of run = record { schema = run.schema.now; folder = run.folder.now; querie
 abbrev pub AreColumnsOf : Table → Statement → Type 0
 AreColumnsOf table statement = (statement.tested < length table.columns)
     × AllByRecursion (λ column. column < length table.columns) statement.columns
-
--- a schema of one table that has INTEGER columns
-abbrev pub IsOneTable : List Table → Type 0
-IsOneTable [] = ⊥
-IsOneTable (table ∷ []) = AreIntegers table.columns
-IsOneTable (table ∷ next ∷ tables) = ⊥

@@ -9,7 +9,7 @@ use Rattle.qw_top.specs.declared.stop.Refusal.{Refusal}
 use Rattle.qw_top.specs.declared.stop.Stop.{Stop}
 use Rattle.qw_top.specs.declared.stop.Stop.TheVariants.{Refused, Unread, NoMemory}
 use Rattle.qw_top.specs.Delivered.{Asks, HasRun, ShowsEnd, status_of}
-use Rattle.qw_csv.specs.Loading.{AreIntegers}
+use Rattle.qw_csv.specs.Contents.{AreIntegers}
 use Rattle.qw_top.specs.Output.{TookFront, with_text}
 use Rattle.qw_bench.specs.Standing.{Standing}
 use Rattle.qw_top.specs.Inner.Stop.{octets_of, refusal_status}

@@ -1,29 +1,31 @@
 //! From the words of a run to the contents of its files.
 
-ghost use Rattle.std.specs.Prelude.{◌≡◌, ◌≤◌, [], ◌∷◌, IfOk, IfErr, length};
+ghost use Rattle.std.specs.Prelude.{◌≡◌, ◌≤◌, [], ◌∷◌, IfOk, IfErr, map};
 ghost use Rattle.qw_types.specs.declared.schema.Table.{Table};
-ghost use Rattle.qw_csv.specs.Loading.{AreIntegers};
+ghost use Rattle.qw_csv.specs.Contents.{AreIntegers, kind_of};
 ghost use Rattle.qw_top.specs.FileNames.{table_file_of};
 ghost use Rattle.qw_top.specs.Inner.Stages.{FilesStop, StopsAs, failed_stop};
 ghost use Rattle.qw_top.specs.Inner.Shelves.{HasRead, told_by};
 ghost use Rattle.qw_top.specs.Inner.Stop.{octets_of};
-ghost use Rattle.qw_top.specs.Top.{HasQuery, IsFile, IsNoQuery, IsNoSchema, IsNoTable, IsTooLong, QueryIs, SchemaIs, TableIs};
-ghost use Rattle.qw_top.specs.Inner.Inputs.{IsOneTable, names_of};
+ghost use Rattle.qw_top.specs.Top.{HasQuery, IsFile, IsNoQuery, IsNoSchema, IsNoTable, IsOneTable, IsTooLong, QueryIs, SchemaIs, TableIs};
+ghost use Rattle.qw_top.specs.Inner.Inputs.{names_of};
 
+use super::taken::is_one_table;
 use crate::files::{MAX_TABLE_FILE, MAX_TEXT_FILE, ReadFault, read_whole, table_file_name};
 use crate::stop::{FileName, Refusal, Stop};
 use crate::words::RunWords;
-use qw_csv::loading::{LoadFault, Loaded, load};
+use qw_csv::Loaded;
+use qw_csv::loading::{LoadFault, load};
 use qw_io::Shelf;
 use qw_meaning::query::Query;
-use qw_parse::parse::{ParseFault, query_of, schema_of};
+use qw_parse::parse::{ParseFault, SchemaFault, query_of, schema_of};
 use qw_types::{Schema, Table};
 use std::alloc::Global;
 
 /// What the files of a run hold.
 #[derive(Debug, Drop)]
 pub struct Prepared {
-    /// The one table that is declared.
+    /// The schema, of one table.
     pub schema: Schema,
     /// Its rows.
     pub loaded: Loaded,
@@ -43,7 +45,7 @@ pub fn prepare<'a, F: Shelf>(
     files: &mut F,
 ) -> Result<Prepared, Stop<'a>>
     ensures accepted { IfOk result (λ run. (table : Table) × (run.schema ≡ table ∷ [])
-        × (run.loaded.width ≡ length table.columns)
+        × (run.loaded.columns ≡ map kind_of table.columns)
         × HasQuery (F.files files.old) (names_of names.now) table run.loaded.rows run.query) }
     ensures one_table { IfOk result (λ run. IsOneTable run.schema) }
     ensures stops { IfErr result (λ stop. FilesStop (F.files files.old) (names_of names.now) stop) }
@@ -83,9 +85,26 @@ fn read_schema<'a, F: Shelf>(
     let name = FileName::Given(name);
     let text = read_file(alloc, files, name, MAX_TEXT_FILE, Refusal::Schema)?;
     match schema_of(alloc, text.as_slice()) {
-        Ok(schema) => Ok(schema),
-        Err(ParseFault::Refused) => Err(Stop::Refused(Refusal::Schema)),
-        Err(ParseFault::NoMemory) => Err(Stop::NoMemory),
+        Ok(schema) if is_one_table(&schema) => Ok(schema),
+        Ok(_) => Err(Stop::Refused(Refusal::Schema)),
+        Err(fault) => Err(schema_stop(fault)),
+    }
+}
+
+/// Why a run stops at a schema that is none.
+fn schema_stop<'a>(fault: SchemaFault) -> Stop<'a>
+    ensures memory { fault ≡ SchemaFault.NoMemory → result ≡ Stop.NoMemory }
+    ensures refused { (fault ≡ SchemaFault.NoMemory → ⊥) → result ≡ Stop.Refused Refusal.Schema }
+{
+    match fault {
+        SchemaFault::NoMemory => Stop::NoMemory,
+        SchemaFault::NotUtf8
+        | SchemaFault::NotToken { .. }
+        | SchemaFault::NotGrammar { .. }
+        | SchemaFault::TooDeep { .. }
+        | SchemaFault::TooMany { .. }
+        | SchemaFault::Duplicate { .. }
+        | SchemaFault::BadSize { .. } => Stop::Refused(Refusal::Schema),
     }
 }
 
@@ -99,8 +118,8 @@ fn read_table<'a, F: Shelf>(
     requires { IsOneTable schema.now }
     ensures accepted { IfOk result (λ loaded. (table : Table) → schema.now ≡ table ∷ []
         → TableIs (F.files files.old) folder.now table loaded.rows) }
-    ensures width { IfOk result (λ loaded. (table : Table) → schema.now ≡ table ∷ []
-        → loaded.width ≡ length table.columns) }
+    ensures kinds { IfOk result (λ loaded. (table : Table) → schema.now ≡ table ∷ []
+        → loaded.columns ≡ map kind_of table.columns) }
     ensures stops { IfErr result (λ stop. (table : Table) → schema.now ≡ table ∷ []
         → StopsAs Refusal.TableFile (IsNoTable (F.files files.old) folder.now table) (table_file_of folder.now table.name) stop) }
     ensures shelf { HasRead (failed_stop result) (told_by F.Shelf files.old) (told_by F.Shelf files.new) }

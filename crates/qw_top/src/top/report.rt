@@ -3,6 +3,7 @@
 ghost use Rattle.std.specs.Prelude.{◌≡◌, ◌≢◌, ℕ, List, slice_get, Some, IfOk, IfSome, IsSomeAnd};
 ghost use Rattle.qw_io.specs.Faults.{IsCounted};
 ghost use Rattle.qw_types.specs.declared.value.Val.{Val};
+ghost use Rattle.qw_csv.specs.Contents.{AreIntegers};
 ghost use Rattle.qw_map.specs.Turns.{Done};
 ghost use Rattle.qw_bench.specs.Bench.{end_in};
 ghost use Rattle.qw_top.specs.Delivered.{ShowsEnd, status_of};
@@ -74,6 +75,7 @@ fn report_of(alloc: Global, run: &Turned) -> Result<Report, NoMemory>
 /// The report of the rows of a bench whose instance is done.
 fn rows_report(alloc: Global, table: &Table, bench: &Bench) -> Result<Vec<u8>, NoMemory>
     requires done { end_in bench.now.shared 0 ≡ Some Done }
+    requires integers { AreIntegers table.now.columns }
     requires columns { IsSomeAnd (slice_get bench.now.tasks 0) (λ task. AreColumnsOf table.now task.statement) }
     ensures { IfOk result (λ text. IfSome (slice_get bench.now.tasks 0) (λ task. (bag : List (List Val))
         → rows_in bench.now 0 ≡ Some bag → text.items ≡ report_of_rows 1 (header_of table.now task.statement) bag)) }
@@ -103,6 +105,9 @@ fn head(alloc: Global, column: &Column) -> Result<Head, NoMemory>
     let name = String::from_str(alloc, column.name.as_str())?;
     let kind = match column.ty {
         Ty::Integer => Kind::Number(0),
+        Ty::Decimal { scale, .. } => Kind::Number(scale),
+        Ty::Date => Kind::Date,
+        Ty::Varchar { .. } => Kind::Text,
     };
     Ok(Head {
         name: Text::new(name),

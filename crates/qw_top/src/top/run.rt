@@ -4,19 +4,20 @@ ghost use Rattle.std.specs.Prelude.{◌≡◌, ◌<◌, [], ◌∷◌, map, leng
 ghost use Rattle.std.specs.List.{AllByRecursion};
 ghost use Rattle.std.specs.String.{string_bytes};
 ghost use Rattle.qw_types.specs.declared.schema.Table.{Table};
+ghost use Rattle.qw_csv.specs.Contents.{AreIntegerKinds, kind_of};
 ghost use Rattle.qw_emit.specs.Compiled.{IsCompiled};
 ghost use Rattle.qw_map.specs.Layout.{used};
 ghost use Rattle.qw_top.specs.Delivered.{Asks, HasRun};
 ghost use Rattle.qw_top.specs.Inner.Stages.{HasAsked, Stops, failed_stop};
 ghost use Rattle.qw_top.specs.Inner.Shelves.{HasRead, told_by};
-ghost use Rattle.qw_top.specs.Inner.Inputs.{IsOneTable};
+ghost use Rattle.qw_top.specs.Top.{IsOneTable};
 
 use super::QUANTUM;
 use super::inputs::{Prepared, prepare};
 use crate::stop::{Refusal, Stop};
 use crate::words::run_words;
 use qw_bench::bench::{Bench, DEFAULT_LIMITS, Job};
-use qw_csv::loading::Loaded;
+use qw_csv::Loaded;
 use qw_emit::emit::module_of;
 use qw_io::Shelf;
 use qw_meaning::query::Query;
@@ -62,7 +63,7 @@ fn accept<'a, F: Shelf>(
     files: &mut F,
 ) -> Result<Prepared, Stop<'a>>
     ensures asks { IfOk result (λ run. (table : Table) × (run.schema ≡ table ∷ [])
-        × (run.loaded.width ≡ length table.columns)
+        × (run.loaded.columns ≡ map kind_of table.columns)
         × Asks (F.files files.old) (map string_bytes words.now) table run.loaded.rows run.query) }
     ensures one_table { IfOk result (λ run. IsOneTable run.schema) }
     ensures stops { IfErr result (λ stop. Stops (F.files files.old) (map string_bytes words.now) stop) }
@@ -74,8 +75,9 @@ fn accept<'a, F: Shelf>(
 
 /// The bench of a query over a loaded table, after the turns that end it.
 fn finished(alloc: Global, loaded: &Loaded, query: Query) -> Result<Bench, NoMemory>
-    requires { AllByRecursion (λ column. column < loaded.now.width) (used query) }
-    ensures { IfOk result (λ bench. HasRun loaded.now.width loaded.now.rows query bench) }
+    requires integers { AreIntegerKinds loaded.now.columns }
+    requires columns { AllByRecursion (λ column. column < length loaded.now.columns) (used query) }
+    ensures { IfOk result (λ bench. HasRun (length loaded.now.columns) loaded.now.rows query bench) }
 {
     let job = compiled(alloc, query)?;
     let mut bench = Bench::new(alloc, loaded, job, DEFAULT_LIMITS)?;

@@ -22,7 +22,7 @@ loop-column-init c =
 
 pub write_column-requires-clause-room : goal.write_column-requires-clause-room
 write_column-requires-clause-room c =
-    let room = within_pages c.args.loaded.now.width (length c.args.loaded.now.rows) c.loop-column.column (rw c.width-column-end.ensures at c.loop-column-test.true) in
+    let room = within_pages (length c.args.loaded.now.columns) (length c.args.loaded.now.rows) c.loop-column.column (rw c.width-column-end.ensures at c.loop-column-test.true) in
     rw (c.loop-column.invariant.len) room
 
 pub loop-column-preserved : goal.loop-column-preserved
@@ -36,5 +36,5 @@ loop-column-preserved c = record {
 
 pub returns-clause-holds : goal.returns-clause-holds
 returns-clause-holds c =
-    let all : c.loop-column.column ≡ c.args.loaded.now.width = omega (arith, c.width-column-end.ensures) in
+    let all : c.loop-column.column ≡ (length c.args.loaded.now.columns) = omega (arith, c.width-column-end.ensures) in
     record { columns = (rw all at c.loop-column.invariant.holds).each }

@@ -8,6 +8,6 @@ abbrev pub invariant-loop-column : goal.invariant-loop-column
 invariant-loop-column l = record {
   holds : HoldsColumns l.memory.octets l.loaded.rows l.column;
   octets : AreOctets l.memory.octets;
-  len : length l.memory.octets ≡ column_pages l.loaded.width (length l.loaded.rows) * page;
+  len : length l.memory.octets ≡ column_pages (length l.loaded.columns) (length l.loaded.rows) * page;
   reserved : l.memory.reserved ≡ l.fn.memory.reserved;
 }

@@ -4,6 +4,7 @@ use Rattle.std.specs.Int.{cast_unsigned}
 use Rattle.std.proofs.lemmas.Int.{to_z-of_z}
 use Rattle.qw_linear.proofs.AccessFacts.{stored-inside}
 use Rattle.qw_linear.proofs.MemoryFacts.{AreOctets-with_number, length-with_number, with_number-below}
+use Rattle.qw_csv.proofs.KindLaws.{kind_there}
 use Rattle.qw_columns.proofs.ColumnLemmas.{holds_all, holds_more, holds_none}
 use Rattle.qw_columns.proofs.columns.write_column.Goals as goal
 
@@ -22,6 +23,9 @@ unwrap-requires c =
     let room = rw (← c.len.ensures.rows) at c.requires.room in
     let inside : c.column_start-start.result + 4 * c.loop-row.row + 4 ≤ length c.loop-row.memory.octets = omega (arith, c.loop-row.invariant.len) in
     c.store32.ensures.inside.1 inside
+
+pub value-requires-clause-column : goal.value-requires-clause-column
+value-requires-clause-column c = kind_there c.args.loaded.now.columns c.args.column c.requires.integers c.requires.column
 
 pub loop-row-preserved : goal.loop-row-preserved
 loop-row-preserved c =

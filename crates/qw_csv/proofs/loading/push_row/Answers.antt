@@ -1,30 +1,63 @@
-use Rattle.std.proofs.Common.{◌++◌, ◌∷◌, [], ◌∙◌, append_assoc, arith, length-append, refl, sym, w32}
-use Rattle.std.specs.Prelude.{FitsSigned}
-use Rattle.std.proofs.lemmas.Int.{to_z-of_z}
+use Rattle.std.proofs.Common.{◌≡◌, ◌++◌, ◌∷◌, [], ◌∙◌, add-one, arith, length, refl, sym}
 use Rattle.csv.specs.Records.{fields_of}
-use Rattle.qw_csv.proofs.NumberLemmas.{fits}
-use Rattle.qw_csv.proofs.RecordLemmas.{fails_first, stands_push}
+use Rattle.qw_csv.specs.Field.{val_of}
+use Rattle.qw_csv.proofs.PushLemmas.{fails_first, field_kind, kept_more, next_there, pushed_more, record_of, rows_more}
+use Rattle.qw_csv.proofs.StorageLemmas.{get_below, get_is}
 use Rattle.qw_csv.proofs.loading.push_row.Goals as goal
+
+pub index_mut-kept-requires : goal.index_mut-kept-requires
+index_mut-kept-requires c =
+    let (more, pushed) = c.loop-index.invariant in
+    let there = get_is c.args.columns.now c.loop-index.index c.index-columns-index.result c.loop-index-test.true c.index-columns-index.is in
+    let next = next_there c.loop-index.index c.args.len c.args.columns.now (fields_of c.args.row.now) c.args.values.now.items c.loop-index.values.items more c.index-columns-index.result pushed there in
+    omega (arith, get_below c.loop-index.values.items c.loop-index.index next.kept next.there)
+
+pub push-requires-clause-kept : goal.push-requires-clause-kept
+push-requires-clause-kept c =
+    let (more, pushed) = c.loop-index.invariant in
+    let there = get_is c.args.columns.now c.loop-index.index c.index-columns-index.result c.loop-index-test.true c.index-columns-index.is in
+    let next = next_there c.loop-index.index c.args.len c.args.columns.now (fields_of c.args.row.now) c.args.values.now.items c.loop-index.values.items more c.index-columns-index.result pushed there in
+    let below = get_below c.loop-index.values.items c.loop-index.index next.kept next.there in
+    let same : next.kept ≡ c.index_mut-kept.result.now = cc (next.there, get_is c.loop-index.values.items c.loop-index.index c.index_mut-kept.result.now below c.index_mut-kept.ensures.value) in
+    rw c.kind_of.ensures (rw same at next.valid)
+
+pub push-requires-clause-typed : goal.push-requires-clause-typed
+push-requires-clause-typed c =
+    rw c.kind_of.ensures (field_kind c.index-columns-index.result c.field.result.now (val_of c.in-Ok.cell) c.in-Ok.ensures)
 
 pub returns-in-Err-clause-fault : goal.returns-in-Err-clause-fault
 returns-in-Err-clause-fault c _ =
-    let same = sym c.len.ensures ∙ c.if-len-columns.false in
-    let (numbers, items, count, stands) = c.loop-column.invariant in (
-      c.requires.few,
+    let (more, pushed) = c.loop-index.invariant in
+    let there = get_is c.args.columns.now c.loop-index.index c.index-columns-index.result c.loop-index-test.true c.index-columns-index.is in
+    let same = sym c.len.ensures ∙ c.if-len-columns.false in (
+      omega (arith, c.requires.few),
       refl,
       same,
-      fails_first c.args.columns.now (fields_of c.args.row.now) _ c.loop-column.column c.in-Err.fault c.requires.integers c.loop-column-test.true same
-          (rw c.field.ensures at c.in-Err.ensures) stands,
+      fails_first c.loop-index.index c.args.len c.args.columns.now (fields_of c.args.row.now) c.args.values.now.items c.loop-index.values.items more c.index-columns-index.result c.in-Err.fault
+          pushed (omega (arith, same, c.loop-index-test.true)) there (rw c.field.ensures at c.in-Err.ensures),
     )
 
-pub loop-column-preserved : goal.loop-column-preserved
-loop-column-preserved c =
-    let same = sym c.len.ensures ∙ c.if-len-columns.false in
-    let (numbers, items, count, stands) = c.loop-column.invariant in
-    let field = rw c.field.ensures at c.in-Ok.ensures in
-    let range : FitsSigned w32 c.in-Ok.value = fits c.in-Ok.value c.in-Ok.ensures.1 in (
-      numbers ++ c.in-Ok.value ∷ [],
-      rw (c.in_ok-push-in-Ok.ensures.items, to_z-of_z w32 c.in-Ok.value range, items) (append_assoc c.args.values.now.items numbers (c.in-Ok.value ∷ [])),
-      simp length-append (omega arith),
-      stands_push c.args.columns.now (fields_of c.args.row.now) numbers c.loop-column.column c.in-Ok.value c.requires.integers c.loop-column-test.true same field stands,
+pub loop-index-preserved : goal.loop-index-preserved
+loop-index-preserved c =
+    let (more, pushed) = c.loop-index.invariant in
+    let there = get_is c.args.columns.now c.loop-index.index c.index-columns-index.result c.loop-index-test.true c.index-columns-index.is in
+    let next = next_there c.loop-index.index c.args.len c.args.columns.now (fields_of c.args.row.now) c.args.values.now.items c.loop-index.values.items more c.index-columns-index.result pushed there in
+    let below = get_below c.loop-index.values.items c.loop-index.index next.kept next.there in
+    let same : next.kept ≡ c.index_mut-kept.result.now = cc (next.there, get_is c.loop-index.values.items c.loop-index.index c.index_mut-kept.result.now below c.index_mut-kept.ensures.value) in
+    let count = sym c.len.ensures ∙ c.if-len-columns.false in (
+      more ++ val_of c.in-Ok.cell ∷ [],
+      rw add-one (pushed_more c.loop-index.index c.args.len c.args.columns.now (fields_of c.args.row.now) c.args.values.now.items c.loop-index.values.items more c.index-columns-index.result
+          next.kept c.push.new.self (val_of c.in-Ok.cell) pushed (omega (arith, count, c.loop-index-test.true)) there next.there next.long (rw c.field.ensures at c.in-Ok.ensures)
+          (rw c.kind_of.ensures at c.in_ok-push-in-Ok.ensures.kept) (rw same c.in_ok-push-in-Ok.ensures.pushed)),
+    )
+
+pub returns-clause-pushed : goal.returns-clause-pushed
+returns-clause-pushed c =
+    let (more, pushed) = c.loop-index.invariant in
+    let all : c.loop-index.index ≡ length c.args.columns.now = omega (arith, c.loop-index-test.false, c.loop-index.auto.index-end) in
+    let count = sym c.len.ensures ∙ c.if-len-columns.false in (
+      more,
+      record_of c.loop-index.index c.args.len c.args.columns.now (fields_of c.args.row.now) c.args.values.now.items c.loop-index.values.items more all count pushed,
+      kept_more c.loop-index.index c.args.len c.args.columns.now (fields_of c.args.row.now) c.args.values.now.items c.loop-index.values.items more all pushed,
+      rows_more c.loop-index.index c.args.len c.args.columns.now (fields_of c.args.row.now) c.args.values.now.items c.loop-index.values.items more all pushed,
     )

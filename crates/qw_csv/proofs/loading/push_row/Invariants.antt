@@ -1,9 +1,8 @@
-use Rattle.std.proofs.Common.{List, ℤ, ◌≡◌, ◌++◌, length, map, take}
+use Rattle.std.proofs.Common.{List}
 use Rattle.csv.specs.Records.{fields_of}
-use Rattle.qw_types.specs.declared.value.Val.TheVariants.{Num}
-use Rattle.qw_csv.specs.Loading.{IsRecordOf}
+use Rattle.qw_types.specs.declared.value.Val.{Val}
+use Rattle.qw_csv.proofs.PushLemmas.{Pushed}
 use Rattle.qw_csv.proofs.loading.push_row.Given as goal
 
-abbrev pub invariant-loop-column : goal.invariant-loop-column
-invariant-loop-column l = (numbers : List ℤ) × (l.values.items ≡ l.fn.values.items ++ numbers) × (length numbers ≡ l.column)
-    × IsRecordOf (take l.column l.columns) (take l.column (fields_of l.row)) (map Num numbers)
+abbrev pub invariant-loop-index : goal.invariant-loop-index
+invariant-loop-index l = (more : List Val) × Pushed l.index l.len l.columns (fields_of l.row) l.fn.values.items l.values.items more

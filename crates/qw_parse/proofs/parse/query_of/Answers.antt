@@ -1,13 +1,8 @@
-use Rattle.std.proofs.Common.{◌≡◌, List, Option, Some, refl, ap, ◌∙◌, sym}
-use Rattle.std.specs.Prelude.{option_map}
+use Rattle.std.proofs.Common.{refl, ap, ◌∙◌}
 use Rattle.std.proofs.lemmas.Result.{err_from_is_err_and, IfOk-weaker}
-use Rattle.qw_parse.specs.declared.parse.ParseFault.TheVariants.{Refused}
-use Rattle.qw_token.specs.declared.token.Token.{Token}
 use Rattle.qw_token.specs.Token.{lexemes}
-use Rattle.qw_ast.specs.declared.tree.QuerySpecification.{QuerySpecification}
 use Rattle.qw_parse.specs.Inner.Parser.{query_specification_at, whole_of}
 use Rattle.qw_parse.specs.Parse.{Means, ReadsQuery}
-use Rattle.qw_parse.specs.Inner.Faults.{parse_fault_of}
 use Rattle.qw_ast.specs.Inner.Views.{selection}
 use Rattle.qw_parse.proofs.ParserLemmas.{no_reading, told, reads_query, query_is_none, query_means_none, some_columns}
 use Rattle.qw_parse.proofs.parse.query_of.Goals as goal

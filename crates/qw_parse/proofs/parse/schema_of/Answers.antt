@@ -1,51 +1,42 @@
-use Rattle.std.proofs.Common.{◌≡◌, List, Option, Some, ap, ◌∙◌, sym}
-use Rattle.std.specs.Prelude.{option_map}
+use Rattle.std.proofs.Common.{sym, arith, inr}
+use Rattle.std.proofs.lemmas.Bool.{eqb-true}
 use Rattle.std.proofs.lemmas.Result.{err_from_is_err_and}
-use Rattle.qw_parse.specs.declared.parse.ParseFault.TheVariants.{Refused}
-use Rattle.qw_token.specs.declared.token.Token.{Token}
 use Rattle.qw_token.specs.Token.{lexemes}
-use Rattle.qw_ast.specs.declared.tree.TableDefinition.{TableDefinition}
-use Rattle.qw_ast.specs.Grammar.{folded}
-use Rattle.qw_parse.specs.Inner.Parser.{create_table_at, whole_of}
-use Rattle.qw_ast.specs.Inner.Views.{definition}
-use Rattle.qw_parse.specs.Inner.Faults.{parse_fault_of}
-use Rattle.qw_parse.proofs.ParserLemmas.{no_reading, told, declared_reads, schema_is_none, schema_is_beyond, names_are_ascii, some_names}
+use Rattle.qw_parse.proofs.SchemaLemmas.{tokens_refused, many_refused, none_refused, fault_refused, tables_declared, ReadsSchema-tables, some_left}
 use Rattle.qw_parse.proofs.parse.schema_of.Goals as goal
 
--- a text with no tokens is none
 pub returns-in_err-tokens-clause-refused : goal.returns-in_err-tokens-clause-refused
 returns-in_err-tokens-clause-refused c =
     let p = err_from_is_err_and c.from_residual.result c.from_residual.ensures.1 in
-    let fault = c.in_err-tokens.field-0.0 in
-    rw (p.1, p.2) (λ e tables r.
-    no_reading c.args.text.now fault c.in_err-tokens.ensures.not_utf8.0 c.in_err-tokens.ensures.not_token e r.statement.tokens r.statement.are_tokens)
+    rw (p.1, p.2) (tokens_refused c.args.text.now c.in_err-tokens.field-0.0 c.in_err-tokens.ensures.not_utf8.0 c.in_err-tokens.ensures.not_token)
 
--- nor do tokens of another form declare one
-pub returns-in_default-clause-refused : goal.returns-in_default-clause-refused
-returns-in_default-clause-refused c =
-    let items = lexemes c.in_ok-tokens.tokens.items in
-    let none = rw c.in_default.is at c.in_ok-definition.ensures ∙ ap (λ x. whole_of create_table_at (lexemes x)) c.deref.ensures.value in
-    λ e. schema_is_none c.args.text.now items c.in_ok-tokens.ensures.read none
+pub returns-then-len-gt-MAX_TABLES-clause-refused : goal.returns-then-len-gt-MAX_TABLES-clause-refused
+returns-then-len-gt-MAX_TABLES-clause-refused c =
+    let split = rw c.deref.ensures.value at c.in_ok-statements.ensures in
+    inr (many_refused c.args.text.now (lexemes c.in_ok-tokens.tokens.items) c.in_ok-statements.statements.items c.in_ok-tokens.ensures.read split (omega (arith, c.if-len-gt-MAX_TABLES.true, c.len.ensures)))
 
-pub declared-requires-clause-table_ascii : goal.declared-requires-clause-table_ascii
-declared-requires-clause-table_ascii c =
-    let d = c.in-Some.definition in
-    (names_are_ascii c.args.text.now _ d.table.now d.columns.items c.in_ok-tokens.ensures.read (told definition create_table_at _ _ _ _ c.in_ok-definition.ensures c.deref.ensures.value c.in-Some.is)).0
+pub returns-then-is_empty-clause-refused : goal.returns-then-is_empty-clause-refused
+returns-then-is_empty-clause-refused c =
+    let split = rw c.deref.ensures.value at c.in_ok-statements.ensures in
+    inr (none_refused c.args.text.now (lexemes c.in_ok-tokens.tokens.items) c.in_ok-statements.statements.items c.in_ok-tokens.ensures.read split (omega (arith, eqb-true _ 0 (sym c.if-is_empty.ensures))))
 
-pub declared-requires-clause-columns_ascii : goal.declared-requires-clause-columns_ascii
-declared-requires-clause-columns_ascii c =
-    let d = c.in-Some.definition in
-    (names_are_ascii c.args.text.now _ d.table.now d.columns.items c.in_ok-tokens.ensures.read (told definition create_table_at _ _ _ _ c.in_ok-definition.ensures c.deref.ensures.value c.in-Some.is)).1
+pub returns-in_err-tables-clause-refused : goal.returns-in_err-tables-clause-refused
+returns-in_err-tables-clause-refused c =
+    let p = err_from_is_err_and c.from_residual-in_err-tables.result c.from_residual-in_err-tables.ensures.1 in
+    let split = rw c.deref.ensures.value at c.in_ok-statements.ensures in
+    let fault = rw c.deref-2.ensures.value at c.in_err-tables.ensures.fault in
+    rw (p.1, p.2) (fault_refused c.args.text.now (lexemes c.in_ok-tokens.tokens.items) c.in_ok-statements.statements.items c.in_err-tables.field-0.0 c.in_ok-tokens.ensures.read split (omega (arith, c.if-len-gt-MAX_TABLES.false, c.len.ensures)) fault)
 
-pub declared-requires-clause-some : goal.declared-requires-clause-some
-declared-requires-clause-some c =
-    some_names c.args.text.now _ (folded c.in-Some.definition.table.now) c.in-Some.definition.columns.items c.in_ok-tokens.ensures.read (told definition create_table_at _ _ _ _ c.in_ok-definition.ensures c.deref.ensures.value c.in-Some.is)
+pub new-requires : goal.new-requires
+new-requires c =
+    let split = rw c.deref.ensures.value at c.in_ok-statements.ensures in
+    let judged = rw c.deref-2.ensures.value at c.in_ok-tables.ensures.tables in
+    let reads = tables_declared c.args.text.now (lexemes c.in_ok-tokens.tokens.items) c.in_ok-statements.statements.items c.in_ok-tables.tables.items c.in_ok-tokens.ensures.read split (omega (arith, c.if-len-gt-MAX_TABLES.false, c.len.ensures)) (omega (arith, some_left _ c.if-is_empty.ensures)) judged in
+    ReadsSchema-tables c.args.text.now c.in_ok-tables.tables.items reads
 
 pub returns-clause-read : goal.returns-clause-read
 returns-clause-read c =
-    declared_reads c.args.text.now _ (definition c.in-Some.definition) c.declared.result c.in_ok-tokens.ensures.read (told definition create_table_at _ _ _ _ c.in_ok-definition.ensures c.deref.ensures.value c.in-Some.is)
-    c.declared.ensures.limits c.declared.ensures.declares
-
-pub returns-clause-refused : goal.returns-clause-refused
-returns-clause-refused c =
-    λ e. schema_is_beyond c.args.text.now _ (definition c.in-Some.definition) c.in_ok-tokens.ensures.read (told definition create_table_at _ _ _ _ c.in_ok-definition.ensures c.deref.ensures.value c.in-Some.is) (c.declared.ensures.refused e)
+    let split = rw c.deref.ensures.value at c.in_ok-statements.ensures in
+    let judged = rw c.deref-2.ensures.value at c.in_ok-tables.ensures.tables in
+    let reads = tables_declared c.args.text.now (lexemes c.in_ok-tokens.tokens.items) c.in_ok-statements.statements.items c.in_ok-tables.tables.items c.in_ok-tokens.ensures.read split (omega (arith, c.if-len-gt-MAX_TABLES.false, c.len.ensures)) (omega (arith, some_left _ c.if-is_empty.ensures)) judged in
+    rw c.new.ensures reads

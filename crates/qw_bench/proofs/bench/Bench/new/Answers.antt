@@ -5,6 +5,8 @@ use Rattle.qw_machine.specs.Instance.{Called}
 use Rattle.qw_module.specs.Start.{begun}
 use Rattle.qw_map.specs.Columns.{column_pages}
 use Rattle.qw_map.specs.Layout.{used}
+use Rattle.qw_csv.specs.Contents.{IsIntegerRow}
+use Rattle.qw_csv.proofs.KindLaws.{integer_rows}
 use Rattle.qw_bench.specs.declared.bench.Seat.{Seat}
 use Rattle.qw_bench.specs.Bench.{CompiledQuery}
 use Rattle.qw_bench.specs.Inner.Seats.{IsEndOf, state_in}
@@ -27,10 +29,10 @@ seat c = record {
   ended = c.match-last.ended;
 }
 
-columns : (c : goal.In_ok-seats) → AllByRecursion (λ column. column < c.args.loaded.now.width) (used c.job.inside.query)
-columns c = subst (λ (job : CompiledQuery). AllByRecursion (λ column. column < c.args.loaded.now.width) (used job.statement)) (sym c.job.view_is) c.requires.columns
+columns : (c : goal.In_ok-seats) → AllByRecursion (λ column. column < (length c.args.loaded.now.columns)) (used c.job.inside.query)
+columns c = subst (λ (job : CompiledQuery). AllByRecursion (λ column. column < (length c.args.loaded.now.columns)) (used job.statement)) (sym c.job.view_is) c.requires.columns
 
-descriptor : (c : goal.In_ok-seats) → c.from.result ≡ column_pages c.args.loaded.now.width (length c.args.loaded.now.rows) * page
+descriptor : (c : goal.In_ok-seats) → c.from.result ≡ column_pages (length c.args.loaded.now.columns) (length c.args.loaded.now.rows) * page
 descriptor c = omega (arith, c.from.ensures, c.pages_needed.ensures.pages)
 
 made : (c : goal.In_ok-seats) → (seat c).instance ≡ record { program = c.job.inside.valid; state = begun c.job.inside.valid c.job.invariant.shaped.0 c.from.result }
@@ -48,15 +50,18 @@ end c =
       | in_default w ↦ rw w.ended-is (ends.1 w.in_default.not-Returned)
     ]
 
+typed : (c : goal.In_ok-seats) → AllByRecursion (IsIntegerRow (length c.args.loaded.now.columns)) c.args.loaded.now.rows
+typed c = integer_rows c.args.loaded.now.columns c.args.loaded.now.rows c.requires.integers c.len.ensures.limits.typed
+
 pub invariant_of-result : goal.invariant_of-result
 invariant_of-result c =
     rw c.in_ok-seats.ensures.items
-    (bench c.args.loaded.now.width c.args.loaded.now.rows c.in_ok-memory.memory (seat c) c.in_ok-memory.ensures.first c.len.ensures.limits c.job.inside.valid c.job.invariant
+    (bench (length c.args.loaded.now.columns) c.args.loaded.now.rows c.in_ok-memory.memory (seat c) c.in_ok-memory.ensures.first c.len.ensures.limits.narrow c.len.ensures.limits.few (typed c) c.job.inside.valid c.job.invariant
     (columns c) (descriptor c) c.len.ensures.rows c.requires.steps c.requires.pages.0 c.requires.pages.1 c.in_ok-granted.ensures.items refl refl refl (made c) (end c)
     c.in_ok-granted.ensures.capacity c.in_ok-memory.ensures.reserved)
 
 pub returns-clause-start : goal.returns-clause-start
 returns-clause-start c =
     rw c.in_ok-seats.ensures.items
-    (start c.args.loaded.now.width c.args.loaded.now.rows c.in_ok-memory.memory (seat c) c.in_ok-memory.ensures.first c.len.ensures.limits c.job.inside.valid c.job.invariant
+    (start (length c.args.loaded.now.columns) c.args.loaded.now.rows c.in_ok-memory.memory (seat c) c.in_ok-memory.ensures.first c.len.ensures.limits.narrow c.len.ensures.limits.few (typed c) c.job.inside.valid c.job.invariant
     (columns c) (descriptor c) c.len.ensures.rows c.requires.steps c.requires.pages.0 c.requires.pages.1 c.in_ok-granted.ensures.items refl refl refl (made c) (end c))

@@ -45,7 +45,7 @@ returns-clause-first c =
     let before = c.place.new.memory.octets in
     let after = c.begin_page.new.memory.octets in
     let rows = c.args.loaded.now.rows in
-    let width = c.args.loaded.now.width in
+    let width = (length c.args.loaded.now.columns) in
     let statement = c.args.query.now in
     let begun = c.begin_page.ensures in
     let grown : c.grow.new.self ≡ record { octets = grown_by 1 before; reserved = c.place.new.memory.reserved } = rw c.unwrap.ensures at c.grow.ensures.grown in

@@ -16,7 +16,7 @@ returns-in_err-query-clause-stops g c =
     let schema = c.in_ok-schema.ensures in
     let table = c.in_ok-loaded.ensures in
     let names = names_of c.args.names.now in
-    let held = rows_accepted _ _ names _ c.in_ok-loaded.loaded schema.shelf.same_files schema.accepted schema.one_table table.accepted table.width in
+    let held = rows_accepted _ _ names _ c.in_ok-loaded.loaded schema.shelf.same_files schema.accepted schema.one_table table.accepted table.kinds in
     rw (p.1, p.2) (queries_stop _ _ names _ c.in_ok-loaded.loaded _ (table.shelf.same_files ∙ schema.shelf.same_files) held c.in_err-query.ensures.stops)
 
 pub returns-clause-accepted : goal.returns-clause-accepted
@@ -24,5 +24,5 @@ returns-clause-accepted g c =
     let schema = c.in_ok-schema.ensures in
     let table = c.in_ok-loaded.ensures in
     let names = names_of c.args.names.now in
-    let held = rows_accepted _ _ names _ c.in_ok-loaded.loaded schema.shelf.same_files schema.accepted schema.one_table table.accepted table.width in
+    let held = rows_accepted _ _ names _ c.in_ok-loaded.loaded schema.shelf.same_files schema.accepted schema.one_table table.accepted table.kinds in
     all_accepted _ _ names _ c.in_ok-loaded.loaded _ (table.shelf.same_files ∙ schema.shelf.same_files) held c.in_ok-query.ensures.accepted

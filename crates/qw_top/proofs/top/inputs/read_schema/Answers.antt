@@ -1,13 +1,15 @@
-use Rattle.std.proofs.Common.{◌≡◌, Err, ap, inr, refl, arith}
+use Rattle.std.proofs.Common.{◌≡◌, inr, refl, arith}
 use Rattle.std.proofs.lemmas.Grind.{common_steps}
-use Rattle.qw_top.proofs.TopLemmas.{ReadsSchema-one}
+use Rattle.qw_top.proofs.TopLemmas.{declares_others, schema_stops}
 use Rattle.qw_top.proofs.top.inputs.read_schema.Goals as goal
 
-pub returns-in-Ok-clause-one_table : goal.returns-in-Ok-clause-one_table
-returns-in-Ok-clause-one_table g c = ReadsSchema-one _ _ c.in-Ok.ensures.read
-
-pub returns-in-Err-Refused-clause-stops : goal.returns-in-Err-Refused-clause-stops
-returns-in-Err-Refused-clause-stops g c =
+pub returns-in-Ok-2-clause-stops : goal.returns-in-Ok-2-clause-stops
+returns-in-Ok-2-clause-stops g c =
     let at : c.as_slice.result.now ≡ c.in_ok-text.text.items = grind (arith, common_steps) in
-    let none = c.in-Err-Refused.ensures.refused (ap Err c.in-Err-Refused.field-0-is) in
-    (refl, inr (c.in_ok-text.text.items, c.in_ok-text.ensures.whole, λ schema reads. none schema (rw at reads)))
+    let reads = rw at at c.in-Ok.ensures.read in
+    (refl, inr (c.in_ok-text.text.items, c.in_ok-text.ensures.whole, declares_others _ _ reads (λ taken. let yes = c.is_one_table.ensures.1 taken in grind (arith, common_steps))))
+
+pub returns-clause-stops : goal.returns-clause-stops
+returns-clause-stops g c =
+    let at : c.as_slice.result.now ≡ c.in_ok-text.text.items = grind (arith, common_steps) in
+    schema_stops _ _ _ c.in_ok-text.ensures.whole _ _ (rw at at c.in-Err.ensures.refused) c.schema_stop.ensures.memory c.schema_stop.ensures.refused

@@ -5,12 +5,12 @@ use Rattle.qw_top.proofs.RunLemmas.{HasRun-from}
 use Rattle.qw_top.proofs.top.run.finished.Goals as goal
 
 pub new-requires-clause-columns : goal.new-requires-clause-columns
-new-requires-clause-columns c = rw c.in_ok-job.ensures.query c.requires
+new-requires-clause-columns c = rw c.in_ok-job.ensures.query c.requires.columns
 
 pub returns : goal.returns
 returns c =
     let job = c.in_ok-job.job in
     let loaded = c.args.loaded.now in
-    let task = c.in_ok-bench.ensures.tasks ∙ ap (λ statement. first_task loaded.width (length loaded.rows) (record { statement = statement; program = job.program }) default_limits ∷ []) c.in_ok-job.ensures.query in
-    HasRun-from loaded.width loaded.rows c.args.query job.program c.in_ok-bench.bench c.run_all.new.self
+    let task = c.in_ok-bench.ensures.tasks ∙ ap (λ statement. first_task (length loaded.columns) (length loaded.rows) (record { statement = statement; program = job.program }) default_limits ∷ []) c.in_ok-job.ensures.query in
+    HasRun-from (length loaded.columns) loaded.rows c.args.query job.program c.in_ok-bench.bench c.run_all.new.self
     c.in_ok-job.ensures.compiled task c.in_ok-bench.ensures.start c.run_all.ensures.tasks c.run_all.ensures.rounds c.run_all.ensures.ended

@@ -1,0 +1,210 @@
+-- Values that are pushed behind those of a column.
+use Rattle.std.proofs.Common.{◌≡◌, ◌≤◌, ◌<◌, ◌+◌, ◌-◌, ◌∙◌, ℕ, zero, suc, Bool, true, false, List, [], ◌∷◌, ◌++◌, length, map, take, drop, refl, sym, ap, arith, take_all, length-append, ℤ, Vec, Global, Some, get_or}
+use Rattle.std.specs.Prelude.{if◌then◌else◌, slice_get}
+use Rattle.std.specs.List.{AllByRecursion}
+use Rattle.std.proofs.lemmas.Bool.{false≢true}
+use Rattle.std.proofs.lemmas.List.{take-append-le}
+use Rattle.qw_types.specs.declared.value.Val.{Val}
+use Rattle.qw_types.specs.declared.value.Val.TheVariants as val
+use Rattle.qw_types.specs.Value.{IsOfKind}
+use Rattle.std.proofs.lemmas.List.{length-map, map-append}
+use Rattle.qw_types.specs.declared.value.Ty.{Ty}
+use Rattle.qw_types.specs.declared.value.Ty.TheVariants as ty
+use Rattle.qw_csv.specs.declared.storage.Cells.{Cells}
+use Rattle.qw_csv.specs.declared.storage.Cells.TheVariants as cells
+use Rattle.qw_csv.specs.declared.storage.Texts.{Texts}
+use Rattle.qw_csv.specs.declared.storage.Kind.{Kind}
+use Rattle.qw_csv.specs.declared.storage.Values.{Values}
+use Rattle.qw_csv.specs.Contents.{integer_kind}
+use Rattle.qw_csv.specs.Inner.Storage.{AreCellsOf, AreEnds, AreKept, is_null, placed, plain_values, texts_from, values_in, with_nulls}
+
+-- octets behind a slice play no part in it
+slice_front : (start count : ℕ) (xs ys : List ℕ) → start + count ≤ length xs → take count (drop start (xs ++ ys)) ≡ take count (drop start xs)
+slice_front zero count xs ys le = take-append-le count xs ys (omega arith)
+slice_front (suc start) count [] ys le = absurd (omega arith)
+slice_front (suc start) count (x ∷ xs) ys le = slice_front start count xs ys (omega arith)
+
+-- the last slice
+slice_back : (xs ys : List ℕ) → take (length ys) (drop (length xs) (xs ++ ys)) ≡ ys
+slice_back [] ys = take_all (length ys) ys (omega arith)
+slice_back (x ∷ xs) ys = slice_back xs ys
+
+pub texts_push : (start : ℕ) (ends octets text : List ℕ) → AreEnds start ends (length octets)
+    → texts_from start (ends ++ (length octets + length text) ∷ []) (octets ++ text) ≡ texts_from start ends octets ++ text ∷ []
+texts_push start [] octets text h =
+    let long : (length octets + length text) - start ≡ length text = omega (arith, h) in
+    rw (long, h) (ap (λ (t : List ℕ). t ∷ []) (slice_back octets text))
+texts_push start (end ∷ ends) octets text (rises, within, rest) =
+    cc (slice_front start (end - start) octets text (omega (arith, rises, within)), texts_push end ends octets text rest)
+
+pub ends_push : (start total more : ℕ) (ends : List ℕ) → AreEnds start ends total → AreEnds start (ends ++ (total + more) ∷ []) (total + more)
+ends_push start total more [] h = (omega (arith, h), omega arith, refl)
+ends_push start total more (end ∷ ends) h = (h.0, omega (arith, h.1), ends_push end total more ends h.2)
+
+-- ---- nulls
+
+no_nulls : (values : List Val) → with_nulls values [] ≡ values
+no_nulls [] = refl
+no_nulls (v ∷ values) = refl
+
+nulls_push : (values : List Val) (flags : List Bool) (value : Val) (null : Bool) → length flags ≡ length values
+    → with_nulls (values ++ value ∷ []) (flags ++ null ∷ []) ≡ with_nulls values flags ++ (if null then val.Null else value) ∷ []
+nulls_push [] [] value true same = refl
+nulls_push [] [] value false same = refl
+nulls_push [] (f ∷ flags) value null same = absurd (omega (arith, same))
+nulls_push (v ∷ values) [] value null same = absurd (omega (arith, same))
+nulls_push (v ∷ values) (f ∷ flags) value null same = ap (λ (vs : List Val). (if f then val.Null else v) ∷ vs) (nulls_push values flags value null (omega (arith, same)))
+
+back : (type : Ty) (value : Val) → (if is_null value then val.Null else placed type value) ≡ value
+back type val.Null = refl
+back type (val.Num n) = refl
+back type (val.Date n) = refl
+back type (val.Text t) = refl
+
+back_not_null : (type : Ty) (not_null : Bool) (value : Val) → not_null ≡ true → IsOfKind type not_null value → placed type value ≡ value
+back_not_null type not_null val.Null never h = absurd (false≢true (sym h ∙ never))
+back_not_null type not_null (val.Num n) never h = refl
+back_not_null type not_null (val.Date n) never h = refl
+back_not_null type not_null (val.Text t) never h = refl
+
+pub all_push : {X : Type 0} (P : X → Type 0) (xs : List X) (x : X) → AllByRecursion P xs → P x → AllByRecursion P (xs ++ x ∷ [])
+all_push P [] x all h = (h, tt)
+all_push P (y ∷ xs) x all h = (all.0, all_push P xs x all.1 h)
+
+-- a value of the kind behind those of a column that may be null
+pub kept_with_null : (kind : Kind) (before after : Values) (value : Val) → kind.not_null ≡ false → AreKept kind before → IsOfKind kind.ty kind.not_null value
+    → AreCellsOf kind.ty after.cells → plain_values after.cells ≡ plain_values before.cells ++ placed kind.ty value ∷ []
+    → after.nulls.items ≡ before.nulls.items ++ is_null value ∷ []
+    → AreKept kind after × (values_in after ≡ values_in before ++ value ∷ [])
+kept_with_null kind before after value nullable kept of form cells flags =
+    let many : length before.nulls.items ≡ length (plain_values before.cells) = rw nullable at kept.flags in
+    let pushed : values_in after ≡ values_in before ++ value ∷ [] = rw (cells, flags, nulls_push (plain_values before.cells) before.nulls.items (placed kind.ty value) (is_null value) many, back kind.ty value) refl in (
+      record {
+        form = form;
+        flags = rw (nullable, cells, flags, length-append before.nulls.items (is_null value ∷ []), length-append (plain_values before.cells) (placed kind.ty value ∷ [])) (ap (λ (n : ℕ). n + 1) many);
+        typed = rw pushed (all_push (IsOfKind kind.ty kind.not_null) (values_in before) value kept.typed of);
+      },
+      pushed,
+    )
+
+-- and behind those of one that may not
+pub kept_not_null : (kind : Kind) (before after : Values) (value : Val) → kind.not_null ≡ true → AreKept kind before → IsOfKind kind.ty kind.not_null value
+    → AreCellsOf kind.ty after.cells → plain_values after.cells ≡ plain_values before.cells ++ placed kind.ty value ∷ []
+    → after.nulls.items ≡ before.nulls.items
+    → AreKept kind after × (values_in after ≡ values_in before ++ value ∷ [])
+kept_not_null kind before after value never kept of form cells flags =
+    let none : before.nulls.items ≡ [] = rw never at kept.flags in
+    let pushed : values_in after ≡ values_in before ++ value ∷ [] = rw (cells, flags, none, no_nulls (plain_values before.cells ++ placed kind.ty value ∷ []), no_nulls (plain_values before.cells), back_not_null kind.ty kind.not_null value never of) refl in (
+      record {
+        form = form;
+        flags = rw (never, flags) none;
+        typed = rw pushed (all_push (IsOfKind kind.ty kind.not_null) (values_in before) value kept.typed of);
+      },
+      pushed,
+    )
+
+-- ---- cells of each type
+
+module _ (type : Ty) (not_null : Bool) (before : Cells) (value : Val) (form : AreCellsOf type before) (of : IsOfKind type not_null value) where
+  pub decimals_push : (numbers : Vec ℤ Global) (after : List ℤ) (number : ℤ) → before ≡ cells.Decimals numbers
+      → ((precision scale : ℕ) (never : Bool) → IsOfKind (ty.Decimal precision scale) never value → placed (ty.Decimal precision scale) value ≡ val.Num number)
+      → after ≡ numbers.items ++ number ∷ [] → map val.Num after ≡ plain_values before ++ placed type value ∷ []
+  decimals_push numbers after number is there pushed = rw (is, pushed, map-append val.Num numbers.items (number ∷ [])) (ap (λ (v : Val). map val.Num numbers.items ++ v ∷ []) (sym (of_type type (rw is at form) of)))
+    where
+      of_type : (t : Ty) → AreCellsOf t (cells.Decimals numbers) → IsOfKind t not_null value → placed t value ≡ val.Num number
+      of_type ty.Integer f o = absurd f
+      of_type (ty.Decimal p s) f o = there p s not_null o
+      of_type ty.Date f o = absurd f
+      of_type (ty.Varchar n) f o = absurd f
+
+  pub dates_push : (numbers : Vec ℤ Global) (after : List ℤ) (number : ℤ) → before ≡ cells.Dates numbers
+      → ((never : Bool) → IsOfKind ty.Date never value → placed ty.Date value ≡ val.Date number)
+      → after ≡ numbers.items ++ number ∷ [] → map val.Date after ≡ plain_values before ++ placed type value ∷ []
+  dates_push numbers after number is there pushed = rw (is, pushed, map-append val.Date numbers.items (number ∷ [])) (ap (λ (v : Val). map val.Date numbers.items ++ v ∷ []) (sym (of_type type (rw is at form) of)))
+    where
+      of_type : (t : Ty) → AreCellsOf t (cells.Dates numbers) → IsOfKind t not_null value → placed t value ≡ val.Date number
+      of_type ty.Integer f o = absurd f
+      of_type (ty.Decimal p s) f o = absurd f
+      of_type ty.Date f o = there not_null o
+      of_type (ty.Varchar n) f o = absurd f
+
+  pub varchars_push : (texts : Texts) (after : List (List ℕ)) (text : List ℕ) → before ≡ cells.Texts texts
+      → ((limit : ℕ) (never : Bool) → IsOfKind (ty.Varchar limit) never value → placed (ty.Varchar limit) value ≡ val.Text text)
+      → after ≡ texts_from 0 texts.ends.items texts.octets.items ++ text ∷ [] → map val.Text after ≡ plain_values before ++ placed type value ∷ []
+  varchars_push texts after text is there pushed = rw (is, pushed, map-append val.Text (texts_from 0 texts.ends.items texts.octets.items) (text ∷ []))
+      (ap (λ (v : Val). map val.Text (texts_from 0 texts.ends.items texts.octets.items) ++ v ∷ []) (sym (of_type type (rw is at form) of)))
+    where
+      of_type : (t : Ty) → AreCellsOf t (cells.Texts texts) → IsOfKind t not_null value → placed t value ≡ val.Text text
+      of_type ty.Integer f o = absurd f
+      of_type (ty.Decimal p s) f o = absurd f
+      of_type ty.Date f o = absurd f
+      of_type (ty.Varchar n) f o = there n not_null o
+
+-- the values of an INTEGER NOT NULL column
+pub integer_values : (kept : Values) (numbers : Vec ℤ Global) → AreKept integer_kind kept → kept.cells ≡ cells.Integers numbers → values_in kept ≡ map val.Num numbers.items
+integer_values kept numbers h is = rw (is, h.flags) (no_nulls (map val.Num numbers.items))
+
+pub integer_at : (numbers : List ℤ) (row : ℕ) (number : ℤ) → slice_get numbers row ≡ Some number → slice_get (map val.Num numbers) row ≡ Some (val.Num number)
+integer_at [] row number is = cc is
+integer_at (n ∷ numbers) zero number is = cc is
+integer_at (n ∷ numbers) (suc row) number is = integer_at numbers row number is
+
+-- what indexing gave, and what is found
+pub get_is : {X : Type 0} (xs : List X) (i : ℕ) (x : X) → i < length xs → x ≡ get_or xs i x → slice_get xs i ≡ Some x
+get_is [] i x lt is = absurd (omega arith)
+get_is (y ∷ xs) zero x lt is = cc is
+get_is (y ∷ xs) (suc i) x lt is = get_is xs i x (omega arith) is
+
+pub get_below : {X : Type 0} (xs : List X) (i : ℕ) (x : X) → slice_get xs i ≡ Some x → i < length xs
+get_below [] i x is = cc is
+get_below (y ∷ xs) zero x is = omega arith
+get_below (y ∷ xs) (suc i) x is = let before = get_below xs i x is in omega (arith, before)
+
+-- ---- reading
+
+-- the text of a row, from the end of the one before to its own
+pub text_at : (start : ℕ) (ends octets : List ℕ) (row from to : ℕ) → AreEnds start ends (length octets) → slice_get ends row ≡ Some to
+    → (row ≡ 0 → from ≡ start) → ((before : ℕ) → row ≡ suc before → slice_get ends before ≡ Some from)
+    → (from ≤ to) × (to ≤ length octets) × (slice_get (texts_from start ends octets) row ≡ Some (take (to - from) (drop from octets)))
+text_at start [] octets row from to h is first later = cc is
+text_at start (end ∷ ends) octets zero from to (rises, within, rest) is first later =
+    let e : from ≡ start = first refl in
+    let t : end ≡ to = cc is in
+    (omega (arith, rises, e, t), omega (arith, within, t), rw (← t, e) refl)
+text_at start (end ∷ ends) octets (suc zero) from to (rises, within, rest) is first later =
+    text_at end ends octets zero from to rest is (λ none. let e : Some end ≡ Some from = later zero refl in cc e) (λ before same. absurd (omega (arith, same)))
+text_at start (end ∷ ends) octets (suc (suc row)) from to (rises, within, rest) is first later =
+    text_at end ends octets (suc row) from to rest is (λ none. absurd (omega (arith, none))) (λ before same. later (suc before) (ap (λ (n : ℕ). suc n) same))
+
+pub length-texts : (start : ℕ) (ends octets : List ℕ) → length (texts_from start ends octets) ≡ length ends
+length-texts start [] octets = refl
+length-texts start (end ∷ ends) octets = ap (λ (n : ℕ). suc n) (length-texts end ends octets)
+
+pub get_map : {X Y : Type 0} (f : X → Y) (xs : List X) (i : ℕ) (x : X) → slice_get xs i ≡ Some x → slice_get (map f xs) i ≡ Some (f x)
+get_map f [] i x is = cc is
+get_map f (y ∷ xs) zero x is = cc is
+get_map f (y ∷ xs) (suc i) x is = get_map f xs i x is
+
+-- nulls and what isn't
+pub null_at : (values : List Val) (flags : List Bool) (row : ℕ) → row < length values → slice_get flags row ≡ Some true → slice_get (with_nulls values flags) row ≡ Some val.Null
+null_at [] flags row lt is = absurd (omega arith)
+null_at (v ∷ values) [] row lt is = cc is
+null_at (v ∷ values) (f ∷ flags) zero lt is = let e : f ≡ true = cc is in rw e refl
+null_at (v ∷ values) (f ∷ flags) (suc row) lt is = null_at values flags row (omega arith) is
+
+pub plain_at : (values : List Val) (flags : List Bool) (row : ℕ) (value : Val) → (slice_get flags row ≡ Some true → ⊥) → slice_get values row ≡ Some value
+    → slice_get (with_nulls values flags) row ≡ Some value
+plain_at [] flags row value not is = cc is
+plain_at (v ∷ values) [] row value not is = is
+plain_at (v ∷ values) (true ∷ flags) zero value not is = absurd (not refl)
+plain_at (v ∷ values) (false ∷ flags) zero value not is = is
+plain_at (v ∷ values) (f ∷ flags) (suc row) value not is = plain_at values flags row value not is
+
+pub length-with_nulls : (values : List Val) (flags : List Bool) → length (with_nulls values flags) ≡ length values
+length-with_nulls [] flags = refl
+length-with_nulls (v ∷ values) [] = refl
+length-with_nulls (v ∷ values) (f ∷ flags) = ap (λ (n : ℕ). suc n) (length-with_nulls values flags)
+
+-- what indexing gave, as what stands in its place
+pub number_in_place : (make : ℤ → Val) (numbers : List ℤ) (row : ℕ) (n : ℤ) → row < length (map make numbers) → n ≡ get_or numbers row n → slice_get (map make numbers) row ≡ Some (make n)
+number_in_place make numbers row n lt is = get_map make numbers row n (get_is numbers row n (omega (arith, lt, length-map numbers make)) is)

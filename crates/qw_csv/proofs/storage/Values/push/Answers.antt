@@ -1,0 +1,30 @@
+use Rattle.std.proofs.Common.{◌≡◌, Bool, true, false, not, refl, sym}
+use Rattle.qw_csv.specs.Field.{val_of}
+use Rattle.qw_csv.proofs.StorageLemmas.{kept_not_null, kept_with_null}
+use Rattle.qw_csv.proofs.storage.Values.push.Goals as goal
+
+not_true : (b : Bool) → not b ≡ true → b ≡ false
+not_true true e = sym e
+not_true false e = refl
+
+not_false : (b : Bool) → not b ≡ false → b ≡ true
+not_false true e = refl
+not_false false e = sym e
+
+pub returns-in_ok-push-2-clause-kept : goal.returns-in_ok-push-2-clause-kept
+returns-in_ok-push-2-clause-kept c =
+    (kept_with_null c.args.kind c.args.self.now _ (val_of c.args.cell) (not_true _ c.if-not-kind.true) c.requires.kept c.requires.typed c.in_ok-push.ensures.form c.in_ok-push.ensures.pushed
+    (rw c.is_null.ensures at c.in_ok-push-2.ensures.items)).0
+
+pub returns-in_ok-push-2-clause-pushed : goal.returns-in_ok-push-2-clause-pushed
+returns-in_ok-push-2-clause-pushed c =
+    (kept_with_null c.args.kind c.args.self.now (record { cells = c.push.new.self; nulls = c.push-then-not-kind.new.self }) (val_of c.args.cell) (not_true _ c.if-not-kind.true) c.requires.kept c.requires.typed c.in_ok-push.ensures.form c.in_ok-push.ensures.pushed
+    (rw c.is_null.ensures at c.in_ok-push-2.ensures.items)).1
+
+pub returns-else-not-kind-clause-kept : goal.returns-else-not-kind-clause-kept
+returns-else-not-kind-clause-kept c =
+    (kept_not_null c.args.kind c.args.self.now _ (val_of c.args.cell) (not_false _ c.if-not-kind.false) c.requires.kept c.requires.typed c.in_ok-push.ensures.form c.in_ok-push.ensures.pushed refl).0
+
+pub returns-else-not-kind-clause-pushed : goal.returns-else-not-kind-clause-pushed
+returns-else-not-kind-clause-pushed c =
+    (kept_not_null c.args.kind c.args.self.now (record { cells = c.push.new.self; nulls = c.args.self.now.nulls }) (val_of c.args.cell) (not_false _ c.if-not-kind.false) c.requires.kept c.requires.typed c.in_ok-push.ensures.form c.in_ok-push.ensures.pushed refl).1

@@ -1,0 +1,29 @@
+-- Mirrors how `loaded::Loaded` keeps rows: column by column.
+use Rattle.std.specs.Prelude.{◌≡◌, ◌≤◌, ℕ, zero, suc, List, [], ◌∷◌, ◌++◌, length, map, slice_index_or}
+use Rattle.qw_types.specs.Limits.{most_columns, most_rows}
+use Rattle.qw_types.specs.declared.value.Val.{Val}
+use Rattle.qw_types.specs.declared.value.Val.TheVariants.{Null}
+use Rattle.qw_csv.specs.declared.storage.Kind.{Kind}
+use Rattle.qw_csv.specs.declared.storage.Values.{Values}
+use Rattle.qw_csv.specs.Inner.Storage.{AreKept, values_in}
+
+-- the values of a row, one from each column
+abbrev pub row_in : ℕ → List Values → List Val
+row_in row columns = map (λ (kept : Values). slice_index_or (values_in kept) row Null) columns
+
+-- so many rows
+unfoldable pub rows_in : ℕ → List Values → List (List Val)
+rows_in zero columns = []
+rows_in (suc count) columns = rows_in count columns ++ row_in count columns ∷ []
+
+-- each column is kept by its kind, and has so many values
+abbrev pub AreAllKept : ℕ → List Kind → List Values → Type 0
+AreAllKept count [] [] = Unit {0}
+AreAllKept count (kind ∷ kinds) (kept ∷ columns) = AreKept kind kept × (length (values_in kept) ≡ count) × AreAllKept count kinds columns
+AreAllKept count _ _ = ⊥
+
+pub record AreStored (count : ℕ) (kinds : List Kind) (columns : List Values) : Type 0 where
+  pub some : 1 ≤ length kinds
+  pub narrow : length kinds ≤ most_columns
+  pub few : count ≤ most_rows
+  pub kept : AreAllKept count kinds columns

@@ -1,0 +1,90 @@
+//! One field of a table's file, as a value of its column.
+
+ghost use Rattle.std.specs.Prelude.{◌≡◌, MatchResult, chars, length};
+ghost use Rattle.qw_types.specs.Value.{IsSized};
+ghost use Rattle.qw_types.specs.declared.value.Ty.TheVariants.{Varchar};
+ghost use Rattle.qw_csv.specs.Field.{IsFieldFault, IsFieldOf, IsTypedFault, IsTypedFieldOf, val_of};
+
+use qw_types::date_text::read_date;
+use qw_types::numeral::read_number;
+use qw_types::{Column, FieldFault, Ty};
+use thiserror::Error;
+
+/// A value, its text lent.
+#[derive(Clone, Copy, Debug)]
+pub enum Cell<'a> {
+    Null,
+    /// A number, as the whole number that it is at its column's scale.
+    Num(i64),
+    /// A date, as year * 10000 + month * 100 + day.
+    Date(i32),
+    /// The octets of a text.
+    Text(&'a [u8]),
+}
+
+/// Why a field stands for no value of its column.
+#[derive(Clone, Copy, Debug, PartialEq, Eq, Error)]
+pub enum CellFault {
+    /// It shows no number or date of the column's type.
+    #[error("{0}")]
+    Form(FieldFault),
+    /// It is empty, and the column is NOT NULL and none of texts.
+    #[error("null forbidden")]
+    NullForbidden,
+    /// It has more characters than the column's texts may have.
+    #[error("text too long")]
+    TextTooLong,
+    #[error("not utf-8")]
+    NotUtf8,
+}
+
+/// The value that a field stands for in a column.
+pub(crate) fn cell_of<'a>(column: &Column, field: &'a [u8]) -> Result<Cell<'a>, CellFault>
+    requires { IsSized column.now.ty }
+    ensures { MatchResult result (λ cell. IsFieldOf column.now field.now (val_of cell)) (IsFieldFault column.now field.now) }
+{
+    if !field.is_empty() {
+        return typed_cell(&column.ty, field);
+    }
+    match column.ty {
+        _ if !column.not_null => Ok(Cell::Null),
+        Ty::Varchar { .. } => Ok(Cell::Text(field)),
+        _ => Err(CellFault::NullForbidden),
+    }
+}
+
+/// The value that a field that isn't empty stands for in a column of a type.
+fn typed_cell<'a>(ty: &Ty, field: &'a [u8]) -> Result<Cell<'a>, CellFault>
+    requires { IsSized ty.now }
+    ensures { MatchResult result (λ cell. IsTypedFieldOf ty.now field.now (val_of cell)) (IsTypedFault ty.now field.now) }
+{
+    match ty {
+        Ty::Date => match read_date(field) {
+            Ok(date) => Ok(Cell::Date(date)),
+            Err(fault) => Err(CellFault::Form(fault)),
+        },
+        Ty::Varchar { length } => text_cell(*length, field),
+        _ => match read_number(field, ty) {
+            Ok(number) => Ok(Cell::Num(number)),
+            Err(fault) => Err(CellFault::Form(fault)),
+        },
+    }
+}
+
+/// The text of so many characters at most that a field is.
+fn text_cell<'a>(length: u16, field: &'a [u8]) -> Result<Cell<'a>, CellFault>
+    ensures { MatchResult result (λ cell. IsTypedFieldOf (Varchar length) field.now (val_of cell)) (IsTypedFault (Varchar length) field.now) }
+{
+    match std::str::from_utf8(field) {
+        Err(_) => Err(CellFault::NotUtf8),
+        Ok(text) if characters(text) > usize::from(length) => Err(CellFault::TextTooLong),
+        Ok(_) => Ok(Cell::Text(field)),
+    }
+}
+
+/// How many characters a text has: Unicode scalar values.
+fn characters(text: &str) -> usize
+    ensures { result ≡ length (chars text.now) }
+{
+    text.chars().count()
+}

@@ -1,0 +1,95 @@
+//! A table of rows in memory.
+
+ghost use Rattle.std.specs.Prelude.{◌≡◌, ◌<◌, ◌↔◌, [], length, IsTrue, Some, slice_get};
+ghost use Rattle.qw_types.specs.Value.{value_of};
+ghost use Rattle.qw_types.specs.declared.value.Val.TheVariants.{Num};
+ghost use Rattle.qw_csv.specs.Contents.{AreLoaded, integer_kind};
+ghost use Rattle.qw_csv.specs.Field.{val_of};
+ghost use Rattle.qw_csv.specs.Inner.Rows.{AreStored, rows_in};
+
+use crate::cell::Cell;
+use crate::storage::{Kind, Values};
+use std::marker::Model;
+
+/// The rows of a table. Contracts see the kinds of its columns, and the rows as lists of values.
+#[derive(Debug, Drop)]
+pub struct Loaded {
+    kinds: Vec<Kind>,
+    /// For each column its values.
+    columns: Vec<Values>,
+    len: usize,
+}
+
+impl Model for Loaded {
+    ghost use Rattle.qw_csv.specs.Contents.{Contents};
+    ghost use Rattle.qw_csv.specs.Field.{val_of};
+    ghost use Rattle.qw_csv.specs.Inner.Rows.{AreStored, rows_in};
+
+    ghost Value = { Contents };
+
+    ghost view = { λ a. record { columns = a.kinds.items; rows = rows_in a.len a.columns.items } };
+
+    ghost invariant = { λ a. AreStored a.len a.kinds.items a.columns.items };
+}
+
+impl Loaded {
+    /// Rows that are kept in these values, column by column.
+    pub(crate) fn new(kinds: Vec<Kind>, columns: Vec<Values>, len: usize) -> Self
+        requires { AreStored len kinds.items columns.items }
+        ensures columns { result.columns ≡ kinds.items }
+        ensures rows { result.rows ≡ rows_in len columns.items }
+    {
+        Loaded {
+            kinds,
+            columns,
+            len,
+        }
+    }
+
+    /// The kinds of the columns.
+    pub fn kinds(&self) -> &[Kind]
+        ensures { result.now ≡ self.now.columns }
+    {
+        self.kinds.as_slice()
+    }
+
+    /// How many columns the table has.
+    pub fn width(&self) -> usize
+        ensures { result ≡ length self.now.columns }
+    {
+        self.kinds.len()
+    }
+
+    /// How many rows the table has.
+    pub fn len(&self) -> usize
+        ensures rows { result ≡ length self.now.rows }
+        ensures limits { AreLoaded self.now }
+    {
+        self.len
+    }
+
+    /// Whether the table has no row.
+    pub fn is_empty(&self) -> bool
+        ensures { IsTrue result ↔ (self.now.rows ≡ []) }
+    {
+        self.len == 0
+    }
+
+    /// The value of a column in a row, both counted from 0.
+    pub fn cell(&self, row: usize, column: usize) -> Cell<'_>
+        requires row { row < length self.now.rows }
+        requires column { column < length self.now.columns }
+        ensures { value_of self.now.rows row column ≡ Some (val_of result) }
+    {
+        self.columns[column].get(row)
+    }
+
+    /// The value of an INTEGER NOT NULL column in a row, both counted from 0.
+    pub fn value(&self, row: usize, column: usize) -> i32
+        requires row { row < length self.now.rows }
+        requires column { slice_get self.now.columns column ≡ Some integer_kind }
+        ensures { value_of self.now.rows row column ≡ Some (Num result) }
+    {
+        self.columns[column].integer(row)
+    }
+}

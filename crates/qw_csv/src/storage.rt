@@ -1,0 +1,270 @@
+//! The values of one column, as they are kept: an INTEGER or a DATE takes four octets, a DECIMAL eight, a text its octets
+//! and eight more, and a column that may be null an octet a row beside.
+
+ghost use Rattle.std.specs.Prelude.{◌≡◌, ◌≤◌, ◌-◌, ◌++◌, ◌<◌, ℕ, suc, take, drop, Bool, true, ◌↔◌, IsTrue, [], ◌∷◌, length, Some, OnOk, slice_get};
+ghost use Rattle.qw_types.specs.Value.{IsOfKind};
+ghost use Rattle.qw_types.specs.declared.value.Ty.{Ty};
+ghost use Rattle.qw_types.specs.declared.value.Ty.TheVariants as ty;
+ghost use Rattle.qw_types.specs.declared.value.Ty.TheVariants.{Decimal, Integer, Varchar};
+ghost use Rattle.qw_types.specs.declared.value.Val.TheVariants as val;
+ghost use Rattle.qw_types.specs.declared.value.Val.TheVariants.{Num};
+ghost use Rattle.qw_csv.specs.Contents.{integer_kind, kind_of};
+ghost use Rattle.qw_csv.specs.declared.storage.Kind.{Kind};
+ghost use Rattle.qw_csv.specs.Field.{val_of};
+ghost use Rattle.qw_csv.specs.Inner.Storage.{AreCellsOf, AreEnds, AreKept, is_null, placed, plain_values, texts_from, values_in};
+
+use crate::cell::Cell;
+use qw_types::{Column, NoMemory, Ty};
+use std::alloc::Global;
+
+/// Which values a column has.
+#[derive(Clone, Copy, Debug, PartialEq, Eq)]
+pub struct Kind {
+    pub ty: Ty,
+    pub not_null: bool,
+}
+
+/// The kind of a column's values.
+pub(crate) fn kind_of(column: &Column) -> Kind
+    ensures { result ≡ kind_of column.now }
+{
+    Kind {
+        ty: column.ty,
+        not_null: column.not_null,
+    }
+}
+
+/// The values of one column, in the order of the rows.
+#[derive(Debug, Drop)]
+pub(crate) struct Values {
+    cells: Cells,
+    /// Whether each value is null; none where the column is NOT NULL.
+    nulls: Vec<bool>,
+}
+
+/// The values of a column, 0 or the empty text in place of nulls.
+#[derive(Debug, Drop)]
+enum Cells {
+    Integers(Vec<i32>),
+    Decimals(Vec<i64>),
+    Dates(Vec<i32>),
+    Texts(Texts),
+}
+
+/// Texts one after another.
+#[derive(Debug, Drop)]
+struct Texts {
+    /// Where each one ends in the octets.
+    ends: Vec<usize>,
+    octets: Vec<u8>,
+}
+
+impl Texts {
+    /// Puts a text behind the others.
+    fn push(&mut self, text: &[u8]) -> Result<(), NoMemory>
+        requires { AreEnds 0 self.old.ends.items (length self.old.octets.items) }
+        ensures texts { OnOk result (texts_from 0 self.new.ends.items self.new.octets.items
+            ≡ texts_from 0 self.old.ends.items self.old.octets.items ++ text.now ∷ []) }
+        ensures ends { OnOk result (AreEnds 0 self.new.ends.items (length self.new.octets.items)) }
+    {
+        self.octets.extend_from_slice(text)?;
+        self.ends.push(self.octets.len())?;
+        Ok(())
+    }
+}
+
+impl Texts {
+    /// The text of a row.
+    fn get(&self, row: usize) -> &[u8]
+        requires ends { AreEnds 0 self.now.ends.items (length self.now.octets.items) }
+        requires row { row < length self.now.ends.items }
+        ensures { slice_get (texts_from 0 self.now.ends.items self.now.octets.items) row ≡ Some result.now }
+    {
+        let octets = self.octets.as_slice();
+        let start = self.start(row);
+        let end = self.ends[row];
+        part(octets, start, end)
+    }
+
+    /// Where the text of a row starts: at the end of the one before.
+    fn start(&self, row: usize) -> usize
+        requires row { row < length self.now.ends.items }
+        ensures first { row ≡ 0 → result ≡ 0 }
+        ensures later { (before : ℕ) → row ≡ suc before → slice_get self.now.ends.items before ≡ Some result }
+    {
+        if row == 0 {
+            return 0;
+        }
+        self.ends[row - 1]
+    }
+}
+
+impl Cells {
+    /// No cells.
+    fn new(alloc: Global, ty: Ty) -> Self
+        ensures form { AreCellsOf ty result }
+        ensures none { plain_values result ≡ [] }
+    {
+        match ty {
+            Ty::Integer => Cells::Integers(Vec::new(alloc)),
+            Ty::Decimal { .. } => Cells::Decimals(Vec::new(alloc)),
+            Ty::Date => Cells::Dates(Vec::new(alloc)),
+            Ty::Varchar { .. } => Cells::Texts(Texts {
+                ends: Vec::new(alloc),
+                octets: Vec::new(alloc),
+            }),
+        }
+    }
+
+    /// Puts a value of the column's kind behind the others; 0 or the empty text for null.
+    fn push(&mut self, kind: Kind, cell: Cell<'_>) -> Result<(), NoMemory>
+        requires form { AreCellsOf kind.ty self.old }
+        requires typed { IsOfKind kind.ty kind.not_null (val_of cell) }
+        ensures form { OnOk result (AreCellsOf kind.ty self.new) }
+        ensures pushed { OnOk result (plain_values self.new ≡ plain_values self.old ++ placed kind.ty (val_of cell.entry) ∷ []) }
+    {
+        match self {
+            Cells::Integers(numbers) => numbers.push(integer_in(cell))?,
+            Cells::Decimals(numbers) => numbers.push(number_in(cell))?,
+            Cells::Dates(dates) => dates.push(date_in(cell))?,
+            Cells::Texts(texts) => texts.push(text_in(cell))?,
+        }
+        Ok(())
+    }
+}
+
+impl Cells {
+    /// What stands in the place of a row's value.
+    fn get(&self, row: usize) -> Cell<'_>
+        requires form { (ty : Ty) × AreCellsOf ty self.now }
+        requires row { row < length (plain_values self.now) }
+        ensures { slice_get (plain_values self.now) row ≡ Some (val_of result) }
+    {
+        match self {
+            Cells::Integers(numbers) => Cell::Num(i64::from(numbers[row])),
+            Cells::Decimals(numbers) => Cell::Num(numbers[row]),
+            Cells::Dates(dates) => Cell::Date(dates[row]),
+            Cells::Texts(texts) => Cell::Text(texts.get(row)),
+        }
+    }
+}
+
+impl Values {
+    /// The value of a row.
+    pub(crate) fn get(&self, row: usize) -> Cell<'_>
+        requires kept { (kind : Kind) × AreKept kind self.now }
+        requires row { row < length (values_in self.now) }
+        ensures { slice_get (values_in self.now) row ≡ Some (val_of result) }
+    {
+        if is_flagged(self.nulls.as_slice(), row) {
+            return Cell::Null;
+        }
+        self.cells.get(row)
+    }
+}
+
+impl Values {
+    /// No values.
+    pub(crate) fn new(alloc: Global, kind: Kind) -> Self
+        ensures kept { AreKept kind result }
+        ensures none { values_in result ≡ [] }
+    {
+        Values {
+            cells: Cells::new(alloc, kind.ty),
+            nulls: Vec::new(alloc),
+        }
+    }
+
+    /// Puts a value of the column's kind behind the others.
+    pub(crate) fn push(&mut self, kind: Kind, cell: Cell<'_>) -> Result<(), NoMemory>
+        requires kept { AreKept kind self.old }
+        requires typed { IsOfKind kind.ty kind.not_null (val_of cell) }
+        ensures kept { OnOk result (AreKept kind self.new) }
+        ensures pushed { OnOk result (values_in self.new ≡ values_in self.old ++ val_of cell.entry ∷ []) }
+    {
+        self.cells.push(kind, cell)?;
+        if !kind.not_null {
+            self.nulls.push(is_null(cell))?;
+        }
+        Ok(())
+    }
+}
+
+impl Values {
+    /// The value of a row of an INTEGER NOT NULL column.
+    pub(crate) fn integer(&self, row: usize) -> i32
+        requires kept { AreKept integer_kind self.now }
+        requires row { row < length (values_in self.now) }
+        ensures { slice_get (values_in self.now) row ≡ Some (Num result) }
+    {
+        match &self.cells {
+            Cells::Integers(numbers) => numbers[row],
+            _ => unreachable!(),
+        }
+    }
+}
+
+/// Whether the flag of a row is set, where it has one.
+fn is_flagged(flags: &[bool], row: usize) -> bool
+    ensures { IsTrue result ↔ (slice_get flags.now row ≡ Some true) }
+{
+    matches!(flags.get(row), Some(true))
+}
+
+/// The octets from one place to another.
+fn part(octets: &[u8], start: usize, end: usize) -> &[u8]
+    requires { (start ≤ end) × (end ≤ length octets.now) }
+    ensures { result.now ≡ take (end - start) (drop start octets.now) }
+{
+    &octets[start..end]
+}
+
+/// Whether a value is null.
+fn is_null(cell: Cell<'_>) -> bool
+    ensures { result ≡ is_null (val_of cell.entry) }
+{
+    matches!(cell, Cell::Null)
+}
+
+/// The number of an INTEGER's value, 0 for null.
+fn integer_in(cell: Cell<'_>) -> i32
+    requires { (not_null : Bool) × IsOfKind Integer not_null (val_of cell) }
+    ensures { placed Integer (val_of cell.entry) ≡ Num result }
+{
+    match cell {
+        Cell::Num(number) => number as i32,
+        _ => 0,
+    }
+}
+
+/// The number of a DECIMAL's value, 0 for null.
+fn number_in(cell: Cell<'_>) -> i64
+    ensures { (precision scale : ℕ) (not_null : Bool) → IsOfKind (Decimal precision scale) not_null (val_of cell.entry)
+        → placed (Decimal precision scale) (val_of cell.entry) ≡ Num result }
+{
+    match cell {
+        Cell::Num(number) => number,
+        _ => 0,
+    }
+}
+
+/// The number of a DATE's value, 0 for null.
+fn date_in(cell: Cell<'_>) -> i32
+    ensures { (not_null : Bool) → IsOfKind ty.Date not_null (val_of cell.entry) → placed ty.Date (val_of cell.entry) ≡ val.Date result }
+{
+    match cell {
+        Cell::Date(date) => date,
+        _ => 0,
+    }
+}
+
+/// The octets of a text, none for null.
+fn text_in<'a>(cell: Cell<'a>) -> &'a [u8]
+    ensures { (limit : ℕ) (not_null : Bool) → IsOfKind (Varchar limit) not_null (val_of cell.entry)
+        → placed (Varchar limit) (val_of cell.entry) ≡ val.Text result.now }
+{
+    match cell {
+        Cell::Text(text) => text,
+        _ => &[],
+    }
+}

@@ -1,0 +1,35 @@
+-- What a query specification comes to over the tables of the schema (ISO/IEC 9075:1992, 7.9, 22.1).
+use Rattle.std.specs.Prelude.{List, [], ◌∷◌}
+use Rattle.std.specs.List.{Contains}
+use Rattle.std.specs.List.Sorted.{IsPermutation}
+use Rattle.qw_types.specs.declared.code.Code.{Code}
+use Rattle.qw_types.specs.declared.value.Val.{Val}
+use Rattle.qw_meaning.specs.Flow.{flow}
+use Rattle.qw_meaning.specs.Select.{Specification}
+use Rattle.qw_meaning.specs.declared.outcome.Answer.{Answer}
+use Rattle.qw_meaning.specs.declared.outcome.Answer.TheVariants as answer
+
+-- the bag of its rows, or, where any was raised, the exceptions that were
+pub data Outcome : Type 0 where
+  Rows : List (List Val) → Outcome
+  Raises : List Code → Outcome
+
+abbrev pub ended : List (List Val) → List Code → Outcome
+ended rows [] = Rows rows
+ended rows (code ∷ codes) = Raises (code ∷ codes)
+
+abbrev pub outcome : Specification → List (List (List Val)) → Outcome
+outcome specification tables = ended (flow specification tables).rows (flow specification tables).codes
+
+-- The same outcome: a bag is a list in any order, and of exceptions only which ones came is told.
+abbrev pub IsSameOutcome : Outcome → Outcome → Type 0
+IsSameOutcome (Rows rows) (Rows others) = IsPermutation rows others
+IsSameOutcome (Raises codes) (Raises others) =
+    ((code : Code) → Contains codes code → Contains others code) × ((code : Code) → Contains others code → Contains codes code)
+IsSameOutcome (Rows rows) (Raises others) = ⊥
+IsSameOutcome (Raises codes) (Rows others) = ⊥
+
+-- the outcome that an answer of the code is
+abbrev pub outcome_of : Answer → Outcome
+outcome_of (answer.Rows rows) = Rows rows.items
+outcome_of (answer.Raises codes) = Raises codes.items

@@ -1,0 +1,69 @@
+//! What typing gives, and worked cases of it. No function here computes anything.
+
+ghost use Rattle.std.specs.Prelude.{◌≡◌, pos, [], ◌∷◌, IfOk, List, Some, None};
+ghost use Rattle.qw_types.specs.declared.value.Ty.TheVariants as type;
+ghost use Rattle.qw_types.specs.declared.value.Val.{Val};
+ghost use Rattle.qw_meaning.specs.declared.expression.Field.TheVariants.{Year};
+ghost use Rattle.qw_meaning.specs.declared.expression.Operator.TheVariants.{Add, Multiply, Divide};
+ghost use Rattle.qw_meaning.specs.declared.kind.Kind.TheVariants as kind;
+ghost use Rattle.qw_meaning.specs.declared.query.Comparison.TheVariants.{Equal};
+ghost use Rattle.qw_meaning.specs.Columns.{HasColumns, HoldsIn, IsRowOf};
+ghost use Rattle.qw_meaning.specs.Evaluation.{value_of};
+ghost use Rattle.qw_meaning.specs.Expression.{Expression, null, number, date, text, column, arithmetic, negative, extract, comparison, is_null, last, more, otherwise, when, case, coalesced, null_if};
+ghost use Rattle.qw_meaning.specs.Select.{IsSpecification};
+ghost use Rattle.qw_meaning.specs.Typing.{AreTyped, IsTyped, IsValueOf, kind_of};
+ghost use Rattle.qw_meaning.specs.WorkedRows.{first_item, pen};
+
+/// The value of a typed expression is null or of the expression's kind, at a row with the columns that it names
+/// (ISO/IEC 9075:1992, 6.11).
+pub fn values_are_of_their_kind()
+    ensures { (e : Expression) (row : List Val) → IsTyped e → HasColumns (HoldsIn row) e →
+        IfOk (value_of e (record { row = row })) (λ v. IsValueOf (kind_of e) v) }
+{}
+
+/// Typed: `1 + 0.5`, `ID * PRICE`, `COALESCE(1, 0.50)`, `CASE WHEN LABEL = 'pen' THEN NULL ELSE 2 END`, `EXTRACT(YEAR FROM SOLD)`.
+pub fn typed_expressions()
+    ensures { IsTyped (arithmetic Add (number (pos 1) 0) (number (pos 5) 1))
+        × IsTyped (arithmetic Multiply (column 0 type.Integer) (column 1 (type.Decimal 9 2)))
+        × IsTyped (case (coalesced (more (number (pos 1) 0) (last (number (pos 50) 2)))))
+        × IsTyped (case (when (comparison Equal (column 3 (type.Varchar 20)) (text pen)) null (otherwise (number (pos 2) 0))))
+        × IsTyped (extract Year (column 2 type.Date)) }
+{}
+
+/// Their kinds: scale 1, scale 2, scale 2, scale 0, scale 0; `NULLIF(LABEL, 'pen')` is a text.
+pub fn kinds()
+    ensures { (kind_of (arithmetic Add (number (pos 1) 0) (number (pos 5) 1)) ≡ Some (kind.Number 1))
+        × (kind_of (arithmetic Multiply (column 0 type.Integer) (column 1 (type.Decimal 9 2))) ≡ Some (kind.Number 2))
+        × (kind_of (case (coalesced (more (number (pos 1) 0) (last (number (pos 50) 2))))) ≡ Some (kind.Number 2))
+        × (kind_of (case (when (comparison Equal (column 3 (type.Varchar 20)) (text pen)) null (otherwise (number (pos 2) 0)))) ≡ Some (kind.Number 0))
+        × (kind_of (extract Year (column 2 type.Date)) ≡ Some (kind.Number 0))
+        × (kind_of (null_if (column 3 (type.Varchar 20)) (text pen)) ≡ Some kind.Text)
+        × (kind_of null ≡ None) }
+{}
+
+/// Not typed: `1 + 'pen'`, `- SOLD`, `EXTRACT(YEAR FROM 1)`, `LABEL = 1`, `COALESCE(1, 'pen')`, `NULL + 1`, a product of scales 9 and 10, a
+/// quotient of scales 18 and 1, a literal of 19 digits, one of scale 19.
+pub fn untyped_expressions()
+    ensures text_operand { IsTyped (arithmetic Add (number (pos 1) 0) (text pen)) → ⊥ }
+    ensures date_operand { IsTyped (negative (column 2 type.Date)) → ⊥ }
+    ensures number_field { IsTyped (extract Year (number (pos 1) 0)) → ⊥ }
+    ensures unlike { AreTyped (comparison Equal (column 3 (type.Varchar 20)) (number (pos 1) 0)) → ⊥ }
+    ensures unlike_results { IsTyped (case (coalesced (more (number (pos 1) 0) (last (text pen))))) → ⊥ }
+    ensures null_operand { IsTyped (arithmetic Add null (number (pos 1) 0)) → ⊥ }
+    ensures product { IsTyped (arithmetic Multiply (number (pos 1) 9) (number (pos 1) 10)) → ⊥ }
+    ensures quotient { IsTyped (arithmetic Divide (number (pos 1) 18) (number (pos 1) 1)) → ⊥ }
+    ensures digits { IsTyped (number (pos 1000000000000000000) 0) → ⊥ }
+    ensures scale { IsTyped (number (pos 1) 19) → ⊥ }
+{}
+
+/// `SELECT ID FROM ITEM` is a specification; `SELECT NULL`, `SELECT LABEL` as a number, a fifth column and an empty list aren't.
+/// (1, 10.00, 1998-09-02, 'pen') is a row of ITEM's columns; without its last value it isn't.
+pub fn specifications_and_rows()
+    ensures taken { IsSpecification (record { entries = record { table = 0; types = type.Integer ∷ type.Decimal 9 2 ∷ type.Date ∷ type.Varchar 20 ∷ [] } ∷ []; conjuncts = []; items = column 0 type.Integer ∷ [] }) }
+    ensures null_item { IsSpecification (record { entries = record { table = 0; types = type.Integer ∷ [] } ∷ []; conjuncts = []; items = null ∷ [] }) → ⊥ }
+    ensures other_type { IsSpecification (record { entries = record { table = 0; types = type.Varchar 20 ∷ [] } ∷ []; conjuncts = []; items = column 0 type.Integer ∷ [] }) → ⊥ }
+    ensures no_column { IsSpecification (record { entries = record { table = 0; types = type.Integer ∷ [] } ∷ []; conjuncts = []; items = column 1 type.Integer ∷ [] }) → ⊥ }
+    ensures no_item { IsSpecification (record { entries = record { table = 0; types = type.Integer ∷ [] } ∷ []; conjuncts = []; items = [] }) → ⊥ }
+    ensures row { IsRowOf (type.Integer ∷ type.Decimal 9 2 ∷ type.Date ∷ type.Varchar 20 ∷ []) first_item.row }
+    ensures short_row { IsRowOf (type.Integer ∷ type.Decimal 9 2 ∷ type.Date ∷ type.Varchar 20 ∷ type.Integer ∷ []) first_item.row → ⊥ }
+{}
