@@ -1,7 +1,7 @@
 -- What forms are made of, and the form of a query (ISO/IEC 9075:1992, 5.2 "token", 5.3 "literal", 5.4 "identifier", 6.4
 -- "column reference", 7.3 "table expression", 7.4 "from clause", 7.6 "where clause", 7.9 "query specification", 8.2
 -- "comparison predicate"). Those of a schema are in SchemaGrammar.
-use Rattle.std.specs.Prelude.{◌≡◌, ℕ, ℤ, pos, neg_ℤ, Bool, if◌then◌else◌, IsTrue, List, [], ◌∷◌, ◌++◌, ◌⊎◌, map, length, ◌<◌, ◌^◌, ◌-◌, ◌==◌, take, drop, codes, Contains}
+use Rattle.std.specs.Prelude.{◌≡◌, ℕ, Bool, if◌then◌else◌, IsTrue, List, [], ◌∷◌, ◌++◌, ◌⊎◌, map, length, ◌<◌, ◌-◌, ◌==◌, take, drop, codes, Contains}
 use Rattle.std.specs.List.{AllZip}
 use Rattle.std.specs.Char.{to_ascii_uppercase}
 use Rattle.std.specs.Str.Parse.{digits_value}
@@ -10,7 +10,7 @@ use Rattle.qw_meaning.specs.declared.query.Comparison.TheVariants.{Equal, NotEqu
 use Rattle.qw_token.specs.declared.token.Kind.TheVariants.{Word, DelimitedIdentifier}
 use Rattle.qw_types.specs.Digits.{are_digits}
 use Rattle.qw_types.specs.Octets.{double_quote}
-use Rattle.qw_token.specs.Token.{Lexeme, AreTokens, begins_with}
+use Rattle.qw_token.specs.Token.{Lexeme, begins_with}
 
 -- with each ASCII letter in upper case
 abbrev pub folded : List ℕ → List ℕ
@@ -48,12 +48,14 @@ abbrev pub name_of : List ℕ → List ℕ
 name_of octets = if begins_with (λ b. b == double_quote) octets then unquoted octets else folded octets
 
 -- what a form is made of: a key word, a regular identifier of this name, one that may be delimited, a symbol, an unsigned integer
+-- by its value, or by its digits
 pub data Terminal : Type 0 where
   key_word : List ℕ → Terminal
   regular : List ℕ → Terminal
   identifier : List ℕ → Terminal
   symbol : List ℕ → Terminal
   unsigned : ℕ → Terminal
+  digits : List ℕ → Terminal
 
 -- the token matches the terminal
 abbrev pub Matches : Terminal → Lexeme → Type 0
@@ -63,12 +65,7 @@ Matches (identifier name) t =
     (((t.kind ≡ Word) × (IsReserved (folded t.octets) → ⊥)) ⊎ (t.kind ≡ DelimitedIdentifier)) × (name_of t.octets ≡ name)
 Matches (symbol octets) t = t.octets ≡ octets
 Matches (unsigned n) t = IsTrue (are_digits t.octets) × (digits_value 10 t.octets ≡ n)
-
--- The text is one statement of the form, with a `;` at its end or none.
-pub record IsTextOf (form : List Terminal) (text : List ℕ) : Type 0 where
-  pub tokens : List Lexeme
-  pub are_tokens : AreTokens text tokens
-  pub follows : AllZip Matches form tokens ⊎ AllZip Matches (form ++ symbol (codes ";") ∷ []) tokens
+Matches (digits octets) t = IsTrue (are_digits t.octets) × (t.octets ≡ octets)
 
 -- each of the forms behind a comma
 abbrev pub behind_commas : List (List Terminal) → List Terminal
@@ -82,12 +79,13 @@ separated (form ∷ forms) = form ++ behind_commas forms
 
 -- ---- the query
 
--- the names and the literal behind FROM
+-- The names and the literal behind FROM. The literal is an unsigned integer, by its digits, behind a `-` or not.
 pub record Source : Type 0 where
   pub table : List ℕ
   pub tested : List ℕ
   pub comparison : Comparison
-  pub literal : ℤ
+  pub negative : Bool
+  pub digits : List ℕ
 
 -- what a query names: the columns that it selects, and what stands behind FROM
 pub record Selection : Type 0 where
@@ -107,32 +105,24 @@ comparison_symbol LessOrEqual = codes "<="
 comparison_symbol Greater = codes ">"
 comparison_symbol GreaterOrEqual = codes ">="
 
--- an unsigned integer, behind a `-` or not
-abbrev pub signed_literal : Bool → ℕ → List Terminal
-signed_literal negative magnitude =
-    if negative then symbol (codes "-") ∷ unsigned magnitude ∷ [] else unsigned magnitude ∷ []
-
--- the number that it stands for
-abbrev pub signed : Bool → ℕ → ℤ
-signed negative magnitude = if negative then neg_ℤ (pos magnitude) else pos magnitude
+-- an unsigned integer of these digits, behind a `-` or not
+abbrev pub signed_literal : Bool → List ℕ → List Terminal
+signed_literal negative octets =
+    if negative then symbol (codes "-") ∷ digits octets ∷ [] else digits octets ∷ []
 
 -- FROM table WHERE tested comparison literal
-abbrev pub table_expression : Source → Bool → ℕ → List Terminal
-table_expression source negative magnitude =
+abbrev pub table_expression : Source → List Terminal
+table_expression source =
     key_word (codes "FROM") ∷ regular source.table ∷ key_word (codes "WHERE") ∷ regular source.tested ∷
-    symbol (comparison_symbol source.comparison) ∷ signed_literal negative magnitude
+    symbol (comparison_symbol source.comparison) ∷ signed_literal source.negative source.digits
 
 -- SELECT column {, column} FROM table WHERE tested comparison literal
-abbrev pub query_specification : Selection → Bool → ℕ → List Terminal
-query_specification selection negative magnitude =
+abbrev pub query_specification : Selection → List Terminal
+query_specification selection =
     key_word (codes "SELECT") ∷
-    (separated (map column_reference selection.columns) ++ table_expression selection.source negative magnitude)
+    (separated (map column_reference selection.columns) ++ table_expression selection.source)
 
--- The text selects so; its literal is below 10^18 without its sign.
-pub record Selects (text : List ℕ) (selection : Selection) : Type 0 where
-  pub negative : Bool
-  pub magnitude : ℕ
-  pub statement : IsTextOf (query_specification selection negative magnitude) text
+-- The tokens are the form of this query, which selects one column at least.
+pub record IsQueryOf (tokens : List Lexeme) (selection : Selection) : Type 0 where
   pub some : 0 < length selection.columns
-  pub literal_is : selection.source.literal ≡ signed negative magnitude
-  pub fits : magnitude < 10 ^ 18
+  pub follows : AllZip Matches (query_specification selection) tokens

@@ -29,7 +29,10 @@ pub struct TableExpression<'a> {
     pub table: &'a [u8],
     pub tested: &'a [u8],
     pub comparison: Comparison,
-    pub literal: i64,
+    /// Whether a `-` stands before the digits.
+    pub negative: bool,
+    /// The digits of the literal.
+    pub digits: &'a [u8],
 }
 
 /// A query. The names are as they stand in the text.

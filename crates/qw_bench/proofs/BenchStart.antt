@@ -10,14 +10,14 @@ use Rattle.std.proofs.lemmas.Option.{none-some, same_Some, slice_get-map}
 use Rattle.qw_types.specs.declared.value.Val.{Val}
 use Rattle.qw_linear.specs.Linear.{Octets}
 use Rattle.qw_linear.specs.Memory.{page}
-use Rattle.qw_module.specs.Syntax.{Code, done, op, block, loop, if_else, br, br_if, code_of}
-use Rattle.qw_module.specs.Execution.{State, Running, Returned, Raised, Trapped, label, settled}
+use Rattle.qw_module.specs.Syntax.{Code, done, op, unreachable, block, loop, if_then, if_else, br, br_if, br_table, return, call, code_of}
+use Rattle.qw_module.specs.Execution.{Store, State, Running, Returned, Raised, Trapped, label, settled}
 use Rattle.qw_map.specs.Areas.{Area, World}
 use Rattle.qw_map.specs.Turns.{End, Instance, end_at}
 use Rattle.qw_module.specs.Start.{begun, body_of}
-use Rattle.qw_machine.specs.declared.machine.Stepped.{Stepped}
-use Rattle.qw_machine.specs.declared.machine.Stepped.TheVariants.{Ran}
-use Rattle.qw_machine.specs.declared.machine.Stepped.TheVariants as came
+use Rattle.qw_machine.specs.declared.stepped.Stepped.{Stepped}
+use Rattle.qw_machine.specs.declared.stepped.Stepped.TheVariants.{Ran}
+use Rattle.qw_machine.specs.declared.stepped.Stepped.TheVariants as came
 use Rattle.qw_machine.specs.Instance.{Called, IsLast}
 use Rattle.qw_module.specs.declared.module.Module.{Module}
 use Rattle.qw_map.specs.Columns.{Holds, HoldsColumn, column_pages, column_start}
@@ -83,23 +83,28 @@ end-first seat (Raised code) None w most some none h = absurd h
 end-first seat (Raised code) (Some ended.Done) w most some none h = absurd h
 end-first seat (Raised code) (Some (ended.Pages held asked limit)) w most some none h = absurd (none-some asked (sym none ∙ h.1))
 end-first seat (Raised code) (Some (ended.Steps limit)) w most some none h = absurd h
-end-first seat Trapped o w most some none h = absurd h
+end-first seat (Trapped why) o w most some none h = absurd h
 
 -- a call begins as a run, or has returned where its body has no instructions
 abbrev IsBegun : State → Type 0
 IsBegun (Running c) = Unit {0}
 IsBegun Returned = Unit {0}
 IsBegun (Raised code) = ⊥
-IsBegun Trapped = ⊥
+IsBegun (Trapped why) = ⊥
 
-begun-is : (globals locals : List ℕ) (code : Code) → IsBegun (settled globals (label done 0 [] done ∷ []) code [] locals)
-begun-is globals locals done = tt
-begun-is globals locals (op o rest) = tt
-begun-is globals locals (block result inner rest) = tt
-begun-is globals locals (loop result inner rest) = tt
-begun-is globals locals (if_else result inner other rest) = tt
-begun-is globals locals (br index rest) = tt
-begun-is globals locals (br_if index rest) = tt
+begun-is : (store : Store) (locals : List ℕ) (code : Code) → IsBegun (settled store (label done 0 [] done ∷ []) code [] locals)
+begun-is store locals done = tt
+begun-is store locals (op o rest) = tt
+begun-is store locals (unreachable rest) = tt
+begun-is store locals (block result inner rest) = tt
+begun-is store locals (loop result inner rest) = tt
+begun-is store locals (if_then result inner rest) = tt
+begun-is store locals (if_else result inner other rest) = tt
+begun-is store locals (br index rest) = tt
+begun-is store locals (br_if index rest) = tt
+begun-is store locals (br_table labels default rest) = tt
+begun-is store locals (return rest) = tt
+begun-is store locals (call index rest) = tt
 
 last-returned : (last : Stepped) → IsLast last Returned → last ≡ came.Returned
 last-returned Ran h = absurd h
@@ -107,7 +112,7 @@ last-returned (came.Grew at pages) h = absurd h
 last-returned (came.Refused pages) h = absurd h
 last-returned came.Returned h = refl
 last-returned (came.Raised code) h = absurd h
-last-returned came.Trapped h = absurd h
+last-returned (came.Trapped why) h = absurd h
 
 -- the end that is set by what is told of the state
 end-by_state : (seat : Seat) (last : Stepped) (s : State) → IsBegun s → IsLast last s →
@@ -115,7 +120,7 @@ end-by_state : (seat : Seat) (last : Stepped) (s : State) → IsBegun s → IsLa
 end-by_state seat last (Running c) begun told = (λ is. absurd (subst (λ (l : Stepped). IsLast l (Running c)) is told), λ not. tt)
 end-by_state seat last Returned begun told = (λ is. tt, λ not. absurd (not (last-returned last told)))
 end-by_state seat last (Raised code) begun told = absurd begun
-end-by_state seat last Trapped begun told = absurd begun
+end-by_state seat last (Trapped why) begun told = absurd begun
 
 pub end-begun : (seat : Seat) (last : Stepped) (program : Module) (number d : ℕ) → state_in seat ≡ begun program number d → IsLast last (state_in seat) →
     (last ≡ came.Returned → IsEndOf seat (state_in seat) (Some ended.Done)) × (last ≢ came.Returned → IsEndOf seat (state_in seat) None)

@@ -8,7 +8,7 @@ use Rattle.std.proofs.lemmas.List.Elements.{All-get_or, All-set}
 use Rattle.std.proofs.lemmas.Option.{get_or_from_slice_get, slice_get-get_or, slice_get-map, slice_get_within}
 use Rattle.qw_linear.specs.Linear.{Octets}
 use Rattle.qw_linear.specs.Memory.{page}
-use Rattle.qw_map.specs.Turns.{Instance, IsWhole, may_ask, steps_of, turn, turn_at, with_instance}
+use Rattle.qw_map.specs.Turns.{Instance, IsWhole, may_ask, steps_of, turn, acted, turn_at, with_instance}
 use Rattle.qw_map.proofs.Separate.{asks_changed, asks_within}
 use Rattle.qw_map.proofs.TurnFacts.{slice_get-set_same}
 use Rattle.qw_bench.specs.declared.bench.Ended.{Ended}
@@ -16,7 +16,7 @@ use Rattle.qw_bench.specs.declared.bench.Ended.TheVariants as ended
 use Rattle.qw_bench.specs.declared.bench.Seat.{Seat}
 use Rattle.qw_bench.specs.Bench.{AreServing}
 use Rattle.qw_bench.specs.Standing.{Standing, end_of}
-use Rattle.qw_bench.specs.Inner.Seats.{AreSeats, HasGrants, IsTold, instance_of, standing_of, task_of}
+use Rattle.qw_bench.specs.Inner.Seats.{AreSeats, HasGrants, IsTold, common_of, instance_of, standing_of, task_of}
 use Rattle.qw_bench.specs.Bench.{ran_in, end_in}
 use Rattle.qw_bench.proofs.Serving.{serving-told, turns-serving}
 
@@ -37,18 +37,18 @@ module _ {memory : Octets} {seats : List Seat} {i : ℕ} {seat : Seat} (sits : S
   task_there : slice_get (map task_of seats) i ≡ Some (task_of seat)
   task_there = slice_get-map task_of seats i ∙ ap (option_map task_of) sits.there
 
-  turned_at : (quantum : ℕ) → turn (standing_of memory seats).shared (i, quantum)
-      ≡ with_instance (standing_of memory seats).shared i (steps_of quantum (instance_of seat) memory.octets)
+  turned_at : (quantum : ℕ) → acted (standing_of memory seats).shared (turn i quantum)
+      ≡ with_instance (standing_of memory seats).shared i (steps_of quantum (instance_of seat) (common_of memory))
   turned_at quantum = ap (turn_at (standing_of memory seats).shared i quantum) instance_there
 
   -- the instance that was given a turn
   turned_there : (x : Instance) → slice_get (slice_set (map instance_of seats) i x) i ≡ Some x
   turned_there x = slice_get-set_same (map instance_of seats) i x (slice_get_within (map instance_of seats) i (instance_of seat) instance_there)
 
-  pub turned-shared : (quantum : ℕ) (new : Seat) (after : Octets) → (instance_of new, after.octets) ≡ steps_of quantum (instance_of seat) memory.octets →
-      (standing_of after (slice_set seats i new)).shared ≡ turn (standing_of memory seats).shared (i, quantum)
+  pub turned-shared : (quantum : ℕ) (new : Seat) (after : Octets) → (instance_of new, common_of after) ≡ steps_of quantum (instance_of seat) (common_of memory) →
+      (standing_of after (slice_set seats i new)).shared ≡ acted (standing_of memory seats).shared (turn i quantum)
   turned-shared quantum new after is =
-      ap (λ (instances : List Instance). record { memory = after.octets; instances = instances }) (map-set instance_of seats i new)
+      ap (λ (instances : List Instance). record { common = common_of after; instances = instances }) (map-set instance_of seats i new)
       ∙ ap (with_instance (standing_of memory seats).shared i) is
       ∙ sym (turned_at quantum)
 
@@ -80,7 +80,7 @@ module _ {memory : Octets} {seats : List Seat} {i : ℕ} {seat : Seat} (sits : S
         let asks : seat.limits.pages - seat.held ≤ may_ask (map instance_of seats) = asks_within (map instance_of seats) i (instance_of seat) instance_there in
         omega (arith, kept.bench.room, asks)
 
-    pub seat-told : IsTold (instance_of seat) memory.octets
+    pub seat-told : IsTold (instance_of seat) (common_of memory)
     seat-told = serving-told kept.bench.table (map task_of seats) (standing_of memory seats).shared kept.bench.serving i (task_of seat) (instance_of seat)
         task_there instance_there
 
@@ -96,7 +96,7 @@ module _ {memory : Octets} {seats : List Seat} {i : ℕ} {seat : Seat} (sits : S
         ap may_ask (map-set instance_of seats i new) in
         omega (arith, changed, sum, asks, reserved, kept.bench.room)
 
-    pub turned-bench : (quantum : ℕ) (new : Seat) (after : Octets) → (instance_of new, after.octets) ≡ steps_of quantum (instance_of seat) memory.octets →
+    pub turned-bench : (quantum : ℕ) (new : Seat) (after : Octets) → (instance_of new, common_of after) ≡ steps_of quantum (instance_of seat) (common_of memory) →
         task_of new ≡ task_of seat → HasGrants new → after.reserved ≡ memory.reserved →
         length after.octets + (new.limits.pages - new.held) * page ≡ length memory.octets + (seat.limits.pages - seat.held) * page →
         AreSeats after (slice_set seats i new)
@@ -105,7 +105,7 @@ module _ {memory : Octets} {seats : List Seat} {i : ℕ} {seat : Seat} (sits : S
         table = kept.bench.table;
         serving = rw (turned-tasks new same)
             (subst (AreServing kept.bench.table (map task_of seats)) (sym (turned-shared quantum new after is))
-            (turns-serving kept.bench.table (map task_of seats) (standing_of memory seats).shared ((i, quantum) ∷ []) kept.bench.serving));
+            (turns-serving kept.bench.table (map task_of seats) (standing_of memory seats).shared (turn i quantum ∷ []) kept.bench.serving));
         room = turned-room new after reserved asks;
       };
       grants = All-set HasGrants seats i new granted kept.grants;

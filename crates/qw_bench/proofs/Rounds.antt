@@ -7,7 +7,7 @@ use Rattle.std.proofs.lemmas.Bool.{cases_Bool, false≢true}
 use Rattle.std.proofs.Math.Nat.{eq-or-lt_of_le}
 use Rattle.std.proofs.lemmas.List.{append-nil, map-append}
 use Rattle.std.proofs.lemmas.Option.{none-some, same_Some, slice_get_within}
-use Rattle.qw_map.specs.Turns.{End, Instance, Shared, EachInstance, IsWhole, steps_of, turn, turns, with_instance}
+use Rattle.qw_map.specs.Turns.{End, Instance, Shared, EachInstance, IsWhole, steps_of, Act, turn, acted, turns, with_instance}
 use Rattle.qw_map.proofs.TurnFacts.{slice_get-set_same}
 use Rattle.qw_map.proofs.TurnSteps.{limits-turns, turn-others, turns-many, turns-whole, unended-runs}
 use Rattle.qw_bench.specs.declared.bench.Ended.{Ended}
@@ -21,9 +21,9 @@ use Rattle.qw_bench.specs.Standing.{IsBench, Standing, end_of}
 use Rattle.qw_bench.specs.Inner.Seats.{instance_of}
 
 -- turns after turns
-pub turns-append : (xs ys : List (ℕ × ℕ)) (s : Shared) → turns (xs ++ ys) s ≡ turns ys (turns xs s)
+pub turns-append : (xs ys : List Act) (s : Shared) → turns (xs ++ ys) s ≡ turns ys (turns xs s)
 turns-append [] ys s = refl
-turns-append (x ∷ xs) ys s = turns-append xs ys (turn s x)
+turns-append (x ∷ xs) ys s = turns-append xs ys (acted s x)
 
 -- ---- how many instructions are left
 steps_left-set : (xs : List Instance) (k : ℕ) (x old : Instance) → slice_get xs k ≡ Some old →
@@ -33,23 +33,23 @@ steps_left-set (y ∷ xs) zero x old found = let same : y ≡ old = same_Some y 
 steps_left-set (y ∷ xs) (suc k) x old found = omega (arith, steps_left-set xs k x old found)
 
 turn-falls : (s : Shared) (k quantum : ℕ) (i : Instance) → slice_get s.instances k ≡ Some i → i.ran < i.most_steps →
-    ran_in s k < ran_in (turn s (k, quantum)) k → steps_left (turn s (k, quantum)).instances < steps_left s.instances
+    ran_in s k < ran_in (acted s (turn k quantum)) k → steps_left (acted s (turn k quantum)).instances < steps_left s.instances
 turn-falls s k quantum i found below more =
-    let x = steps_of quantum i s.memory in
-    let now : turn s (k, quantum) ≡ with_instance s k x = rw found refl in
+    let x = steps_of quantum i s.common in
+    let now : acted s (turn k quantum) ≡ with_instance s k x = rw found refl in
     let put : slice_get (slice_set s.instances k x.0) k ≡ Some x.0 = slice_get-set_same s.instances k x.0 (slice_get_within s.instances k i found) in
-    let later : slice_get (turn s (k, quantum)).instances k ≡ Some x.0 = rw now put in
+    let later : slice_get (acted s (turn k quantum)).instances k ≡ Some x.0 = rw now put in
     let ran : i.ran < x.0.ran = rw (now, put, found) at more in
-    let most : x.0.most_steps ≡ i.most_steps = limits-turns s ((k, quantum) ∷ []) k i x.0 found later in
+    let most : x.0.most_steps ≡ i.most_steps = limits-turns s (turn k quantum ∷ []) k i x.0 found later in
     rw now (omega (arith, steps_left-set s.instances k x.0 i found))
 
 -- ---- a round, instance by instance
-abbrev round_below : (quantum : ℕ) → Shared → (n : ℕ) → List (ℕ × ℕ)
-round_below quantum s n = map (λ (i : ℕ). (i, quantum)) (unended_below s n)
+abbrev round_below : (quantum : ℕ) → Shared → (n : ℕ) → List Act
+round_below quantum s n = map (λ (i : ℕ). turn i quantum) (unended_below s n)
 
 -- the instances below k have had their turns of a round that began at s
 pub record IsRounding (quantum : ℕ) (s : Shared) (k : ℕ) (now : Shared) : Type 0 where
-  pub state : now ≡ turns (map (λ (i : ℕ). (i, quantum)) (unended_below s k)) s
+  pub state : now ≡ turns (map (λ (i : ℕ). turn i quantum) (unended_below s k)) s
   pub rest : (j : ℕ) → k ≤ j → slice_get now.instances j ≡ slice_get s.instances j
   pub many : length now.instances ≡ length s.instances
   pub falls : unended_below s k ≢ [] → steps_left now.instances < steps_left s.instances
@@ -72,23 +72,23 @@ rounding-ended quantum s k now ended so_far =
     subst (λ (n : ℕ). IsRounding quantum s n now) (sym (add-one k)) next
 
 pub rounding-turn : (quantum : ℕ) (s : Shared) (k : ℕ) (now : Shared) (i : Instance) → slice_get now.instances k ≡ Some i → i.ran < i.most_steps →
-    is_some (end_in now k) ≡ false → ran_in now k < ran_in (turn now (k, quantum)) k → IsRounding quantum s k now → IsRounding quantum s (k + 1) (turn now (k, quantum))
+    is_some (end_in now k) ≡ false → ran_in now k < ran_in (acted now (turn k quantum)) k → IsRounding quantum s k now → IsRounding quantum s (k + 1) (acted now (turn k quantum))
 rounding-turn quantum s k now i found below unended more so_far =
     let one : unended_below s (suc k) ≡ unended_below s k ++ k ∷ [] = rw (end-kept quantum s k now so_far, unended) refl in
     let falls = turn-falls now k quantum i found below more in
-    let next : IsRounding quantum s (suc k) (turn now (k, quantum)) = record {
-      state = rw (one, map-append {A = ℕ} {B = ℕ × ℕ} (λ i. (i, quantum)) (unended_below s k) (k ∷ []), turns-append (round_below quantum s k) ((k, quantum) ∷ []) s)
-          (ap (λ (x : Shared). turn x (k, quantum)) so_far.state);
+    let next : IsRounding quantum s (suc k) (acted now (turn k quantum)) = record {
+      state = rw (one, map-append {A = ℕ} {B = Act} (λ i. turn i quantum) (unended_below s k) (k ∷ []), turns-append (round_below quantum s k) (turn k quantum ∷ []) s)
+          (ap (λ (x : Shared). acted x (turn k quantum)) so_far.state);
       rest = λ j low. turn-others now k j quantum (λ same. absurd (omega arith)) ∙ so_far.rest j (omega arith);
-      many = turns-many now ((k, quantum) ∷ []) ∙ so_far.many;
+      many = turns-many now (turn k quantum ∷ []) ∙ so_far.many;
       falls = λ some. omega (arith, so_far.less, falls);
       less = omega (arith, so_far.less, falls);
     } in
-    subst (λ (n : ℕ). IsRounding quantum s n (turn now (k, quantum))) (sym (add-one k)) next
+    subst (λ (n : ℕ). IsRounding quantum s n (acted now (turn k quantum))) (sym (add-one k)) next
 
 -- the instances of a bench are whole, whatever turns they were given
-pub whole-now : (b : Standing) → IsBench b → (ts : List (ℕ × ℕ)) (now : Shared) → now ≡ turns ts b.shared → EachInstance IsWhole now
-whole-now b kept ts now is = subst (EachInstance IsWhole) (sym is) (turns-whole b.shared ts (each-whole kept.table b.tasks b.shared kept.serving))
+pub whole-now : (b : Standing) → IsBench b → (acts : List Act) (now : Shared) → now ≡ turns acts b.shared → EachInstance IsWhole now
+whole-now b kept acts now is = subst (EachInstance IsWhole) (sym is) (turns-whole b.shared acts (each-whole kept.table b.tasks b.shared kept.serving))
 
 pub next-below : (b : Standing) → IsBench b → (quantum k : ℕ) (now : Shared) (i : Instance) → IsRounding quantum b.shared k now → slice_get now.instances k ≡ Some i →
     is_some (end_in now k) ≡ false → i.ran < i.most_steps
@@ -103,7 +103,7 @@ end-test s k o test told is = ap (λ (e : Option End). is_some e) (sym told) ∙
 
 -- the next instance of a bench had its turn, as it hadn't ended
 pub turned-next : (b : Standing) → IsBench b → (quantum k result : ℕ) (self new : Standing) (o : Option Ended) → IsRounding quantum b.shared k self.shared →
-    k < length b.shared.instances → end_of o ≡ end_in self.shared k → is_some o ≡ false → new.shared ≡ turn self.shared (k, quantum) →
+    k < length b.shared.instances → end_of o ≡ end_in self.shared k → is_some o ≡ false → new.shared ≡ acted self.shared (turn k quantum) →
     ran_in new.shared k ≡ ran_in self.shared k + result → (result ≡ 0 → IsSome (end_in self.shared k)) →
     IsRounding quantum b.shared (k + 1) new.shared
 turned-next b kept quantum k result self new o so_far within told is turned counted none =
@@ -112,7 +112,7 @@ turned-next b kept quantum k result self new o so_far within told is turned coun
     let i = there now.instances k (omega (arith, so_far.many)) in
     let below = next-below b kept quantum k now i.0 so_far i.1 unended in
     let some : 1 ≤ result = one result (λ zeroth. false≢true (sym unended ∙ none zeroth)) in
-    let more : ran_in now k < ran_in (turn now (k, quantum)) k = rw (← turned) (omega (arith, counted)) in
+    let more : ran_in now k < ran_in (acted now (turn k quantum)) k = rw (← turned) (omega (arith, counted)) in
     rw turned (rounding-turn quantum b.shared k now i.0 i.1 below unended more so_far)
   where
     one : (n : ℕ) → (n ≡ 0 → ⊥) → 1 ≤ n
@@ -127,9 +127,9 @@ passed-next quantum k s self o so_far told is = rounding-ended quantum s k self.
 -- ---- all rounds
 -- rounds led from s to this state, and go on with what follows from it
 pub record HasRounded (quantum : ℕ) (s now : Shared) : Type 0 where
-  pub before : List (ℕ × ℕ)
+  pub before : List Act
   pub state : now ≡ turns before s
-  pub goes_on : (rest : List (ℕ × ℕ)) → AreRounds quantum rest now → AreRounds quantum (before ++ rest) s
+  pub goes_on : (rest : List Act) → AreRounds quantum rest now → AreRounds quantum (before ++ rest) s
 
 pub rounded-more : (quantum : ℕ) (s now new : Shared) → HasRounded quantum s now → new ≡ turns (round quantum now) now → HasRounded quantum s new
 rounded-more quantum s now new so_far is = record {
@@ -175,7 +175,7 @@ empty-append : (xs ys : List ℕ) → xs ++ ys ≡ [] → (xs ≡ []) × (ys ≡
 empty-append [] ys none = (refl, none)
 empty-append (x ∷ xs) ys none = cc
 
-empty-map : (quantum : ℕ) (xs : List ℕ) → map {A = ℕ} {B = ℕ × ℕ} (λ i. (i, quantum)) xs ≡ [] → xs ≡ []
+empty-map : (quantum : ℕ) (xs : List ℕ) → map {A = ℕ} {B = Act} (λ i. turn i quantum) xs ≡ [] → xs ≡ []
 empty-map quantum [] none = refl
 empty-map quantum (x ∷ xs) none = cc
 
@@ -201,7 +201,7 @@ pub all-ended : (s : Shared) → list_any (λ (i : Instance). not (is_some i.end
 all-ended s none k i found = any-none s.instances none k i found
 
 pub no-round : (s : Shared) (quantum : ℕ) → list_any (λ (i : Instance). not (is_some i.end)) s.instances ≡ false → round quantum s ≡ []
-no-round s quantum none = ap (map (λ (i : ℕ). (i, quantum))) (unended-none s (length s.instances)
+no-round s quantum none = ap (map (λ (i : ℕ). turn i quantum)) (unended-none s (length s.instances)
     (λ k below. let i = there s.instances k below in rw i.1 (any-none s.instances none k i.0 i.1)))
 
 pub some-round : (s : Shared) (quantum : ℕ) → list_any (λ (i : Instance). not (is_some i.end)) s.instances ≡ true → round quantum s ≢ []

@@ -6,16 +6,17 @@ use Rattle.std.proofs.lemmas.Bool.{le-leb, lt-leb, leb-true, leb-false, cases_Bo
 use Rattle.std.proofs.lemmas.List.{map-append, length_push}
 use Rattle.qw_linear.specs.Linear.{Octets}
 use Rattle.qw_linear.specs.Memory.{page}
-use Rattle.qw_machine.specs.declared.machine.Stepped.{Stepped}
-use Rattle.qw_machine.specs.declared.machine.Stepped.TheVariants.{Ran, Grew, Refused}
-use Rattle.qw_machine.specs.declared.machine.Stepped.TheVariants as came
+use Rattle.qw_machine.specs.declared.stepped.Stepped.{Stepped}
+use Rattle.qw_machine.specs.declared.stepped.Stepped.TheVariants.{Ran, Grew, Refused}
+use Rattle.qw_machine.specs.declared.stepped.Stepped.TheVariants as came
 use Rattle.qw_machine.specs.Instance.{Called, IsAnswer, IsNoRequest, Went}
+use Rattle.qw_module.specs.declared.trap.Trap.{Trap}
 use Rattle.qw_module.specs.Execution.{Config, State, Running, Returned, Raised, Trapped, Event, Silent, Loads, Stores, Grows, Raises, Traps, pages_gained}
-use Rattle.qw_module.specs.Step.{Next, next, Want, Stuck, Goes, Asks, Puts, AsksPages, Signals, answered, wants}
+use Rattle.qw_module.specs.Step.{Next, next, Want, Stuck, Goes, Asks, Puts, Measures, AsksPages, Signals, Fails, answered, wants}
 use Rattle.qw_map.specs.Areas.{Area, World, grants, world_after}
-use Rattle.qw_map.specs.Turns.{Done, IsWhole, steps_of, moved, end_at}
+use Rattle.qw_map.specs.Turns.{Done, Common, IsWhole, steps_of, moved, end_at}
 use Rattle.qw_map.specs.Turns as t
-use Rattle.qw_module.proofs.Outcomes.{Outcome, outcome, went, read, read_outside, put, put_outside, was_granted, was_refused, raised}
+use Rattle.qw_module.proofs.Outcomes.{Outcome, outcome, went, read, read_outside, put, put_outside, measured, was_granted, was_refused, raised, failed}
 use Rattle.qw_module.proofs.Sound.{length_grows}
 use Rattle.qw_map.proofs.TurnSteps.{steps_of-added, steps_of-ended, unended-runs}
 use Rattle.qw_bench.specs.declared.bench.Ended.{Ended}
@@ -23,7 +24,7 @@ use Rattle.qw_bench.specs.declared.bench.Ended.TheVariants as ended
 use Rattle.qw_bench.specs.declared.bench.Grant.{Grant}
 use Rattle.qw_bench.specs.declared.bench.Seat.{Seat}
 use Rattle.qw_bench.specs.Standing.{end_of}
-use Rattle.qw_bench.specs.Inner.Seats.{CanBeTold, HasGrants, IsEndOf, IsTold, StaysSeated, area_of, counting, instance_of, state_in, world_of}
+use Rattle.qw_bench.specs.Inner.Seats.{CanBeTold, HasGrants, IsEndOf, IsTold, StaysSeated, area_of, common_of, counting, instance_of, state_in, world_of}
 
 -- ---- what a step can be told to have done
 -- tests that agree grant the same requests
@@ -32,8 +33,10 @@ answered-alike g h m Stuck same = refl
 answered-alike g h m (Goes s) same = refl
 answered-alike g h m (Asks address width make) same = refl
 answered-alike g h m (Puts address width value s) same = refl
+answered-alike g h m (Measures make) same = refl
 answered-alike g h m (AsksPages pages make) same = rw (same pages) refl
 answered-alike g h m (Signals code) same = refl
+answered-alike g h m (Fails why) same = refl
 
 -- what is left below a limit is enough exactly where the sum is within the limit
 spare-grants : (w : World) (pages : ℕ) → w.held ≤ w.limit → nat_le pages (w.limit - w.held) ≡ grants w pages
@@ -59,9 +62,11 @@ granted _ _ _ _ (read g m address width make inside) = tt
 granted _ _ _ _ (read_outside g m address width make outside) = tt
 granted _ _ _ _ (put g m address width value s inside) = tt
 granted _ _ _ _ (put_outside g m address width value s outside) = tt
+granted _ _ _ _ (measured g m make) = tt
 granted _ _ _ _ (was_granted g m pages make is fits) = is
 granted _ _ _ _ (was_refused g m pages make is) = tt
 granted _ _ _ _ (raised g m code) = tt
+granted _ _ _ _ (failed g m why) = tt
 
 -- what is no request changes neither what an instance has nor the memory's size
 stays-without : (w : World) (m : List ℕ) (e : Event) → IsNoRequest e → (world_after w m e ≡ w) × (pages_gained e ≡ 0)
@@ -70,7 +75,7 @@ stays-without w m (Loads address width) none = (refl, refl)
 stays-without w m (Stores address width) none = (refl, refl)
 stays-without w m (Grows pages given) none = absurd none
 stays-without w m (Raises code) none = (refl, refl)
-stays-without w m Traps none = (refl, refl)
+stays-without w m (Traps why) none = (refl, refl)
 
 -- where an instance ended, its last step was no request
 ends-without : (w : World) (e : Event) → CanBeTold w e Returned → IsNoRequest e
@@ -79,7 +84,7 @@ ends-without w (Loads address width) told = tt
 ends-without w (Stores address width) told = tt
 ends-without w (Grows pages given) told = absurd told.1
 ends-without w (Raises code) told = tt
-ends-without w Traps told = tt
+ends-without w (Traps why) told = tt
 
 raises-after : (w : World) (e : Event) (code : ℕ) → CanBeTold w e (Raised code) → IsNoRequest e × ((code ≡ 3) × ((asked : ℕ) × (w.refused ≡ Some asked)))
 raises-after w Silent code told = (tt, told)
@@ -87,15 +92,15 @@ raises-after w (Loads address width) code told = (tt, told)
 raises-after w (Stores address width) code told = (tt, told)
 raises-after w (Grows pages given) code told = absurd told.1
 raises-after w (Raises raised') code told = (tt, told)
-raises-after w Traps code told = (tt, told)
+raises-after w (Traps why) code told = (tt, told)
 
-never-trapped : (w : World) (e : Event) → CanBeTold w e Trapped → ⊥
-never-trapped w Silent told = told
-never-trapped w (Loads address width) told = told
-never-trapped w (Stores address width) told = told
-never-trapped w (Grows pages given) told = told.1
-never-trapped w (Raises code) told = told
-never-trapped w Traps told = told
+never-trapped : (w : World) (e : Event) (why : Trap) → CanBeTold w e (Trapped why) → ⊥
+never-trapped w Silent why told = told
+never-trapped w (Loads address width) why told = told
+never-trapped w (Stores address width) why told = told
+never-trapped w (Grows pages given) why told = told.1
+never-trapped w (Raises code) why told = told
+never-trapped w (Traps because) why told = told
 
 -- ---- one step more
 -- an instance whose end is the one at its state
@@ -111,22 +116,22 @@ instance_at-same s s' w w' most most' ran ran' one two three four =
     ∙ ap (λ (x : ℕ). instance_at s' w' most' x) four
 
 -- one step of an instance that runs
-one-step : (now : t.Instance) (memory : List ℕ) (c : Config) (made : Next) → now.end ≡ None → now.state ≡ Running c → next (grants now.world) c memory ≡ Some made →
-    (moved now (world_after now.world memory made.event) made.state, made.memory) ≡ steps_of 1 now memory
-one-step now memory c made unended running is = rw (unended, running, is) refl
+one-step : (now : t.Instance) (common : Common) (c : Config) (made : Next) → now.end ≡ None → now.state ≡ Running c → next (grants now.world) c common.memory ≡ Some made →
+    (moved now (world_after now.world common.memory made.event) made.state, record common { memory = made.memory }) ≡ steps_of 1 now common
+one-step now common c made unended running is = rw (unended, running, is) refl
 
 -- and one more than so many
-step-on : (i : t.Instance) (m : List ℕ) (k : ℕ) (now : t.Instance) (memory : List ℕ) (c : Config) (made : Next) →
-    (now, memory) ≡ steps_of k i m → now.end ≡ None → now.state ≡ Running c → next (grants now.world) c memory ≡ Some made →
-    (moved now (world_after now.world memory made.event) made.state, made.memory) ≡ steps_of (k + 1) i m
-step-on i m k now memory c made is unended running led =
-    subst (λ (p : t.Instance × List ℕ). (moved now (world_after now.world memory made.event) made.state, made.memory) ≡ steps_of 1 p.0 p.1) is
-    (one-step now memory c made unended running led)
-    ∙ sym (steps_of-added k 1 i m)
+step-on : (i : t.Instance) (first : Common) (k : ℕ) (now : t.Instance) (common : Common) (c : Config) (made : Next) →
+    (now, common) ≡ steps_of k i first → now.end ≡ None → now.state ≡ Running c → next (grants now.world) c common.memory ≡ Some made →
+    (moved now (world_after now.world common.memory made.event) made.state, record common { memory = made.memory }) ≡ steps_of (k + 1) i first
+step-on i first k now common c made is unended running led =
+    subst (λ (p : t.Instance × Common). (moved now (world_after now.world common.memory made.event) made.state, record common { memory = made.memory }) ≡ steps_of 1 p.0 p.1) is
+    (one-step now common c made unended running led)
+    ∙ sym (steps_of-added k 1 i first)
 
 -- so many steps were taken from one seat's instance to another's, which runs on
 pub record HasRun (before : Seat) (m0 : Octets) (k : ℕ) (now : Seat) (memory : Octets) : Type 0 where
-  pub ran : (counting now k, memory.octets) ≡ steps_of k (counting before 0) m0.octets
+  pub ran : (counting now k, common_of memory) ≡ steps_of k (counting before 0) (common_of m0)
   pub seated : StaysSeated before now
   pub program : now.instance.program ≡ before.instance.program
   pub runs : IsEndOf now (state_in now) None
@@ -140,13 +145,13 @@ pub running : (seat : Seat) (s : State) → IsEndOf seat s None → (c : Config)
 running seat (Running c) h = (c, refl)
 running seat Returned h = absurd h
 running seat (Raised code) h = absurd h
-running seat Trapped h = absurd h
+running seat (Trapped why) h = absurd h
 
--- a seat within its budget is below its limit
-pub may-step : (before : Seat) (m0 : Octets) (k budget : ℕ) (now : Seat) (memory : Octets) → HasRun before m0 k now memory → k < budget →
-    before.ran + budget ≤ before.limits.steps → now.ran + k < now.limits.steps
-may-step before m0 k budget now memory has within room =
-    let ran : now.ran ≡ before.ran = ap (λ (seat : Seat). seat.ran) has.seated in
+-- a seat within its budget is within its limit
+pub within-limit : (before : Seat) (m0 : Octets) (k ran budget : ℕ) (now : Seat) (memory : Octets) → HasRun before m0 k now memory → ran ≤ budget →
+    before.ran + budget ≤ before.limits.steps → now.ran + ran ≤ now.limits.steps
+within-limit before m0 k ran budget now memory has within room =
+    let same_ran : now.ran ≡ before.ran = ap (λ (seat : Seat). seat.ran) has.seated in
     let most : now.limits.steps ≡ before.limits.steps = ap (λ (seat : Seat). seat.limits.steps) has.seated in
     omega arith
 
@@ -154,7 +159,7 @@ may-step before m0 k budget now memory has within room =
 pub record IsTaken (before : Seat) (m0 : Octets) (k : ℕ) (now : Seat) (memory : Octets) (i : Called) (after : Octets) (answer : Stepped) : Type 0 where
   pub has : HasRun before m0 k now memory
   pub below : now.ran + k < now.limits.steps
-  pub tells : IsTold (counting before 0) m0.octets
+  pub tells : IsTold (counting before 0) (common_of m0)
   pub led : (c : Config) → state_in now ≡ Running c →
       Went (now.limits.pages - now.held) c memory.octets (state_in (record now { instance = i })) after.octets answer
 
@@ -187,7 +192,7 @@ module _ {before : Seat} {m0 : Octets} {k : ℕ} {now : Seat} {memory : Octets} 
         running = c.1;
         event = w.event;
         made = made;
-        told = subst (λ (p : t.Instance × List ℕ). p.0.state ≡ Running c.0 → next (grants p.0.world) c.0 p.1 ≡ Some n → CanBeTold p.0.world n.event n.state)
+        told = subst (λ (p : t.Instance × Common). p.0.state ≡ Running c.0 → next (grants p.0.world) c.0 p.1.memory ≡ Some n → CanBeTold p.0.world n.event n.state)
             (sym taken.has.ran) (taken.tells k c.0 n) c.1 made;
         answered = w.answered;
         longer = length_grows (grants (world_of now)) c.0 memory.octets n made;
@@ -196,15 +201,15 @@ module _ {before : Seat} {m0 : Octets} {k : ℕ} {now : Seat} {memory : Octets} 
 
   -- a seat that stands for what the instance has then
   more : (final : Seat) → state_in final ≡ new_state → world_of final ≡ world_after (world_of now) memory.octets step.event → final.ran ≡ now.ran →
-      final.limits.steps ≡ now.limits.steps → (counting final (k + 1), after.octets) ≡ steps_of (k + 1) (counting before 0) m0.octets
+      final.limits.steps ≡ now.limits.steps → (counting final (k + 1), common_of after) ≡ steps_of (k + 1) (counting before 0) (common_of m0)
   more final state world ran most =
       let unended : (counting now k).end ≡ None = rw (step.running, lt-leb now.limits.steps (now.ran + k) taken.below) refl in
       let count : final.ran + (k + 1) ≡ now.ran + k + 1 = omega arith in
-      let stepped = step-on (counting before 0) m0.octets k (counting now k) memory.octets step.c
+      let stepped = step-on (counting before 0) (common_of m0) k (counting now k) (common_of memory) step.c
       (record { event = step.event; state = new_state; memory = after.octets }) taken.has.ran unended step.running step.made in
       let same = instance_at-same (state_in final) new_state (world_of final) (world_after (world_of now) memory.octets step.event)
       final.limits.steps now.limits.steps (final.ran + (k + 1)) (now.ran + k + 1) state world most count in
-      ap (λ (x : t.Instance). (x, after.octets)) same ∙ stepped
+      ap (λ (x : t.Instance). (x, common_of after)) same ∙ stepped
 
   -- no request: nothing else changes
   pub ran-on : answer ≡ Ran → i.program ≡ now.instance.program → after.reserved ≡ memory.reserved → HasRun before m0 (k + 1) (record now { instance = i }) after
@@ -226,20 +231,20 @@ module _ {before : Seat} {m0 : Octets} {k : ℕ} {now : Seat} {memory : Octets} 
       plainly (Running c) h = (h, tt)
       plainly Returned h = absurd h
       plainly (Raised code) h = absurd h
-      plainly Trapped h = absurd h
+      plainly (Trapped why) h = absurd h
 
   -- a request was granted, or refused, and the run goes on
   grew : (at pages : ℕ) (s : State) → IsAnswer (Grew at pages) memory.octets step.event s → (step.event ≡ Grows pages true) × ((c : Config) × (s ≡ Running c))
   grew at pages (Running c) h = (h.0, (c, refl))
   grew at pages Returned h = absurd h
   grew at pages (Raised code) h = absurd h
-  grew at pages Trapped h = absurd h
+  grew at pages (Trapped why) h = absurd h
 
   refused : (pages : ℕ) (s : State) → IsAnswer (Refused pages) memory.octets step.event s → (step.event ≡ Grows pages false) × ((c : Config) × (s ≡ Running c))
   refused pages (Running c) h = (h, (c, refl))
   refused pages Returned h = absurd h
   refused pages (Raised code) h = absurd h
-  refused pages Trapped h = absurd h
+  refused pages (Trapped why) h = absurd h
 
   -- what a granted request comes to
   pub record HasGrown (pages : ℕ) : Type 0 where
@@ -309,7 +314,7 @@ module _ {before : Seat} {m0 : Octets} {k : ℕ} {now : Seat} {memory : Octets} 
 
   -- The run has ended: it takes no step more. What it has and the memory's size are as before its last step.
   pub record HasEnded (budget : ℕ) : Type 0 where
-    pub ran : (counting (record now { instance = i }) (k + 1), after.octets) ≡ steps_of budget (counting before 0) m0.octets
+    pub ran : (counting (record now { instance = i }) (k + 1), common_of after) ≡ steps_of budget (counting before 0) (common_of m0)
     pub size : length after.octets ≡ length memory.octets
 
   ended-at : (budget : ℕ) → k < budget → IsNoRequest step.event → IsSome (end_at new_state (world_of now) (now.ran + (k + 1)) now.limits.steps) → HasEnded budget
@@ -317,11 +322,11 @@ module _ {before : Seat} {m0 : Octets} {k : ℕ} {now : Seat} {memory : Octets} 
       let same = stays-without (world_of now) memory.octets step.event none in
       let all = more (record now { instance = i }) refl (sym same.0) refl refl in
       let left : budget ≡ k + 1 + (budget - (k + 1)) = omega arith in
-      let stays = steps_of-ended (budget - (k + 1)) (counting (record now { instance = i }) (k + 1)) after.octets over in
+      let stays = steps_of-ended (budget - (k + 1)) (counting (record now { instance = i }) (k + 1)) (common_of after) over in
       record {
-        ran = sym (ap (λ (n : ℕ). steps_of n (counting before 0) m0.octets) left
-            ∙ steps_of-added (k + 1) (budget - (k + 1)) (counting before 0) m0.octets
-            ∙ ap (λ (p : t.Instance × List ℕ). steps_of (budget - (k + 1)) p.0 p.1) (sym all)
+        ran = sym (ap (λ (n : ℕ). steps_of n (counting before 0) (common_of m0)) left
+            ∙ steps_of-added (k + 1) (budget - (k + 1)) (counting before 0) (common_of m0)
+            ∙ ap (λ (p : t.Instance × Common). steps_of (budget - (k + 1)) p.0 p.1) (sym all)
             ∙ stays);
         size = omega (arith, step.longer, same.1);
       }
@@ -336,7 +341,7 @@ module _ {before : Seat} {m0 : Octets} {k : ℕ} {now : Seat} {memory : Octets} 
         s_is,
       )
       by_state (Raised code) s_is h = absurd h
-      by_state Trapped s_is h = absurd h
+      by_state (Trapped why) s_is h = absurd h
 
   -- 3 was raised after a refused request
   pub record HasRaised (budget : ℕ) : Type 0 where
@@ -356,17 +361,17 @@ module _ {before : Seat} {m0 : Octets} {k : ℕ} {now : Seat} {memory : Octets} 
           let three : new_state ≡ Raised 3 = s_is ∙ ap Raised told.1.0 in
           let refused_is : now.refused ≡ Some told.1.1.0 = told.1.1.1 in
           record { ended = ended-at budget within told.0 (rw (three, refused_is) refl); state_is = three; asked = told.1.1.0; refused_is = refused_is }
-      by_state Trapped s_is h = absurd h
+      by_state (Trapped why) s_is h = absurd h
 
   -- and none traps
-  pub untrapped : answer ≡ came.Trapped → ⊥
-  untrapped is = by_state new_state refl (subst (λ (a : Stepped). IsAnswer a memory.octets step.event new_state) is step.answered)
+  pub untrapped : (why : Trap) → answer ≡ came.Trapped why → ⊥
+  untrapped why is = by_state new_state refl (subst (λ (a : Stepped). IsAnswer a memory.octets step.event new_state) is step.answered)
     where
-      by_state : (s : State) → new_state ≡ s → IsAnswer came.Trapped memory.octets step.event s → ⊥
+      by_state : (s : State) → new_state ≡ s → IsAnswer (came.Trapped why) memory.octets step.event s → ⊥
       by_state (Running c) s_is h = h
       by_state Returned s_is h = h
       by_state (Raised code) s_is h = h
-      by_state Trapped s_is h = never-trapped (world_of now) step.event (subst (CanBeTold (world_of now) step.event) s_is step.told)
+      by_state (Trapped because) s_is h = never-trapped (world_of now) step.event because (subst (CanBeTold (world_of now) step.event) s_is step.told)
 
 -- the end that tells of a refused request is the one at the raised code
 pub raised-end : (seat : Seat) (s : State) (asked : ℕ) (e : Ended) → s ≡ Raised 3 → seat.refused ≡ Some asked →
@@ -389,7 +394,7 @@ is_some-end_of (Some (ended.Pages held asked limit)) = refl
 is_some-end_of (Some (ended.Steps limit)) = refl
 
 -- an instance that has ended takes no step
-pub turned-none : (seat : Seat) (m : List ℕ) (quantum : ℕ) → is_some seat.ended ≡ true → (instance_of seat, m) ≡ steps_of quantum (instance_of seat) m
+pub turned-none : (seat : Seat) (m : Common) (quantum : ℕ) → is_some seat.ended ≡ true → (instance_of seat, m) ≡ steps_of quantum (instance_of seat) m
 turned-none seat m quantum some = sym (steps_of-ended quantum (instance_of seat) m (is_some-end_of seat.ended ∙ some))
 
 -- one that hasn't runs, and may run on
@@ -413,7 +418,7 @@ end-set seat (Raised code) None ran most h some = absurd h
 end-set seat (Raised code) (Some ended.Done) ran most h some = absurd h
 end-set seat (Raised code) (Some (ended.Pages held asked limit)) ran most h some = rw (h.0, h.1, h.2, h.3) (refl, refl)
 end-set seat (Raised code) (Some (ended.Steps limit)) ran most h some = absurd h
-end-set seat Trapped o ran most h some = absurd h
+end-set seat (Trapped why) o ran most h some = absurd h
 
 end-unset : (seat : Seat) (s : State) (o : Option Ended) (ran most : ℕ) → IsEndOf seat s o → is_some o ≡ false →
     (o ≡ None) × (end_at s (world_of seat) ran most ≡ (if nat_le most ran then Some (t.Steps most) else None))
@@ -423,9 +428,9 @@ end-unset seat Returned None ran most h none = absurd h
 end-unset seat Returned (Some e) ran most h none = cc
 end-unset seat (Raised code) None ran most h none = absurd h
 end-unset seat (Raised code) (Some e) ran most h none = cc
-end-unset seat Trapped o ran most h none = absurd h
+end-unset seat (Trapped why) o ran most h none = absurd h
 
-module _ (seat mid : Seat) (m0 m : List ℕ) (quantum budget result : ℕ) (whole : IsWhole (instance_of seat))
+module _ (seat mid : Seat) (m0 m : Common) (quantum budget result : ℕ) (whole : IsWhole (instance_of seat))
     (ran : (counting mid result, m) ≡ steps_of budget (counting seat 0) m0) (least : budget ≡ min quantum (seat.limits.steps - seat.ran))
     (seated : StaysSeated seat mid) (end : IsEndOf mid (state_in mid) mid.ended) (count : mid.ended ≡ None → result ≡ budget) where
   turned : (now : t.Instance) → counting mid result ≡ now → IsSome now.end ⊎ (budget ≡ quantum) → (now, m) ≡ steps_of quantum (instance_of seat) m0
@@ -437,7 +442,7 @@ module _ (seat mid : Seat) (m0 m : List ℕ) (quantum budget result : ℕ) (whol
       let rest : quantum ≡ budget + (quantum - budget) = omega arith in
       sym (ap (λ (n : ℕ). steps_of n (instance_of seat) m0) rest
       ∙ steps_of-added budget (quantum - budget) (instance_of seat) m0
-      ∙ ap (λ (p : t.Instance × List ℕ). steps_of (quantum - budget) p.0 p.1) (sym first)
+      ∙ ap (λ (p : t.Instance × Common). steps_of (quantum - budget) p.0 p.1) (sym first)
       ∙ steps_of-ended (quantum - budget) now m ended))
       (λ all. first ∙ ap (λ (n : ℕ). steps_of n (instance_of seat) m0) all)
       over

@@ -11,10 +11,11 @@ use Rattle.std.proofs.lemmas.Option.{none-some, slice_get_within, slice_get-get_
 use Rattle.qw_types.specs.declared.value.Val.{Val}
 use Rattle.qw_types.specs.declared.value.Val.TheVariants.{Null, Num, Date, Text}
 use Rattle.qw_linear.specs.Memory.{page}
+use Rattle.qw_module.specs.declared.trap.Trap.{Trap}
 use Rattle.qw_module.specs.Execution.{Config, State, Running, Returned, Raised, Trapped, Event, Silent, Loads, Stores, Grows, Raises, Traps, IsOver}
 use Rattle.qw_map.specs.Areas.{Area, World, SameIn, Others, AsksWithin, IsAnswered, world_after}
 use Rattle.qw_map.specs.Runs.{Moment, OpenStep, OpenRun, Behaves, begins, goes_on, moment_after}
-use Rattle.qw_map.specs.Turns.{Steps, Instance, Shared, end_at, end_of_raise, steps_of, turn_at, turns, with_instance, EachInstance, IsWhole, AreApart, LiesWithin, AreSeparate, moment_of, LeadsTo}
+use Rattle.qw_map.specs.Turns.{Steps, Instance, Shared, Act, turn, end_at, end_of_raise, steps_of, turn_at, turns, with_instance, EachInstance, IsWhole, AreApart, LiesWithin, AreSeparate, moment_of, LeadsTo}
 use Rattle.qw_map.proofs.AreaLemmas.{all-append, all-front}
 use Rattle.qw_map.proofs.RunRules.{number_at-kept}
 use Rattle.qw_map.proofs.Separate.{safe-turns, runs-turns, worlds-turns, columns-turns, behaves-turns, open-step}
@@ -65,7 +66,7 @@ answers_stay statement rows d b after others (Running c) h = h
 answers_stay statement rows d b after others Returned (none, (bag, is, found)) =
     (none, (bag, is, results_stay (cell_types statement) b.world b.memory after d bag others found))
 answers_stay statement rows d b after others (Raised code) h = h
-answers_stay statement rows d b after others Trapped h = h
+answers_stay statement rows d b after others (Trapped why) h = h
 
 -- a value of a column is in a row
 value_within : (rows : List (List Val)) (row column : ℕ) (v : Val) → value_of rows row column ≡ Some v → row < length rows
@@ -118,7 +119,7 @@ grown-step w v m (Grows pages true) answered h = record {
 }
 grown-step w v m (Grows pages false) answered h = record { granted = h.granted; own_is = h.own_is; limit_is = h.limit_is; holds = h.holds }
 grown-step w v m (Raises code) answered h = h
-grown-step w v m Traps answered h = h
+grown-step w v m (Traps why) answered h = h
 
 grown-run : (n : ℕ) (a b : Moment) → OpenRun n a b → HasGrown a.world b.world
 grown-run _ _ _ (begins a) = grown-none a.world
@@ -135,15 +136,15 @@ ran-within most pages n P a b behaves to = by_state b.state refl
     by_state (Running c) is = omega (arith, behaves.bounded n (record b { memory = to.left }) c to.run is)
     by_state Returned is = over Returned is tt
     by_state (Raised code) is = over (Raised code) is tt
-    by_state Trapped is = over Trapped is tt
+    by_state (Trapped why) is = over (Trapped why) is tt
 
 record IsBefore (s : Shared) (k : ℕ) : Type 0 where
   i : Instance
   found : slice_get s.instances k ≡ Some i
 
-before : (s : Shared) (ts : List (ℕ × ℕ)) (k : ℕ) (later : Instance) → slice_get (turns ts s).instances k ≡ Some later → IsBefore s k
-before s ts k later found =
-    let within : k < length s.instances = omega (arith, slice_get_within (turns ts s).instances k later found, turns-many s ts) in
+before : (s : Shared) (acts : List Act) (k : ℕ) (later : Instance) → slice_get (turns acts s).instances k ≡ Some later → IsBefore s k
+before s acts k later found =
+    let within : k < length s.instances = omega (arith, slice_get_within (turns acts s).instances k later found, turns-many s acts) in
     let i = there s.instances k within in
     record { i = i.0; found = i.1 }
 
@@ -153,34 +154,34 @@ each-whole rows tasks s serving k i found =
     let t = there tasks k within in
     (serving.serving k t.0 i t.1 found).whole
 
-serves-turns : (rows : List (List Val)) (tasks : List Task) (s : Shared) (ts : List (ℕ × ℕ)) → AreServing rows tasks s →
-    EachTask (Serves rows (turns ts s).memory) tasks (turns ts s)
-serves-turns rows tasks s ts serving k t later task found =
-    let first = before s ts k later found in
+serves-turns : (rows : List (List Val)) (tasks : List Task) (s : Shared) (acts : List Act) → AreServing rows tasks s →
+    EachTask (Serves rows (turns acts s).common.memory) tasks (turns acts s)
+serves-turns rows tasks s acts serving k t later task found =
+    let first = before s acts k later found in
     let i = first.i in
     let now = serving.serving k t i task first.found in
-    let led = runs-turns s ts serving.safe k i later first.found found in
+    let led = runs-turns s acts serving.safe k i later first.found found in
     let most = bound t.statement rows t.program now.number in
     let pages = page_bound t.statement rows in
-    let kept = worlds-turns s ts serving.safe k i later first.found found in
+    let kept = worlds-turns s acts serving.safe k i later first.found found in
     let mapped_is : later.world.mapped ≡ column_areas (column_starts t.statement (length rows)) (length rows) = kept.0 ∙ now.mapped in
-    let grown = grown-run (later.ran - i.ran) (moment_of i s.memory) (record { world = later.world; state = later.state; memory = led.1.left }) led.1.run in
+    let grown = grown-run (later.ran - i.ran) (moment_of i s.common.memory) (record { world = later.world; state = later.state; memory = led.1.left }) led.1.run in
     let P : Moment → Type 0 = λ b. Answers t.statement rows t.descriptor b b.state in
     let few : later.ran - i.ran ≤ most - i.ran =
-    ran-within (most - i.ran) pages (later.ran - i.ran) P (moment_of i s.memory) (moment_of later (turns ts s).memory) now.behaves led.1 in
-    let safe = safe-turns s ts serving.safe in
-    let same = subst (AllByRecursion (SameIn s.memory (turns ts s).memory)) now.mapped (columns-turns s ts serving.safe k i first.found) in
-    let inside = subst (AllByRecursion (LiesWithin (length (turns ts s).memory))) mapped_is
-    (all-front (LiesWithin (length (turns ts s).memory)) later.world.mapped later.world.own (safe.separate.inside k later found)) in
+    ran-within (most - i.ran) pages (later.ran - i.ran) P (moment_of i s.common.memory) (moment_of later (turns acts s).common.memory) now.behaves led.1 in
+    let safe = safe-turns s acts serving.safe in
+    let same = subst (AllByRecursion (SameIn s.common.memory (turns acts s).common.memory)) now.mapped (columns-turns s acts serving.safe k i first.found) in
+    let inside = subst (AllByRecursion (LiesWithin (length (turns acts s).common.memory))) mapped_is
+    (all-front (LiesWithin (length (turns acts s).common.memory)) later.world.mapped later.world.own (safe.separate.inside k later found)) in
     let rest : most - i.ran - (later.ran - i.ran) ≡ most - later.ran = omega (arith, led.0) in
     record {
       columns = λ column contains.
           let start = column_start (length rows) column in
           let at = starts-found t.statement (length rows) column contains in
           let area : ℕ → Area = λ x. record { start = x; size = 4 * length rows } in
-          column-kept s.memory (turns ts s).memory start column rows
-          (all-at (SameIn s.memory (turns ts s).memory) area (column_starts t.statement (length rows)) at.0 start at.2 same)
-          (all-at (LiesWithin (length (turns ts s).memory)) area (column_starts t.statement (length rows)) at.0 start at.2 inside)
+          column-kept s.common.memory (turns acts s).common.memory start column rows
+          (all-at (SameIn s.common.memory (turns acts s).common.memory) area (column_starts t.statement (length rows)) at.0 start at.2 same)
+          (all-at (LiesWithin (length (turns acts s).common.memory)) area (column_starts t.statement (length rows)) at.0 start at.2 inside)
           (now.columns column contains);
       mapped = mapped_is;
       first_page = (
@@ -189,21 +190,21 @@ serves-turns rows tasks s ts serving k t later task found =
       );
       may_hold = kept.1 ∙ now.may_hold;
       holds = let within = grown.holds (omega (arith, now.holds, now.may_hold)) in omega (arith, within, kept.1, now.may_hold);
-      may_run = limits-turns s ts k i later first.found found ∙ now.may_run;
-      whole = turns-whole s ts (each-whole rows tasks s serving) k later found;
+      may_run = limits-turns s acts k i later first.found found ∙ now.may_run;
+      whole = turns-whole s acts (each-whole rows tasks s serving) k later found;
       number = now.number;
       shaped = now.shaped;
       within = omega (arith, now.within, led.0, few);
-      behaves = subst (λ (n : ℕ). Behaves n pages P (moment_of later (turns ts s).memory)) rest
-          (behaves-turns s ts serving.safe k i later first.found found (most - i.ran) pages P
+      behaves = subst (λ (n : ℕ). Behaves n pages P (moment_of later (turns acts s).common.memory)) rest
+          (behaves-turns s acts serving.safe k i later first.found found (most - i.ran) pages P
           (λ b after others h. answers_stay t.statement rows t.descriptor b after others b.state h) now.behaves);
     }
 
-pub turns-serving : (rows : List (List Val)) (tasks : List Task) (s : Shared) (ts : List (ℕ × ℕ)) → AreServing rows tasks s → AreServing rows tasks (turns ts s)
-turns-serving rows tasks s ts serving = record {
-  safe = safe-turns s ts serving.safe;
-  many = turns-many s ts ∙ serving.many;
-  serving = serves-turns rows tasks s ts serving;
+pub turns-serving : (rows : List (List Val)) (tasks : List Task) (s : Shared) (acts : List Act) → AreServing rows tasks s → AreServing rows tasks (turns acts s)
+turns-serving rows tasks s acts serving = record {
+  safe = safe-turns s acts serving.safe;
+  many = turns-many s acts ∙ serving.many;
+  serving = serves-turns rows tasks s acts serving;
 }
 
 -- ---- the start
@@ -233,7 +234,7 @@ record IsFirst (width : ℕ) (rows : List (List Val)) (memory : List ℕ) (k : �
   narrow : AllByRecursion (λ column. column < width) (used t.statement)
 
 first_of : (width : ℕ) (rows : List (List Val)) (tasks : List Task) (s : Shared) → AreStarting width rows tasks s → (k : ℕ) (i : Instance) → slice_get s.instances k ≡ Some i →
-    IsFirst width rows s.memory k i
+    IsFirst width rows s.common.memory k i
 first_of width rows tasks s start k i found =
     let within : k < length tasks = omega (arith, slice_get_within s.instances k i found, start.many) in
     let t = there tasks k within in
@@ -263,12 +264,12 @@ start-separate : (width : ℕ) (rows : List (List Val)) (tasks : List Task) (s :
 start-separate width rows tasks s start = record {
   octets = start.octets;
   inside = λ k i found. let f = first_of width rows tasks s start k i found in
-      let n = length s.memory in
+      let n = length s.common.memory in
       let starts = column_starts f.t.statement (length rows) in
       let first_page : Area = record { start = f.t.descriptor; size = page } in
       let inside : f.t.descriptor + page ≤ n = f.begins.ready.inside in
       let within : f.t.descriptor ≤ n = omega arith in
-      subst (λ (x : Instance). AllByRecursion (LiesWithin (length s.memory)) (x.world.mapped ++ x.world.own)) (sym f.begins.instance)
+      subst (λ (x : Instance). AllByRecursion (LiesWithin (length s.common.memory)) (x.world.mapped ++ x.world.own)) (sym f.begins.instance)
       (all-append (LiesWithin n) (column_areas starts (length rows)) (first_page ∷ [])
       (areas-inside (length rows) n starts f.t.descriptor within f.begins.ready.below) (inside, tt));
   own_apart = λ j k one other differ found found_other.
@@ -298,10 +299,10 @@ start-serving width rows tasks s start = record {
     separate = start-separate width rows tasks s start;
     fine = λ k i found.
         let f = first_of width rows tasks s start k i found in
-        (starts-serving rows s.memory f.t i f.begins).behaves.fine;
+        (starts-serving rows s.common.memory f.t i f.begins).behaves.fine;
   };
   many = start.many;
-  serving = λ k t i task found. starts-serving rows s.memory t i (start.starting k t i task found);
+  serving = λ k t i task found. starts-serving rows s.common.memory t i (start.starting k t i task found);
 }
 
 -- ---- ends
@@ -338,14 +339,14 @@ served-at rows memory t i serves = subst (IsAt rows memory t serves.number i) (s
     by_state (Running c) is = stopped c is (nat_le i.most_steps i.ran) refl
     by_state Returned is = let answered = answers Returned is tt in (serves.within, answered.0, answered.1)
     by_state (Raised code) is = past_limit code (answers (Raised code) is tt)
-    by_state Trapped is = absurd (answers Trapped is tt)
+    by_state (Trapped why) is = absurd (answers (Trapped why) is tt)
 
 -- ---- what can be told of each step
-by_state : (P : State → Type 0) → ((c : Config) → P (Running c)) → P Returned → ((code : ℕ) → P (Raised code)) → P Trapped → (s : State) → P s
+by_state : (P : State → Type 0) → ((c : Config) → P (Running c)) → P Returned → ((code : ℕ) → P (Raised code)) → ((why : Trap) → P (Trapped why)) → (s : State) → P s
 by_state P running returned raised trapped (Running c) = running c
 by_state P running returned raised trapped Returned = returned
 by_state P running returned raised trapped (Raised code) = raised code
-by_state P running returned raised trapped Trapped = trapped
+by_state P running returned raised trapped (Trapped why) = trapped why
 
 module _ (w : World) (after : List ℕ) (statement : Statement) (rows : List (List Val)) (d : ℕ) where
   -- where a step ends, the statement is answered
@@ -356,12 +357,12 @@ module _ (w : World) (after : List ℕ) (statement : Statement) (rows : List (Li
   raised-told code answers = let a = answers tt in (a.0, (a.1.0, a.1.1))
 
   told-plainly : (e : Event) → IsNoRequest e → (s : State) → AnswersAt s → CanBeTold w e s
-  told-plainly Silent none = by_state (λ s. AnswersAt s → CanBeTold w Silent s) (λ c h. tt) (λ h. tt) raised-told (λ h. h tt)
-  told-plainly (Loads address width) none = by_state (λ s. AnswersAt s → CanBeTold w (Loads address width) s) (λ c h. tt) (λ h. tt) raised-told (λ h. h tt)
-  told-plainly (Stores address width) none = by_state (λ s. AnswersAt s → CanBeTold w (Stores address width) s) (λ c h. tt) (λ h. tt) raised-told (λ h. h tt)
+  told-plainly Silent none = by_state (λ s. AnswersAt s → CanBeTold w Silent s) (λ c h. tt) (λ h. tt) raised-told (λ why h. h tt)
+  told-plainly (Loads address width) none = by_state (λ s. AnswersAt s → CanBeTold w (Loads address width) s) (λ c h. tt) (λ h. tt) raised-told (λ why h. h tt)
+  told-plainly (Stores address width) none = by_state (λ s. AnswersAt s → CanBeTold w (Stores address width) s) (λ c h. tt) (λ h. tt) raised-told (λ why h. h tt)
   told-plainly (Grows pages granted) none = absurd none
-  told-plainly (Raises code) none = by_state (λ s. AnswersAt s → CanBeTold w (Raises code) s) (λ c h. tt) (λ h. tt) raised-told (λ h. h tt)
-  told-plainly Traps none = by_state (λ s. AnswersAt s → CanBeTold w Traps s) (λ c h. tt) (λ h. tt) raised-told (λ h. h tt)
+  told-plainly (Raises code) none = by_state (λ s. AnswersAt s → CanBeTold w (Raises code) s) (λ c h. tt) (λ h. tt) raised-told (λ why h. h tt)
+  told-plainly (Traps why) none = by_state (λ s. AnswersAt s → CanBeTold w (Traps why) s) (λ c h. tt) (λ h. tt) raised-told (λ why h. h tt)
 
 told-by : (w : World) (memory after : List ℕ) (statement : Statement) (rows : List (List Val)) (d pages : ℕ) (e : Event) (s : State) →
     AsksWithin pages w e s → (IsOver s → Answers statement rows d (moment_after w memory e s after) s) → CanBeTold w e s
@@ -370,20 +371,20 @@ told-by w memory after statement rows d pages (Loads address width) s asks answe
 told-by w memory after statement rows d pages (Stores address width) s asks answers = told-plainly w after statement rows d (Stores address width) tt s answers
 told-by w memory after statement rows d pages (Grows asked granted) s asks answers = (asks.0, asks.2)
 told-by w memory after statement rows d pages (Raises code) s asks answers = told-plainly w after statement rows d (Raises code) tt s answers
-told-by w memory after statement rows d pages Traps s asks answers = told-plainly w after statement rows d Traps tt s answers
+told-by w memory after statement rows d pages (Traps why) s asks answers = told-plainly w after statement rows d (Traps why) tt s answers
 
 -- an instance that serves its task can be told in each step, however long its turn is: after it, it serves its task
 pub serving-told : (rows : List (List Val)) (tasks : List Task) (s : Shared) → AreServing rows tasks s → (k : ℕ) (t : Task) (i : Instance) →
-    slice_get tasks k ≡ Some t → slice_get s.instances k ≡ Some i → IsTold i s.memory
+    slice_get tasks k ≡ Some t → slice_get s.instances k ≡ Some i → IsTold i s.common
 serving-told rows tasks s serving k t i task found quantum c n running made =
-    let x = steps_of quantum i s.memory in
+    let x = steps_of quantum i s.common in
     let turned : turn_at s k quantum (slice_get s.instances k) ≡ with_instance s k x = ap (turn_at s k quantum) found in
-    let later : AreServing rows tasks (with_instance s k x) = subst (AreServing rows tasks) turned (turns-serving rows tasks s ((k, quantum) ∷ []) serving) in
+    let later : AreServing rows tasks (with_instance s k x) = subst (AreServing rows tasks) turned (turns-serving rows tasks s (turn k quantum ∷ []) serving) in
     let put : slice_get (slice_set s.instances k x.0) k ≡ Some x.0 = slice_get-set_same s.instances k x.0 (slice_get_within s.instances k i found) in
-    let at : Moment = moment_of x.0 x.1 in
-    let step : OpenStep at c x.1 n.event n.state n.memory = open-step (with_instance s k x) later.safe.separate k x.0 c n put running made in
+    let at : Moment = moment_of x.0 x.1.memory in
+    let step : OpenStep at c x.1.memory n.event n.state n.memory = open-step (with_instance s k x) later.safe.separate k x.0 c n put running made in
     let behaves = (later.serving k t x.0 task put).behaves in
-    let run : OpenRun 1 at (moment_after x.0.world x.1 n.event n.state n.memory) = goes_on 0 at at c x.1 n.event n.state n.memory (begins at) step in
-    told-by x.0.world x.1 n.memory t.statement rows t.descriptor (page_bound t.statement rows) n.event n.state
-    (behaves.asks 0 at c x.1 n.event n.state n.memory (begins at) step)
-    (λ over. (behaves.ends 1 (moment_after x.0.world x.1 n.event n.state n.memory) run over).1)
+    let run : OpenRun 1 at (moment_after x.0.world x.1.memory n.event n.state n.memory) = goes_on 0 at at c x.1.memory n.event n.state n.memory (begins at) step in
+    told-by x.0.world x.1.memory n.memory t.statement rows t.descriptor (page_bound t.statement rows) n.event n.state
+    (behaves.asks 0 at c x.1.memory n.event n.state n.memory (begins at) step)
+    (λ over. (behaves.ends 1 (moment_after x.0.world x.1.memory n.event n.state n.memory) run over).1)

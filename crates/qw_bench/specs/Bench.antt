@@ -8,7 +8,7 @@ use Rattle.qw_linear.specs.Memory.{page, most_pages, AreOctets}
 use Rattle.qw_module.specs.declared.module.Module.{Module}
 use Rattle.qw_map.specs.Areas.{Area}
 use Rattle.qw_map.specs.Runs.{Behaves}
-use Rattle.qw_map.specs.Turns.{Done, Pages, Steps, End, Instance, Shared, end_at, turns, may_ask, IsWhole, AreSafe, moment_of}
+use Rattle.qw_map.specs.Turns.{Done, Pages, Steps, End, Instance, Shared, Act, turn, end_at, turns, may_ask, IsWhole, AreSafe, moment_of}
 use Rattle.qw_module.specs.Validity.{IsShaped}
 use Rattle.qw_module.specs.Start.{begun}
 use Rattle.qw_meaning.specs.Statement.{Statement}
@@ -55,19 +55,19 @@ EachTask R tasks s = (k : ℕ) (t : Task) (i : Instance) → slice_get tasks k �
 -- Instances are about to begin their tasks over a table of so many columns: the statements use no other columns; the first
 -- pages of the instances follow the pages of the columns in order; and there is room for all pages that they may hold.
 pub record AreStarting (width : ℕ) (rows : List (List Val)) (tasks : List Task) (s : Shared) : Type 0 where
-  pub octets : AreOctets s.memory
+  pub octets : AreOctets s.common.memory
   pub many : length s.instances ≡ length tasks
-  pub starting : EachTask (IsStarting rows s.memory) tasks s
+  pub starting : EachTask (IsStarting rows s.common.memory) tasks s
   pub narrow : (k : ℕ) (t : Task) → slice_get tasks k ≡ Some t → AllByRecursion (λ column. column < width) (used t.statement)
   pub descriptors : (k : ℕ) (t : Task) → slice_get tasks k ≡ Some t → t.descriptor ≡ (column_pages width (length rows) + k) * page
-  pub room : length s.memory + may_ask s.instances * page ≤ most_pages * page
+  pub room : length s.common.memory + may_ask s.instances * page ≤ most_pages * page
 
 -- The start over a table of so many columns: they are all there and take the first pages, and the first pages of the
 -- instances, which are about to begin, are the rest of the memory.
 pub record IsStart (width : ℕ) (rows : List (List Val)) (tasks : List Task) (s : Shared) : Type 0 where
   pub begins : AreStarting width rows tasks s
-  pub table : Holds width s.memory rows
-  pub size : length s.memory ≡ (column_pages width (length rows) + length tasks) * page
+  pub table : Holds width s.common.memory rows
+  pub size : length s.common.memory ≡ (column_pages width (length rows) + length tasks) * page
 
 -- An instance serves its task: the columns that it uses hold the table, the instance has its first page and what it was
 -- granted, and it behaves from where it is on.
@@ -89,7 +89,7 @@ pub record Serves (rows : List (List Val)) (memory : List ℕ) (t : Task) (i : I
 pub record AreServing (rows : List (List Val)) (tasks : List Task) (s : Shared) : Type 0 where
   pub safe : AreSafe s
   pub many : length s.instances ≡ length tasks
-  pub serving : EachTask (Serves rows s.memory) tasks s
+  pub serving : EachTask (Serves rows s.common.memory) tasks s
 
 -- An instance at its end, or before it: it has not run as many instructions as the bound says; or it is done, no request was
 -- refused, and the result rows are those of the statement's outcome; or a request was past its limit of pages, which is then
@@ -119,10 +119,10 @@ unended_below s zero = []
 unended_below s (suc n) = unended_below s n ++ (if is_some (end_in s n) then [] else n ∷ [])
 
 -- a round: a turn for each instance that hasn't ended, in order
-abbrev pub round : (quantum : ℕ) → Shared → List (ℕ × ℕ)
-round quantum s = map (λ i. (i, quantum)) (unended_below s (length s.instances))
+abbrev pub round : (quantum : ℕ) → Shared → List Act
+round quantum s = map (λ i. turn i quantum) (unended_below s (length s.instances))
 
--- These turns are rounds, one after another, until no instance is left that hasn't ended.
-pub data AreRounds (quantum : ℕ) : List (ℕ × ℕ) → Shared → Type 0 where
+-- These acts are rounds, one after another, until no instance is left that hasn't ended.
+pub data AreRounds (quantum : ℕ) : List Act → Shared → Type 0 where
   none : (s : Shared) → round quantum s ≡ [] → AreRounds quantum [] s
-  first : (s : Shared) (ts : List (ℕ × ℕ)) → AreRounds quantum ts (turns (round quantum s) s) → AreRounds quantum (round quantum s ++ ts) s
+  first : (s : Shared) (acts : List Act) → AreRounds quantum acts (turns (round quantum s) s) → AreRounds quantum (round quantum s ++ acts) s

@@ -23,7 +23,7 @@ pub record Standing : Type 0 where
 pub record IsBench (b : Standing) : Type 0 where
   pub table : List (List Val)
   pub serving : AreServing table b.tasks b.shared
-  pub room : length b.shared.memory + may_ask b.shared.instances * page ≤ b.reserved * page
+  pub room : length b.shared.common.memory + may_ask b.shared.instances * page ≤ b.reserved * page
 
 -- the end that is told
 abbrev pub end_of : Option Ended → Option End
@@ -45,5 +45,5 @@ first_task width rows job limits = record {
 -- the result rows of the instance of a number: those that its own areas hold, from the descriptor of its task on
 abbrev pub rows_in : Standing → ℕ → Option (List (List Val))
 rows_in b i =
-    option_and_then (λ (t : Task). option_and_then (λ (instance : Instance). rows_at (cell_types t.statement) instance.world.own b.shared.memory t.descriptor)
+    option_and_then (λ (t : Task). option_and_then (λ (instance : Instance). rows_at (cell_types t.statement) instance.world.own b.shared.common.memory t.descriptor)
     (slice_get b.shared.instances i)) (slice_get b.tasks i)

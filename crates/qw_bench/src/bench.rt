@@ -12,7 +12,8 @@ use crate::bench::start::{first_instance, first_memory};
 use qw_columns::columns::{MAX_COLUMN_PAGES, pages_needed};
 use qw_csv::Loaded;
 use qw_linear::linear::{Linear, MAX_PAGES, PAGE};
-use qw_machine::machine::{Instance, Stepped};
+use qw_machine::machine::Instance;
+use qw_machine::stepped::Stepped;
 use qw_meaning::query::Query;
 use qw_types::NoMemory;
 use qw_valid::valid::ValidModule;
@@ -110,15 +111,15 @@ struct Seat {
 
 impl Seat {
     ghost use Rattle.qw_map.specs.Turns.{IsWhole, steps_of};
-    ghost use Rattle.qw_bench.specs.Inner.Seats.{HasGrants, IsEndOf, IsTold, StaysSeated, counting, instance_of, state_in, task_of};
+    ghost use Rattle.qw_bench.specs.Inner.Seats.{HasGrants, IsEndOf, IsTold, StaysSeated, common_of, counting, instance_of, state_in, task_of};
 
     /// Runs the instance until it ends or has run `quantum` instructions. Answers how many it ran.
     fn turn(&mut self, memory: &mut Linear, quantum: u64) -> u64
         requires whole { IsWhole (instance_of self.old) }
-        requires told { IsTold (instance_of self.old) memory.old.octets }
+        requires told { IsTold (instance_of self.old) (common_of memory.old) }
         requires grants { HasGrants self.old }
         requires room { length memory.old.octets + (self.old.limits.pages - self.old.held) * page ≤ memory.old.reserved * page }
-        ensures turned { (instance_of self.new, memory.new.octets) ≡ steps_of quantum (instance_of self.old) memory.old.octets }
+        ensures turned { (instance_of self.new, common_of memory.new) ≡ steps_of quantum (instance_of self.old) (common_of memory.old) }
         ensures task { task_of self.new ≡ task_of self.old }
         ensures grants { HasGrants self.new }
         ensures asks { length memory.new.octets + (self.new.limits.pages - self.new.held) * page
@@ -146,10 +147,10 @@ impl Seat {
         requires runs { IsEndOf self.old (state_in self.old) None }
         requires unended { self.old.ended ≡ None }
         requires steps { self.old.ran + budget ≤ self.old.limits.steps }
-        requires told { IsTold (counting self.old 0) memory.old.octets }
+        requires told { IsTold (counting self.old 0) (common_of memory.old) }
         requires grants { HasGrants self.old }
         requires room { length memory.old.octets + (self.old.limits.pages - self.old.held) * page ≤ memory.old.reserved * page }
-        ensures ran { (counting self.new result, memory.new.octets) ≡ steps_of budget (counting self.old 0) memory.old.octets }
+        ensures ran { (counting self.new result, common_of memory.new) ≡ steps_of budget (counting self.old 0) (common_of memory.old) }
         ensures seated { StaysSeated self.old self.new }
         ensures program { self.new.instance.program ≡ self.old.instance.program }
         ensures end { IsEndOf self.new (state_in self.new) self.new.ended }
@@ -161,24 +162,27 @@ impl Seat {
         ensures within { result ≤ budget }
         ensures progress { 1 ≤ budget → 1 ≤ result }
     {
-        for taken in 0..budget {
+        let mut taken = 0;
+        while taken < budget {
             let spare = self.limits.pages - self.held;
-            match self.instance.step(memory, spare) {
+            let run = self.instance.run(memory, spare, budget - taken);
+            taken += run.steps;
+            match run.last {
                 Stepped::Ran => {}
                 Stepped::Grew { pages, .. } => self.note_grant(memory, pages),
                 Stepped::Refused { pages } => self.refused = Some(pages),
                 Stepped::Returned => {
                     self.ended = Some(Ended::Done);
-                    return taken + 1;
+                    return taken;
                 }
                 Stepped::Raised(_) => {
                     self.ended = Some(self.past_limit());
-                    return taken + 1;
+                    return taken;
                 }
-                Stepped::Trapped => unreachable!(),
+                Stepped::Trapped(_) => unreachable!(),
             }
         }
-        budget
+        taken
     }
 
     /// Notes that so many pages were granted, the last ones of the memory.
@@ -242,7 +246,7 @@ impl Bench {
     ghost use Rattle.std.specs.List.{AllByRecursion};
     ghost use Rattle.qw_map.specs.Columns.{column_pages};
     ghost use Rattle.qw_map.specs.Layout.{used};
-    ghost use Rattle.qw_map.specs.Turns.{EachInstance, turn, turns};
+    ghost use Rattle.qw_map.specs.Turns.{EachInstance, Act, turn, acted, turns};
     ghost use Rattle.qw_bench.specs.Bench.{AreRounds, IsStart, round};
     ghost use Rattle.qw_bench.specs.Inner.Rounds.{steps_left};
     ghost use Rattle.qw_bench.specs.Standing.{IsBench, end_of, first_task};
@@ -295,7 +299,7 @@ impl Bench {
     pub fn turn(&mut self, i: usize, quantum: u64) -> u64
         requires there { i < length self.old.shared.instances }
         requires some { 1 ≤ quantum }
-        ensures turn { self.new.shared ≡ turn self.old.shared (i, quantum) }
+        ensures turn { self.new.shared ≡ acted self.old.shared (turn i quantum) }
         ensures tasks { self.new.tasks ≡ self.old.tasks }
         ensures reserved { self.new.reserved ≡ self.old.reserved }
         ensures counted { ran_in self.new.shared i ≡ ran_in self.old.shared i + result }
@@ -309,8 +313,8 @@ impl Bench {
     /// round, until all have ended.
     pub fn run_all(&mut self, quantum: u64)
         requires { 1 ≤ quantum }
-        ensures rounds { (ts : List (ℕ × ℕ)) × AreRounds quantum ts self.old.shared
-            × (self.new.shared ≡ turns ts self.old.shared) }
+        ensures rounds { (acts : List Act) × AreRounds quantum acts self.old.shared
+            × (self.new.shared ≡ turns acts self.old.shared) }
         ensures ended { EachInstance (λ instance. IsSome instance.end) self.new.shared }
         ensures tasks { self.new.tasks ≡ self.old.tasks }
         ensures reserved { self.new.reserved ≡ self.old.reserved }
@@ -393,7 +397,7 @@ impl Bench {
 
     /// The memory that the instances share.
     pub fn memory(&self) -> &Linear
-        ensures memory { result.now ≡ record { octets = self.now.shared.memory; reserved = self.now.reserved } }
+        ensures memory { result.now ≡ record { octets = self.now.shared.common.memory; reserved = self.now.reserved } }
         ensures kept { IsBench self.now }
     {
         &self.memory

@@ -8,8 +8,8 @@ use Rattle.qw_types.specs.declared.value.Val.TheVariants as val
 use Rattle.qw_types.specs.declared.value.Val.TheVariants.{Null}
 use Rattle.qw_types.specs.declared.value.Ty.{Ty}
 use Rattle.qw_types.specs.declared.value.Ty.TheVariants as ty
-use Rattle.qw_types.specs.Value.{IsOfKind}
-use Rattle.qw_csv.specs.Contents.{kind_of}
+use Rattle.qw_types.specs.Value.{IsOfTypeOrNull}
+use Rattle.qw_csv.specs.Contents.{column_type}
 use Rattle.qw_csv.specs.Field.{IsEmptyFieldOf, IsFieldFault, IsFieldOf, IsTypedFieldOf}
 use Rattle.qw_csv.specs.Loading.{IsFirstFieldFault, IsRecordOf}
 use Rattle.qw_csv.specs.declared.cell.CellFault.{CellFault}
@@ -21,13 +21,13 @@ use Rattle.qw_csv.proofs.RowLemmas.{index_front, index_last}
 -- a value behind those of one column
 pub record One (len : ℕ) (c : Column) (field : List ℕ) (before after : Values) (value : Val) : Type 0 where
   pub of : IsFieldOf c field value
-  pub kept : AreKept (kind_of c) after
+  pub kept : AreKept (column_type c) after
   pub pushed : values_in after ≡ values_in before ++ value ∷ []
   pub long : length (values_in before) ≡ len
 
 -- the first k columns have one value more, the others are as they were
 abbrev pub Pushed : (k len : ℕ) → List Column → List (List ℕ) → (before after : List Values) → List Val → Type 0
-Pushed zero len columns fields before after [] = (after ≡ before) × AreAllKept len (map kind_of columns) before
+Pushed zero len columns fields before after [] = (after ≡ before) × AreAllKept len (map column_type columns) before
 Pushed (suc k) len (c ∷ columns) (field ∷ fields) (b ∷ before) (a ∷ after) (value ∷ more) =
     One len c field b a value × Pushed k len columns fields before after more
 Pushed _ _ _ _ _ _ _ = ⊥
@@ -36,7 +36,7 @@ Pushed _ _ _ _ _ _ _ = ⊥
 pub record Next (len : ℕ) (c : Column) (after : List Values) (k : ℕ) : Type 0 where
   pub kept : Values
   pub there : slice_get after k ≡ Some kept
-  pub valid : AreKept (kind_of c) kept
+  pub valid : AreKept (column_type c) kept
   pub long : length (values_in kept) ≡ len
 
 pub next_there : (k len : ℕ) (columns : List Column) (fields : List (List ℕ)) (before after : List Values) (more : List Val) (c : Column)
@@ -45,7 +45,7 @@ next_there zero len [] fields before after [] c h is = cc is
 next_there zero len (d ∷ columns) fields [] after [] c h is = absurd h.1
 next_there zero len (d ∷ columns) fields (b ∷ before) after [] c h is =
     let e : d ≡ c = cc is in
-    rw h.0 (record { kept = b; there = refl; valid = subst (λ (x : Column). AreKept (kind_of x) b) e h.1.0; long = h.1.1 })
+    rw h.0 (record { kept = b; there = refl; valid = subst (λ (x : Column). AreKept (column_type x) b) e h.1.0; long = h.1.1 })
 next_there (suc k) len (d ∷ columns) (f ∷ fields) (b ∷ before) (a ∷ after) (v ∷ more) c h is =
     let n = next_there k len columns fields before after more c h.1 is in record { kept = n.kept; there = n.there; valid = n.valid; long = n.long }
 next_there zero len [] fields before after (v ∷ more) c h is = elim h [ ]
@@ -60,7 +60,7 @@ next_there (suc k) len (d ∷ columns) (f ∷ fields) (b ∷ before) (a ∷ afte
 -- and its value
 pub pushed_more : (k len : ℕ) (columns : List Column) (fields : List (List ℕ)) (before after : List Values) (more : List Val) (c : Column) (kept new : Values) (value : Val)
     → Pushed k len columns fields before after more → k < length fields → slice_get columns k ≡ Some c → slice_get after k ≡ Some kept → length (values_in kept) ≡ len
-    → IsFieldOf c (get_or fields k []) value → AreKept (kind_of c) new → values_in new ≡ values_in kept ++ value ∷ []
+    → IsFieldOf c (get_or fields k []) value → AreKept (column_type c) new → values_in new ≡ values_in kept ++ value ∷ []
     → Pushed (suc k) len columns fields before (slice_set after k new) (more ++ value ∷ [])
 pushed_more zero len [] fields before after [] c kept new value h lt is there long of valid pushed = cc is
 pushed_more zero len (d ∷ columns) [] before after [] c kept new value h lt is there long of valid pushed = absurd (omega arith)
@@ -105,7 +105,7 @@ unfolding chars
 empty_text = (([], (refl, refl)), refl)
 
 -- a field stands for a value of its column's kind
-typed_kind : (type : Ty) (never : Bool) (field : List ℕ) (v : Val) → IsTypedFieldOf type field v → IsOfKind type never v
+typed_kind : (type : Ty) (never : Bool) (field : List ℕ) (v : Val) → IsTypedFieldOf type field v → IsOfTypeOrNull type never v
 typed_kind ty.Integer never field (val.Num n) h = h.range
 typed_kind (ty.Decimal p s) never field (val.Num n) h = h.range
 typed_kind ty.Date never field (val.Date n) h = record { year = _; month = _; day = _; there = h.there; packed_is = h.packed_is }
@@ -123,7 +123,7 @@ typed_kind (ty.Varchar l) never field Null h = elim h [ ]
 typed_kind (ty.Varchar l) never field (val.Num n) h = elim h [ ]
 typed_kind (ty.Varchar l) never field (val.Date n) h = elim h [ ]
 
-empty_kind : (type : Ty) (never : Bool) (v : Val) → IsEmptyFieldOf type never v → IsOfKind type never v
+empty_kind : (type : Ty) (never : Bool) (v : Val) → IsEmptyFieldOf type never v → IsOfTypeOrNull type never v
 empty_kind type false val.Null h = refl
 empty_kind (ty.Varchar l) true (val.Text t) h = rw h (record { utf8 = empty_text.0; short = omega (arith, empty_text.1) })
 empty_kind type false (val.Num _) h = elim h [ ]
@@ -136,20 +136,20 @@ empty_kind (ty.Varchar l) true Null h = elim h [ ]
 empty_kind (ty.Varchar l) true (val.Num _) h = elim h [ ]
 empty_kind (ty.Varchar l) true (val.Date _) h = elim h [ ]
 
-pub field_kind : (c : Column) (field : List ℕ) (v : Val) → IsFieldOf c field v → IsOfKind c.ty c.not_null v
+pub field_kind : (c : Column) (field : List ℕ) (v : Val) → IsFieldOf c field v → IsOfTypeOrNull c.ty c.not_null v
 field_kind c [] v h = empty_kind c.ty c.not_null v h
 field_kind c (o ∷ os) v h = typed_kind c.ty c.not_null (o ∷ os) v h
 
 -- one more column, without values
-pub none_more : (columns : List Column) (k : ℕ) (c : Column) (kept : List Values) (new : Values) → slice_get columns k ≡ Some c → AreAllKept 0 (map kind_of (take k columns)) kept
-    → AreKept (kind_of c) new → values_in new ≡ [] → AreAllKept 0 (map kind_of (take (suc k) columns)) (kept ++ new ∷ [])
+pub none_more : (columns : List Column) (k : ℕ) (c : Column) (kept : List Values) (new : Values) → slice_get columns k ≡ Some c → AreAllKept 0 (map column_type (take k columns)) kept
+    → AreKept (column_type c) new → values_in new ≡ [] → AreAllKept 0 (map column_type (take (suc k) columns)) (kept ++ new ∷ [])
 none_more [] k c kept new is all valid none = cc is
 none_more (d ∷ columns) zero c [] new is all valid none = let e : c ≡ d = cc is in (rw (← e) valid, ap length none, tt)
 none_more (d ∷ columns) zero c (v ∷ kept) new is all valid none = absurd all
 none_more (d ∷ columns) (suc k) c [] new is all valid none = absurd all
 none_more (d ∷ columns) (suc k) c (v ∷ kept) new is all valid none = (all.0, all.1, none_more columns k c kept new is all.2 valid none)
 
-pub kinds_more : (columns : List Column) (k : ℕ) (c : Column) → slice_get columns k ≡ Some c → map kind_of (take (suc k) columns) ≡ map kind_of (take k columns) ++ kind_of c ∷ []
+pub kinds_more : (columns : List Column) (k : ℕ) (c : Column) → slice_get columns k ≡ Some c → map column_type (take (suc k) columns) ≡ map column_type (take k columns) ++ column_type c ∷ []
 kinds_more [] k c is = cc is
 kinds_more (d ∷ columns) zero c is = cc is
 kinds_more (d ∷ columns) (suc k) c is = cc (kinds_more columns k c is)
@@ -172,7 +172,7 @@ record_of (suc k) len (d ∷ columns) (f ∷ fields) (b ∷ before) [] more same
 record_of (suc k) len (d ∷ columns) (f ∷ fields) (b ∷ before) (a ∷ after) [] same long h = elim h [ ]
 
 pub kept_more : (k len : ℕ) (columns : List Column) (fields : List (List ℕ)) (before after : List Values) (more : List Val) → k ≡ length columns
-    → Pushed k len columns fields before after more → AreAllKept (len + 1) (map kind_of columns) after
+    → Pushed k len columns fields before after more → AreAllKept (len + 1) (map column_type columns) after
 kept_more zero len [] fields [] [] [] same h = tt
 kept_more zero len [] fields [] (a ∷ after) [] same h = cc h.0
 kept_more zero len [] fields (b ∷ before) after [] same h = absurd h.1

@@ -6,14 +6,14 @@ use Rattle.std.proofs.lemmas.Bool.{false≢true}
 use Rattle.std.proofs.lemmas.List.{take-append-le}
 use Rattle.qw_types.specs.declared.value.Val.{Val}
 use Rattle.qw_types.specs.declared.value.Val.TheVariants as val
-use Rattle.qw_types.specs.Value.{IsOfKind}
+use Rattle.qw_types.specs.Value.{IsOfTypeOrNull}
 use Rattle.std.proofs.lemmas.List.{length-map, map-append}
 use Rattle.qw_types.specs.declared.value.Ty.{Ty}
 use Rattle.qw_types.specs.declared.value.Ty.TheVariants as ty
 use Rattle.qw_csv.specs.declared.storage.Cells.{Cells}
 use Rattle.qw_csv.specs.declared.storage.Cells.TheVariants as cells
 use Rattle.qw_csv.specs.declared.storage.Texts.{Texts}
-use Rattle.qw_csv.specs.declared.storage.Kind.{Kind}
+use Rattle.qw_csv.specs.declared.storage.ColumnType.{ColumnType}
 use Rattle.qw_csv.specs.declared.storage.Values.{Values}
 use Rattle.qw_csv.specs.Contents.{integer_kind}
 use Rattle.qw_csv.specs.Inner.Storage.{AreCellsOf, AreEnds, AreKept, is_null, placed, plain_values, texts_from, values_in, with_nulls}
@@ -61,7 +61,7 @@ back type (val.Num n) = refl
 back type (val.Date n) = refl
 back type (val.Text t) = refl
 
-back_not_null : (type : Ty) (not_null : Bool) (value : Val) → not_null ≡ true → IsOfKind type not_null value → placed type value ≡ value
+back_not_null : (type : Ty) (not_null : Bool) (value : Val) → not_null ≡ true → IsOfTypeOrNull type not_null value → placed type value ≡ value
 back_not_null type not_null val.Null never h = absurd (false≢true (sym h ∙ never))
 back_not_null type not_null (val.Num n) never h = refl
 back_not_null type not_null (val.Date n) never h = refl
@@ -72,7 +72,7 @@ all_push P [] x all h = (h, tt)
 all_push P (y ∷ xs) x all h = (all.0, all_push P xs x all.1 h)
 
 -- a value of the kind behind those of a column that may be null
-pub kept_with_null : (kind : Kind) (before after : Values) (value : Val) → kind.not_null ≡ false → AreKept kind before → IsOfKind kind.ty kind.not_null value
+pub kept_with_null : (kind : ColumnType) (before after : Values) (value : Val) → kind.not_null ≡ false → AreKept kind before → IsOfTypeOrNull kind.ty kind.not_null value
     → AreCellsOf kind.ty after.cells → plain_values after.cells ≡ plain_values before.cells ++ placed kind.ty value ∷ []
     → after.nulls.items ≡ before.nulls.items ++ is_null value ∷ []
     → AreKept kind after × (values_in after ≡ values_in before ++ value ∷ [])
@@ -82,13 +82,13 @@ kept_with_null kind before after value nullable kept of form cells flags =
       record {
         form = form;
         flags = rw (nullable, cells, flags, length-append before.nulls.items (is_null value ∷ []), length-append (plain_values before.cells) (placed kind.ty value ∷ [])) (ap (λ (n : ℕ). n + 1) many);
-        typed = rw pushed (all_push (IsOfKind kind.ty kind.not_null) (values_in before) value kept.typed of);
+        typed = rw pushed (all_push (IsOfTypeOrNull kind.ty kind.not_null) (values_in before) value kept.typed of);
       },
       pushed,
     )
 
 -- and behind those of one that may not
-pub kept_not_null : (kind : Kind) (before after : Values) (value : Val) → kind.not_null ≡ true → AreKept kind before → IsOfKind kind.ty kind.not_null value
+pub kept_not_null : (kind : ColumnType) (before after : Values) (value : Val) → kind.not_null ≡ true → AreKept kind before → IsOfTypeOrNull kind.ty kind.not_null value
     → AreCellsOf kind.ty after.cells → plain_values after.cells ≡ plain_values before.cells ++ placed kind.ty value ∷ []
     → after.nulls.items ≡ before.nulls.items
     → AreKept kind after × (values_in after ≡ values_in before ++ value ∷ [])
@@ -98,43 +98,43 @@ kept_not_null kind before after value never kept of form cells flags =
       record {
         form = form;
         flags = rw (never, flags) none;
-        typed = rw pushed (all_push (IsOfKind kind.ty kind.not_null) (values_in before) value kept.typed of);
+        typed = rw pushed (all_push (IsOfTypeOrNull kind.ty kind.not_null) (values_in before) value kept.typed of);
       },
       pushed,
     )
 
 -- ---- cells of each type
 
-module _ (type : Ty) (not_null : Bool) (before : Cells) (value : Val) (form : AreCellsOf type before) (of : IsOfKind type not_null value) where
+module _ (type : Ty) (not_null : Bool) (before : Cells) (value : Val) (form : AreCellsOf type before) (of : IsOfTypeOrNull type not_null value) where
   pub decimals_push : (numbers : Vec ℤ Global) (after : List ℤ) (number : ℤ) → before ≡ cells.Decimals numbers
-      → ((precision scale : ℕ) (never : Bool) → IsOfKind (ty.Decimal precision scale) never value → placed (ty.Decimal precision scale) value ≡ val.Num number)
+      → ((precision scale : ℕ) (never : Bool) → IsOfTypeOrNull (ty.Decimal precision scale) never value → placed (ty.Decimal precision scale) value ≡ val.Num number)
       → after ≡ numbers.items ++ number ∷ [] → map val.Num after ≡ plain_values before ++ placed type value ∷ []
   decimals_push numbers after number is there pushed = rw (is, pushed, map-append val.Num numbers.items (number ∷ [])) (ap (λ (v : Val). map val.Num numbers.items ++ v ∷ []) (sym (of_type type (rw is at form) of)))
     where
-      of_type : (t : Ty) → AreCellsOf t (cells.Decimals numbers) → IsOfKind t not_null value → placed t value ≡ val.Num number
+      of_type : (t : Ty) → AreCellsOf t (cells.Decimals numbers) → IsOfTypeOrNull t not_null value → placed t value ≡ val.Num number
       of_type ty.Integer f o = absurd f
       of_type (ty.Decimal p s) f o = there p s not_null o
       of_type ty.Date f o = absurd f
       of_type (ty.Varchar n) f o = absurd f
 
   pub dates_push : (numbers : Vec ℤ Global) (after : List ℤ) (number : ℤ) → before ≡ cells.Dates numbers
-      → ((never : Bool) → IsOfKind ty.Date never value → placed ty.Date value ≡ val.Date number)
+      → ((never : Bool) → IsOfTypeOrNull ty.Date never value → placed ty.Date value ≡ val.Date number)
       → after ≡ numbers.items ++ number ∷ [] → map val.Date after ≡ plain_values before ++ placed type value ∷ []
   dates_push numbers after number is there pushed = rw (is, pushed, map-append val.Date numbers.items (number ∷ [])) (ap (λ (v : Val). map val.Date numbers.items ++ v ∷ []) (sym (of_type type (rw is at form) of)))
     where
-      of_type : (t : Ty) → AreCellsOf t (cells.Dates numbers) → IsOfKind t not_null value → placed t value ≡ val.Date number
+      of_type : (t : Ty) → AreCellsOf t (cells.Dates numbers) → IsOfTypeOrNull t not_null value → placed t value ≡ val.Date number
       of_type ty.Integer f o = absurd f
       of_type (ty.Decimal p s) f o = absurd f
       of_type ty.Date f o = there not_null o
       of_type (ty.Varchar n) f o = absurd f
 
   pub varchars_push : (texts : Texts) (after : List (List ℕ)) (text : List ℕ) → before ≡ cells.Texts texts
-      → ((limit : ℕ) (never : Bool) → IsOfKind (ty.Varchar limit) never value → placed (ty.Varchar limit) value ≡ val.Text text)
+      → ((limit : ℕ) (never : Bool) → IsOfTypeOrNull (ty.Varchar limit) never value → placed (ty.Varchar limit) value ≡ val.Text text)
       → after ≡ texts_from 0 texts.ends.items texts.octets.items ++ text ∷ [] → map val.Text after ≡ plain_values before ++ placed type value ∷ []
   varchars_push texts after text is there pushed = rw (is, pushed, map-append val.Text (texts_from 0 texts.ends.items texts.octets.items) (text ∷ []))
       (ap (λ (v : Val). map val.Text (texts_from 0 texts.ends.items texts.octets.items) ++ v ∷ []) (sym (of_type type (rw is at form) of)))
     where
-      of_type : (t : Ty) → AreCellsOf t (cells.Texts texts) → IsOfKind t not_null value → placed t value ≡ val.Text text
+      of_type : (t : Ty) → AreCellsOf t (cells.Texts texts) → IsOfTypeOrNull t not_null value → placed t value ≡ val.Text text
       of_type ty.Integer f o = absurd f
       of_type (ty.Decimal p s) f o = absurd f
       of_type ty.Date f o = absurd f

@@ -3,7 +3,7 @@
 //! - [`loading::load`]: the rows that the octets stand for, or the first fault of the file.
 //! - [`loaded::Loaded`]: rows in memory, their values by row and column.
 //! - [`cell::Cell`]: a value, its text lent; [`cell::CellFault`]: why a field stands for none.
-//! - [`storage::Kind`]: which values a column has.
+//! - [`storage::ColumnType`]: a column's type, and whether it may be null.
 #![tactic(auto)]
 
 pub mod cell;
@@ -13,4 +13,4 @@ pub mod storage;
 
 pub use cell::{Cell, CellFault};
 pub use loaded::Loaded;
-pub use storage::Kind;
+pub use storage::ColumnType;

@@ -1,20 +1,24 @@
 //! A table of rows in memory.
 
-ghost use Rattle.std.specs.Prelude.{◌≡◌, ◌<◌, ◌↔◌, [], length, IsTrue, Some, slice_get};
+ghost use Rattle.std.specs.Prelude.{◌≡◌, ◌<◌, ◌↔◌, List, [], length, map, IsTrue, Some, slice_get};
+ghost use Rattle.std.specs.List.{AllByRecursion};
+ghost use Rattle.qw_types.specs.Kind.{IsRowOf, type_kind};
+ghost use Rattle.qw_types.specs.Schema.{AreColumns};
 ghost use Rattle.qw_types.specs.Value.{value_of};
+ghost use Rattle.qw_types.specs.declared.schema.Column.{Column};
 ghost use Rattle.qw_types.specs.declared.value.Val.TheVariants.{Num};
-ghost use Rattle.qw_csv.specs.Contents.{AreLoaded, integer_kind};
+ghost use Rattle.qw_csv.specs.Contents.{AreLoaded, Contents, column_type, integer_kind};
 ghost use Rattle.qw_csv.specs.Field.{val_of};
 ghost use Rattle.qw_csv.specs.Inner.Rows.{AreStored, rows_in};
 
 use crate::cell::Cell;
-use crate::storage::{Kind, Values};
+use crate::storage::{ColumnType, Values};
 use std::marker::Model;
 
-/// The rows of a table. Contracts see the kinds of its columns, and the rows as lists of values.
+/// The rows of a table. Contracts see the types of its columns, and the rows as lists of values.
 #[derive(Debug, Drop)]
 pub struct Loaded {
-    kinds: Vec<Kind>,
+    kinds: Vec<ColumnType>,
     /// For each column its values.
     columns: Vec<Values>,
     len: usize,
@@ -34,7 +38,7 @@ impl Model for Loaded {
 
 impl Loaded {
     /// Rows that are kept in these values, column by column.
-    pub(crate) fn new(kinds: Vec<Kind>, columns: Vec<Values>, len: usize) -> Self
+    pub(crate) fn new(kinds: Vec<ColumnType>, columns: Vec<Values>, len: usize) -> Self
         requires { AreStored len kinds.items columns.items }
         ensures columns { result.columns ≡ kinds.items }
         ensures rows { result.rows ≡ rows_in len columns.items }
@@ -46,8 +50,8 @@ impl Loaded {
         }
     }
 
-    /// The kinds of the columns.
-    pub fn kinds(&self) -> &[Kind]
+    /// The types of the columns, and which may be null.
+    pub fn kinds(&self) -> &[ColumnType]
         ensures { result.now ≡ self.now.columns }
     {
         self.kinds.as_slice()
@@ -93,3 +97,9 @@ impl Loaded {
         self.columns[column].integer(row)
     }
 }
+
+/// The rows that are loaded of a table's columns are rows of their kinds, as a query's meaning asks of them.
+pub fn rows_are_of_their_kinds()
+    ensures { (columns : List Column) (contents : Contents) → AreColumns columns → contents.columns ≡ map column_type columns → AreLoaded contents
+        → AllByRecursion (IsRowOf (map (λ (c : Column). type_kind c.ty) columns)) contents.rows }
+{}

@@ -13,14 +13,14 @@ ghost use Rattle.qw_types.specs.declared.schema.Column.{Column};
 ghost use Rattle.qw_types.specs.declared.schema.Table.{Table};
 ghost use Rattle.qw_types.specs.declared.value.Val.{Val};
 ghost use Rattle.qw_csv.specs.declared.loading.LoadFault.{LoadFault};
-ghost use Rattle.qw_csv.specs.Contents.{kind_of};
+ghost use Rattle.qw_csv.specs.Contents.{column_type};
 ghost use Rattle.qw_csv.specs.Loading.{IsFirstFault, IsHeader, IsRecordFault, IsRecordOf, Loads};
 ghost use Rattle.qw_csv.specs.Inner.Loading.{HasRead};
 ghost use Rattle.qw_csv.specs.Inner.Rows.{AreAllKept, rows_in};
 
 use crate::cell::{CellFault, cell_of};
 use crate::loaded::Loaded;
-use crate::storage::{Values, kind_of};
+use crate::storage::{Values, column_type};
 use csv::{ByteRecord, Reader, ReaderBuilder};
 use qw_types::schema::MAX_ROWS;
 use qw_types::{Column, NoMemory, Table};
@@ -89,7 +89,7 @@ impl<T: Drop> From<AllocFailed<T>> for LoadFault {
 /// The first fault from the start of the file. Want of memory may come instead of any answer.
 pub fn load(alloc: Global, table: &Table, bytes: &[u8]) -> Result<Loaded, LoadFault>
     ensures rows { IfOk result (λ loaded. Loads table.now bytes.now loaded.rows) }
-    ensures kinds { IfOk result (λ loaded. loaded.columns ≡ map kind_of table.now.columns) }
+    ensures kinds { IfOk result (λ loaded. loaded.columns ≡ map column_type table.now.columns) }
     ensures fault { IfErr result (λ e. e ≢ LoadFault.NoMemory → IsFirstFault table.now bytes.now e) }
 {
     let mut reader = reader_of(alloc, bytes);
@@ -128,7 +128,7 @@ fn reader_of<'a>(alloc: Global, bytes: &'a [u8]) -> Reader<&'a [u8]>
 fn load_from(alloc: Global, table: &Table, reader: &mut Reader<&[u8]>) -> Result<Loaded, LoadFault>
     ensures rows { IfOk result (λ loaded. (bytes : List ℕ) → HasRead reader.old (strip_bom bytes) []
         → Loads table.now bytes loaded.rows) }
-    ensures kinds { IfOk result (λ loaded. loaded.columns ≡ map kind_of table.now.columns) }
+    ensures kinds { IfOk result (λ loaded. loaded.columns ≡ map column_type table.now.columns) }
     ensures fault { IfErr result (λ e. (bytes : List ℕ) → HasRead reader.old (strip_bom bytes) []
         → e ≢ LoadFault.NoMemory → IsFirstFault table.now bytes e) }
 {
@@ -149,7 +149,7 @@ fn rows_after_header(
     ensures rows { IfOk result (λ loaded. (bytes : List ℕ) (header : List (List ℕ))
         → HasRead reader.old (strip_bom bytes) (header ∷ []) → IsHeader table.now.columns header
         → Loads table.now bytes loaded.rows) }
-    ensures kinds { IfOk result (λ loaded. loaded.columns ≡ map kind_of table.now.columns) }
+    ensures kinds { IfOk result (λ loaded. loaded.columns ≡ map column_type table.now.columns) }
     ensures fault { IfErr result (λ e. (bytes : List ℕ) (header : List (List ℕ))
         → HasRead reader.old (strip_bom bytes) (header ∷ []) → IsHeader table.now.columns header
         → e ≢ LoadFault.NoMemory → IsFirstFault table.now bytes e) }
@@ -170,11 +170,11 @@ fn rows_after_header(
 
 /// For each column no values.
 fn no_values(alloc: Global, columns: &[Column]) -> Result<Vec<Values>, NoMemory>
-    ensures { IfOk result (λ values. AreAllKept 0 (map kind_of columns.now) values.items) }
+    ensures { IfOk result (λ values. AreAllKept 0 (map column_type columns.now) values.items) }
 {
     let mut values = Vec::with_capacity(alloc, columns.len())?;
     for column in columns {
-        values.push(Values::new(alloc, kind_of(column)))?;
+        values.push(Values::new(alloc, column_type(column)))?;
     }
     Ok(values)
 }
@@ -188,14 +188,14 @@ fn loaded(
 ) -> Result<Loaded, LoadFault>
     requires limits { AreColumns columns.now }
     requires few { len ≤ MAX_ROWS }
-    requires kept { AreAllKept len (map kind_of columns.now) values.items }
+    requires kept { AreAllKept len (map column_type columns.now) values.items }
     ensures rows { IfOk result (λ loaded. loaded.rows ≡ rows_in len values.items) }
-    ensures kinds { IfOk result (λ loaded. loaded.columns ≡ map kind_of columns.now) }
+    ensures kinds { IfOk result (λ loaded. loaded.columns ≡ map column_type columns.now) }
     ensures memory { IfErr result (λ e. e ≡ LoadFault.NoMemory) }
 {
     let mut kinds = Vec::with_capacity(alloc, columns.len())?;
     for column in columns {
-        kinds.push(kind_of(column))?;
+        kinds.push(column_type(column))?;
     }
     Ok(Loaded::new(kinds, values, len))
 }
@@ -258,9 +258,9 @@ fn push_row(
 ) -> Result<(), LoadFault>
     requires few { len < MAX_ROWS }
     requires sized { AllByRecursion (λ (c : Column). IsSized c.ty) columns.now }
-    requires kept { AreAllKept len (map kind_of columns.now) values.old.items }
+    requires kept { AreAllKept len (map column_type columns.now) values.old.items }
     ensures pushed { OnOk result ((more : List Val) × IsRecordOf columns.now (fields_of row.now) more
-        × AreAllKept (len + 1) (map kind_of columns.now) values.new.items
+        × AreAllKept (len + 1) (map column_type columns.now) values.new.items
         × (rows_in (len + 1) values.new.items ≡ rows_in len values.old.items ++ more ∷ [])) }
     ensures fault { IfErr result (λ e. e ≢ LoadFault.NoMemory → IsRecordFault columns.now (len + 1) (fields_of row.now) e) }
 {
@@ -272,7 +272,7 @@ fn push_row(
         match cell_of(column, field(row, index)) {
             Ok(cell) => {
                 let kept = &mut values[index];
-                kept.push(kind_of(column), cell)?;
+                kept.push(column_type(column), cell)?;
             }
             Err(fault) => {
                 return Err(LoadFault::Field {

@@ -2,14 +2,14 @@
 //! and eight more, and a column that may be null an octet a row beside.
 
 ghost use Rattle.std.specs.Prelude.{◌≡◌, ◌≤◌, ◌-◌, ◌++◌, ◌<◌, ℕ, suc, take, drop, Bool, true, ◌↔◌, IsTrue, [], ◌∷◌, length, Some, OnOk, slice_get};
-ghost use Rattle.qw_types.specs.Value.{IsOfKind};
+ghost use Rattle.qw_types.specs.Value.{IsOfTypeOrNull};
 ghost use Rattle.qw_types.specs.declared.value.Ty.{Ty};
 ghost use Rattle.qw_types.specs.declared.value.Ty.TheVariants as ty;
 ghost use Rattle.qw_types.specs.declared.value.Ty.TheVariants.{Decimal, Integer, Varchar};
 ghost use Rattle.qw_types.specs.declared.value.Val.TheVariants as val;
 ghost use Rattle.qw_types.specs.declared.value.Val.TheVariants.{Num};
-ghost use Rattle.qw_csv.specs.Contents.{integer_kind, kind_of};
-ghost use Rattle.qw_csv.specs.declared.storage.Kind.{Kind};
+ghost use Rattle.qw_csv.specs.Contents.{integer_kind, column_type};
+ghost use Rattle.qw_csv.specs.declared.storage.ColumnType.{ColumnType};
 ghost use Rattle.qw_csv.specs.Field.{val_of};
 ghost use Rattle.qw_csv.specs.Inner.Storage.{AreCellsOf, AreEnds, AreKept, is_null, placed, plain_values, texts_from, values_in};
 
@@ -17,18 +17,18 @@ use crate::cell::Cell;
 use qw_types::{Column, NoMemory, Ty};
 use std::alloc::Global;
 
-/// Which values a column has.
+/// What a column is but for its name: its values are of this type, or null where they may be (ISO/IEC 9075:1992, 11.4).
 #[derive(Clone, Copy, Debug, PartialEq, Eq)]
-pub struct Kind {
+pub struct ColumnType {
     pub ty: Ty,
     pub not_null: bool,
 }
 
-/// The kind of a column's values.
-pub(crate) fn kind_of(column: &Column) -> Kind
-    ensures { result ≡ kind_of column.now }
+/// A column without its name.
+pub(crate) fn column_type(column: &Column) -> ColumnType
+    ensures { result ≡ column_type column.now }
 {
-    Kind {
+    ColumnType {
         ty: column.ty,
         not_null: column.not_null,
     }
@@ -116,10 +116,10 @@ impl Cells {
         }
     }
 
-    /// Puts a value of the column's kind behind the others; 0 or the empty text for null.
-    fn push(&mut self, kind: Kind, cell: Cell<'_>) -> Result<(), NoMemory>
+    /// Puts a value of the column behind the others; 0 or the empty text for null.
+    fn push(&mut self, kind: ColumnType, cell: Cell<'_>) -> Result<(), NoMemory>
         requires form { AreCellsOf kind.ty self.old }
-        requires typed { IsOfKind kind.ty kind.not_null (val_of cell) }
+        requires typed { IsOfTypeOrNull kind.ty kind.not_null (val_of cell) }
         ensures form { OnOk result (AreCellsOf kind.ty self.new) }
         ensures pushed { OnOk result (plain_values self.new ≡ plain_values self.old ++ placed kind.ty (val_of cell.entry) ∷ []) }
     {
@@ -152,7 +152,7 @@ impl Cells {
 impl Values {
     /// The value of a row.
     pub(crate) fn get(&self, row: usize) -> Cell<'_>
-        requires kept { (kind : Kind) × AreKept kind self.now }
+        requires kept { (kind : ColumnType) × AreKept kind self.now }
         requires row { row < length (values_in self.now) }
         ensures { slice_get (values_in self.now) row ≡ Some (val_of result) }
     {
@@ -165,7 +165,7 @@ impl Values {
 
 impl Values {
     /// No values.
-    pub(crate) fn new(alloc: Global, kind: Kind) -> Self
+    pub(crate) fn new(alloc: Global, kind: ColumnType) -> Self
         ensures kept { AreKept kind result }
         ensures none { values_in result ≡ [] }
     {
@@ -175,10 +175,10 @@ impl Values {
         }
     }
 
-    /// Puts a value of the column's kind behind the others.
-    pub(crate) fn push(&mut self, kind: Kind, cell: Cell<'_>) -> Result<(), NoMemory>
+    /// Puts a value of the column behind the others.
+    pub(crate) fn push(&mut self, kind: ColumnType, cell: Cell<'_>) -> Result<(), NoMemory>
         requires kept { AreKept kind self.old }
-        requires typed { IsOfKind kind.ty kind.not_null (val_of cell) }
+        requires typed { IsOfTypeOrNull kind.ty kind.not_null (val_of cell) }
         ensures kept { OnOk result (AreKept kind self.new) }
         ensures pushed { OnOk result (values_in self.new ≡ values_in self.old ++ val_of cell.entry ∷ []) }
     {
@@ -228,7 +228,7 @@ fn is_null(cell: Cell<'_>) -> bool
 
 /// The number of an INTEGER's value, 0 for null.
 fn integer_in(cell: Cell<'_>) -> i32
-    requires { (not_null : Bool) × IsOfKind Integer not_null (val_of cell) }
+    requires { (not_null : Bool) × IsOfTypeOrNull Integer not_null (val_of cell) }
     ensures { placed Integer (val_of cell.entry) ≡ Num result }
 {
     match cell {
@@ -239,7 +239,7 @@ fn integer_in(cell: Cell<'_>) -> i32
 
 /// The number of a DECIMAL's value, 0 for null.
 fn number_in(cell: Cell<'_>) -> i64
-    ensures { (precision scale : ℕ) (not_null : Bool) → IsOfKind (Decimal precision scale) not_null (val_of cell.entry)
+    ensures { (precision scale : ℕ) (not_null : Bool) → IsOfTypeOrNull (Decimal precision scale) not_null (val_of cell.entry)
         → placed (Decimal precision scale) (val_of cell.entry) ≡ Num result }
 {
     match cell {
@@ -250,7 +250,7 @@ fn number_in(cell: Cell<'_>) -> i64
 
 /// The number of a DATE's value, 0 for null.
 fn date_in(cell: Cell<'_>) -> i32
-    ensures { (not_null : Bool) → IsOfKind ty.Date not_null (val_of cell.entry) → placed ty.Date (val_of cell.entry) ≡ val.Date result }
+    ensures { (not_null : Bool) → IsOfTypeOrNull ty.Date not_null (val_of cell.entry) → placed ty.Date (val_of cell.entry) ≡ val.Date result }
 {
     match cell {
         Cell::Date(date) => date,
@@ -260,7 +260,7 @@ fn date_in(cell: Cell<'_>) -> i32
 
 /// The octets of a text, none for null.
 fn text_in<'a>(cell: Cell<'a>) -> &'a [u8]
-    ensures { (limit : ℕ) (not_null : Bool) → IsOfKind (Varchar limit) not_null (val_of cell.entry)
+    ensures { (limit : ℕ) (not_null : Bool) → IsOfTypeOrNull (Varchar limit) not_null (val_of cell.entry)
         → placed (Varchar limit) (val_of cell.entry) ≡ val.Text result.now }
 {
     match cell {

@@ -7,6 +7,7 @@ use Rattle.std.specs.Ordering.{int_eq}
 use Rattle.std.proofs.lemmas.Bool.{eqb-true, eq-eqb}
 use Rattle.std.proofs.lemmas.Bool.Decides.{Decides-int_eq}
 use Rattle.std.proofs.lemmas.Int.{ints, to_z-of_z, of_z-to_z}
+use Rattle.qw_module.specs.declared.instruction.ValType.TheVariants.{I64}
 use Rattle.qw_module.specs.Numbers.{truth, relation}
 use Rattle.qw_meaning.specs.Meaning.{compares}
 use Rattle.qw_meaning.specs.declared.query.Comparison.{Comparison}
@@ -40,7 +41,7 @@ module _ (x : ℕ) (literal : ℤ) (small : x < 2 ^ 64) (fits : SFits w64 litera
       (Decides-int_eq (cast_signed w64 x) literal)
 
   pub test-compares : (comparison : Comparison) →
-      (relation (rejects comparison) x (cast_unsigned w64 literal) == 0) ≡ compares comparison (cast_signed w64 x) literal
+      (relation I64 (rejects comparison) x (cast_unsigned w64 literal) == 0) ≡ compares comparison (cast_signed w64 x) literal
   test-compares Equal = truth-zero (not (x == cast_unsigned w64 literal)) ∙ not-not (x == cast_unsigned w64 literal) ∙ equal
   test-compares NotEqual = truth-zero (x == cast_unsigned w64 literal) ∙ ap not equal
   test-compares Less = rw literal_read (truth-zero (int_le literal (cast_signed w64 x)) ∙ not-le (cast_signed w64 x) literal)

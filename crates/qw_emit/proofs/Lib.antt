@@ -1,13 +1,16 @@
 mod ColumnIndices
 mod Comparisons
 mod Nesting
+mod OwnWeights
 mod Pieces
+mod ScanBegun
 mod ScanCells
 mod ScanCompiled
 mod ScanFacts
 mod ScanLocals
 mod ScanLoop
 mod ScanMemory
+mod ScanModule
 mod ScanResult
 mod ScanRuns
 mod ScanShapeLemmas

@@ -1,23 +1,22 @@
 -- Sequences of instructions that are made a piece after another.
-use Rattle.std.proofs.Common.{◌≡◌, ℕ, zero, suc, ◌+◌, ◌<◌, ◌≤◌, List, [], ◌∷◌, ◌++◌, length, take, length-take-le, get_or, refl, sym, ap, ◌∙◌, subst, arith}
+use Rattle.std.proofs.Common.{◌≡◌, ℕ, zero, suc, ◌+◌, ◌<◌, ◌≤◌, List, [], ◌∷◌, ◌++◌, length, take, length-take-le, get_or, replicate, refl, sym, ap, ◌∙◌, subst, arith}
 use Rattle.std.specs.List.{AllByRecursion}
 use Rattle.std.proofs.lemmas.List.{append_assoc, append-nil, take_more, take_all}
 use Rattle.qw_module.specs.declared.instruction.Instr.{Instr}
-use Rattle.qw_module.specs.Syntax.{Code, done, nested, NamesBelow}
+use Rattle.qw_module.specs.Syntax.{Code, done, nested}
+use Rattle.qw_module.specs.Validity.{declared_types}
+use Rattle.qw_module.specs.declared.module.Locals.{Locals}
 use Rattle.qw_module.specs.declared.instruction.ValType.{ValType}
 use Rattle.qw_module.specs.declared.instruction.ValType.TheVariants.{I32, I64}
+use Rattle.qw_map.proofs.AreaLemmas.{all-append}
 use Rattle.qw_emit.specs.declared.emit.row.Piece.{Piece}
 use Rattle.qw_emit.specs.declared.emit.row.Piece.TheVariants.{Value, Cell}
 use Rattle.qw_emit.specs.Inner.Emit.{read_distances, other_locals}
-use Rattle.qw_emit.specs.Inner.Sequences.{Adds, each}
-
-pub AllByRecursion-append : {X : Type 0} (P : X → Type 0) (xs ys : List X) → AllByRecursion P xs → AllByRecursion P ys → AllByRecursion P (xs ++ ys)
-AllByRecursion-append P [] ys a b = b
-AllByRecursion-append P (x ∷ xs) ys a b = (a.0, AllByRecursion-append P xs ys a.1 b)
+use Rattle.qw_emit.specs.Inner.Sequences.{Adds, RefersBelow, each}
 
 -- nothing is added
 pub Adds-none : (below : ℕ) (sequence : List Instr) → Adds below sequence sequence (λ named rest. rest)
-Adds-none below sequence = record { added = []; is = sym (append-nil sequence); nests = λ named rest. refl; names = tt }
+Adds-none below sequence = record { added = []; is = sym (append-nil sequence); nests = λ named rest. refl; refers = tt }
 
 -- and nothing for no element
 pub Adds-none_each : (below : ℕ) (piece : Piece) (sequence : List Instr) → Adds below sequence sequence (λ named rest. each piece 0 [] rest)
@@ -31,9 +30,9 @@ Adds-then {below} {a} {b} {c} {f} {g} {h} one other same = record {
   added = one.added ++ other.added;
   is = other.is ∙ ap (λ (s : List Instr). s ++ other.added) one.is ∙ append_assoc a one.added other.added;
   nests = λ named rest.
-      ap (nested named) (append_assoc one.added other.added rest) ∙ one.nests named (other.added ++ rest)
-      ∙ ap (f named) (other.nests named rest) ∙ same named (nested named rest);
-  names = AllByRecursion-append (NamesBelow below) one.added other.added one.names other.names;
+      ap (nested [] named) (append_assoc one.added other.added rest) ∙ one.nests named (other.added ++ rest)
+      ∙ ap (f named) (other.nests named rest) ∙ same named (nested [] named rest);
+  refers = all-append (RefersBelow below) one.added other.added one.refers other.refers;
 }
 
 pub Adds-after : {below : ℕ} {a b c : List Instr} {f g : (ℕ → Code) → Code → Code} → Adds below a b f → Adds below b c g →
@@ -42,9 +41,9 @@ Adds-after one other = Adds-then one other (λ named rest. refl)
 
 -- what was added to nothing is all
 pub Adds-all : {below : ℕ} {none whole : List Instr} {f : (ℕ → Code) → Code → Code} → none ≡ [] → Adds below none whole f →
-    (named : ℕ → Code) → nested named whole ≡ f named done
+    (named : ℕ → Code) → nested [] named whole ≡ f named done
 Adds-all {below} {none} {whole} {f} empty adds named =
-    ap (nested named) (adds.is ∙ ap (λ (s : List Instr). s ++ adds.added) empty ∙ sym (append-nil adds.added)) ∙ adds.nests named []
+    ap (nested [] named) (adds.is ∙ ap (λ (s : List Instr). s ++ adds.added) empty ∙ sym (append-nil adds.added)) ∙ adds.nests named []
 
 -- Code that is made for each element of a list in turn, from a number on: the first element's, then that of the rest.
 pub record IsEach (code : ℕ → List ℕ → Code → Code) : Type 0 where
@@ -87,6 +86,13 @@ pub AllByRecursion-at : {X : Type 0} (P : X → Type 0) (xs : List X) (i : ℕ) 
 AllByRecursion-at P [] i d within all = absurd (omega arith)
 AllByRecursion-at P (x ∷ xs) zero d within all = all.0
 AllByRecursion-at P (x ∷ xs) (suc i) d within all = AllByRecursion-at P xs i d (omega arith) all.1
+
+-- the types of locals, run after run
+pub declared_types-append : (runs more : List Locals) → declared_types (runs ++ more) ≡ declared_types runs ++ declared_types more
+declared_types-append [] more = refl
+declared_types-append (run ∷ runs) more =
+    ap (λ (types : List ValType). replicate run.count run.ty ++ types) (declared_types-append runs more)
+    ∙ sym (append_assoc (replicate run.count run.ty) (declared_types runs) (declared_types more))
 
 -- the locals of a list's front, and of its next element
 other_locals-append : (xs ys : List ℕ) → other_locals (xs ++ ys) ≡ other_locals xs ++ other_locals ys

@@ -37,8 +37,8 @@ module _ (pages : ℕ) (Q : Moment → Type 0) (s : Setting) (scan : Scan) (t : 
       ((i index : ℕ) → slice_get ks i ≡ Some index → slice_get scan.others (j + i) ≡ Some index) → j + length ks ≡ length scan.others →
       Distances s scan t (length scan.others) others → Values s scan t row j others →
       ((others' : List ℕ) → Distances s scan t (length scan.others) others' → Values s scan t row (length scan.others) others' →
-      Reaches pages Q w M more_steps (standing rest [] (locals_of d p e r l last v n others') (in_loop scan))) →
-      Reaches pages Q w M (5 * length ks + more_steps) (standing (read_values j ks rest) [] (locals_of d p e r l last v n others) (in_loop scan))
+      Reaches pages Q w M more_steps (standing scan rest [] (locals_of d p e r l last v n others') (in_loop scan))) →
+      Reaches pages Q w M (5 * length ks + more_steps) (standing scan (read_values j ks rest) [] (locals_of d p e r l last v n others) (in_loop scan))
   unfolding bits_of
   values_read [] j others left count distances values following =
       let all : j ≡ length scan.others = omega (arith, count) in
@@ -76,12 +76,12 @@ module _ (pages : ℕ) (Q : Moment → Type 0) (s : Setting) (scan : Scan) (w : 
     (row end : ℕ) (lies : Lies s w.own row end) (found : List (List Val)) (link : ℕ) (l : List ℕ) (row_is : slice_get l 3 ≡ Some row) (rest : Code) (more_steps stop : ℕ) (fits : stop ≤ end) where
   -- the cells from the i-th on
   pub cells_written : (cells bits : List ℕ) (i : ℕ) (written : List ℕ) (at : ℕ) → Holds l cells bits → at ≡ row + 8 + 16 * i → at + 16 * length cells ≡ stop →
-      Reaches pages Q w (Writing s w.own found link row end (onto bits written) stop) more_steps (standing rest [] l (in_loop scan)) →
-      Reaches pages Q w (Writing s w.own found link row end written at) (3 * length cells + more_steps) (standing (write_cells i cells rest) [] l (in_loop scan))
+      Reaches pages Q w (Writing s w.own found link row end (onto bits written) stop) more_steps (standing scan rest [] l (in_loop scan)) →
+      Reaches pages Q w (Writing s w.own found link row end written at) (3 * length cells + more_steps) (standing scan (write_cells i cells rest) [] l (in_loop scan))
   cells_written [] [] i written at holds is stops following =
       let same : stop ≡ at = omega (arith, stops) in
       Reaches-more pages Q w more_steps (3 * 0 + more_steps) (omega arith)
-      (subst (λ (a : ℕ). Reaches pages Q w (Writing s w.own found link row end written a) more_steps (standing rest [] l (in_loop scan))) same following)
+      (subst (λ (a : ℕ). Reaches pages Q w (Writing s w.own found link row end written a) more_steps (standing scan rest [] l (in_loop scan))) same following)
   cells_written [] (x ∷ xs) i written at holds is stops following = absurd holds
   cells_written (cell ∷ cells) [] i written at holds is stops following = absurd holds
   cells_written (cell ∷ cells) (x ∷ xs) i written at holds is stops following =

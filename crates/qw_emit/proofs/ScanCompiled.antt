@@ -19,7 +19,8 @@ use Rattle.qw_emit.specs.Compiled.{IsReady, units, page_bound, Answers, IsCompil
 use Rattle.qw_map.proofs.Chains.{Chain, integers}
 use Rattle.qw_emit.proofs.ScanShapeLemmas.{length-used}
 use Rattle.qw_emit.proofs.ScanStatic.{is_valid, is_shaped, is_short, is_light}
-use Rattle.qw_emit.proofs.ScanValid.{links, begun_is, code_is}
+use Rattle.qw_emit.proofs.ScanBegun.{weight_is, begun_is}
+use Rattle.qw_emit.proofs.ScanValid.{links, descends}
 use Rattle.qw_emit.proofs.ScanMemory.{Setting, size_of, number_at-zeros}
 use Rattle.qw_emit.proofs.ScanSteps.{locals_of, running, in_call}
 use Rattle.qw_emit.proofs.ScanTable.{Table}
@@ -78,13 +79,13 @@ module _ (statement : Statement) (is : IsStatement statement) (rows : List (List
   over-answers b (Running c) h = h
   over-answers b Returned h = (h.0, (results statement rows, refl, h.1))
   over-answers b (Raised code) h = h
-  over-answers b Trapped h = h
+  over-answers b (Trapped why) h = h
 
   answers-over : (b : Moment) (state : State) → Answers statement rows d b state → IsOver state
   answers-over b (Running c) h = h
   answers-over b Returned h = tt
   answers-over b (Raised code) h = tt
-  answers-over b Trapped h = tt
+  answers-over b (Trapped why) h = tt
 
   rows-kept : kept_rows s (scan_of statement) t 0 (length rows) ≡ results statement rows
   unfolding s t
@@ -116,7 +117,7 @@ module _ (statement : Statement) (is : IsStatement statement) (rows : List (List
   first_locals = locals_of d 0 0 0 0 0 0 0 (replicate (2 * length (scan_of statement).others) 0)
 
   pub behaves : Behaves (weight (scan_code (scan_of statement)) * (1 + units statement rows)) (page_bound statement rows) (λ b. Answers statement rows d b b.state)
-      (record { world = first_world addresses (length rows) d limit; state = running (scan_code (scan_of statement)) [] first_locals in_call; memory = memory })
+      (record { world = first_world addresses (length rows) d limit; state = running (scan_of statement) (scan_code (scan_of statement)) [] first_locals in_call; memory = memory })
   unfolding s t
   behaves =
       let pages : ℕ = page_bound statement rows in
@@ -124,7 +125,7 @@ module _ (statement : Statement) (is : IsStatement statement) (rows : List (List
       let scan : Scan = scan_of statement in
       let Q : Moment → Type 0 = λ b. Answers statement rows d b b.state in
       let steps : ℕ = 24 + 6 * length scan.others + budget s scan t 0 (length rows) in
-      let begins : Moment = record { world = first_world addresses (length rows) d limit; state = running (scan_code scan) [] first_locals in_call; memory = memory } in
+      let begins : Moment = record { world = first_world addresses (length rows) d limit; state = running scan (scan_code scan) [] first_locals in_call; memory = memory } in
       let reaches = starts s scan t limit page-fits pages all types-are narrow few bound-is rows-kept
       (replicate (2 * length scan.others) 0) (length-replicate (2 * length scan.others) 0) in
       let within = Within-then pages (Over s pages all) Q 0 (λ k b low over. Within-now pages Q k b (over-answers b b.state over)) steps steps (omega arith) begins
@@ -139,11 +140,12 @@ pub scan_compiled : (statement : Statement) → IsStatement statement → SFits 
 scan_compiled statement limits fits m is = record {
   valid = is_valid statement limits m is fits;
   shaped = (0, is_shaped statement limits m is fits);
+  descends = descends (scan_of statement) m is;
   links = links (scan_of statement) m is;
   short = is_short statement limits m is;
   light = is_light statement limits m is;
   behaves = λ number descriptor limit starts rows memory shape ready.
       let begins = begun_is (scan_of statement) m is number shape descriptor in
-      let code = code_is (scan_of statement) m is number shape in
-      rw (begins, code) (behaves statement limits rows starts descriptor limit memory ready fits);
+      let weight_same = weight_is (scan_of statement) m is number shape in
+      rw (begins, weight_same) (behaves statement limits rows starts descriptor limit memory ready fits);
 }

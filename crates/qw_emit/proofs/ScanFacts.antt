@@ -6,7 +6,7 @@ use Rattle.std.proofs.lemmas.Bool.{cases_Bool}
 use Rattle.std.proofs.lemmas.List.{length-map}
 use Rattle.qw_module.specs.declared.instruction.ValType.TheVariants.{I32, I64}
 use Rattle.qw_module.specs.Syntax.{Code}
-use Rattle.qw_module.specs.Start.{weight}
+use Rattle.qw_module.specs.Start.{weight_with, weight}
 use Rattle.qw_meaning.specs.Statement.{Statement, IsStatement}
 use Rattle.qw_emit.specs.Inner.Emit.{Scan, index_in, other_columns, local_of, scan_of, scan_locals, other_locals, read_distances, read_values, write_cells, scan_code}
 use Rattle.qw_map.specs.Layout.{used}
@@ -35,22 +35,28 @@ locals_are_values statement limits (column ∷ columns) all = (local_is_value st
 pub are_values : (statement : Statement) → IsStatement statement → AreValues (scan_of statement)
 are_values statement limits = locals_are_values statement limits statement.columns (columns-used statement limits)
 
--- how many instructions there are
-weight-read_distances : (tested j : ℕ) (ks : List ℕ) (rest : Code) → weight (read_distances tested j ks rest) ≡ 6 * length ks + weight rest
-weight-read_distances tested j [] rest = omega arith
-weight-read_distances tested j (k ∷ ks) rest = rw (weight-read_distances tested (suc j) ks rest) (omega arith)
+-- how many instructions there are, where a call of the first function has no others
+module _ (called : ℕ → ℕ) where
+  weight-read_distances : (tested j : ℕ) (ks : List ℕ) (rest : Code) →
+      weight_with called (read_distances tested j ks rest) ≡ 6 * length ks + weight_with called rest
+  weight-read_distances tested j [] rest = omega arith
+  weight-read_distances tested j (k ∷ ks) rest = rw (weight-read_distances tested (suc j) ks rest) (omega arith)
 
-weight-read_values : (j : ℕ) (ks : List ℕ) (rest : Code) → weight (read_values j ks rest) ≡ 5 * length ks + weight rest
-weight-read_values j [] rest = omega arith
-weight-read_values j (k ∷ ks) rest = rw (weight-read_values (suc j) ks rest) (omega arith)
+  weight-read_values : (j : ℕ) (ks : List ℕ) (rest : Code) → weight_with called (read_values j ks rest) ≡ 5 * length ks + weight_with called rest
+  weight-read_values j [] rest = omega arith
+  weight-read_values j (k ∷ ks) rest = rw (weight-read_values (suc j) ks rest) (omega arith)
 
-weight-write_cells : (i : ℕ) (locals : List ℕ) (rest : Code) → weight (write_cells i locals rest) ≡ 3 * length locals + weight rest
-weight-write_cells i [] rest = omega arith
-weight-write_cells i (local ∷ locals) rest = rw (weight-write_cells (suc i) locals rest) (omega arith)
+  weight-write_cells : (i : ℕ) (locals : List ℕ) (rest : Code) → weight_with called (write_cells i locals rest) ≡ 3 * length locals + weight_with called rest
+  weight-write_cells i [] rest = omega arith
+  weight-write_cells i (local ∷ locals) rest = rw (weight-write_cells (suc i) locals rest) (omega arith)
+
+  pub weight_with-scan_code : (scan : Scan) → called 0 ≡ 0 →
+      weight_with called (scan_code scan) ≡ 84 + 6 * length scan.others + 5 * length scan.others + 3 * length scan.cells
+  weight_with-scan_code scan none =
+      rw (weight-read_distances scan.tested 0 scan.others, weight-read_values 0 scan.others, weight-write_cells 0 scan.cells) (omega (arith, none))
 
 pub weight-scan_code : (scan : Scan) → weight (scan_code scan) ≡ 84 + 6 * length scan.others + 5 * length scan.others + 3 * length scan.cells
-weight-scan_code scan =
-    rw (weight-read_distances scan.tested 0 scan.others, weight-read_values 0 scan.others, weight-write_cells 0 scan.cells) (omega arith)
+weight-scan_code scan = weight_with-scan_code (λ index. 0) scan refl
 
 -- and it has at most 64 other columns and 64 cells
 pub weight-scan_of : (statement : Statement) → IsStatement statement → weight (scan_code (scan_of statement)) ≤ 980

@@ -9,6 +9,7 @@ use Rattle.std.proofs.Math.Nat.{le-div_iff_mul-le, mul-le-mul_right}
 use Rattle.qw_types.specs.declared.value.Val.{Val}
 use Rattle.qw_linear.specs.Memory.{page, number_at}
 use Rattle.qw_linear.proofs.MemoryFacts.{number_at-with_number}
+use Rattle.qw_module.specs.declared.instruction.ValType.TheVariants.{I64}
 use Rattle.qw_module.specs.Numbers.{relation}
 use Rattle.qw_module.specs.Execution.{State, Running, Returned, Raised, Trapped}
 use Rattle.qw_map.specs.Areas.{World, lies_in_one}
@@ -28,7 +29,7 @@ use Rattle.qw_emit.proofs.ScanCells.{Holds}
 module _ (s : Setting) (scan : Scan) (t : Table s scan) where
   -- what the test gives of a row, and whether it keeps it
   abbrev pub test_of : ℕ → ℕ
-  test_of row = relation (rejects scan.comparison) (bits_of s scan t row scan.tested) (cast_unsigned w64 scan.literal)
+  test_of row = relation I64 (rejects scan.comparison) (bits_of s scan t row scan.tested) (cast_unsigned w64 scan.literal)
 
   abbrev pub row_bits : ℕ → List ℕ
   row_bits row = map (bits_of s scan t row) t.indices
@@ -89,7 +90,7 @@ OverIn s pages all b (Running c) = ⊥
 OverIn s pages all b Returned = (b.world.refused ≡ None) × (rows_at s.types b.world.own b.memory s.descriptor ≡ Some all)
 OverIn s pages all b (Raised code) =
     (code ≡ 3) × ((asked : ℕ) × (b.world.refused ≡ Some asked) × (b.world.limit < b.world.held + asked) × (b.world.held + asked ≤ pages))
-OverIn s pages all b Trapped = ⊥
+OverIn s pages all b (Trapped why) = ⊥
 
 abbrev pub Over : (s : Setting) (pages : ℕ) (all : List (List Val)) → Moment → Type 0
 Over s pages all b = OverIn s pages all b b.state
@@ -124,10 +125,10 @@ module _ (pages : ℕ) (s : Setting) (scan : Scan) (t : Table s scan) (all : Lis
       let M : List ℕ → Type 0 = Scanned s w.own found link row end in
       let lies : Lies s w.own row end = going.lies in
       let kept : IsKept w M = Scanned-kept s w going.mapped_is row end lies found link in
-      let finish : (x : ℕ) → Reaches pages Q w M 4 (running links_last (x ∷ d ∷ []) (locals_of d e e row link last v n others) in_call) = λ x.
+      let finish : (x : ℕ) → Reaches pages Q w M 4 (running scan links_last (x ∷ d ∷ []) (locals_of d e e row link last v n others) in_call) = λ x.
       store pages Q w kept M (d + 12) refl refl (lies.head (d + 12) 4 (omega arith) (omega arith))
       (λ m h. (omega (arith, lies.first, h.keeps.room), Scanned-head s w.own row end lies m found link (d + 12) 4 x (omega arith) (omega arith) (inr (omega arith)) h))
-      (go pages Q w kept (to_count d e e row link last v n others)
+      (go pages Q w kept (to_count scan d e e row link last v n others)
       (store pages Q w kept (Ended s w found link row end) (d + 16) refl refl (lies.head (d + 16) 8 (omega arith) (omega arith))
       (λ m h.
       let room : d + 16 + 8 ≤ length m = omega (arith, lies.first, h.keeps.room) in
@@ -139,12 +140,12 @@ module _ (pages : ℕ) (s : Setting) (scan : Scan) (t : Table s scan) (all : Lis
         },
       ))
       (reached pages Q w 0 (λ m h. (going.unrefused, read m h))))) in
-      go pages Q w kept (to_end d e e row link last v n others scan (eq-eqb e e refl))
+      go pages Q w kept (to_end scan d e e row link last v n others (eq-eqb e e refl))
       (store pages Q w kept M d refl (add-zero d) (lies.head d 4 (omega arith) (omega arith))
       (λ m h. (omega (arith, lies.first, h.keeps.room), Scanned-head s w.own row end lies m found link d 4 row (omega arith) (omega arith) (inl (omega arith)) h))
       (⊎_elim
-      (λ none. go pages Q w kept (no_last d e e row link last v n others (eq-eqb n 0 none)) (finish 0))
-      (λ some. go pages Q w kept (some_last d e e row link last v n others (ne_eqb n 0 some)) (finish link))
+      (λ none. go pages Q w kept (no_last scan d e e row link last v n others (eq-eqb n 0 none)) (finish 0))
+      (λ some. go pages Q w kept (some_last scan d e e row link last v n others (ne_eqb n 0 some)) (finish link))
       (cases_eq n 0)))
     where
       read : (m : List ℕ) → Ended s w found link row end m → rows_at s.types w.own m s.descriptor ≡ Some all

@@ -13,7 +13,7 @@ use Rattle.qw_emit.specs.Inner.Emit.{Scan, store_i32}
 use Rattle.qw_map.proofs.AccessLemmas.{lies-before}
 use Rattle.qw_map.proofs.Chains.{onto, length-onto, integers, length-integers, value_of_bits}
 use Rattle.qw_emit.proofs.ScanMemory.{Setting, size_of, Lies, Scanned, Writing, Scanned-linked, Scanned-kept, Writing-row, Writing-kept, with_page, Lies-grown, Scanned-grown}
-use Rattle.qw_emit.proofs.ScanSteps.{locals_of, size, running, in_loop, counts, writes, reads, tests, at_loop, to_load, passed_over, fits, requests, granted, refused, counted}
+use Rattle.qw_emit.proofs.ScanSteps.{locals_of, size, running, in_loop, counts, writes, reads, tests, at_loop, to_load, passed_over, fits, requests, granted, refused, raises, counted}
 use Rattle.qw_emit.proofs.ScanTable.{Table, CellsOf, start_at, word_of, bits_of, Distances, Values-none}
 use Rattle.qw_emit.proofs.ScanCells.{in_columns, column_there, values_read, cells_written}
 use Rattle.qw_emit.proofs.ScanLoop.{test_of, row_bits, kept_rows, write_steps, keep_steps, budget, cells_hold, map-onto_all, fill-bound, Over, Going, ends}
@@ -47,7 +47,7 @@ module _ (pages : ℕ) (s : Setting) (scan : Scan) (t : Table s scan) (all : Lis
         p ≡ start_at t.starts scan.tested + 4 * i → e ≡ p + 4 * left → Going s scan t w n link row last end others → n ≡ length found → row ≤ last →
         onto found (map value_of_bits (row_bits s scan t i) ∷ kept_rows s scan t (suc i) left) ≡ all →
         Reaches pages (Over s pages all) w (Scanned s w.own found link row end) (write_steps s scan t + budget s scan t (suc i) left)
-        (running (store_i32 0 (reads scan)) (row ∷ link ∷ []) (locals_of s.descriptor p e row row last (bits_of s scan t i scan.tested) n others) (in_loop scan))
+        (running scan (store_i32 0 (reads scan)) (row ∷ link ∷ []) (locals_of s.descriptor p e row row last (bits_of s scan t i scan.tested) n others) (in_loop scan))
     puts w found p e link row last end n others address_is end_is going count room whole =
         let d : ℕ = s.descriptor in
         let Q : Moment → Type 0 = Over s pages all in
@@ -65,7 +65,7 @@ module _ (pages : ℕ) (s : Setting) (scan : Scan) (t : Table s scan) (all : Lis
         let row_there : onto (map value_of_bits (onto bits [])) [] ≡ map value_of_bits bits = map-onto_all value_of_bits bits in
         let after : (others' : List ℕ) → Distances s scan t (length scan.others) others' →
         Reaches pages Q w (Writing s w.own found link row end (onto bits []) stop) (more 9 next)
-        (running (counts scan) [] (locals_of d p e row row last x n others') (in_loop scan)) = λ others' distances.
+        (running scan (counts scan) [] (locals_of d p e row row last x n others') (in_loop scan)) = λ others' distances.
         go pages Q w (Writing-kept s w going.mapped_is row end lies found link stop (onto bits []) (omega arith) fit)
         (counted scan d e row n others' p row last x stop (n + 1) (omega (arith, size_same, going.end_small)) (omega (arith, few, total, count, t.below scan.tested t.tested, t.small)))
         (Reaches-weaker pages Q w (Writing s w.own found link row end (onto bits []) stop) (Scanned s w.own (map value_of_bits bits ∷ found) row stop end) next _
@@ -107,7 +107,7 @@ module _ (pages : ℕ) (s : Setting) (scan : Scan) (t : Table s scan) (all : Lis
         p ≡ start_at t.starts scan.tested + 4 * i → e ≡ p + 4 * left → Going s scan t w n link row last end others → n ≡ length found →
         test_of s scan t i ≡ 0 → onto found (map value_of_bits (row_bits s scan t i) ∷ kept_rows s scan t (suc i) left) ≡ all →
         Reaches pages (Over s pages all) w (Scanned s w.own found link row end) (24 + (write_steps s scan t + budget s scan t (suc i) left))
-        (running (tests scan) (bits_of s scan t i scan.tested ∷ []) (locals_of s.descriptor p e row link last v n others) (in_loop scan))
+        (running scan (tests scan) (bits_of s scan t i scan.tested ∷ []) (locals_of s.descriptor p e row link last v n others) (in_loop scan))
     keeps w found p e link row last end v n others address_is end_is going count test whole =
         let d : ℕ = s.descriptor in
         let Q : Moment → Type 0 = Over s pages all in
@@ -155,7 +155,7 @@ module _ (pages : ℕ) (s : Setting) (scan : Scan) (t : Table s scan) (all : Lis
         let w' : World = with_refused w 1 in
         Reaches-more pages Q w' 6 (more 14 write) (omega arith)
         (go pages Q w' (Scanned-kept s w' going.mapped_is row end lies found link) (refused scan d e link n others p row last x)
-        (raise pages Q w' (Scanned-kept s w' going.mapped_is row end lies found link) refl (inr (inr (refl, refl)))
+        (raise pages Q w' (Scanned-kept s w' going.mapped_is row end lies found link) (raises scan _ _) (inr (inr (refl, refl)))
         (reached pages Q w' 0 (λ m h. (refl, (1, refl, refused_here, asks_within))))))))))
         (λ here.
         Reaches-more pages Q w (more 11 write) (24 + write) (omega arith)
@@ -180,7 +180,7 @@ module _ (pages : ℕ) (s : Setting) (scan : Scan) (t : Table s scan) (all : Lis
         let kept : IsKept w M = Scanned-kept s w going.mapped_is row end lies found link in
         let more_left : (p == e) ≡ false = ne_eqb p e (λ same. omega arith) in
         let next : (p + 4) % 2 ^ 32 ≡ p' = omega (arith, address_is, t.below scan.tested t.tested, t.small) in
-        let on : (k : ℕ) → Reaches pages Q w M k (running (tests scan) (x ∷ []) (locals_of d p' e row link last v n others) (in_loop scan)) →
+        let on : (k : ℕ) → Reaches pages Q w M k (running scan (tests scan) (x ∷ []) (locals_of d p' e row link last v n others) (in_loop scan)) →
         Reaches pages Q w M (more 9 (suc k)) (at_loop scan (locals_of d p e row link last v n others)) = λ k runs.
         go pages Q w kept (to_load scan d e link n others p p' row last v more_left next)
         (load pages Q w kept p' (word_of s scan t i scan.tested) refl (add-zero p') (in_columns s scan t w going.mapped_is i scan.tested within t.tested)

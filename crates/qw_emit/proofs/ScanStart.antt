@@ -72,9 +72,9 @@ module _ (s : Setting) (scan : Scan) (t : Table s scan) (limit : ℕ) (fits : en
         ((i index : ℕ) → slice_get ks i ≡ Some index → slice_get scan.others (j + i) ≡ Some index) → j + length ks ≡ length scan.others →
         Distances s scan t j others →
         ((others' : List ℕ) → Distances s scan t (length scan.others) others' →
-        Reaches pages Q (begins_with s limit) (Begun s scan t (begins_with s limit).own) more_steps (standing rest [] (locals_of s.descriptor p e 0 0 0 0 0 others') in_call)) →
+        Reaches pages Q (begins_with s limit) (Begun s scan t (begins_with s limit).own) more_steps (standing scan rest [] (locals_of s.descriptor p e 0 0 0 0 0 others') in_call)) →
         Reaches pages Q (begins_with s limit) (Begun s scan t (begins_with s limit).own) (6 * length ks + more_steps)
-        (standing (read_distances scan.tested j ks rest) [] (locals_of s.descriptor p e 0 0 0 0 0 others) in_call)
+        (standing scan (read_distances scan.tested j ks rest) [] (locals_of s.descriptor p e 0 0 0 0 0 others) in_call)
     unfolding distance
     distances_read [] j others left count distances following =
         let whole : j ≡ length scan.others = omega (arith, count) in
@@ -107,7 +107,7 @@ module _ (s : Setting) (scan : Scan) (t : Table s scan) (limit : ℕ) (fits : en
       (few : length all ≤ t.rows) (bound : 2 + length all * size_of s / (page - size_of s) ≤ pages) (rows_give : kept_rows s scan t 0 t.rows ≡ all) where
     pub starts : (others : List ℕ) → length others ≡ 2 * length scan.others →
         Reaches pages (Over s pages all) (begins_with s limit) (Begun s scan t (begins_with s limit).own) (24 + 6 * length scan.others + budget s scan t 0 t.rows)
-        (running (scan_code scan) [] (locals_of s.descriptor 0 0 0 0 0 0 0 others) in_call)
+        (running scan (scan_code scan) [] (locals_of s.descriptor 0 0 0 0 0 0 0 others) in_call)
     starts others none =
         let Q : Moment → Type 0 = Over s pages all in
         let w : World = begins_with s limit in

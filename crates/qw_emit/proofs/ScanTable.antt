@@ -8,6 +8,7 @@ use Rattle.std.proofs.lemmas.Option.{same_Some}
 use Rattle.std.proofs.Math.Facts.{sfits_to_z, sfits_widen}
 use Rattle.qw_linear.specs.Memory.{page, number_at}
 use Rattle.qw_module.specs.declared.instruction.Sign.TheVariants.{Signed}
+use Rattle.qw_module.specs.declared.instruction.ValType.TheVariants.{I64}
 use Rattle.qw_module.specs.Numbers.{extended}
 use Rattle.qw_map.specs.Areas.{lies_in_one}
 use Rattle.qw_emit.specs.Inner.Emit.{Scan, value_local, value_of_other}
@@ -52,7 +53,7 @@ integer_fits : (n : ℤ) → SFits w32 n → is_integer n ≡ true
 integer_fits (pos n) fits = le-leb n 2147483647 (omega (arith, fits.sfits))
 integer_fits (negsuc n) fits = and_from _ _ (le-leb n 2147483647 (omega (arith, fits.sfits))) refl
 
-extended-below : (word : ℕ) → word < 2 ^ 32 → extended Signed word < 2 ^ 64
+extended-below : (word : ℕ) → word < 2 ^ 32 → extended w32 Signed I64 word < 2 ^ 64
 extended-below word small = omega (arith, ints)
 
 -- a distance modulo 2^32 leads from one start to the other
@@ -66,7 +67,7 @@ module _ (s : Setting) (scan : Scan) (t : Table s scan) where
   word_of row index = number_at s.table (start_at t.starts index + 4 * row) 4
 
   unfoldable pub bits_of : (row index : ℕ) → ℕ
-  bits_of row index = extended Signed (word_of row index)
+  bits_of row index = extended w32 Signed I64 (word_of row index)
 
   -- how far a used column's values are from those of the compared one
   unfoldable pub distance : ℕ → ℕ

@@ -9,9 +9,8 @@ use Rattle.qw_module.specs.declared.module.Import.TheVariants as import
 use Rattle.qw_module.specs.declared.module.Module.{Module}
 use Rattle.qw_module.specs.Execution.{State, Running, Returned, Raised, Trapped}
 use Rattle.qw_map.specs.Runs.{Moment, Behaves}
-use Rattle.qw_module.specs.Syntax.{code_of}
-use Rattle.qw_module.specs.Validity.{IsValid, IsShaped, code_of_body}
-use Rattle.qw_module.specs.Start.{weight, begun, body_of}
+use Rattle.qw_module.specs.Validity.{IsValid, IsShaped, IsDescending, imported_functions, code_of_body}
+use Rattle.qw_module.specs.Start.{weight, weight_of_function, begun}
 use Rattle.qw_meaning.specs.Statement.{Statement}
 use Rattle.qw_meaning.specs.Meaning.{Rows, outcome, results}
 use Rattle.qw_map.specs.Columns.{HoldsColumn}
@@ -46,9 +45,9 @@ units statement rows = length rows + length (results statement rows)
 abbrev pub module_weight : Module → ℕ
 module_weight m = sum_by (λ (function : Function). weight (code_of_body function.body)) m.functions.items
 
--- how many instructions a module's own function has
+-- how many instructions a module's own function has with those of the functions that it calls
 abbrev pub weight_of : Module → (number : ℕ) → ℕ
-weight_of m number = weight (code_of (body_of m number))
+weight_of m number = weight_of_function m (length (imported_functions m) + number)
 
 -- the most instructions that a run of it executes over a table's rows
 abbrev pub bound : Statement → List (List Val) → Module → (number : ℕ) → ℕ
@@ -72,17 +71,18 @@ Answers statement rows descriptor b Returned =
 Answers statement rows descriptor b (Raised code) =
     (code ≡ 3)
     × ((asked : ℕ) × (b.world.refused ≡ Some asked) × (b.world.limit < b.world.held + asked) × (b.world.held + asked ≤ page_bound statement rows))
-Answers statement rows descriptor b Trapped = ⊥
+Answers statement rows descriptor b (Trapped why) = ⊥
 
--- The module is the compiled form of the statement: it is valid, and of the shape that is executed; it can be linked to a
--- memory of any size, as it asks for one of at least one page; all functions of its own have at most 2^22 instructions
--- together, and its `run` at most 2^24 with all that it calls, which is nothing of its own yet; and over any table of at most
+-- The module is the compiled form of the statement: it is valid, and of the shape that is executed; its functions call downwards
+-- only; it can be linked to a memory of any size, as it asks for one of at least one page; all functions of its own have at
+-- most 2^22 instructions together, and its `run` at most 2^24 with all that it calls; and over any table of at most
 -- `most_rows` rows, wherever its columns lie from octet 64 on and the first page behind them, every open run behaves: its loads
 -- lie in the columns and its own areas, its stores in its own areas, it doesn't trap, its requests stay within the page bound,
 -- it ends within its bound, and then answers.
 pub record IsCompiled (statement : Statement) (m : Module) : Type 0 where
   pub valid : IsValid m
   pub shaped : (number : ℕ) × IsShaped m number
+  pub descends : IsDescending m
   pub links : Contains m.imports.items (import.Memory (record { min = 1; max = None }))
   pub short : module_weight m ≤ 2 ^ 22
   pub light : (number : ℕ) → IsShaped m number → weight_of m number ≤ 2 ^ 24

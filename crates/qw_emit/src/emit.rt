@@ -1,7 +1,6 @@
 ghost use Rattle.std.specs.Prelude.{◌≡◌, ◌++◌, FitsSigned, IfOk, OnOk};
 ghost use Rattle.std.specs.Int.{w64};
-ghost use Rattle.qw_module.specs.Syntax.{IsNumbered};
-ghost use Rattle.qw_module.specs.Validity.{code_of_body, sequences_of};
+ghost use Rattle.qw_module.specs.Validity.{code_of_body, declared_types};
 ghost use Rattle.qw_meaning.specs.Statement.{IsStatement};
 ghost use Rattle.qw_emit.specs.Compiled.{IsCompiled};
 ghost use Rattle.qw_emit.specs.Inner.Emit as emit;
@@ -19,7 +18,9 @@ use outer::outer_sequence;
 use qw_map::layout::row_size;
 use qw_meaning::query::Query;
 use qw_module::instruction::ValType;
-use qw_module::module::{Body, Export, ExportKind, FuncType, Function, Import, Limits, Module};
+use qw_module::module::{
+    Body, Export, ExportKind, FuncType, Function, Import, Limits, Locals, Module,
+};
 use qw_types::NoMemory;
 use row::{ask_sequence, raise_sequence, row_sequence};
 use scan_shape::ScanShape;
@@ -38,7 +39,7 @@ const RUN_INDEX: u32 = 1;
 /// The body of `run`, inner sequences before those that hold them.
 fn body_of(alloc: Global, shape: &ScanShape) -> Result<Body, NoMemory>
     ensures code { IfOk result (λ b. code_of_body b ≡ emit.scan_code shape.now) }
-    ensures numbered { IfOk result (λ b. IsNumbered (sequences_of b)) }
+    ensures refers { IfOk result (λ b. emit.RefersDown b) }
 {
     let raise = raise_sequence(alloc)?;
     let nothing = Vec::new(alloc);
@@ -49,32 +50,32 @@ fn body_of(alloc: Global, shape: &ScanShape) -> Result<Body, NoMemory>
     let last_row = vec![in alloc; get(LINK)]?;
     let outer = outer_sequence(alloc, shape)?;
     let sequences = vec![in alloc; raise, nothing, ask, row, all_rows, no_row, last_row, outer]?;
-    Ok(Body { sequences })
+    let labels = Vec::new(alloc);
+    Ok(Body { sequences, labels })
+}
+
+/// So many locals of one type.
+fn so_many(count: u32, ty: ValType) -> Locals
+    ensures { result ≡ record { count = count; ty = ty } }
+{
+    Locals { count, ty }
 }
 
 /// Adds the locals of the other columns: the distance and the value of each.
-fn push_other_locals(locals: &mut Vec<ValType>, others: &[u32]) -> Result<(), NoMemory>
-    ensures { OnOk result (locals.new.items ≡ locals.old.items ++ emit.other_locals others.now) }
+fn push_other_locals(locals: &mut Vec<Locals>, others: &[u32]) -> Result<(), NoMemory>
+    ensures { OnOk result (declared_types locals.new.items ≡ declared_types locals.old.items ++ emit.other_locals others.now) }
 {
     for _index in others {
-        locals.extend_from_slice(&[ValType::I32, ValType::I64])?;
+        locals.extend_from_slice(&[so_many(1, ValType::I32), so_many(1, ValType::I64)])?;
     }
     Ok(())
 }
 
 /// The locals of `run` after its argument.
-fn locals_of(alloc: Global, shape: &ScanShape) -> Result<Vec<ValType>, NoMemory>
-    ensures { IfOk result (λ locals. locals.items ≡ emit.scan_locals shape.now) }
+fn locals_of(alloc: Global, shape: &ScanShape) -> Result<Vec<Locals>, NoMemory>
+    ensures { IfOk result (λ locals. declared_types locals.items ≡ emit.scan_locals shape.now) }
 {
-    let mut locals = vec![in alloc;
-        ValType::I32,
-        ValType::I32,
-        ValType::I32,
-        ValType::I32,
-        ValType::I32,
-        ValType::I64,
-        ValType::I64,
-    ]?;
+    let mut locals = vec![in alloc; so_many(5, ValType::I32), so_many(2, ValType::I64)]?;
     push_other_locals(&mut locals, shape.others())?;
     Ok(locals)
 }
@@ -82,7 +83,7 @@ fn locals_of(alloc: Global, shape: &ScanShape) -> Result<Vec<ValType>, NoMemory>
 /// The function `run`, whose type is the module's first.
 fn run_of(alloc: Global, shape: &ScanShape) -> Result<Function, NoMemory>
     ensures contents { IfOk result (λ run. emit.contents_of run ≡ (0, emit.scan_locals shape.now, emit.scan_code shape.now)) }
-    ensures numbered { IfOk result (λ run. IsNumbered (sequences_of run.body)) }
+    ensures refers { IfOk result (λ run. emit.RefersDown run.body) }
 {
     Ok(Function {
         type_index: TYPE_INDEX,
@@ -112,7 +113,7 @@ fn scan_module(alloc: Global, query: &Query) -> Result<Module, NoMemory>
         types: vec![in alloc; signature]?,
         imports: vec![in alloc; memory, Import::Raise(TYPE_INDEX)]?,
         functions: vec![in alloc; run]?,
-        memory: None,
+        memories: Vec::new(alloc),
         globals: Vec::new(alloc),
         exports: vec![in alloc; export]?,
     })

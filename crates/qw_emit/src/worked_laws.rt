@@ -7,9 +7,12 @@ ghost use Rattle.qw_types.specs.declared.value.Val.TheVariants.{Num};
 ghost use Rattle.qw_module.specs.declared.instruction.Instr.TheVariants as i;
 ghost use Rattle.qw_module.specs.declared.instruction.Op.TheVariants as o;
 ghost use Rattle.qw_module.specs.declared.module.Function.{Function};
+ghost use Rattle.qw_module.specs.declared.module.Import.TheVariants as import;
 ghost use Rattle.qw_module.specs.declared.module.Module.{Module};
+ghost use Rattle.qw_module.specs.declared.trap.Trap.{Trap};
 ghost use Rattle.qw_module.specs.Execution.{Config, Running, Returned, Raised, Trapped};
 ghost use Rattle.qw_module.specs.Start.{weight};
+ghost use Rattle.qw_module.specs.Syntax.{done, op, call};
 ghost use Rattle.qw_module.specs.Validity.{code_of_body, sequences_of};
 ghost use Rattle.qw_meaning.specs.declared.query.Comparison.TheVariants.{Greater};
 ghost use Rattle.qw_map.specs.Layout.{rows_at};
@@ -65,17 +68,28 @@ pub fn page_bound_of_wide_rows()
 /// choice whose arms are one sequence of two instructions counts it twice.
 pub fn weights_of_bodies()
     ensures around { (m : Module) (f : Function) → m.functions.items ≡ f ∷ [] →
-        sequences_of f.body ≡ (i.Op (o.LocalGet 0) ∷ i.BrIf 0 ∷ []) ∷ (i.Loop None 0 ∷ []) ∷ (i.Block None 1 ∷ i.Br 0 ∷ []) ∷ [] → weight_of m 0 ≡ 5 }
+        sequences_of f.body ≡ record {
+          each = (i.Op (o.LocalGet 0) ∷ i.BrIf 0 ∷ []) ∷ (i.Loop None 0 ∷ []) ∷ (i.Block None 1 ∷ i.Br 0 ∷ []) ∷ [];
+          labels = [];
+        } → weight_of m 0 ≡ 5 }
     ensures twice { (m : Module) (f : Function) → m.functions.items ≡ f ∷ [] →
-        sequences_of f.body ≡ (i.Op (o.LocalGet 0) ∷ i.Br 0 ∷ []) ∷ (i.Op (o.LocalGet 0) ∷ i.If None 0 0 ∷ []) ∷ [] → weight_of m 0 ≡ 6 }
+        sequences_of f.body ≡ record {
+          each = (i.Op (o.LocalGet 0) ∷ i.Br 0 ∷ []) ∷ (i.Op (o.LocalGet 0) ∷ i.If None 0 (Some 0) ∷ []) ∷ [];
+          labels = [];
+        } → weight_of m 0 ≡ 6 }
 {}
 
-/// A module's functions count together, and each has its own number.
+/// A module's functions count together. Each has its own number, and counts with the functions that it calls, as often as it
+/// calls them: the imported one counts nothing, so the first function has 3 instructions, and the second, which calls the first
+/// twice, has 4 + 2 * 3 = 10 with it.
 pub fn weight_of_two_functions()
     ensures together { (m : Module) (f g : Function) → m.functions.items ≡ f ∷ g ∷ [] →
         weight (code_of_body f.body) ≡ 3 → weight (code_of_body g.body) ≡ 4 → module_weight m ≡ 7 }
-    ensures second { (m : Module) (f g : Function) → m.functions.items ≡ f ∷ g ∷ [] →
-        weight (code_of_body f.body) ≡ 3 → weight (code_of_body g.body) ≡ 4 → weight_of m 1 ≡ 4 }
+    ensures first { (m : Module) (f g : Function) → m.imports.items ≡ import.Raise 0 ∷ [] → m.functions.items ≡ f ∷ g ∷ [] →
+        code_of_body f.body ≡ op (o.LocalGet 0) (op (o.LocalGet 0) (call 0 done)) → weight_of m 0 ≡ 3 }
+    ensures second { (m : Module) (f g : Function) → m.imports.items ≡ import.Raise 0 ∷ [] → m.functions.items ≡ f ∷ g ∷ [] →
+        code_of_body f.body ≡ op (o.LocalGet 0) (op (o.LocalGet 0) (call 0 done)) →
+        code_of_body g.body ≡ op (o.LocalGet 0) (call 1 (op (o.LocalGet 0) (call 1 done))) → weight_of m 1 ≡ 10 }
     ensures no_third { (m : Module) (f g : Function) → m.functions.items ≡ f ∷ g ∷ [] → weight_of m 2 ≡ 0 }
 {}
 
@@ -115,9 +129,9 @@ pub fn other_ends_of_three_rows()
     ensures other_code { (descriptor : ℕ) (b : Moment) →
         Answers (record { columns = 0 ∷ []; tested = 0; comparison = Greater; literal = pos 5 })
         ((Num (pos 4) ∷ []) ∷ (Num (pos 1) ∷ []) ∷ (Num (pos 7) ∷ []) ∷ []) descriptor b (Raised 2) → ⊥ }
-    ensures trapped { (descriptor : ℕ) (b : Moment) →
+    ensures trapped { (descriptor : ℕ) (b : Moment) (why : Trap) →
         Answers (record { columns = 0 ∷ []; tested = 0; comparison = Greater; literal = pos 5 })
-        ((Num (pos 4) ∷ []) ∷ (Num (pos 1) ∷ []) ∷ (Num (pos 7) ∷ []) ∷ []) descriptor b Trapped → ⊥ }
+        ((Num (pos 4) ∷ []) ∷ (Num (pos 1) ∷ []) ∷ (Num (pos 7) ∷ []) ∷ []) descriptor b (Trapped why) → ⊥ }
     ensures running { (descriptor : ℕ) (b : Moment) (c : Config) →
         Answers (record { columns = 0 ∷ []; tested = 0; comparison = Greater; literal = pos 5 })
         ((Num (pos 4) ∷ []) ∷ (Num (pos 1) ∷ []) ∷ (Num (pos 7) ∷ []) ∷ []) descriptor b (Running c) → ⊥ }

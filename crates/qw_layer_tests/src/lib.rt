@@ -7,8 +7,6 @@ mod emitted_modules;
 #[cfg(test)]
 mod exact_comparisons;
 #[cfg(test)]
-mod execution;
-#[cfg(test)]
 mod linear_memory;
 #[cfg(test)]
 mod plain_rows;
@@ -16,7 +14,5 @@ mod plain_rows;
 mod texts;
 #[cfg(test)]
 mod tokens;
-#[cfg(test)]
-mod validity;
 #[cfg(test)]
 mod worked_queries;

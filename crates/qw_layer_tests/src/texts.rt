@@ -1,5 +1,5 @@
 use qw_meaning::query::Comparison;
-use qw_parse::parse::{Count, ParseFault, SchemaFault, query_of, schema_of};
+use qw_parse::parse::{Count, QueryFault, SchemaFault, TypeFault, query_of, schema_of};
 use qw_types::{Column, Schema, Ty};
 use std::test::Fail;
 
@@ -436,42 +436,151 @@ const QUERIES: [(&[u8], &[usize], usize, Comparison, i64); 18] = [
     ),
 ];
 
-const NO_QUERIES: [&[u8]; 35] = [
-    b"",
-    b"SELECT A FROM T",
-    b"SELECT FROM T WHERE A > 5",
-    b"SELECT A, FROM T WHERE A > 5",
-    b"SELECT , A FROM T WHERE A > 5",
-    b"SELECT A B FROM T WHERE A > 5",
-    b"SELECT A,, B FROM T WHERE A > 5",
-    b"SELECT A FROM T, T WHERE A > 5",
-    b"SELECT A FROM T WHERE A > 5;;",
-    b"SELECT A FROM T WHERE A > 5 5",
-    b"SELECT A FROM T WHERE A > +5",
-    b"SELECT A FROM T WHERE A > --5",
-    b"SELECT A FROM T WHERE A > - -5",
-    b"SELECT A FROM T WHERE A > -",
-    b"SELECT A FROM T WHERE A > 5.",
-    b"SELECT A FROM T WHERE A > 1.5",
-    b"SELECT A FROM T WHERE A > 12a",
-    b"SELECT A FROM T WHERE A > 1000000000000000000",
-    b"SELECT A FROM T WHERE A > -1000000000000000000",
-    b"SELECT A FROM T WHERE A > 99999999999999999999999999",
-    b"SELECT A FROM T WHERE A > = 5",
-    b"SELECT A FROM T WHERE A >< 5",
-    b"SELECT A FROM T WHERE A == 5",
-    b"SELECT A FROM T WHERE A 5",
-    b"SELECT A FROM T WHERE 5 < A",
-    b"SELECT A FROM T WHERE D > 5",
-    b"SELECT A, D FROM T WHERE A > 5",
-    b"SELECT T FROM T WHERE A > 5",
-    b"SELECT A FROM U WHERE A > 5",
-    b"SELECT \"A\" FROM T WHERE A > 5",
-    b"SELECT A FROM T WHERE A > '5'",
-    b"SELECT A FROM T WHERE A > A",
-    b"SELECT * FROM T WHERE A > 5",
-    b"\xEF\xBB\xBF\xEF\xBB\xBFSELECT A FROM T WHERE A > 5",
-    b"SELECT A FROM T WHERE A > 5 '\xFF'",
+const NO_QUERIES: [(&[u8], &str); 45] = [
+    (b"", "not grammar in statement 1"),
+    (b"SELECT A FROM T", "not grammar in statement 1"),
+    (b"SELECT FROM T WHERE A > 5", "not grammar in statement 1"),
+    (
+        b"SELECT A, FROM T WHERE A > 5",
+        "not grammar in statement 1",
+    ),
+    (
+        b"SELECT , A FROM T WHERE A > 5",
+        "not grammar in statement 1",
+    ),
+    (
+        b"SELECT A B FROM T WHERE A > 5",
+        "not grammar in statement 1",
+    ),
+    (
+        b"SELECT A,, B FROM T WHERE A > 5",
+        "not grammar in statement 1",
+    ),
+    (
+        b"SELECT A FROM T, T WHERE A > 5",
+        "not grammar in statement 1",
+    ),
+    (
+        b"SELECT A FROM T WHERE A > 5 5",
+        "not grammar in statement 1",
+    ),
+    (
+        b"SELECT A FROM T WHERE A > +5",
+        "not grammar in statement 1",
+    ),
+    (
+        b"SELECT A FROM T WHERE A > --5",
+        "not grammar in statement 1",
+    ),
+    (
+        b"SELECT A FROM T WHERE A > - -5",
+        "not grammar in statement 1",
+    ),
+    (b"SELECT A FROM T WHERE A > -", "not grammar in statement 1"),
+    (
+        b"SELECT A FROM T WHERE A > 5.",
+        "not grammar in statement 1",
+    ),
+    (
+        b"SELECT A FROM T WHERE A > 1.5",
+        "not grammar in statement 1",
+    ),
+    (
+        b"SELECT A FROM T WHERE A > = 5",
+        "not grammar in statement 1",
+    ),
+    (
+        b"SELECT A FROM T WHERE A >< 5",
+        "not grammar in statement 1",
+    ),
+    (
+        b"SELECT A FROM T WHERE A == 5",
+        "not grammar in statement 1",
+    ),
+    (b"SELECT A FROM T WHERE A 5", "not grammar in statement 1"),
+    (b"SELECT A FROM T WHERE 5 < A", "not grammar in statement 1"),
+    (
+        b"SELECT \"A\" FROM T WHERE A > 5",
+        "not grammar in statement 1",
+    ),
+    (
+        b"SELECT A FROM T WHERE A > '5'",
+        "not grammar in statement 1",
+    ),
+    (b"SELECT A FROM T WHERE A > A", "not grammar in statement 1"),
+    (b"SELECT * FROM T WHERE A > 5", "not grammar in statement 1"),
+    (b";", "not grammar in statement 1"),
+    (
+        b"SELECT MAX FROM T WHERE A > 5",
+        "not grammar in statement 1",
+    ),
+    (
+        b"((((((((((((((((((((((((((((((((",
+        "not grammar in statement 1",
+    ),
+    (b"SELECT A FROM T WHERE A > 5 '\xFF'", "not utf-8"),
+    (b"SELECT A FROM T WHERE A > 12a '\xFF'", "not utf-8"),
+    (b"SELECT A FROM T WHERE A > 12a", "not a token at 26"),
+    (
+        b"\xEF\xBB\xBF\xEF\xBB\xBFSELECT A FROM T WHERE A > 5",
+        "not a token at 3",
+    ),
+    (
+        b"SELECT A FROM T WHERE A > 5; SELECT ?",
+        "not a token at 36",
+    ),
+    (
+        b"SELECT A FROM T WHERE A > 5;;",
+        "too many statements in statement 1, limit 1",
+    ),
+    (
+        b"SELECT A FROM T; SELECT A FROM T WHERE A > 5",
+        "too many statements in statement 1, limit 1",
+    ),
+    (
+        b"(((((((((((((((((((((((((((((((((",
+        "too deep in statement 1",
+    ),
+    (
+        b"SELECT A FROM U WHERE A > 5",
+        "unknown table U in statement 1",
+    ),
+    (
+        b"select d from u where e > 1000000000000000000",
+        "unknown table U in statement 1",
+    ),
+    (
+        b"SELECT A FROM T WHERE D > 5",
+        "unknown column D in statement 1",
+    ),
+    (
+        b"select a, d from t where a > 5",
+        "unknown column D in statement 1",
+    ),
+    (
+        b"SELECT T FROM T WHERE A > 5",
+        "unknown column T in statement 1",
+    ),
+    (
+        b"SELECT E, D FROM T WHERE F > 1000000000000000000",
+        "unknown column E in statement 1",
+    ),
+    (
+        b"SELECT A FROM T WHERE A > 1000000000000000000",
+        "literal too long 1000000000000000000 in statement 1",
+    ),
+    (
+        b"SELECT A FROM T WHERE A > -1000000000000000000",
+        "literal too long 1000000000000000000 in statement 1",
+    ),
+    (
+        b"SELECT A FROM T WHERE A > 01000000000000000000",
+        "literal too long 01000000000000000000 in statement 1",
+    ),
+    (
+        b"SELECT A FROM T WHERE A > 99999999999999999999999999",
+        "literal too long 99999999999999999999999999 in statement 1",
+    ),
 ];
 
 // The reserved words (ISO/IEC 9075:1992, 5.2 "reserved word"), as far as this language has them.
@@ -706,8 +815,67 @@ fn numbers_of_columns(rt: HostRuntime) -> Result<(), Fail> {
     assert_eq!(rt; query.tested(), 63);
     let more = listed(&rt, "SELECT C0, ", 64, "", " FROM T WHERE C63 = 0")?;
     let fault = query_of(rt.alloc(), &most, more.as_bytes()).err();
-    assert_eq!(rt; fault, Some(ParseFault::Refused));
+    assert_eq!(rt;
+        cause(&rt, fault)?.as_str(),
+        "too many select items in statement 1, limit 64"
+    );
     Ok(())
+}
+
+/// The words that tell why a text is no query.
+fn cause(rt: &HostRuntime, fault: Option<QueryFault>) -> Result<String, Fail> {
+    let words = match fault {
+        None => format!(in rt.alloc(); "a query")?,
+        Some(QueryFault::NotUtf8) => format!(in rt.alloc(); "not utf-8")?,
+        Some(QueryFault::NotToken { at }) => format!(in rt.alloc(); "not a token at {at}")?,
+        Some(QueryFault::NotGrammar { statement }) => {
+            format!(in rt.alloc(); "not grammar in statement {statement}")?
+        }
+        Some(QueryFault::TooDeep { statement }) => {
+            format!(in rt.alloc(); "too deep in statement {statement}")?
+        }
+        Some(
+            QueryFault::TooMany {
+                statement,
+                what,
+                limit,
+            },
+        ) => {
+            let what = counted(what);
+            format!(in rt.alloc(); "too many {what} in statement {statement}, limit {limit}")?
+        }
+        Some(
+            QueryFault::Mistyped {
+                statement,
+                kind,
+                name,
+            },
+        ) => {
+            let kind = kind_words(kind);
+            let name = name.as_str();
+            format!(in rt.alloc(); "{kind} {name} in statement {statement}")?
+        }
+        Some(QueryFault::NoMemory) => format!(in rt.alloc(); "want of memory")?,
+    };
+    Ok(words)
+}
+
+fn counted(what: Count) -> &'static str {
+    match what {
+        Count::Statements => "statements",
+        Count::Tables => "tables",
+        Count::Columns => "columns",
+        Count::SelectItems => "select items",
+    }
+}
+
+fn kind_words(kind: TypeFault) -> &'static str {
+    match kind {
+        TypeFault::UnknownTable => "unknown table",
+        TypeFault::UnknownColumn => "unknown column",
+        TypeFault::LiteralTooLong => "literal too long",
+        TypeFault::Clash => "clash",
+    }
 }
 
 #[test]
@@ -720,9 +888,9 @@ fn query_texts(rt: HostRuntime) -> Result<(), Fail> {
         assert_eq!(rt; query.comparison(), comparison, "{text:?}");
         assert_eq!(rt; query.literal(), literal, "{text:?}");
     }
-    for text in NO_QUERIES {
+    for (text, expected) in NO_QUERIES {
         let fault = query_of(rt.alloc(), &schema, text).err();
-        assert_eq!(rt; fault, Some(ParseFault::Refused), "{text:?}");
+        assert_eq!(rt; cause(&rt, fault)?.as_str(), expected, "{text:?}");
     }
     Ok(())
 }
@@ -730,25 +898,35 @@ fn query_texts(rt: HostRuntime) -> Result<(), Fail> {
 #[test]
 fn queries_over_several_tables(rt: HostRuntime) -> Result<(), Fail> {
     let text = b"CREATE TABLE T ( A INTEGER NOT NULL, N INTEGER, D DATE NOT NULL );
-        CREATE TABLE U ( X DATE, B INT NOT NULL, A INT NOT NULL )";
+        CREATE TABLE U ( X DATE, B INT NOT NULL, \"A\" INT NOT NULL )";
     let schema = schema_of(rt.alloc(), text)?;
-    let query = query_of(rt.alloc(), &schema, b"SELECT A, B FROM U WHERE B < 5")?;
+    let query = query_of(rt.alloc(), &schema, b"SELECT a, B FROM U WHERE B < 5")?;
     assert_eq!(rt; query.columns(), [2, 1].as_slice());
     assert_eq!(rt; query.tested(), 1);
     let query = query_of(rt.alloc(), &schema, b"SELECT A FROM T WHERE A < 5")?;
     assert_eq!(rt; query.columns(), [0].as_slice());
-    // A column that is nullable or not INTEGER, one of another table, and a table that isn't there.
+    // A column of another table; one that is nullable or not INTEGER; a fault behind such a one.
     let refused = [
-        "SELECT N FROM T WHERE A < 5",
-        "SELECT A FROM T WHERE N < 5",
-        "SELECT D FROM T WHERE A < 5",
-        "SELECT A FROM U WHERE X < 5",
-        "SELECT B FROM T WHERE A < 5",
-        "SELECT A FROM V WHERE A < 5",
+        (
+            "SELECT B FROM T WHERE A < 5",
+            "unknown column B in statement 1",
+        ),
+        ("SELECT N FROM T WHERE A < 5", "clash N in statement 1"),
+        ("SELECT A FROM T WHERE N < 5", "clash N in statement 1"),
+        ("SELECT D, N FROM T WHERE A < 5", "clash D in statement 1"),
+        ("SELECT A FROM U WHERE x < 5", "clash X in statement 1"),
+        (
+            "SELECT N, Q FROM T WHERE A < 5",
+            "unknown column Q in statement 1",
+        ),
+        (
+            "SELECT N FROM T WHERE A < 1000000000000000000",
+            "literal too long 1000000000000000000 in statement 1",
+        ),
     ];
-    for text in refused {
+    for (text, expected) in refused {
         let fault = query_of(rt.alloc(), &schema, text.as_bytes()).err();
-        assert_eq!(rt; fault, Some(ParseFault::Refused), "{text}");
+        assert_eq!(rt; cause(&rt, fault)?.as_str(), expected, "{text}");
     }
     Ok(())
 }

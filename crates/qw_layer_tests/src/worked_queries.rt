@@ -3,15 +3,14 @@
 ghost use Rattle.std.specs.Prelude.{◌≡◌, pos, [], ◌∷◌, IfOk, IsTrue, map};
 ghost use Rattle.std.specs.List.{AllByRecursion};
 ghost use Rattle.qw_types.specs.Arithmetic.{fits};
+ghost use Rattle.qw_types.specs.Kind.{IsOfKind, IsRowOf, type_kind};
+ghost use Rattle.qw_types.specs.declared.kind.Kind.TheVariants as kind;
 ghost use Rattle.qw_types.specs.declared.value.Ty.TheVariants as type;
-ghost use Rattle.qw_meaning.specs.declared.kind.Kind.TheVariants as kind;
 ghost use Rattle.qw_meaning.specs.declared.expression.Operator.TheVariants.{Divide, Subtract};
 ghost use Rattle.qw_meaning.specs.declared.query.Comparison.TheVariants.{Equal, Greater};
-ghost use Rattle.qw_meaning.specs.Columns.{IsRowOf};
 ghost use Rattle.qw_meaning.specs.Expression.{arithmetic, column, comparison, number, text};
 ghost use Rattle.qw_meaning.specs.Select.{IsSpecification, specification_of};
 ghost use Rattle.qw_meaning.specs.Tree.{condition_of, expression_of};
-ghost use Rattle.qw_meaning.specs.Typing.{IsOfKind};
 
 use qw_meaning::Select;
 use qw_meaning::expression::{Branches, Cond, Expr, Exprs, Operator};
@@ -44,7 +43,7 @@ fn item_types(alloc: Global) -> Result<Vec<Ty>, NoMemory>
 
 /// The rows of ITEM.
 fn items(alloc: Global) -> Result<Vec<Row>, NoMemory>
-    ensures { IfOk result (λ rows. AllByRecursion (IsRowOf (type.Integer ∷ type.Decimal 9 2 ∷ type.Date ∷ type.Varchar 20 ∷ [])) rows.items) }
+    ensures { IfOk result (λ rows. AllByRecursion (IsRowOf (map type_kind (type.Integer ∷ type.Decimal 9 2 ∷ type.Date ∷ type.Varchar 20 ∷ []))) rows.items) }
 {
     Ok(vec![in alloc;
         Row::new(vec![in alloc;

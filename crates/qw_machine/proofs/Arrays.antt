@@ -1,138 +1,28 @@
--- The sequences of a body in the arrays that hold them.
-use Rattle.std.proofs.Common.{◌≡◌, ◌≢◌, ℕ, ◌+◌, ◌<◌, ◌≤◌, List, [], ◌∷◌, length, get_or, Vec, Global, true, false, Some, slice_get, refl, sym, ap, ◌∙◌, subst, arith, vec_len}
-use Rattle.std.proofs.lemmas.List.{length-map}
-use Rattle.std.proofs.lemmas.Option.{slice_get-map, slice_get_read, slice_get-get_or}
+-- An instruction and the labels of a body, read in the arrays that hold them.
+use Rattle.std.proofs.Common.{◌≡◌, ℕ, ◌<◌, List, length, get_or, Vec, Global, Some, slice_get, sym, ap, ◌∙◌, subst}
+use Rattle.std.proofs.lemmas.Option.{slice_get-get_or}
 use Rattle.qw_module.specs.declared.instruction.Instr.{Instr}
-use Rattle.qw_module.specs.Syntax.{sequence_at}
-use Rattle.qw_machine.specs.declared.machine.Entry.{Entry}
-use Rattle.qw_machine.specs.declared.machine.Stepped.{Stepped}
-use Rattle.qw_machine.specs.declared.machine.Stepped.TheVariants as stepped
-use Rattle.qw_module.specs.Execution.{Config, State, Running, Returned}
-use Rattle.qw_module.specs.Step.{Next}
-use Rattle.qw_machine.specs.Inner.Machine.{Point, Rooms, IsPoint, IsRunning, state_at, config_at}
-use Rattle.qw_machine.specs.Inner.Executed.{is_over, WentOn, IsExecuted, IsLeft, IsStepped}
-use Rattle.qw_machine.specs.Inner.Ended.{run_end_of}
-use Rattle.qw_machine.specs.Instance.{Went}
-use Rattle.qw_module.specs.Validity.{items_of}
-use Rattle.qw_machine.proofs.Points.{code_at-end, left, left-point, left-state}
-use Rattle.qw_machine.proofs.Jumps.{point-is}
-use Rattle.qw_machine.proofs.Instances.{state_at-running, over-while, running-while, state_after-running}
+use Rattle.qw_module.specs.declared.module.Module.{Module}
+use Rattle.qw_module.specs.declared.module.Function.{Function}
+use Rattle.qw_module.specs.Start.{body_of}
+use Rattle.qw_module.specs.Syntax.{Sequences}
+use Rattle.qw_machine.specs.Inner.Points.{instructions_at}
+use Rattle.qw_machine.proofs.Reading.{body-read, sequence-read}
 
-pub sequence_at-array : (arrays : List (Vec Instr Global)) (number : ℕ) (array : Vec Instr Global) → number < length (items_of arrays) →
-    array ≡ get_or arrays number array → sequence_at (items_of arrays) number ≡ array.items
-sequence_at-array arrays number array inside read =
-    let within : number < length arrays = subst (λ (n : ℕ). number < n) (length-map arrays (λ (array : Vec Instr Global). array.items)) inside in
-    let there : slice_get arrays number ≡ Some array = slice_get_read arrays (length arrays) number array refl within read in
-    rw (slice_get-map, there) refl
+module _ (m : Module) {number : ℕ} {function : Function} (inside : number < length m.functions.items) (read : function ≡ get_or m.functions.items number function) where
+  pub instruction-read : {sequence index : ℕ} {array : Vec Instr Global} {slice : List Instr} {instruction : Instr} (default : Instr) →
+      sequence < length (body_of m number).each → array ≡ get_or function.body.sequences.items sequence array → slice ≡ array.items →
+      index < length (instructions_at m number sequence) → get_or slice index default ≡ instruction →
+      slice_get (instructions_at m number sequence) index ≡ Some instruction
+  instruction-read {sequence} {index} {array} {slice} {instruction} default inner array_read same within found =
+      let whole : instructions_at m number sequence ≡ slice = sequence-read m number sequence function array inside inner read array_read ∙ sym same in
+      let long : index < length slice = subst (λ (xs : List Instr). index < length xs) whole within in
+      rw (whole, slice_get-get_or slice index default long) (ap (λ (x : Instr). Some x) found)
 
-pub instruction-array : (arrays : List (Vec Instr Global)) {number index : ℕ} {array : Vec Instr Global} {sequence : List Instr} {instruction : Instr} (default : Instr) →
-    number < length (items_of arrays) → array ≡ get_or arrays number array → sequence ≡ array.items → index < length (sequence_at (items_of arrays) number) →
-    get_or sequence index default ≡ instruction → slice_get (sequence_at (items_of arrays) number) index ≡ Some instruction
-instruction-array arrays {number} {index} {array} {sequence} {instruction} default inside read same within found =
-    let whole : sequence_at (items_of arrays) number ≡ sequence = sequence_at-array arrays number array inside read ∙ sym same in
-    let long : index < length sequence = subst (λ (xs : List Instr). index < length xs) whole within in
-    rw (whole, slice_get-get_or sequence index default long) (ap (λ (x : Instr). Some x) found)
+  pub length-read : {sequence : ℕ} {array : Vec Instr Global} {slice : List Instr} → sequence < length (body_of m number).each →
+      array ≡ get_or function.body.sequences.items sequence array → slice ≡ array.items → length (instructions_at m number sequence) ≡ length slice
+  length-read {sequence} {array} {slice} inner array_read same =
+      ap length (sequence-read m number sequence function array inside inner read array_read ∙ sym same)
 
--- an index in a sequence has one after it
-pub index-small : (arrays : List (Vec Instr Global)) (number index : ℕ) (array : Vec Instr Global) → number < length (items_of arrays) →
-    array ≡ get_or arrays number array → index < length (sequence_at (items_of arrays) number) → index + 1 < 9223372036854775808
-index-small arrays number index array inside read within =
-    let long : index < length array.items = subst (λ (xs : List Instr). index < length xs) (sequence_at-array arrays number array inside read) within in
-    omega (arith, array.ok.0, array.ok.1, array.small)
-
--- an index at the end of its array is at the end of its sequence
-index-end : (arrays : List (Vec Instr Global)) (number index : ℕ) (array : Vec Instr Global) → number < length (items_of arrays) →
-    array ≡ get_or arrays number array → index ≡ vec_len array → index ≡ length (sequence_at (items_of arrays) number)
-index-end arrays number index array inside read ended =
-    ended ∙ array.ok.0 ∙ ap length (sym (sequence_at-array arrays number array inside read))
-
--- and one that isn't is before the end
-pub index-unfinished : (arrays : List (Vec Instr Global)) (number index : ℕ) (array : Vec Instr Global) → number < length (items_of arrays) →
-    array ≡ get_or arrays number array → index ≢ vec_len array → index ≤ length (sequence_at (items_of arrays) number) → index < length (sequence_at (items_of arrays) number)
-index-unfinished arrays number index array inside read unfinished within =
-    let whole : length (sequence_at (items_of arrays) number) ≡ vec_len array = ap length (sequence_at-array arrays number array inside read) ∙ sym array.ok.0 in
-    let apart : index ≢ length (sequence_at (items_of arrays) number) = λ e. unfinished (e ∙ whole) in
-    omega arith
-
--- a label that is left, by the arrays
-module _ (arrays : List (Vec Instr Global)) (rooms : Rooms) (p q : Point) (array : Vec Instr Global) (entry : Entry)
-    (is : IsPoint (items_of arrays) rooms p) (read : array ≡ get_or arrays p.sequence array) (ended : p.index ≡ vec_len array) (labels : p.labels ≡ entry ∷ q.labels)
-    (sequence : q.sequence ≡ entry.sequence) (index : q.index ≡ entry.after) (operands : q.operands ≡ p.operands) (values : q.locals ≡ p.locals) where
-  abbrev inner : List Entry → Point
-  inner entries = record { labels = entries; sequence = p.sequence; index = p.index; operands = p.operands; locals = p.locals }
-
-  inner-is : IsPoint (items_of arrays) rooms (inner (entry ∷ q.labels))
-  inner-is = subst (λ (entries : List Entry). IsPoint (items_of arrays) rooms (inner entries)) labels is
-
-  at_end : p.index ≡ length (sequence_at (items_of arrays) p.sequence)
-  at_end = index-end arrays p.sequence p.index array is.room.numbered read ended
-
-  outer-is : q ≡ left p entry q.labels
-  outer-is = point-is q q.labels entry.sequence entry.after p.operands p.locals refl sequence index operands values
-
-  pub left-entry-point : IsPoint (items_of arrays) rooms q
-  left-entry-point = rw outer-is (left-point (items_of arrays) rooms entry q.labels p.sequence p.index p.operands p.locals at_end inner-is)
-
-  pub left-entry-state : (globals : List ℕ) → state_at (items_of arrays) globals p ≡ state_at (items_of arrays) globals q
-  left-entry-state globals =
-      ap (λ (entries : List Entry). state_at (items_of arrays) globals (inner entries)) labels
-      ∙ left-state (items_of arrays) rooms entry q.labels p.sequence p.index p.operands p.locals at_end inner-is globals
-      ∙ ap (state_at (items_of arrays) globals) (sym outer-is)
-
--- where no label is left, the state is the return
-no_labels : (labels : List Entry) → length labels ≡ 0 → labels ≡ []
-no_labels [] none = refl
-no_labels (entry ∷ labels) none = absurd (omega arith)
-
-pub left-last : (arrays : List (Vec Instr Global)) (rooms : Rooms) (p : Point) (array : Vec Instr Global) →
-    IsPoint (items_of arrays) rooms p → array ≡ get_or arrays p.sequence array → p.index ≡ vec_len array → length p.labels ≡ 0 →
-    (globals : List ℕ) → state_at (items_of arrays) globals p ≡ Returned
-left-last arrays rooms p array is read ended none globals =
-    let end : p.index ≡ length (sequence_at (items_of arrays) p.sequence) = index-end arrays p.sequence p.index array is.room.numbered read ended in
-    rw (no_labels p.labels none, code_at-end (items_of arrays) p.sequence p.index end) refl
-
--- a step that goes on leads to what its state is
-went-on : (spare : ℕ) (c running : Config) (memory after : List ℕ) (s t : State) (answer : Stepped) → WentOn spare c memory s after answer →
-    s ≡ t → t ≡ Running running → Went spare c memory t after answer
-went-on spare c running memory after s t answer leads same is = record {
-  event = leads.event;
-  made = leads.made ∙ ap (λ (x : State). let n : Next = record { event = leads.event; state = x; memory = after } in Some n) same;
-  answered = rw is (leads.answered running);
-}
-
--- an instruction that ended the run is a step
-pub stepped-over : (sequences : List (List Instr)) (rooms : Rooms) (spare : ℕ) (p q : Point) (memory after : List ℕ) (answer : Stepped) →
-    is_over answer ≡ true → IsExecuted sequences rooms spare p memory answer q after → IsStepped sequences rooms spare p memory answer q after
-stepped-over sequences rooms spare p q memory after answer over executed = record {
-  running = over-while (run_end_of answer) over (IsRunning sequences rooms q);
-  went = rw over at executed;
-}
-
--- an instruction executed, and its labels left, are a step
-pub stepped-left : (sequences : List (List Instr)) (rooms between : Rooms) (spare : ℕ) (p q r : Point) (memory after : List ℕ) (answer : Stepped) →
-    between ≡ rooms → is_over answer ≡ false → IsExecuted sequences rooms spare p memory answer q after → IsLeft sequences between q true r →
-    IsStepped sequences rooms spare p memory answer r after
-stepped-left sequences rooms between spare p q r memory after answer same runs executed left =
-    let goes = rw runs at executed in
-    let running : IsRunning sequences rooms r = subst (λ (x : Rooms). IsRunning sequences x r) same left.0 in
-    record {
-      running = running-while (run_end_of answer) runs (IsRunning sequences rooms r) running;
-      went = λ globals. rw (state_after-running (run_end_of answer) runs (state_at sequences globals r))
-          (went-on spare (config_at sequences globals p) (config_at sequences globals r) memory after (state_at sequences globals q) (state_at sequences globals r) answer
-          (goes.1 globals) (left.1 globals) (state_at-running sequences globals r running.unfinished));
-    }
-
-pub stepped-returned : (sequences : List (List Instr)) (rooms between : Rooms) (spare : ℕ) (p q r : Point) (memory after : List ℕ) (answer : Stepped) →
-    is_over answer ≡ false → IsExecuted sequences rooms spare p memory answer q after → IsLeft sequences between q false r →
-    IsStepped sequences rooms spare p memory stepped.Returned r after
-stepped-returned sequences rooms between spare p q r memory after answer runs executed left =
-    let goes = rw runs at executed in
-    record {
-      running = tt;
-      went = λ globals. let leads = goes.1 globals in
-          record {
-            event = leads.event;
-            made = leads.made ∙ ap (λ (x : State). let n : Next = record { event = leads.event; state = x; memory = after } in Some n) (left globals);
-            answered = tt;
-          };
-    }
+  pub labels-read : (labels : List ℕ) → labels ≡ function.body.labels.items → (body_of m number).labels ≡ labels
+  labels-read labels same = ap (λ (s : Sequences). s.labels) (body-read m number function inside read) ∙ sym same

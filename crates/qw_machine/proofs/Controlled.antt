@@ -1,339 +1,299 @@
--- Instructions that enter blocks or branch, executed in a numbered body, against the configuration's step.
-use Rattle.std.proofs.Common.{◌≡◌, ◌≢◌, ℕ, ◌+◌, ◌<◌, ◌≤◌, nat_le, Bool, false, List, [], ◌∷◌, ◌++◌, length, Option, Some, None, is_some, slice_get, refl, sym, ap, subst, ◌∙◌, arith, length-append}
+-- Instructions that enter blocks, branch, return or trap, executed at a point, against the configuration's step.
+use Rattle.std.proofs.Common.{◌≡◌, ◌≢◌, ℕ, ◌+◌, ◌<◌, ◌≤◌, nat_le, false, List, [], ◌∷◌, ◌++◌, length, take, Option, Some, None, is_some, slice_get, refl, sym, ap, subst, ◌∙◌, arith}
 use Rattle.qw_module.specs.declared.instruction.ValType.{ValType}
 use Rattle.qw_module.specs.declared.instruction.ValType.TheVariants.{I32}
-use Rattle.qw_module.specs.declared.instruction.Instr.{Instr}
 use Rattle.qw_module.specs.declared.instruction.Instr.TheVariants as i
-use Rattle.qw_machine.specs.declared.machine.Stepped.TheVariants.{Ran}
-use Rattle.qw_module.specs.Numbers.{truth}
-use Rattle.qw_module.specs.Syntax.{Code, block, loop, if_else, br, br_if, sequence_at, IsNumbered}
-use Rattle.qw_module.specs.Execution.{Config, Silent, label, settled, arity_of}
+use Rattle.qw_module.specs.declared.module.Module.{Module}
+use Rattle.qw_module.specs.declared.trap.Trap.TheVariants as trap
+use Rattle.qw_machine.specs.declared.stepped.Stepped.TheVariants as stepped
+use Rattle.qw_module.specs.Syntax.{Code, unreachable, block, loop, if_then, if_else, br, br_if, br_table, return, labels_in, named}
+use Rattle.qw_module.specs.Execution.{Config, Silent, Traps, chosen}
 use Rattle.qw_module.specs.Step.{Goes, wants, answered, goes_if_some}
-use Rattle.qw_module.specs.Typing.{Scope, within, types_of, Typed, typed-block, typed-loop, typed-if_else, typed-br, typed-br_if}
-use Rattle.qw_module.specs.Soundness.{AreOf, scope_of}
-use Rattle.qw_machine.specs.Inner.Machine.{code_at, Point, contexts_of, state_at, config_at, Rooms, IsPoint, entered, CanJump, IsJump}
-use Rattle.qw_machine.specs.Inner.Executed.{IsExecuted}
-use Rattle.qw_module.proofs.Numbered.{named}
+use Rattle.qw_module.specs.Typing.{Scope, scope_of, types_of, Takes, Typed}
+use Rattle.qw_module.specs.Start.{body_of}
+use Rattle.qw_module.specs.Validity.{outside_of}
+use Rattle.qw_machine.specs.Inner.Points.{code_at, instructions_at, Point, store_with, state_at, config_at, entered, at_index}
+use Rattle.qw_machine.specs.declared.room.Rooms.{Rooms}
+use Rattle.qw_machine.specs.Inner.Placed.{IsExecuted, IsPoint}
+use Rattle.qw_machine.specs.Inner.Activities.{CanJump, CanLeave, IsJump, IsReturn, IsDoneAt}
+use Rattle.qw_module.proofs.Sound.{chosen-takes}
 use Rattle.qw_module.proofs.Steps.{by_operand-other}
-use Rattle.qw_module.proofs.TypedOperands.{first_of_types}
-use Rattle.qw_machine.proofs.Points.{code_at-instruction, code_at-first, names_below-at, state_at-split, config_at-split, IsAround, IsLabel, entered-point, entered-state}
+use Rattle.qw_module.proofs.TypedParts.{Parts, parts}
+use Rattle.qw_machine.proofs.Points.{code_in-instruction, names_below-at, state_at-split}
+use Rattle.qw_machine.proofs.Functions.{numbered-of}
+use Rattle.qw_machine.proofs.Around.{with_operands, IsAround, around-of, around-popped, operand-there, config-over, next-point}
+use Rattle.qw_machine.proofs.Entering.{IsLabel, entered-point, entered-state, inner-first, forward-point, forward-state, results-short}
 use Rattle.qw_machine.proofs.Jumps.{can-jump, jumped-point, jumped-state}
+use Rattle.qw_machine.proofs.Returns.{left-outermost, can-leave, returned-point, returned-state}
 
--- ---- typing, inverted
-block_parts : (scope : Scope) (result : Option ValType) (inner rest : Code) (before after : List ValType) → Typed scope (block result inner rest) before after →
-    Typed (within scope (types_of result)) inner [] (types_of result) × Typed scope rest (types_of result ++ before) after
-block_parts _ _ _ _ _ _ (typed-block scope result inner rest before after inner_is rest_is) = (inner_is, rest_is)
+module _ {m : Module} {rooms : Rooms} (spare : ℕ) (executed : IsExecuted m) {p : Point} (is : IsPoint m rooms p)
+    (inside : p.index < length (instructions_at m p.function p.sequence)) where
+  abbrev scope : Scope
+  scope = scope_of (outside_of m) is.locals is.results is.labels
 
-loop_parts : (scope : Scope) (result : Option ValType) (inner rest : Code) (before after : List ValType) → Typed scope (loop result inner rest) before after →
-    Typed (within scope []) inner [] (types_of result) × Typed scope rest (types_of result ++ before) after
-loop_parts _ _ _ _ _ _ (typed-loop scope result inner rest before after inner_is rest_is) = (inner_is, rest_is)
+  -- the code after the instruction
+  abbrev rest : Code
+  rest = code_at m p.function p.sequence (p.index + 1)
 
-if_parts : (scope : Scope) (result : Option ValType) (inner other rest : Code) (before after : List ValType) → Typed scope (if_else result inner other rest) before after →
-    (types : List ValType) × (before ≡ I32 ∷ types) × Typed (within scope (types_of result)) inner [] (types_of result)
-    × Typed (within scope (types_of result)) other [] (types_of result) × Typed scope rest (types_of result ++ types) after
-if_parts _ _ _ _ _ _ _ (typed-if_else scope result inner other rest before after inner_is other_is rest_is) = (before, refl, inner_is, other_is, rest_is)
+  -- an inner sequence
+  abbrev inside_of : ℕ → Code
+  inside_of inner = named (body_of m p.function) inner
 
-br_parts : (scope : Scope) (index : ℕ) (rest : Code) (before after : List ValType) → Typed scope (br index rest) before after →
-    (taken more : List ValType) × (before ≡ taken ++ more) × (slice_get scope.labels index ≡ Some taken)
-br_parts _ _ _ _ _ (typed-br scope index rest taken more any after found rest_is) = (taken, more, refl, found)
+  abbrev around : IsAround m rooms p is.own is.below is.locals is.results is.labels is.before is.ends
+  around = around-of is inside
 
-br_if_parts : (scope : Scope) (index : ℕ) (rest : Code) (before after : List ValType) → Typed scope (br_if index rest) before after →
-    (taken more : List ValType) × (before ≡ I32 ∷ (taken ++ more)) × (slice_get scope.labels index ≡ Some taken) × Typed scope rest (taken ++ more) after
-br_if_parts _ _ _ _ _ (typed-br_if scope index rest taken more after found rest_is) = (taken, more, refl, found, rest_is)
-
--- whether a block has a result, as its arity and its types
-arity-is_some : (result : Option ValType) → truth (is_some result) ≡ arity_of result
-arity-is_some None = refl
-arity-is_some (Some t) = refl
-
-takes-types : (result : Option ValType) → truth (is_some result) ≡ length (types_of result)
-takes-types None = refl
-takes-types (Some t) = refl
-
-results-short : (result : Option ValType) → length (types_of result) ≤ 1
-results-short None = omega arith
-results-short (Some t) = omega arith
-
-module _ {sequences : List (List Instr)} {rooms : Rooms} (spare : ℕ) (numbered : IsNumbered sequences) {p : Point} (is : IsPoint sequences rooms p)
-    (inside : p.index < length (sequence_at sequences p.sequence)) where
-  -- there is room for the operands
-  pub operand-room : length p.operands < rooms.operands
-  operand-room = omega (arith, ap length is.operands_are, length-append is.own is.below, is.fits, is.room.operands, inside)
+  -- what the typing of the code says of its first instruction
+  first_parts : (code : Code) → code_at m p.function p.sequence p.index ≡ code → Parts scope code is.before is.ends
+  first_parts code same = parts scope code is.before is.ends (subst (λ (x : Code). Typed scope x is.before is.ends) same is.typed)
 
   -- a step that only goes on
-  executed-goes : (q : Point) (memory : List ℕ) → IsPoint sequences rooms q →
-      ((globals : List ℕ) → wants (config_at sequences globals p) ≡ Goes (state_at sequences globals q)) → IsExecuted sequences rooms spare p memory Ran q memory
+  executed-goes : (q : Point) (memory : List ℕ) → IsPoint m rooms q → wants (config_at m p) ≡ Goes (state_at m q) → IsDoneAt m rooms spare p memory stepped.Ran q memory
   executed-goes q memory point goes = (
     point,
-    λ globals. record { event = Silent; made = ap (answered (λ pages. nat_le pages spare) memory) (goes globals); answered = λ running. tt },
+    record { event = Silent; made = ap (answered (λ pages. nat_le pages spare) memory) goes; answered = λ running. tt },
   )
 
-  -- the configuration with the code as its first instruction shows it
-  config-is : (globals : List ℕ) (code : Code) → code_at sequences p.sequence p.index ≡ code →
-      config_at sequences globals p ≡ record { globals = globals; code = code; operands = is.own; locals = p.locals; contexts = contexts_of sequences p.labels is.below }
-  config-is globals code same =
-      config_at-split sequences globals p is.own is.below is.operands_are is.below_are
-      ∙ ap (λ (x : Code). let c : Config = record { globals = globals; code = x; operands = is.own; locals = p.locals; contexts = contexts_of sequences p.labels is.below } in c) same
-
-  -- and its operands as they are found
-  config-over : (globals : List ℕ) (code : Code) (own : List ℕ) → code_at sequences p.sequence p.index ≡ code → is.own ≡ own →
-      config_at sequences globals p ≡ record { globals = globals; code = code; operands = own; locals = p.locals; contexts = contexts_of sequences p.labels is.below }
-  config-over globals code own same operands =
-      config-is globals code same
-      ∙ ap (λ (xs : List ℕ). let c : Config = record { globals = globals; code = code; operands = xs; locals = p.locals; contexts = contexts_of sequences p.labels is.below } in c) operands
-
-  -- what is around a block, over some of the point's own operands
-  around : (own : List ℕ) (types : List ValType) → length own ≤ length is.own → AreOf own types →
-      IsAround sequences rooms p.labels p.sequence p.index own is.below p.locals is.functions is.locals is.labels types is.ends
-  around own types fewer are = record {
-    below_are = is.below_are;
-    own_are = are;
-    linked = is.linked;
-    locals_are = is.locals_are;
-    index_in = inside;
-    fits = omega (arith, is.fits);
-    room = is.room;
-    entries_are = is.entries;
-  }
-
-  -- a block is entered, whose branches go after it or back to it
-  abbrev enclosed : List ℕ → ℕ → Bool → ℕ → Point
-  enclosed own inner takes target =
-      entered (record { labels = p.labels; sequence = p.sequence; index = p.index; operands = own ++ is.below; locals = p.locals }) inner takes target
-
-  forward_label : (own : List ℕ) (types : List ValType) (inner : ℕ) (result : Option ValType) → length own ≤ length is.own → inner < p.sequence →
-      Typed (scope_of is.functions is.locals (types_of result ∷ is.labels)) (named sequences inner) [] (types_of result) →
-      Typed (scope_of is.functions is.locals is.labels) (code_at sequences p.sequence (p.index + 1)) (types_of result ++ types) is.ends →
-      IsLabel sequences rooms p.sequence p.index inner (is_some result) (p.index + 1) own is.functions is.locals is.labels types is.ends (types_of result) (types_of result)
-  forward_label own types inner result fewer lower inner_is rest_is = record {
-    lower = lower;
-    takes_are = takes-types result;
-    inner_typed = subst (λ (x : Code). Typed (scope_of is.functions is.locals (types_of result ∷ is.labels)) x [] (types_of result))
-        (code_at-first sequences numbered inner (omega (arith, is.room.numbered))) inner_is;
-    target_typed = rest_is;
-    after_typed = rest_is;
-    target_in = omega arith;
-    target_fits = omega (arith, results-short result, is.fits);
-    after_fits = omega (arith, results-short result, is.fits);
-  }
-
-  -- entering by `block` or a branch of an `if`
-  entered-forward-point : (own : List ℕ) (types : List ValType) (inner : ℕ) (result : Option ValType) → length own ≤ length is.own → AreOf own types → inner < p.sequence →
-      Typed (scope_of is.functions is.locals (types_of result ∷ is.labels)) (named sequences inner) [] (types_of result) →
-      Typed (scope_of is.functions is.locals is.labels) (code_at sequences p.sequence (p.index + 1)) (types_of result ++ types) is.ends →
-      IsPoint sequences rooms (enclosed own inner (is_some result) (p.index + 1))
-  entered-forward-point own types inner result fewer are lower inner_is rest_is =
-      entered-point sequences rooms p.labels p.sequence p.index inner (is_some result) (p.index + 1) own is.below p.locals is.functions is.locals is.labels types is.ends
-      (types_of result) (types_of result) (around own types fewer are) (forward_label own types inner result fewer lower inner_is rest_is)
-
-  entered-forward-state : (own : List ℕ) (types : List ValType) (inner : ℕ) (result : Option ValType) → length own ≤ length is.own → AreOf own types → inner < p.sequence →
-      Typed (scope_of is.functions is.locals (types_of result ∷ is.labels)) (named sequences inner) [] (types_of result) →
-      Typed (scope_of is.functions is.locals is.labels) (code_at sequences p.sequence (p.index + 1)) (types_of result ++ types) is.ends →
-      (globals : List ℕ) → state_at sequences globals (enclosed own inner (is_some result) (p.index + 1))
-      ≡ settled globals (label (code_at sequences p.sequence (p.index + 1)) (arity_of result) own (code_at sequences p.sequence (p.index + 1)) ∷ contexts_of sequences p.labels is.below)
-      (named sequences inner) [] p.locals
-  entered-forward-state own types inner result fewer are lower inner_is rest_is globals =
-      let first = code_at-first sequences numbered inner (omega (arith, is.room.numbered)) in
-      entered-state sequences rooms p.labels p.sequence p.index inner (is_some result) (p.index + 1) own is.below p.locals is.functions is.locals is.labels types is.ends
-      (types_of result) (types_of result) (around own types fewer are) (forward_label own types inner result fewer lower inner_is rest_is) globals
-      ∙ rw (arity-is_some result, first) refl
+  -- ---- unreachable
+  pub executed-unreachable : slice_get (instructions_at m p.function p.sequence) p.index ≡ Some i.Unreachable → (q : Point) (memory : List ℕ) →
+      IsDoneAt m rooms spare p memory (stepped.Trapped trap.Unreachable) q memory
+  executed-unreachable found q memory =
+      let code : code_at m p.function p.sequence p.index ≡ unreachable rest = code_in-instruction _ p.sequence p.index i.Unreachable found in
+      record {
+        event = Traps trap.Unreachable;
+        made = ap (λ (c : Config). answered (λ pages. nat_le pages spare) memory (wants c)) (config-over is inside (unreachable rest) is.own code refl);
+        answered = refl;
+      }
 
   -- ---- block
-  module _ (result : Option ValType) (inner : ℕ) (found : slice_get (sequence_at sequences p.sequence) p.index ≡ Some (i.Block result inner)) where
-    block_code : code_at sequences p.sequence p.index ≡ block result (named sequences inner) (code_at sequences p.sequence (p.index + 1))
-    block_code = code_at-instruction sequences p.sequence p.index (i.Block result inner) found
-
-    block_is : Typed (scope_of is.functions is.locals (types_of result ∷ is.labels)) (named sequences inner) [] (types_of result)
-        × Typed (scope_of is.functions is.locals is.labels) (code_at sequences p.sequence (p.index + 1)) (types_of result ++ is.before) is.ends
-    block_is = block_parts (scope_of is.functions is.locals is.labels) result (named sequences inner) (code_at sequences p.sequence (p.index + 1)) is.before is.ends
-        (subst (λ (x : Code). Typed (scope_of is.functions is.locals is.labels) x is.before is.ends) block_code is.typed)
+  module _ (result : Option ValType) (inner : ℕ) (found : slice_get (instructions_at m p.function p.sequence) p.index ≡ Some (i.Block result inner)) where
+    block_code : code_at m p.function p.sequence p.index ≡ block result (inside_of inner) rest
+    block_code = code_in-instruction _ p.sequence p.index (i.Block result inner) found
 
     block_lower : inner < p.sequence
-    block_lower = names_below-at sequences numbered p.sequence p.index (i.Block result inner) is.room.numbered found
+    block_lower = names_below-at (body_of m p.function) (numbered-of m executed.valid p.function is.room.own) p.sequence p.index (i.Block result inner) is.room.numbered found
 
-    pub executed-block : (q : Point) (memory : List ℕ) → q ≡ entered p inner (is_some result) (p.index + 1) → IsExecuted sequences rooms spare p memory Ran q memory
+    pub executed-block : (q : Point) (memory : List ℕ) → q ≡ entered p inner (is_some result) (p.index + 1) → IsDoneAt m rooms spare p memory stepped.Ran q memory
     executed-block q memory same =
-        let whole : q ≡ enclosed is.own inner (is_some result) (p.index + 1) =
-        same ∙ ap (λ (xs : List ℕ). entered (record { labels = p.labels; sequence = p.sequence; index = p.index; operands = xs; locals = p.locals }) inner (is_some result) (p.index + 1)) is.operands_are in
-        let fewer : length is.own ≤ length is.own = omega arith in
-        rw whole (executed-goes (enclosed is.own inner (is_some result) (p.index + 1)) memory
-        (entered-forward-point is.own is.before inner result fewer is.own_are block_lower block_is.0 block_is.1)
-        (λ globals. ap wants (config-is globals _ block_code)
-        ∙ ap Goes (sym (entered-forward-state is.own is.before inner result fewer is.own_are block_lower block_is.0 block_is.1 globals))))
+        let block_is = first_parts (block result (inside_of inner) rest) block_code in
+        rw same (executed-goes (entered p inner (is_some result) (p.index + 1)) memory
+        (forward-point executed around inner result block_lower block_is.0 block_is.1)
+        (ap wants (config-over is inside _ is.own block_code refl) ∙ ap Goes (sym (forward-state executed around inner result block_lower block_is.0 block_is.1))))
 
   -- ---- loop
-  module _ (result : Option ValType) (inner : ℕ) (found : slice_get (sequence_at sequences p.sequence) p.index ≡ Some (i.Loop result inner)) where
-    loop_code : code_at sequences p.sequence p.index ≡ loop result (named sequences inner) (code_at sequences p.sequence (p.index + 1))
-    loop_code = code_at-instruction sequences p.sequence p.index (i.Loop result inner) found
-
-    loop_is : Typed (scope_of is.functions is.locals ([] ∷ is.labels)) (named sequences inner) [] (types_of result)
-        × Typed (scope_of is.functions is.locals is.labels) (code_at sequences p.sequence (p.index + 1)) (types_of result ++ is.before) is.ends
-    loop_is = loop_parts (scope_of is.functions is.locals is.labels) result (named sequences inner) (code_at sequences p.sequence (p.index + 1)) is.before is.ends
-        (subst (λ (x : Code). Typed (scope_of is.functions is.locals is.labels) x is.before is.ends) loop_code is.typed)
+  module _ (result : Option ValType) (inner : ℕ) (found : slice_get (instructions_at m p.function p.sequence) p.index ≡ Some (i.Loop result inner)) where
+    loop_code : code_at m p.function p.sequence p.index ≡ loop result (inside_of inner) rest
+    loop_code = code_in-instruction _ p.sequence p.index (i.Loop result inner) found
 
     loop_lower : inner < p.sequence
-    loop_lower = names_below-at sequences numbered p.sequence p.index (i.Loop result inner) is.room.numbered found
+    loop_lower = names_below-at (body_of m p.function) (numbered-of m executed.valid p.function is.room.own) p.sequence p.index (i.Loop result inner) is.room.numbered found
 
-    loop_first : named sequences inner ≡ code_at sequences inner 0
-    loop_first = code_at-first sequences numbered inner (omega (arith, is.room.numbered, loop_lower))
+    loop_label : IsLabel m p inner false p.index is.own is.locals is.results is.labels is.before is.ends [] (types_of result)
+    loop_label =
+        let loop_is = first_parts (loop result (inside_of inner) rest) loop_code in
+        record {
+          lower = loop_lower;
+          takes_are = refl;
+          inner_typed = subst (λ (x : Code). Typed (scope_of (outside_of m) is.locals is.results ([] ∷ is.labels)) x [] (types_of result))
+              (inner-first executed around inner loop_lower) loop_is.0;
+          target_typed = is.typed;
+          after_typed = loop_is.1;
+          target_in = omega arith;
+          target_fits = omega (arith, is.fits);
+          after_fits = omega (arith, results-short result, is.fits);
+        }
 
-    loop_label : IsLabel sequences rooms p.sequence p.index inner false p.index is.own is.functions is.locals is.labels is.before is.ends [] (types_of result)
-    loop_label = record {
-      lower = loop_lower;
-      takes_are = refl;
-      inner_typed = subst (λ (x : Code). Typed (scope_of is.functions is.locals ([] ∷ is.labels)) x [] (types_of result)) loop_first loop_is.0;
-      target_typed = is.typed;
-      after_typed = loop_is.1;
-      target_in = omega arith;
-      target_fits = omega (arith, is.fits);
-      after_fits = omega (arith, results-short result, is.fits);
-    }
-
-    loop_around : IsAround sequences rooms p.labels p.sequence p.index is.own is.below p.locals is.functions is.locals is.labels is.before is.ends
-    loop_around = around is.own is.before (omega arith) is.own_are
-
-    pub executed-loop : (q : Point) (memory : List ℕ) → q ≡ entered p inner false p.index → IsExecuted sequences rooms spare p memory Ran q memory
+    pub executed-loop : (q : Point) (memory : List ℕ) → q ≡ entered p inner false p.index → IsDoneAt m rooms spare p memory stepped.Ran q memory
     executed-loop q memory same =
-        let whole : q ≡ enclosed is.own inner false p.index =
-        same ∙ ap (λ (xs : List ℕ). entered (record { labels = p.labels; sequence = p.sequence; index = p.index; operands = xs; locals = p.locals }) inner false p.index) is.operands_are in
-        rw whole (executed-goes (enclosed is.own inner false p.index) memory
-        (entered-point sequences rooms p.labels p.sequence p.index inner false p.index is.own is.below p.locals is.functions is.locals is.labels is.before is.ends [] (types_of result) loop_around loop_label)
-        (λ globals. ap wants (config-is globals _ loop_code)
-        ∙ ap Goes (sym (entered-state sequences rooms p.labels p.sequence p.index inner false p.index is.own is.below p.locals is.functions is.locals is.labels is.before is.ends [] (types_of result) loop_around loop_label globals
-        ∙ rw (← loop_first, loop_code) refl))))
+        rw same (executed-goes (entered p inner false p.index) memory
+        (entered-point around inner false p.index [] (types_of result) loop_label)
+        (ap wants (config-over is inside _ is.own loop_code refl)
+        ∙ ap Goes (sym (entered-state around inner false p.index [] (types_of result) loop_label ∙ rw (← inner-first executed around inner loop_lower, loop_code) refl))))
 
   -- ---- br
-  module _ (index : ℕ) (found : slice_get (sequence_at sequences p.sequence) p.index ≡ Some (i.Br index)) where
-    br_code : code_at sequences p.sequence p.index ≡ br index (code_at sequences p.sequence (p.index + 1))
-    br_code = code_at-instruction sequences p.sequence p.index (i.Br index) found
+  module _ (index : ℕ) (found : slice_get (instructions_at m p.function p.sequence) p.index ≡ Some (i.Br index)) where
+    br_code : code_at m p.function p.sequence p.index ≡ br index rest
+    br_code = code_in-instruction _ p.sequence p.index (i.Br index) found
 
-    br_is : (taken more : List ValType) × (is.before ≡ taken ++ more) × (slice_get is.labels index ≡ Some taken)
-    br_is = br_parts (scope_of is.functions is.locals is.labels) index (code_at sequences p.sequence (p.index + 1)) is.before is.ends
-        (subst (λ (x : Code). Typed (scope_of is.functions is.locals is.labels) x is.before is.ends) br_code is.typed)
-
-    br_own : AreOf is.own (br_is.0 ++ br_is.1)
-    br_own = subst (λ (types : List ValType). AreOf is.own types) br_is.2 is.own_are
+    br_is : Parts scope (br index rest) is.before is.ends
+    br_is = first_parts (br index rest) br_code
 
     pub can-jump-br : CanJump index p
-    can-jump-br = can-jump sequences rooms p is.own is.below is.functions is.locals is.labels br_is.0 br_is.1 is.ends is.operands_are is.below_are br_own is.linked is.locals_are is.entries index br_is.3
+    can-jump-br = can-jump around br_is.0 br_is.1 br_is.4 index br_is.3
 
-    pub executed-br : (q : Point) (memory : List ℕ) → IsJump index p q → IsExecuted sequences rooms spare p memory Ran q memory
+    pub executed-br : (q : Point) (memory : List ℕ) → IsJump index p q → IsDoneAt m rooms spare p memory stepped.Ran q memory
     executed-br q memory jump = executed-goes q memory
-        (jumped-point sequences rooms p is.own is.below is.functions is.locals is.labels br_is.0 br_is.1 is.ends is.operands_are is.below_are br_own is.linked is.locals_are is.entries index br_is.3 q jump)
-        (λ globals. ap wants (config-is globals _ br_code)
-        ∙ ap goes_if_some (jumped-state sequences rooms p is.own is.below is.functions is.locals is.labels br_is.0 br_is.1 is.ends is.operands_are is.below_are br_own is.linked is.locals_are is.entries index br_is.3 q jump globals))
-
-  -- ---- what takes an operand first
-  -- a point with one operand less
-  abbrev pub without : List ℕ → Point
-  without operands = record { labels = p.labels; sequence = p.sequence; index = p.index; operands = operands; locals = p.locals }
-
-  first_of : (t : ValType) (types : List ValType) → is.before ≡ t ∷ types → (n : ℕ) (operands : List ℕ) → p.operands ≡ n ∷ operands →
-      (own : List ℕ) × (is.own ≡ n ∷ own) × (operands ≡ own ++ is.below) × AreOf own types
-  first_of t types before n operands popped =
-      let first = first_of_types is.own t types (subst (λ (ts : List ValType). AreOf is.own ts) before is.own_are) in
-      let same : n ∷ operands ≡ first.0 ∷ (first.1 ++ is.below) = sym popped ∙ is.operands_are ∙ ap (λ (xs : List ℕ). xs ++ is.below) first.2 in
-      let head : first.0 ≡ n = cc same in
-      (first.1, first.2 ∙ ap (λ (k : ℕ). k ∷ first.1) head, cc same, first.4)
-
-  -- ---- if
-  module _ (result : Option ValType) (inner other : ℕ) (found : slice_get (sequence_at sequences p.sequence) p.index ≡ Some (i.If result inner other)) where
-    if_code : code_at sequences p.sequence p.index ≡ if_else result (named sequences inner) (named sequences other) (code_at sequences p.sequence (p.index + 1))
-    if_code = code_at-instruction sequences p.sequence p.index (i.If result inner other) found
-
-    if_is : (types : List ValType) × (is.before ≡ I32 ∷ types) × Typed (scope_of is.functions is.locals (types_of result ∷ is.labels)) (named sequences inner) [] (types_of result)
-        × Typed (scope_of is.functions is.locals (types_of result ∷ is.labels)) (named sequences other) [] (types_of result)
-        × Typed (scope_of is.functions is.locals is.labels) (code_at sequences p.sequence (p.index + 1)) (types_of result ++ types) is.ends
-    if_is = if_parts (scope_of is.functions is.locals is.labels) result (named sequences inner) (named sequences other) (code_at sequences p.sequence (p.index + 1)) is.before is.ends
-        (subst (λ (x : Code). Typed (scope_of is.functions is.locals is.labels) x is.before is.ends) if_code is.typed)
-
-    if_lower : (inner < p.sequence) × (other < p.sequence)
-    if_lower = names_below-at sequences numbered p.sequence p.index (i.If result inner other) is.room.numbered found
-
-    pub if-operand : 0 < length p.operands
-    if-operand =
-        let first = first_of_types is.own I32 if_is.0 (subst (λ (ts : List ValType). AreOf is.own ts) if_is.1 is.own_are) in
-        omega (arith, ap length is.operands_are, length-append is.own is.below, ap length first.2)
-
-    pub executed-if : (n : ℕ) (operands : List ℕ) (q : Point) (memory : List ℕ) → p.operands ≡ n ∷ operands → n ≢ 0 →
-        q ≡ entered (without operands) inner (is_some result) (p.index + 1) → IsExecuted sequences rooms spare p memory Ran q memory
-    executed-if n operands q memory popped other_than same =
-        let own = first_of I32 if_is.0 if_is.1 n operands popped in
-        let fewer : length own.0 ≤ length is.own = omega (arith, ap length own.1) in
-        let whole : q ≡ enclosed own.0 inner (is_some result) (p.index + 1) =
-        same ∙ ap (λ (xs : List ℕ). entered (without xs) inner (is_some result) (p.index + 1)) own.2 in
-        rw whole (executed-goes (enclosed own.0 inner (is_some result) (p.index + 1)) memory
-        (entered-forward-point own.0 if_is.0 inner result fewer own.3 if_lower.0 if_is.2 if_is.4)
-        (λ globals. ap wants (config-over globals _ (n ∷ own.0) if_code own.1)
-        ∙ by_operand-other n own.0 _ _ other_than
-        ∙ ap Goes (sym (entered-forward-state own.0 if_is.0 inner result fewer own.3 if_lower.0 if_is.2 if_is.4 globals))))
-
-    pub executed-else : (operands : List ℕ) (q : Point) (memory : List ℕ) → p.operands ≡ 0 ∷ operands →
-        q ≡ entered (without operands) other (is_some result) (p.index + 1) → IsExecuted sequences rooms spare p memory Ran q memory
-    executed-else operands q memory popped same =
-        let own = first_of I32 if_is.0 if_is.1 0 operands popped in
-        let fewer : length own.0 ≤ length is.own = omega (arith, ap length own.1) in
-        let whole : q ≡ enclosed own.0 other (is_some result) (p.index + 1) =
-        same ∙ ap (λ (xs : List ℕ). entered (without xs) other (is_some result) (p.index + 1)) own.2 in
-        rw whole (executed-goes (enclosed own.0 other (is_some result) (p.index + 1)) memory
-        (entered-forward-point own.0 if_is.0 other result fewer own.3 if_lower.1 if_is.3 if_is.4)
-        (λ globals. ap wants (config-over globals _ (0 ∷ own.0) if_code own.1)
-        ∙ ap Goes (sym (entered-forward-state own.0 if_is.0 other result fewer own.3 if_lower.1 if_is.3 if_is.4 globals))))
+        (jumped-point around br_is.0 br_is.1 br_is.4 index br_is.3 q jump)
+        (ap wants (config-over is inside _ is.own br_code refl) ∙ ap goes_if_some (jumped-state around br_is.0 br_is.1 br_is.4 index br_is.3 q jump))
 
   -- ---- br_if
-  module _ (index : ℕ) (found : slice_get (sequence_at sequences p.sequence) p.index ≡ Some (i.BrIf index)) where
-    br_if_code : code_at sequences p.sequence p.index ≡ br_if index (code_at sequences p.sequence (p.index + 1))
-    br_if_code = code_at-instruction sequences p.sequence p.index (i.BrIf index) found
+  module _ (index : ℕ) (found : slice_get (instructions_at m p.function p.sequence) p.index ≡ Some (i.BrIf index)) where
+    br_if_code : code_at m p.function p.sequence p.index ≡ br_if index rest
+    br_if_code = code_in-instruction _ p.sequence p.index (i.BrIf index) found
 
-    br_if_is : (taken more : List ValType) × (is.before ≡ I32 ∷ (taken ++ more)) × (slice_get is.labels index ≡ Some taken)
-        × Typed (scope_of is.functions is.locals is.labels) (code_at sequences p.sequence (p.index + 1)) (taken ++ more) is.ends
-    br_if_is = br_if_parts (scope_of is.functions is.locals is.labels) index (code_at sequences p.sequence (p.index + 1)) is.before is.ends
-        (subst (λ (x : Code). Typed (scope_of is.functions is.locals is.labels) x is.before is.ends) br_if_code is.typed)
+    br_if_is : Parts scope (br_if index rest) is.before is.ends
+    br_if_is = first_parts (br_if index rest) br_if_code
 
     pub br_if-operand : 0 < length p.operands
-    br_if-operand =
-        let first = first_of_types is.own I32 (br_if_is.0 ++ br_if_is.1) (subst (λ (ts : List ValType). AreOf is.own ts) br_if_is.2 is.own_are) in
-        omega (arith, ap length is.operands_are, length-append is.own is.below, ap length first.2)
+    br_if-operand = operand-there is inside I32 (br_if_is.0 ++ br_if_is.1) br_if_is.3
 
-    pub can-jump-br_if : (n : ℕ) (operands : List ℕ) → p.operands ≡ n ∷ operands → CanJump index (without operands)
+    pub can-jump-br_if : (n : ℕ) (operands : List ℕ) → p.operands ≡ n ∷ operands → CanJump index (with_operands p operands)
     can-jump-br_if n operands popped =
-        let own = first_of I32 (br_if_is.0 ++ br_if_is.1) br_if_is.2 n operands popped in
-        can-jump sequences rooms (without operands) own.0 is.below is.functions is.locals is.labels br_if_is.0 br_if_is.1 is.ends own.2 is.below_are own.3 is.linked is.locals_are is.entries index br_if_is.3
+        let own = around-popped is inside I32 (br_if_is.0 ++ br_if_is.1) br_if_is.3 n operands popped in
+        can-jump own.2 br_if_is.0 br_if_is.1 refl index br_if_is.2
 
     pub executed-br_if : (n : ℕ) (operands : List ℕ) (q : Point) (memory : List ℕ) → p.operands ≡ n ∷ operands → n ≢ 0 →
-        IsJump index (without operands) q → IsExecuted sequences rooms spare p memory Ran q memory
+        IsJump index (with_operands p operands) q → IsDoneAt m rooms spare p memory stepped.Ran q memory
     executed-br_if n operands q memory popped other_than jump =
-        let own = first_of I32 (br_if_is.0 ++ br_if_is.1) br_if_is.2 n operands popped in
+        let own = around-popped is inside I32 (br_if_is.0 ++ br_if_is.1) br_if_is.3 n operands popped in
         executed-goes q memory
-        (jumped-point sequences rooms (without operands) own.0 is.below is.functions is.locals is.labels br_if_is.0 br_if_is.1 is.ends own.2 is.below_are own.3 is.linked is.locals_are is.entries index br_if_is.3 q jump)
-        (λ globals. ap wants (config-over globals _ (n ∷ own.0) br_if_code own.1)
+        (jumped-point own.2 br_if_is.0 br_if_is.1 refl index br_if_is.2 q jump)
+        (ap wants (config-over is inside _ (n ∷ own.0) br_if_code own.1)
         ∙ by_operand-other n own.0 _ _ other_than
-        ∙ ap goes_if_some (jumped-state sequences rooms (without operands) own.0 is.below is.functions is.locals is.labels br_if_is.0 br_if_is.1 is.ends own.2 is.below_are own.3 is.linked is.locals_are is.entries index br_if_is.3 q jump globals))
+        ∙ ap goes_if_some (jumped-state own.2 br_if_is.0 br_if_is.1 refl index br_if_is.2 q jump))
 
     pub executed-br_if-not : (operands : List ℕ) (q : Point) (memory : List ℕ) → p.operands ≡ 0 ∷ operands →
-        q ≡ record { labels = p.labels; sequence = p.sequence; index = p.index + 1; operands = operands; locals = p.locals } → IsExecuted sequences rooms spare p memory Ran q memory
+        q ≡ at_index (with_operands p operands) (p.index + 1) → IsDoneAt m rooms spare p memory stepped.Ran q memory
     executed-br_if-not operands q memory popped same =
-        let own = first_of I32 (br_if_is.0 ++ br_if_is.1) br_if_is.2 0 operands popped in
-        let after : Point = record { labels = p.labels; sequence = p.sequence; index = p.index + 1; operands = operands; locals = p.locals } in
-        rw same (executed-goes after memory
-        (record {
-          own = own.0;
-          below = is.below;
-          functions = is.functions;
-          locals = is.locals;
-          labels = is.labels;
-          before = br_if_is.0 ++ br_if_is.1;
-          ends = is.ends;
-          operands_are = own.2;
-          below_are = is.below_are;
-          own_are = own.3;
-          linked = is.linked;
-          locals_are = is.locals_are;
-          typed = br_if_is.4;
-          index_in = omega arith;
-          fits = omega (arith, ap length own.1, is.fits);
-          room = is.room;
-          entries = is.entries;
-        })
-        (λ globals. ap wants (config-over globals _ (0 ∷ own.0) br_if_code own.1)
-        ∙ ap Goes (sym (state_at-split sequences globals after own.0 is.below own.2 is.below_are))))
+        let own = around-popped is inside I32 (br_if_is.0 ++ br_if_is.1) br_if_is.3 0 operands popped in
+        rw same (executed-goes (at_index (with_operands p operands) (p.index + 1)) memory
+        (next-point own.2 br_if_is.4)
+        (ap wants (config-over is inside _ (0 ∷ own.0) br_if_code own.1)
+        ∙ ap Goes (sym (state_at-split m (at_index (with_operands p operands) (p.index + 1)) own.0 is.below own.2.operands_are own.2.below_are))))
+
+  -- ---- br_table
+  module _ (first count default : ℕ) (found : slice_get (instructions_at m p.function p.sequence) p.index ≡ Some (i.BrTable first count default)) where
+    abbrev table : List ℕ
+    table = labels_in (body_of m p.function).labels first count
+
+    br_table_code : code_at m p.function p.sequence p.index ≡ br_table table default rest
+    br_table_code = code_in-instruction _ p.sequence p.index (i.BrTable first count default) found
+
+    br_table_is : Parts scope (br_table table default rest) is.before is.ends
+    br_table_is = first_parts (br_table table default rest) br_table_code
+
+    -- the labels are there
+    pub br_table-labels : first + count ≤ length (body_of m p.function).labels
+    br_table-labels =
+        names_below-at (body_of m p.function) (numbered-of m executed.valid p.function is.room.own) p.sequence p.index (i.BrTable first count default) is.room.numbered found
+
+    pub br_table-operand : 0 < length p.operands
+    br_table-operand = operand-there is inside I32 (br_table_is.0 ++ br_table_is.1) br_table_is.5
+
+    chosen-is : (n : ℕ) → Takes scope (chosen table default n) br_table_is.0
+    chosen-is n = chosen-takes scope table default n br_table_is.0 br_table_is.3 br_table_is.4
+
+    pub can-jump-br_table : (n : ℕ) (operands : List ℕ) → p.operands ≡ n ∷ operands → CanJump (chosen table default n) (with_operands p operands)
+    can-jump-br_table n operands popped =
+        let own = around-popped is inside I32 (br_table_is.0 ++ br_table_is.1) br_table_is.5 n operands popped in
+        can-jump own.2 br_table_is.0 br_table_is.1 refl (chosen table default n) (chosen-is n)
+
+    pub executed-br_table : (n : ℕ) (operands : List ℕ) (q : Point) (memory : List ℕ) → p.operands ≡ n ∷ operands →
+        IsJump (chosen table default n) (with_operands p operands) q → IsDoneAt m rooms spare p memory stepped.Ran q memory
+    executed-br_table n operands q memory popped jump =
+        let own = around-popped is inside I32 (br_table_is.0 ++ br_table_is.1) br_table_is.5 n operands popped in
+        executed-goes q memory
+        (jumped-point own.2 br_table_is.0 br_table_is.1 refl (chosen table default n) (chosen-is n) q jump)
+        (ap wants (config-over is inside _ (n ∷ own.0) br_table_code own.1)
+        ∙ ap goes_if_some (jumped-state own.2 br_table_is.0 br_table_is.1 refl (chosen table default n) (chosen-is n) q jump))
+
+  -- ---- if
+  module _ (result : Option ValType) (inner : ℕ) where
+    -- without else
+    module _ (found : slice_get (instructions_at m p.function p.sequence) p.index ≡ Some (i.If result inner None)) where
+      then_code : code_at m p.function p.sequence p.index ≡ if_then result (inside_of inner) rest
+      then_code = code_in-instruction _ p.sequence p.index (i.If result inner None) found
+
+      then_is : Parts scope (if_then result (inside_of inner) rest) is.before is.ends
+      then_is = first_parts (if_then result (inside_of inner) rest) then_code
+
+      then_lower : inner < p.sequence
+      then_lower = names_below-at (body_of m p.function) (numbered-of m executed.valid p.function is.room.own) p.sequence p.index (i.If result inner None) is.room.numbered found
+
+      executed-then : (n : ℕ) (operands : List ℕ) (q : Point) (memory : List ℕ) → p.operands ≡ n ∷ operands → n ≢ 0 →
+          q ≡ entered (with_operands p operands) inner (is_some result) (p.index + 1) → IsDoneAt m rooms spare p memory stepped.Ran q memory
+      executed-then n operands q memory popped other_than same =
+          let own = around-popped is inside I32 then_is.0 then_is.2 n operands popped in
+          let inner_is : Typed (scope_of (outside_of m) is.locals is.results (types_of result ∷ is.labels)) (inside_of inner) [] (types_of result) =
+          subst (λ (r : Option ValType). Typed (scope_of (outside_of m) is.locals is.results (types_of r ∷ is.labels)) (inside_of inner) [] (types_of r)) (sym then_is.1) then_is.3 in
+          let rest_is : Typed scope rest (types_of result ++ then_is.0) is.ends =
+          subst (λ (r : Option ValType). Typed scope rest (types_of r ++ then_is.0) is.ends) (sym then_is.1) then_is.4 in
+          rw same (executed-goes (entered (with_operands p operands) inner (is_some result) (p.index + 1)) memory
+          (forward-point executed own.2 inner result then_lower inner_is rest_is)
+          (ap wants (config-over is inside _ (n ∷ own.0) then_code own.1)
+          ∙ by_operand-other n own.0 _ _ other_than
+          ∙ ap Goes (sym (forward-state executed own.2 inner result then_lower inner_is rest_is))))
+
+      pub executed-without : (operands : List ℕ) (q : Point) (memory : List ℕ) → p.operands ≡ 0 ∷ operands →
+          q ≡ at_index (with_operands p operands) (p.index + 1) → IsDoneAt m rooms spare p memory stepped.Ran q memory
+      executed-without operands q memory popped same =
+          let own = around-popped is inside I32 then_is.0 then_is.2 0 operands popped in
+          rw same (executed-goes (at_index (with_operands p operands) (p.index + 1)) memory
+          (next-point own.2 then_is.4)
+          (ap wants (config-over is inside _ (0 ∷ own.0) then_code own.1)
+          ∙ ap Goes (sym (state_at-split m (at_index (with_operands p operands) (p.index + 1)) own.0 is.below own.2.operands_are own.2.below_are))))
+
+    -- with else
+    module _ (other : ℕ) (found : slice_get (instructions_at m p.function p.sequence) p.index ≡ Some (i.If result inner (Some other))) where
+      else_code : code_at m p.function p.sequence p.index ≡ if_else result (inside_of inner) (inside_of other) rest
+      else_code = code_in-instruction _ p.sequence p.index (i.If result inner (Some other)) found
+
+      else_is : Parts scope (if_else result (inside_of inner) (inside_of other) rest) is.before is.ends
+      else_is = first_parts (if_else result (inside_of inner) (inside_of other) rest) else_code
+
+      else_lower : (inner < p.sequence) × (other < p.sequence)
+      else_lower = names_below-at (body_of m p.function) (numbered-of m executed.valid p.function is.room.own) p.sequence p.index (i.If result inner (Some other)) is.room.numbered found
+
+      executed-first : (n : ℕ) (operands : List ℕ) (q : Point) (memory : List ℕ) → p.operands ≡ n ∷ operands → n ≢ 0 →
+          q ≡ entered (with_operands p operands) inner (is_some result) (p.index + 1) → IsDoneAt m rooms spare p memory stepped.Ran q memory
+      executed-first n operands q memory popped other_than same =
+          let own = around-popped is inside I32 else_is.0 else_is.1 n operands popped in
+          rw same (executed-goes (entered (with_operands p operands) inner (is_some result) (p.index + 1)) memory
+          (forward-point executed own.2 inner result else_lower.0 else_is.2 else_is.4)
+          (ap wants (config-over is inside _ (n ∷ own.0) else_code own.1)
+          ∙ by_operand-other n own.0 _ _ other_than
+          ∙ ap Goes (sym (forward-state executed own.2 inner result else_lower.0 else_is.2 else_is.4))))
+
+      pub executed-else : (operands : List ℕ) (q : Point) (memory : List ℕ) → p.operands ≡ 0 ∷ operands →
+          q ≡ entered (with_operands p operands) other (is_some result) (p.index + 1) → IsDoneAt m rooms spare p memory stepped.Ran q memory
+      executed-else operands q memory popped same =
+          let own = around-popped is inside I32 else_is.0 else_is.1 0 operands popped in
+          rw same (executed-goes (entered (with_operands p operands) other (is_some result) (p.index + 1)) memory
+          (forward-point executed own.2 other result else_lower.1 else_is.3 else_is.4)
+          (ap wants (config-over is inside _ (0 ∷ own.0) else_code own.1)
+          ∙ ap Goes (sym (forward-state executed own.2 other result else_lower.1 else_is.3 else_is.4))))
+
+    pub if-operand : (else_body : Option ℕ) → slice_get (instructions_at m p.function p.sequence) p.index ≡ Some (i.If result inner else_body) → 0 < length p.operands
+    if-operand None found = operand-there is inside I32 (then_is found).0 (then_is found).2
+    if-operand (Some other) found = operand-there is inside I32 (else_is other found).0 (else_is other found).1
+
+    pub executed-if : (else_body : Option ℕ) → slice_get (instructions_at m p.function p.sequence) p.index ≡ Some (i.If result inner else_body) →
+        (n : ℕ) (operands : List ℕ) (q : Point) (memory : List ℕ) → p.operands ≡ n ∷ operands → n ≢ 0 →
+        q ≡ entered (with_operands p operands) inner (is_some result) (p.index + 1) → IsDoneAt m rooms spare p memory stepped.Ran q memory
+    executed-if None found n operands q memory popped other_than same = executed-then found n operands q memory popped other_than same
+    executed-if (Some other) found n operands q memory popped other_than same = executed-first other found n operands q memory popped other_than same
+
+  -- ---- return
+  module _ (found : slice_get (instructions_at m p.function p.sequence) p.index ≡ Some i.Return) where
+    return_code : code_at m p.function p.sequence p.index ≡ return rest
+    return_code = code_in-instruction _ p.sequence p.index i.Return found
+
+    return_is : Parts scope (return rest) is.before is.ends
+    return_is = first_parts (return rest) return_code
+
+    pub executed-last : p.floor ≡ 0 → (q : Point) (memory : List ℕ) → IsDoneAt m rooms spare p memory stepped.Returned q memory
+    executed-last none q memory =
+        let ends = left-outermost m rooms p.function p.awaiting is.below (take p.first_local p.locals) (store_with m p.globals) is.own (sym is.floor_is ∙ none) in
+        record {
+          event = Silent;
+          made = ap (answered (λ pages. nat_le pages spare) memory) (ap wants (config-over is inside (return rest) is.own return_code refl) ∙ ap goes_if_some ends);
+          answered = tt;
+        }
+
+    pub can-leave-return : p.floor ≢ 0 → CanLeave p
+    can-leave-return some = can-leave around return_is.0 return_is.2 some
+
+    pub executed-return : p.floor ≢ 0 → (q : Point) (memory : List ℕ) → IsReturn p q → IsDoneAt m rooms spare p memory stepped.Ran q memory
+    executed-return some q memory returns = executed-goes q memory
+        (returned-point around return_is.0 return_is.2 some q returns)
+        (ap wants (config-over is inside (return rest) is.own return_code refl)
+        ∙ ap goes_if_some (returned-state around return_is.0 return_is.2 some q returns))

@@ -1,56 +1,64 @@
 -- A branch in a numbered body, against the branch of the configuration that this stands for.
 use Rattle.std.proofs.Common.{◌≡◌, ℕ, zero, suc, ◌+◌, ◌≤◌, List, [], ◌∷◌, ◌++◌, length, take, drop, Some, slice_get, refl, sym, ap, ap₂, subst, ◌∙◌, arith, length-append, append_assoc}
 use Rattle.std.proofs.lemmas.Bool.{le-leb}
-use Rattle.std.proofs.lemmas.List.{take-append-le}
 use Rattle.std.proofs.lemmas.Option.{same_Some, none-some}
 use Rattle.qw_module.specs.declared.instruction.ValType.{ValType}
-use Rattle.qw_module.specs.declared.instruction.Instr.{Instr}
-use Rattle.qw_machine.specs.declared.machine.Entry.{Entry}
+use Rattle.qw_module.specs.declared.module.Module.{Module}
+use Rattle.qw_machine.specs.declared.activity.Entry.{Entry}
+use Rattle.qw_machine.specs.declared.activity.Awaiting.{Awaiting}
+use Rattle.qw_machine.specs.declared.activity.Awaiting.TheVariants.{Label, Call}
 use Rattle.qw_module.specs.Numbers.{truth}
-use Rattle.qw_module.specs.Syntax.{sequence_at}
-use Rattle.qw_module.specs.Execution.{State, settled, branched}
-use Rattle.qw_module.specs.Typing.{Signature, Typed}
-use Rattle.qw_module.specs.Soundness.{AreOf, AreLinked, scope_of}
-use Rattle.qw_machine.specs.Inner.Machine.{code_at, Point, base_of, under, contexts_of, state_at, Rooms, HasRoom, AreEntries, IsPoint, CanJump, IsJump}
+use Rattle.qw_module.specs.Execution.{Store, State, settled, branched}
+use Rattle.qw_module.specs.Typing.{scope_of, Typed}
+use Rattle.qw_module.specs.Soundness.{AreOf}
+use Rattle.qw_module.specs.Validity.{outside_of}
+use Rattle.qw_machine.specs.Inner.Points.{code_at, instructions_at, Point, base_of, floor_of, under, contexts_of, store_with, state_at}
+use Rattle.qw_machine.specs.declared.room.Rooms.{Rooms}
+use Rattle.qw_machine.specs.Inner.Rooms.{HasRoom}
+use Rattle.qw_machine.specs.Inner.Placed.{AreAwaiting, IsPoint}
+use Rattle.qw_machine.specs.Inner.Activities.{CanJump, IsJump}
 use Rattle.qw_module.proofs.Sound.{AreOf-append, AreOf-length, AreOf-take}
-use Rattle.qw_machine.proofs.ListFacts.{above-append, under-append}
+use Rattle.qw_machine.proofs.ListFacts.{above-append, under-append, kept-append}
 use Rattle.qw_machine.proofs.Points.{state_at-split}
+use Rattle.qw_machine.proofs.Around.{IsAround}
 
-module _ (sequences : List (List Instr)) (rooms : Rooms) (functions : List Signature) (locals : List ValType) where
+module _ (m : Module) (rooms : Rooms) (function first_local : ℕ) (locals results : List ValType) (values : List ℕ) where
   -- the label of an index, what a branch to it takes, and where it leads
-  pub record IsFound (index : ℕ) (entries : List Entry) (taken : List ValType) (below : List ℕ) : Type 0 where
+  pub record IsFound (index : ℕ) (awaiting : List Awaiting) (taken : List ValType) (below : List ℕ) : Type 0 where
     pub entry : Entry
-    pub rest : List Entry
+    pub rest : List Awaiting
     pub own : List ℕ
     pub lower : List ℕ
     pub types : List ValType
     pub outer : List (List ValType)
     pub next : List ValType
-    pub found : slice_get entries index ≡ Some entry
+    pub found : slice_get awaiting index ≡ Some (Label entry)
     pub takes_are : truth entry.takes ≡ length taken
     pub base_in : entry.base ≤ length below
     pub under_is : (on : List ℕ) → under entry.base (on ++ below) ≡ own ++ lower
     pub lower_are : length lower ≡ base_of rest
     pub own_are : AreOf own types
-    pub target_typed : Typed (scope_of functions locals outer) (code_at sequences entry.sequence entry.target) (taken ++ types) next
-    pub target_in : entry.target ≤ length (sequence_at sequences entry.sequence)
+    pub target_typed : Typed (scope_of (outside_of m) locals results outer) (code_at m function entry.sequence entry.target) (taken ++ types) next
+    pub target_in : entry.target ≤ length (instructions_at m function entry.sequence)
     pub target_fits : length own + length taken ≤ entry.target
-    pub room : HasRoom sequences rooms entry.sequence (length lower) (length rest)
-    pub entries_are : AreEntries sequences rooms functions locals rest outer next lower
-    pub cut : drop index entries ≡ entry ∷ rest
-    pub leads : (globals operands values : List ℕ) → truth entry.takes ≤ length operands →
-        branched globals index (contexts_of sequences entries below) operands values
-        ≡ Some (settled globals (contexts_of sequences rest lower) (code_at sequences entry.sequence entry.target) (take (truth entry.takes) operands ++ own) values)
+    pub room : HasRoom m rooms function entry.sequence (length lower) (length rest) first_local
+    pub awaiting_are : AreAwaiting m rooms function first_local locals results outer next rest lower values
+    pub cut : drop index awaiting ≡ Label entry ∷ rest
+    pub floor_is : floor_of awaiting ≡ floor_of rest
+    pub leads : (store : Store) (operands own_locals : List ℕ) → truth entry.takes ≤ length operands →
+        branched store index (contexts_of m function awaiting below values) operands own_locals
+        ≡ Some (settled store (contexts_of m function rest lower values) (code_at m function entry.sequence entry.target) (take (truth entry.takes) operands ++ own) own_locals)
 
-  pub found-label : (index : ℕ) (entries : List Entry) (labels : List (List ValType)) (taken ends : List ValType) (below : List ℕ) →
-      AreEntries sequences rooms functions locals entries labels ends below → length below ≡ base_of entries → slice_get labels index ≡ Some taken →
-      IsFound index entries taken below
-  found-label index [] labels taken ends below none base found = absurd (none-some taken (rw none at found))
-  found-label zero (entry ∷ entries) labels taken ends below (e, are) base found =
+  pub found-label : (index : ℕ) (awaiting : List Awaiting) (labels : List (List ValType)) (taken ends : List ValType) (below : List ℕ) →
+      AreAwaiting m rooms function first_local locals results labels ends awaiting below values → length below ≡ base_of awaiting → slice_get labels index ≡ Some taken →
+      IsFound index awaiting taken below
+  found-label index [] labels taken ends below none base found = absurd (none-some taken (rw none.0 at found))
+  found-label index (Call caller ∷ rest) labels taken ends below are base found = absurd (none-some taken (rw are.0 at found))
+  found-label zero (Label entry ∷ rest) labels taken ends below (e, are) base found =
       let same : e.taken ≡ taken = same_Some e.taken taken (rw e.labels_are at found) in
       record {
         entry = entry;
-        rest = entries;
+        rest = rest;
         own = e.own;
         lower = e.below;
         types = e.types;
@@ -66,18 +74,19 @@ module _ (sequences : List (List Instr)) (rooms : Rooms) (functions : List Signa
         target_in = e.target_in;
         target_fits = rw (← same) e.target_fits;
         room = e.room;
-        entries_are = are;
+        awaiting_are = are;
         cut = refl;
-        leads = λ globals operands values enough.
+        floor_is = refl;
+        leads = λ store operands own_locals enough.
             rw (
               le-leb (truth entry.takes) (length operands) enough,
               e.operands_are,
-              above-append (base_of entries) e.own e.below e.below_are,
-              under-append (base_of entries) e.own e.below e.below_are,
+              above-append (base_of rest) e.own e.below e.below_are,
+              under-append (base_of rest) e.own e.below e.below_are,
             ) refl;
       }
-  found-label (suc index) (entry ∷ entries) labels taken ends below (e, are) base found =
-      let f = found-label index entries e.outer taken e.next e.below are e.below_are (rw e.labels_are at found) in
+  found-label (suc index) (Label entry ∷ rest) labels taken ends below (e, are) base found =
+      let f = found-label index rest e.outer taken e.next e.below are e.below_are (rw e.labels_are at found) in
       record {
         entry = f.entry;
         rest = f.rest;
@@ -97,23 +106,24 @@ module _ (sequences : List (List Instr)) (rooms : Rooms) (functions : List Signa
         target_in = f.target_in;
         target_fits = f.target_fits;
         room = f.room;
-        entries_are = f.entries_are;
+        awaiting_are = f.awaiting_are;
         cut = f.cut;
-        leads = λ globals operands values enough.
-            rw (e.operands_are, under-append (base_of entries) e.own e.below e.below_are) (f.leads globals operands values enough);
+        floor_is = f.floor_is;
+        leads = λ store operands own_locals enough.
+            rw (e.operands_are, under-append (base_of rest) e.own e.below e.below_are) (f.leads store operands own_locals enough);
       }
 
--- a point is its parts
-pub point-is : (q : Point) (labels : List Entry) (sequence index : ℕ) (operands values : List ℕ) → q.labels ≡ labels → q.sequence ≡ sequence → q.index ≡ index →
-    q.operands ≡ operands → q.locals ≡ values →
-    q ≡ record { labels = labels; sequence = sequence; index = index; operands = operands; locals = values }
-point-is q labels sequence index operands values a b c d e = rw (← a, ← b, ← c, ← d, ← e) refl
+module _ {m : Module} {rooms : Rooms} {p : Point} {own below : List ℕ} {locals results : List ValType} {labels : List (List ValType)} {types ends : List ValType}
+    (around : IsAround m rooms p own below locals results labels types ends) (taken more : List ValType) (types_are : types ≡ taken ++ more)
+    (index : ℕ) (found : slice_get labels index ≡ Some taken) where
+  abbrev outer_values : List ℕ
+  outer_values = take p.first_local p.locals
 
-module _ (sequences : List (List Instr)) (rooms : Rooms) (p : Point) (own below : List ℕ) (functions : List Signature) (locals : List ValType) (labels : List (List ValType)) (taken more ends : List ValType)
-    (operands_are : p.operands ≡ own ++ below) (below_are : length below ≡ base_of p.labels) (own_are : AreOf own (taken ++ more)) (linked : AreLinked functions) (locals_are : AreOf p.locals locals)
-    (entries_are : AreEntries sequences rooms functions locals p.labels labels ends below) (index : ℕ) (found : slice_get labels index ≡ Some taken) where
-  found_label : IsFound sequences rooms functions locals index p.labels taken below
-  found_label = found-label sequences rooms functions locals index p.labels labels taken ends below entries_are below_are found
+  found_label : IsFound m rooms p.function p.first_local locals results outer_values index p.awaiting taken below
+  found_label = found-label m rooms p.function p.first_local locals results outer_values index p.awaiting labels taken ends below around.awaiting around.below_are found
+
+  own_are : AreOf own (taken ++ more)
+  own_are = subst (λ (ts : List ValType). AreOf own ts) types_are around.own_are
 
   enough : length taken ≤ length own
   enough = omega (arith, AreOf-length own (taken ++ more) own_are, length-append taken more)
@@ -121,64 +131,72 @@ module _ (sequences : List (List Instr)) (rooms : Rooms) (p : Point) (own below 
   pub can-jump : CanJump index p
   can-jump =
       let f = found_label in
-      (f.entry, f.found, omega (arith, ap length operands_are, length-append own below, f.base_in, f.takes_are, enough))
+      (f.entry, f.found, omega (arith, ap length around.operands_are, length-append own below, f.base_in, f.takes_are, enough))
 
   -- the point that the branch leads to
   abbrev target_point : Point
   target_point =
       let f = found_label in
-      record { labels = f.rest; sequence = f.entry.sequence; index = f.entry.target; operands = (take (length taken) own ++ f.own) ++ f.lower; locals = p.locals }
+      record p {
+        awaiting = f.rest;
+        sequence = f.entry.sequence;
+        index = f.entry.target;
+        operands = (take (length taken) own ++ f.own) ++ f.lower;
+      }
 
   jumped-is : (q : Point) → IsJump index p q → q ≡ target_point
   jumped-is q jump =
       let f = found_label in
-      let same : jump.entry ∷ q.labels ≡ f.entry ∷ f.rest = sym jump.labels ∙ f.cut in
+      let same : Label jump.entry ∷ q.awaiting ≡ Label f.entry ∷ f.rest = sym jump.awaiting ∙ f.cut in
       let entry : jump.entry ≡ f.entry = cc same in
-      let rest : q.labels ≡ f.rest = cc same in
-      let within : length taken ≤ length own = enough in
-      let operands : q.operands ≡ (take (length taken) own ++ f.own) ++ f.lower =
-      jump.operands
-      ∙ ap₂ (λ (e : Entry) (xs : List ℕ). take (truth e.takes) xs ++ under e.base xs) entry operands_are
-      ∙ ap (λ (n : ℕ). take n (own ++ below) ++ under f.entry.base (own ++ below)) f.takes_are
-      ∙ ap₂ (λ (xs ys : List ℕ). xs ++ ys) (take-append-le (length taken) own below within) (f.under_is own)
-      ∙ sym (append_assoc (take (length taken) own) f.own f.lower) in
-      point-is q f.rest f.entry.sequence f.entry.target _ p.locals rest
-      (jump.sequence ∙ ap (λ (e : Entry). e.sequence) entry) (jump.index ∙ ap (λ (e : Entry). e.target) entry) operands jump.locals
+      let rest : q.awaiting ≡ f.rest = cc same in
+      let operands : take (truth f.entry.takes) p.operands ++ under f.entry.base p.operands ≡ (take (length taken) own ++ f.own) ++ f.lower =
+      ap (λ (n : ℕ). take n p.operands ++ under f.entry.base p.operands) f.takes_are
+      ∙ kept-append (length taken) f.entry.base p.operands own below f.own f.lower around.operands_are enough (f.under_is own) in
+      let at : List Awaiting → Entry → Point =
+      λ awaiting e. record p { awaiting = awaiting; sequence = e.sequence; index = e.target; operands = take (truth e.takes) p.operands ++ under e.base p.operands } in
+      let over : List ℕ → Point =
+      λ xs. record p { awaiting = f.rest; sequence = f.entry.sequence; index = f.entry.target; operands = xs } in
+      jump.point ∙ ap₂ at rest entry ∙ ap over operands
 
-  target_point-is : IsPoint sequences rooms target_point
+  target_point-is : IsPoint m rooms target_point
   target_point-is =
       let f = found_label in
       let kept : AreOf (take (length taken) own) taken = AreOf-take own taken more own_are in
       record {
         own = take (length taken) own ++ f.own;
         below = f.lower;
-        functions = functions;
         locals = locals;
+        results = results;
         labels = f.outer;
         before = taken ++ f.types;
         ends = f.next;
         operands_are = refl;
         below_are = f.lower_are;
         own_are = AreOf-append (take (length taken) own) f.own taken f.types kept f.own_are;
-        linked = linked;
-        locals_are = locals_are;
+        first_in = around.first_in;
+        locals_are = around.locals_are;
+        all_locals = around.all_locals;
+        globals_are = around.globals_are;
+        floor_is = around.floor_is ∙ f.floor_is;
         typed = f.target_typed;
         index_in = f.target_in;
         fits = omega (arith, length-append (take (length taken) own) f.own, AreOf-length (take (length taken) own) taken kept, f.target_fits);
         room = f.room;
-        entries = f.entries_are;
+        awaiting = f.awaiting_are;
       }
 
   -- a branch leads to a point, and the configuration's branch to what that stands for
-  pub jumped-point : (q : Point) → IsJump index p q → IsPoint sequences rooms q
-  jumped-point q jump = subst (λ (x : Point). IsPoint sequences rooms x) (sym (jumped-is q jump)) target_point-is
+  pub jumped-point : (q : Point) → IsJump index p q → IsPoint m rooms q
+  jumped-point q jump = subst (λ (x : Point). IsPoint m rooms x) (sym (jumped-is q jump)) target_point-is
 
-  pub jumped-state : (q : Point) → IsJump index p q → (globals : List ℕ) →
-      branched globals index (contexts_of sequences p.labels below) own p.locals ≡ Some (state_at sequences globals q)
-  jumped-state q jump globals =
+  pub jumped-state : (q : Point) → IsJump index p q →
+      branched (store_with m p.globals) index (contexts_of m p.function p.awaiting below outer_values) own (drop p.first_local p.locals) ≡ Some (state_at m q)
+  jumped-state q jump =
       let f = found_label in
-      let leads = f.leads globals own p.locals (omega (arith, enough, f.takes_are)) in
-      let split = state_at-split sequences globals target_point (take (length taken) own ++ f.own) f.lower refl f.lower_are in
+      let leads = f.leads (store_with m p.globals) own (drop p.first_local p.locals) (omega (arith, enough, f.takes_are)) in
+      let split = state_at-split m target_point (take (length taken) own ++ f.own) f.lower refl f.lower_are in
       let first : take (truth f.entry.takes) own ++ f.own ≡ take (length taken) own ++ f.own = ap (λ (n : ℕ). take n own ++ f.own) f.takes_are in
-      leads ∙ ap (λ (xs : List ℕ). Some (settled globals (contexts_of sequences f.rest f.lower) (code_at sequences f.entry.sequence f.entry.target) xs p.locals)) first
-      ∙ ap (λ (s : State). Some s) (sym split ∙ ap (state_at sequences globals) (sym (jumped-is q jump)))
+      let reached : List ℕ → State =
+      λ xs. settled (store_with m p.globals) (contexts_of m p.function f.rest f.lower outer_values) (code_at m p.function f.entry.sequence f.entry.target) xs (drop p.first_local p.locals) in
+      leads ∙ ap (λ (xs : List ℕ). Some (reached xs)) first ∙ ap (λ (s : State). Some s) (sym split ∙ ap (state_at m) (sym (jumped-is q jump)))

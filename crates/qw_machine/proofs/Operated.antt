@@ -1,221 +1,292 @@
 -- An instruction that holds no other, done over all operands, against the configuration's step over its own.
-use Rattle.std.proofs.Common.{◌≡◌, ℕ, suc, ◌+◌, ◌^◌, ◌<◌, ◌≤◌, nat_le, true, false, List, ◌++◌, reverse, length, Some, None, slice_get, refl, ap, subst, ◌∙◌, ⊎_elim, arith, length-append}
+use Rattle.std.proofs.Common.{◌≡◌, ℕ, suc, ◌+◌, ◌^◌, ◌<◌, ◌≤◌, nat_le, List, ◌++◌, length, drop, take, Option, Some, None, Result, Ok, Err, slice_get, true, false, refl, ap, subst, ◌∙◌, ⊎_elim, arith, length-append}
 use Rattle.std.proofs.lemmas.Bool.{cases_Bool, le-leb, lt-ltb}
+use Rattle.std.proofs.lemmas.List.{length-take-le}
 use Rattle.std.proofs.lemmas.Option.{slice_get_within}
 use Rattle.qw_module.specs.declared.instruction.ValType.{ValType}
-use Rattle.qw_module.specs.declared.instruction.Instr.{Instr}
 use Rattle.qw_module.specs.declared.instruction.Instr.TheVariants as i
 use Rattle.qw_module.specs.declared.instruction.Op.{Op}
-use Rattle.qw_module.specs.declared.instruction.Op.TheVariants.{LocalGet, LocalSet, LocalTee}
+use Rattle.qw_module.specs.declared.instruction.Op.TheVariants.{Nop, Drop, Select, LocalGet, LocalSet, LocalTee, GlobalGet, GlobalSet, Eqz, Convert, MemorySize, MemoryGrow}
 use Rattle.qw_module.specs.declared.instruction.Op.TheVariants as o
-use Rattle.qw_machine.specs.declared.machine.Stepped.{Stepped}
-use Rattle.qw_module.specs.Syntax.{Code, op, sequence_at}
+use Rattle.qw_module.specs.declared.module.Module.{Module}
+use Rattle.qw_module.specs.declared.trap.Trap.{Trap}
+use Rattle.qw_module.specs.declared.trap.Trap.TheVariants as trap
+use Rattle.qw_machine.specs.declared.operators.Operated.{Operated}
+use Rattle.qw_machine.specs.declared.stepped.Stepped.{Stepped}
 use Rattle.qw_linear.specs.Memory.{most_pages, number_at, pages_of}
-use Rattle.qw_module.specs.Execution.{Config, Silent, Loads, Stores, Grows, Raises, Traps, goes_on, refusal}
-use Rattle.qw_module.specs.Step.{OpWant, Stuck', Leaves, Reads, Writes, Requests, Throws, op_wants, pushes_local, then_wants, answered, next}
-use Rattle.qw_module.specs.Typing.{Signature, Scope, OpTyped, typed-local_get, typed-local_set, typed-local_tee, typed-const, typed-binary, typed-relation, typed-load, typed-store, typed-grow, typed-call, Typed, typed-op}
-use Rattle.qw_module.specs.Soundness.{AreOf, AreLinked, scope_of}
-use Rattle.qw_machine.specs.Inner.Machine.{code_at, Point, contexts_of, state_at, config_at, Rooms, IsPoint}
-use Rattle.qw_machine.specs.Inner.Executed.{IsExecuted, CanOperate, IsDone}
-use Rattle.qw_module.proofs.Sound.{AreOf-length, OpWantTyped, op_wants-typed, linked_is}
+use Rattle.qw_module.specs.Numbers.{division}
+use Rattle.qw_module.specs.Syntax.{Code, op}
+use Rattle.qw_module.specs.Execution.{Config, Silent, Loads, Stores, Grows, Traps, settled, refusal}
+use Rattle.qw_module.specs.Step.{OpWant, Stuck', Leaves, Sets, Reads, Writes, Sizes, Requests, Fails', pushes_if_some, leaves_or_fails, op_wants, then_wants, answered, next}
+use Rattle.qw_module.specs.Typing.{Scope, scope_of, OpTyped, typed-nop, typed-drop, typed-select, typed-local_get, typed-local_set, typed-local_tee, typed-global_get, typed-global_set, typed-const, typed-unary, typed-binary, typed-division, typed-eqz, typed-relation, typed-convert, typed-load, typed-store, typed-size, typed-grow, Typed}
+use Rattle.qw_module.specs.Soundness.{AreOf, AreGlobalsOf}
+use Rattle.qw_module.specs.Validity.{outside_of}
+use Rattle.qw_machine.specs.Inner.Points.{code_at, instructions_at, Point, contexts_of, store_with, state_at, config_at}
+use Rattle.qw_machine.specs.declared.room.Rooms.{Rooms}
+use Rattle.qw_machine.specs.Inner.Placed.{IsPoint}
+use Rattle.qw_machine.specs.Inner.Ended.{answer_of}
+use Rattle.qw_machine.specs.Inner.Operated.{CanOperate, Held, IsDone}
+use Rattle.qw_machine.specs.Inner.Activities.{IsDoneAt}
+use Rattle.qw_module.proofs.Sound.{AreOf-length, OpWantTyped, op_wants-typed}
 use Rattle.qw_module.proofs.TypedOperands.{HasFor, has_for}
-use Rattle.qw_machine.proofs.Points.{state_at-split, config_at-split, code_at-instruction}
+use Rattle.qw_module.proofs.TypedParts.{parts}
+use Rattle.qw_machine.proofs.ListFacts.{take-front, drop-front}
+use Rattle.qw_machine.proofs.Points.{state_at-split, code_in-instruction}
+use Rattle.qw_machine.proofs.Around.{config-over}
 
 -- what an instruction has among its own operands, it has among all
-ready : (operator : Op) (own below values : List ℕ) → HasFor operator own values → CanOperate operator (own ++ below) values
-ready (LocalGet x) own below values has = has
-ready (LocalSet x) own below values has = rw (has.2) (omega arith, has.3)
-ready (LocalTee x) own below values has = rw (has.2) (omega arith, has.3)
-ready (o.Const n) own below values has = tt
-ready (o.Binary b) own below values has = rw (has.3) (omega arith, has.4)
-ready (o.Relation r) own below values has = rw (has.3) (omega arith, has.4, has.5)
-ready (o.Load l arg) own below values has = rw (has.2) (omega arith, has.3)
-ready (o.Store s arg) own below values has = rw (has.3) (omega arith, has.5)
-ready o.MemoryGrow own below values has = rw (has.2) (omega arith, has.3)
-ready (o.Call index) own below values has = rw (has.2) (omega arith, has.3)
+ready : (operator : Op) (globals own below values : List ℕ) → HasFor operator globals own values → CanOperate operator globals (own ++ below) values
+ready Nop globals own below values has = tt
+ready Drop globals own below values has = rw (has.2) (omega arith)
+ready Select globals own below values has = rw (has.4) (omega arith)
+ready (LocalGet x) globals own below values has = has
+ready (LocalSet x) globals own below values has = rw (has.2) (omega arith, has.3)
+ready (LocalTee x) globals own below values has = rw (has.2) (omega arith, has.3)
+ready (GlobalGet x) globals own below values has = has
+ready (GlobalSet x) globals own below values has = rw (has.2) (omega arith, has.3)
+ready (o.Const n) globals own below values has = tt
+ready (o.Unary t u) globals own below values has = rw (has.2) (omega arith, has.3)
+ready (o.Binary t b) globals own below values has = rw (has.3) (omega arith, has.4, has.5)
+ready (o.Division t d) globals own below values has = rw (has.3) (omega arith, has.4, has.5)
+ready (Eqz t) globals own below values has = rw (has.2) (omega arith, has.3)
+ready (o.Relation t r) globals own below values has = rw (has.3) (omega arith, has.4, has.5)
+ready (Convert v) globals own below values has = rw (has.2) (omega arith, has.3)
+ready (o.Load l arg) globals own below values has = rw (has.2) (omega arith, has.3)
+ready (o.Store s arg) globals own below values has = rw (has.3) (omega arith, has.5)
+ready MemorySize globals own below values has = tt
+ready MemoryGrow globals own below values has = rw (has.2) (omega arith, has.3)
 
 -- what is wanted over more operands below
-abbrev pub over : List ℕ → OpWant → OpWant
+abbrev over : List ℕ → OpWant → OpWant
 over below Stuck' = Stuck'
 over below (Leaves operands values) = Leaves (operands ++ below) values
+over below (Sets operands globals) = Sets (operands ++ below) globals
 over below (Reads address width make) = Reads address width (λ n. make n ++ below)
 over below (Writes address width value operands) = Writes address width value (operands ++ below)
+over below (Sizes make) = Sizes (λ n. make n ++ below)
 over below (Requests pages make) = Requests pages (λ n. make n ++ below)
-over below (Throws code) = Throws code
+over below (Fails' why) = Fails' why
 
-wants-over : (operator : Op) (own below values : List ℕ) → HasFor operator own values →
-    op_wants operator (own ++ below) values ≡ over below (op_wants operator own values)
-wants-over (LocalGet x) own below values has = elim (slice_get values x) as (λ v. pushes_local v (own ++ below) values ≡ over below (pushes_local v own values)) [ None ↦ refl | Some v ↦ refl ]
-wants-over (LocalSet x) own below values has = rw (has.2, lt-ltb x (length values) has.3) refl
-wants-over (LocalTee x) own below values has = rw (has.2, lt-ltb x (length values) has.3) refl
-wants-over (o.Const n) own below values has = refl
-wants-over (o.Binary b) own below values has = rw (has.3) refl
-wants-over (o.Relation r) own below values has = rw (has.3) refl
-wants-over (o.Load l arg) own below values has = rw (has.2) refl
-wants-over (o.Store s arg) own below values has = rw (has.3) refl
-wants-over o.MemoryGrow own below values has = rw (has.2) refl
-wants-over (o.Call index) own below values has = rw (has.2) refl
+pushes-over : (v : Option ℕ) (own below values : List ℕ) → pushes_if_some v (own ++ below) values ≡ over below (pushes_if_some v own values)
+pushes-over None own below values = refl
+pushes-over (Some v) own below values = refl
+
+leaves-over : (q : Result ℕ Trap) (own below values : List ℕ) → leaves_or_fails q (own ++ below) values ≡ over below (leaves_or_fails q own values)
+leaves-over (Ok v) own below values = refl
+leaves-over (Err why) own below values = refl
+
+wants-over : (operator : Op) (globals own below values : List ℕ) → HasFor operator globals own values →
+    op_wants operator globals (own ++ below) values ≡ over below (op_wants operator globals own values)
+wants-over Nop globals own below values has = refl
+wants-over Drop globals own below values has = rw (has.2) refl
+wants-over Select globals own below values has = rw (has.4) refl
+wants-over (LocalGet x) globals own below values has = pushes-over (slice_get values x) own below values
+wants-over (LocalSet x) globals own below values has = rw (has.2, lt-ltb x (length values) has.3) refl
+wants-over (LocalTee x) globals own below values has = rw (has.2, lt-ltb x (length values) has.3) refl
+wants-over (GlobalGet x) globals own below values has = pushes-over (slice_get globals x) own below values
+wants-over (GlobalSet x) globals own below values has = rw (has.2, lt-ltb x (length globals) has.3) refl
+wants-over (o.Const n) globals own below values has = refl
+wants-over (o.Unary t u) globals own below values has = rw (has.2) refl
+wants-over (o.Binary t b) globals own below values has = rw (has.3) refl
+wants-over (o.Division t d) globals own below values has = rw (has.3) (leaves-over (division t d has.1 has.0) has.2 below values)
+wants-over (Eqz t) globals own below values has = rw (has.2) refl
+wants-over (o.Relation t r) globals own below values has = rw (has.3) refl
+wants-over (Convert v) globals own below values has = rw (has.2) refl
+wants-over (o.Load l arg) globals own below values has = rw (has.2) refl
+wants-over (o.Store s arg) globals own below values has = rw (has.3) refl
+wants-over MemorySize globals own below values has = refl
+wants-over MemoryGrow globals own below values has = rw (has.2) refl
 
 -- at most one operand is added
-call_adds-none : (functions : List Signature) (index : ℕ) (signature : Signature) (types : List ValType) → AreLinked functions →
-    slice_get functions index ≡ Some signature → length (reverse signature.results ++ types) ≡ length types
-call_adds-none functions index signature types linked found =
-    ap (λ (x : Signature). length (reverse x.results ++ types)) (linked_is functions index signature linked found)
+length-op_typed : (scope : Scope) (operator : Op) (before after : List ValType) → OpTyped scope operator before after → length after ≤ suc (length before)
+length-op_typed _ _ _ _ (typed-nop scope types) = omega arith
+length-op_typed _ _ _ _ (typed-drop scope types t) = omega arith
+length-op_typed _ _ _ _ (typed-select scope types t) = omega arith
+length-op_typed _ _ _ _ (typed-local_get scope types x t found) = omega arith
+length-op_typed _ _ _ _ (typed-local_set scope types x t found) = omega arith
+length-op_typed _ _ _ _ (typed-local_tee scope types x t found) = omega arith
+length-op_typed _ _ _ _ (typed-global_get scope types x g found) = omega arith
+length-op_typed _ _ _ _ (typed-global_set scope types x g found mutable) = omega arith
+length-op_typed _ _ _ _ (typed-const scope types k value) = omega arith
+length-op_typed _ _ _ _ (typed-unary scope types t u) = omega arith
+length-op_typed _ _ _ _ (typed-binary scope types t b) = omega arith
+length-op_typed _ _ _ _ (typed-division scope types t d) = omega arith
+length-op_typed _ _ _ _ (typed-eqz scope types t) = omega arith
+length-op_typed _ _ _ _ (typed-relation scope types t r) = omega arith
+length-op_typed _ _ _ _ (typed-convert scope types v) = omega arith
+length-op_typed _ _ _ _ (typed-load scope types l arg memory aligned) = omega arith
+length-op_typed _ _ _ _ (typed-store scope types s arg memory aligned) = omega arith
+length-op_typed _ _ _ _ (typed-size scope types memory) = omega arith
+length-op_typed _ _ _ _ (typed-grow scope types memory) = omega arith
 
-length-op_typed : (functions : List Signature) (locals : List ValType) (operator : Op) (before after : List ValType) →
-    OpTyped functions locals operator before after → AreLinked functions → length after ≤ suc (length before)
-length-op_typed _ _ _ _ _ (typed-local_get functions locals types x t found) linked = omega arith
-length-op_typed _ _ _ _ _ (typed-local_set functions locals types x t found) linked = omega arith
-length-op_typed _ _ _ _ _ (typed-local_tee functions locals types x t found) linked = omega arith
-length-op_typed _ _ _ _ _ (typed-const functions locals types k value) linked = omega arith
-length-op_typed _ _ _ _ _ (typed-binary functions locals types b) linked = omega arith
-length-op_typed _ _ _ _ _ (typed-relation functions locals types r) linked = omega arith
-length-op_typed _ _ _ _ _ (typed-load functions locals types l arg aligned) linked = omega arith
-length-op_typed _ _ _ _ _ (typed-store functions locals types s arg aligned) linked = omega arith
-length-op_typed _ _ _ _ _ (typed-grow functions locals types) linked = omega arith
-length-op_typed _ _ _ _ _ (typed-call functions locals types index signature found) linked =
-    omega (arith, call_adds-none functions index signature types linked found, length-append (reverse signature.params) types)
+-- a point whose code begins with such an instruction
+module _ {m : Module} {rooms : Rooms} (spare : ℕ) {p : Point} (is : IsPoint m rooms p) {operator : Op}
+    (found : slice_get (instructions_at m p.function p.sequence) p.index ≡ Some (i.Op operator)) where
+  within : p.index < length (instructions_at m p.function p.sequence)
+  within = slice_get_within (instructions_at m p.function p.sequence) p.index (i.Op operator) found
 
-op_parts : (scope : Scope) (operator : Op) (rest : Code) (before after : List ValType) → Typed scope (op operator rest) before after →
-    (middle : List ValType) × OpTyped scope.functions scope.locals operator before middle × Typed scope rest middle after
-op_parts _ _ _ _ _ (typed-op scope operator rest before middle after op_is rest_is) = (middle, op_is, rest_is)
+  abbrev rest : Code
+  rest = code_at m p.function p.sequence (p.index + 1)
 
--- the operand stack of a point whose code begins with such an instruction, by parts
-module _ {sequences : List (List Instr)} {rooms : Rooms} (spare : ℕ) {p : Point} (is : IsPoint sequences rooms p) {operator : Op}
-    (found : slice_get (sequence_at sequences p.sequence) p.index ≡ Some (i.Op operator)) where
-  rest : Code
-  rest = code_at sequences p.sequence (p.index + 1)
+  abbrev scope : Scope
+  scope = scope_of (outside_of m) is.locals is.results is.labels
 
-  code : code_at sequences p.sequence p.index ≡ op operator (code_at sequences p.sequence (p.index + 1))
-  code = code_at-instruction sequences p.sequence p.index (i.Op operator) found
+  abbrev values : List ℕ
+  values = drop p.first_local p.locals
 
-  parts : (middle : List ValType) × OpTyped is.functions is.locals operator is.before middle
-      × Typed (scope_of is.functions is.locals is.labels) (code_at sequences p.sequence (p.index + 1)) middle is.ends
-  parts = op_parts (scope_of is.functions is.locals is.labels) operator (code_at sequences p.sequence (p.index + 1)) is.before is.ends
-      (subst (λ (x : Code). Typed (scope_of is.functions is.locals is.labels) x is.before is.ends) code is.typed)
+  code : code_at m p.function p.sequence p.index ≡ op operator rest
+  code = code_in-instruction _ p.sequence p.index (i.Op operator) found
 
-  has : HasFor operator is.own p.locals
-  has = has_for is.functions is.locals operator is.before parts.0 parts.1 is.linked is.own p.locals is.own_are is.locals_are
+  op_is : (middle : List ValType) × OpTyped scope operator is.before middle × Typed scope rest middle is.ends
+  op_is = parts scope (op operator rest) is.before is.ends (subst (λ (x : Code). Typed scope x is.before is.ends) code is.typed)
 
-  pub operator-ready : CanOperate operator p.operands p.locals
-  operator-ready = rw (is.operands_are) (ready operator is.own is.below p.locals has)
+  has : HasFor operator p.globals is.own values
+  has = has_for scope operator is.before op_is.0 op_is.1 p.globals is.own values is.globals_are is.own_are is.locals_are
+
+  pub operator-ready : CanOperate operator p.globals p.operands values
+  operator-ready = rw (is.operands_are) (ready operator p.globals is.own is.below values has)
 
   -- the point after it
-  abbrev after_it : List ℕ → List ℕ → Point
-  after_it operands values = record { labels = p.labels; sequence = p.sequence; index = p.index + 1; operands = operands; locals = values }
+  abbrev pub operated_at : Held → Point
+  operated_at held =
+      record p {
+        index = p.index + 1;
+        operands = held.operands;
+        locals = take p.first_local p.locals ++ held.locals;
+        globals = held.globals;
+      }
 
-  after_it-is : (operands values : List ℕ) → AreOf operands parts.0 → AreOf values is.locals → IsPoint sequences rooms (after_it (operands ++ is.below) values)
-  after_it-is operands values are are_locals =
-      let within : p.index < length (sequence_at sequences p.sequence) = slice_get_within (sequence_at sequences p.sequence) p.index (i.Op operator) found in
+  abbrev after_it : (operands globals locals : List ℕ) → Point
+  after_it operands globals locals =
+      record p {
+        index = p.index + 1;
+        operands = operands ++ is.below;
+        locals = take p.first_local p.locals ++ locals;
+        globals = globals;
+      }
+
+  after_it-is : (operands globals locals : List ℕ) → AreOf operands op_is.0 → AreGlobalsOf globals ((outside_of m).globals) → AreOf locals is.locals →
+      IsPoint m rooms (after_it operands globals locals)
+  after_it-is operands globals locals are are_globals are_locals =
+      let outer : take p.first_local (take p.first_local p.locals ++ locals) ≡ take p.first_local p.locals = take-front p.first_local p.locals locals is.first_in in
+      let inner : drop p.first_local (take p.first_local p.locals ++ locals) ≡ locals = drop-front p.first_local p.locals locals is.first_in in
       record {
         own = operands;
         below = is.below;
-        functions = is.functions;
         locals = is.locals;
+        results = is.results;
         labels = is.labels;
-        before = parts.0;
+        before = op_is.0;
         ends = is.ends;
         operands_are = refl;
         below_are = is.below_are;
         own_are = are;
-        linked = is.linked;
-        locals_are = are_locals;
-        typed = parts.2;
-        index_in = omega arith;
-        fits = omega (
-          arith,
-          AreOf-length operands parts.0 are,
-          AreOf-length is.own is.before is.own_are,
-          is.fits,
-          length-op_typed is.functions is.locals operator is.before parts.0 parts.1 is.linked,
-        );
+        first_in = omega (arith, length-append (take p.first_local p.locals) locals, length-take-le p.first_local p.locals is.first_in);
+        locals_are = rw inner are_locals;
+        all_locals = is.all_locals;
+        globals_are = are_globals;
+        floor_is = is.floor_is;
+        typed = op_is.2;
+        index_in = omega (arith, within);
+        fits = omega (arith, AreOf-length operands op_is.0 are, AreOf-length is.own is.before is.own_are, is.fits, length-op_typed scope operator is.before op_is.0 op_is.1);
         room = is.room;
-        entries = is.entries;
+        awaiting = rw outer is.awaiting;
       }
 
   -- the configuration's step
-  abbrev own_config : List ℕ → Config
-  own_config globals = record { globals = globals; code = op operator (code_at sequences p.sequence (p.index + 1)); operands = is.own; locals = p.locals; contexts = contexts_of sequences p.labels is.below }
+  abbrev own_config : Config
+  own_config = record {
+    store = store_with m p.globals;
+    code = op operator rest;
+    operands = is.own;
+    locals = values;
+    contexts = contexts_of m p.function p.awaiting is.below (take p.first_local p.locals);
+  }
 
-  next-is : (globals memory : List ℕ) → next (λ pages. nat_le pages spare) (config_at sequences globals p) memory
-      ≡ answered (λ pages. nat_le pages spare) memory (then_wants (op_wants operator is.own p.locals) (own_config globals) (code_at sequences p.sequence (p.index + 1)))
-  next-is globals memory =
-      let split : config_at sequences globals p ≡ own_config globals =
-      config_at-split sequences globals p is.own is.below is.operands_are is.below_are
-      ∙ ap (λ (x : Code). let c : Config = record { globals = globals; code = x; operands = is.own; locals = p.locals; contexts = contexts_of sequences p.labels is.below } in c) code in
-      ap (λ (c : Config). next (λ pages. nat_le pages spare) c memory) split
-
-  state-is : (globals operands values : List ℕ) →
-      state_at sequences globals (after_it (operands ++ is.below) values) ≡ goes_on (own_config globals) (code_at sequences p.sequence (p.index + 1)) operands values
-  state-is globals operands values = state_at-split sequences globals (after_it (operands ++ is.below) values) operands is.below refl is.below_are
+  state-is : (operands globals locals : List ℕ) → state_at m (after_it operands globals locals)
+      ≡ settled (store_with m globals) (contexts_of m p.function p.awaiting is.below (take p.first_local p.locals)) rest operands locals
+  state-is operands globals locals =
+      let outer : take p.first_local (take p.first_local p.locals ++ locals) ≡ take p.first_local p.locals = take-front p.first_local p.locals locals is.first_in in
+      let inner : drop p.first_local (take p.first_local p.locals ++ locals) ≡ locals = drop-front p.first_local p.locals locals is.first_in in
+      state_at-split m (after_it operands globals locals) operands is.below refl is.below_are ∙ rw (outer, inner) refl
 
   -- what was done of a typed want over all operands is the configuration's step
-  executed-want : (w : OpWant) → OpWantTyped w parts.0 is.locals → (memory : List ℕ) (answer : Stepped) (operands values after : List ℕ) →
-      IsDone (over is.below w) p.locals memory spare answer operands values after →
-      ((globals : List ℕ) → next (λ pages. nat_le pages spare) (config_at sequences globals p) memory
-      ≡ answered (λ pages. nat_le pages spare) memory (then_wants w (own_config globals) (code_at sequences p.sequence (p.index + 1)))) →
-      IsExecuted sequences rooms spare p memory answer (after_it operands values) after
-  executed-want Stuck' typed memory answer operands values after done steps = absurd typed
-  executed-want (Leaves left changed) typed memory answer operands values after done steps =
-      rw (done.0, done.1, done.2, done.3) (
-        after_it-is left changed typed.0 typed.1,
-        λ globals. record { event = Silent; made = steps globals ∙ rw (state-is globals left changed) refl; answered = λ running. tt },
+  executed-want : (w : OpWant) → OpWantTyped w op_is.0 scope → (memory : List ℕ) (answer : Operated) (after : Held) →
+      IsDone (over is.below w) (record { operands = p.operands; globals = p.globals; locals = values; memory = memory }) spare answer after →
+      next (λ pages. nat_le pages spare) (config_at m p) memory ≡ answered (λ pages. nat_le pages spare) memory (then_wants w own_config rest) →
+      IsDoneAt m rooms spare p memory (answer_of answer) (operated_at after) after.memory
+  executed-want Stuck' typed memory answer after done steps = absurd typed
+  executed-want (Leaves left changed) typed memory answer after done steps =
+      rw (done.0, done.1) (
+        after_it-is left p.globals changed typed.0 is.globals_are typed.1,
+        record { event = Silent; made = steps ∙ rw (state-is left p.globals changed) refl; answered = λ running. tt },
       )
-  executed-want (Reads address width make) typed memory answer operands values after done steps = ⊎_elim
+  executed-want (Sets left changed) typed memory answer after done steps =
+      rw (done.0, done.1) (
+        after_it-is left changed values typed.0 typed.1 is.locals_are,
+        record { event = Silent; made = steps ∙ rw (state-is left changed values) refl; answered = λ running. tt },
+      )
+  executed-want (Reads address width make) typed memory answer after done steps = ⊎_elim
       (λ inside.
       let d = rw inside at done in
       let n : ℕ = number_at memory address width in
-      rw (d.0, d.1, d.2, d.3) (
-        after_it-is (make n) p.locals (typed n d.4) is.locals_are,
-        λ globals. record { event = Loads address width; made = steps globals ∙ rw (inside, state-is globals (make n) p.locals) refl; answered = λ running. tt },
+      rw (d.0, d.1) (
+        after_it-is (make n) p.globals values (typed n d.2) is.globals_are is.locals_are,
+        record { event = Loads address width; made = steps ∙ rw (inside, state-is (make n) p.globals values) refl; answered = λ running. tt },
       ))
       (λ outside.
       let d = rw outside at done in
-      rw (d.0, d.1) (λ (globals : List ℕ). record { event = Traps; made = steps globals ∙ rw outside refl; answered = tt }))
+      rw (d.0, d.1) (record { event = Traps trap.OutOfBounds; made = steps ∙ rw outside refl; answered = refl }))
       (cases_Bool (nat_le (address + width) (length memory)))
-  executed-want (Writes address width value left) typed memory answer operands values after done steps = ⊎_elim
+  executed-want (Writes address width value left) typed memory answer after done steps = ⊎_elim
       (λ inside.
       let d = rw inside at done in
-      rw (d.0, d.1, d.2, d.3) (
-        after_it-is left p.locals typed is.locals_are,
-        λ globals. record { event = Stores address width; made = steps globals ∙ rw (inside, state-is globals left p.locals) refl; answered = λ running. tt },
+      rw (d.0, d.1) (
+        after_it-is left p.globals values typed is.globals_are is.locals_are,
+        record { event = Stores address width; made = steps ∙ rw (inside, state-is left p.globals values) refl; answered = λ running. tt },
       ))
       (λ outside.
       let d = rw outside at done in
-      rw (d.0, d.1) (λ (globals : List ℕ). record { event = Traps; made = steps globals ∙ rw outside refl; answered = tt }))
+      rw (d.0, d.1) (record { event = Traps trap.OutOfBounds; made = steps ∙ rw outside refl; answered = refl }))
       (cases_Bool (nat_le (address + width) (length memory)))
-  executed-want (Requests pages make) typed memory answer operands values after done steps = ⊎_elim
+  executed-want (Sizes make) typed memory answer after done steps =
+      let n : ℕ = pages_of memory in
+      rw (done.0, done.1) (
+        after_it-is (make n) p.globals values (typed n done.2) is.globals_are is.locals_are,
+        record { event = Silent; made = steps ∙ rw (state-is (make n) p.globals values) refl; answered = λ running. tt },
+      )
+  executed-want (Requests pages make) typed memory answer after done steps = ⊎_elim
       (λ granted.
       let d = rw granted at done in
       let n : ℕ = pages_of memory in
-      let small : n < 2 ^ 32 = omega (arith, d.4) in
-      rw (d.0, d.1, d.2, d.3) (
-        after_it-is (make n) p.locals (typed n small) is.locals_are,
-        λ globals. record {
+      let small : n < 2 ^ 32 = omega (arith, d.2) in
+      rw (d.0, d.1) (
+        after_it-is (make n) p.globals values (typed n small) is.globals_are is.locals_are,
+        record {
           event = Grows pages true;
-          made = steps globals ∙ rw (granted, le-leb (pages_of memory + pages) most_pages d.4, state-is globals (make n) p.locals) refl;
+          made = steps ∙ rw (granted, le-leb (pages_of memory + pages) most_pages d.2, state-is (make n) p.globals values) refl;
           answered = λ running. (refl, refl);
         },
       ))
       (λ refused.
       let d = rw refused at done in
-      rw (d.0, d.1, d.2, d.3) (
-        after_it-is (make refusal) p.locals (typed refusal (omega arith)) is.locals_are,
-        λ globals. record { event = Grows pages false; made = steps globals ∙ rw (refused, state-is globals (make refusal) p.locals) refl; answered = λ running. refl },
+      rw (d.0, d.1) (
+        after_it-is (make refusal) p.globals values (typed refusal (omega arith)) is.globals_are is.locals_are,
+        record { event = Grows pages false; made = steps ∙ rw (refused, state-is (make refusal) p.globals values) refl; answered = λ running. refl },
       ))
       (cases_Bool (nat_le pages spare))
-  executed-want (Throws code) typed memory answer operands values after done steps =
-      rw (done.0, done.1) (λ (globals : List ℕ). record { event = Raises code; made = steps globals; answered = refl })
+  executed-want (Fails' why) typed memory answer after done steps =
+      rw (done.0, done.1) (record { event = Traps why; made = steps; answered = refl })
 
   -- an operator done is the configuration's step
-  pub executed-operator : (memory : List ℕ) (answer : Stepped) (operands values after : List ℕ) →
-      IsDone (op_wants operator p.operands p.locals) p.locals memory spare answer operands values after →
-      IsExecuted sequences rooms spare p memory answer (after_it operands values) after
-  executed-operator memory answer operands values after done =
-      let same : op_wants operator p.operands p.locals ≡ over is.below (op_wants operator is.own p.locals) =
-      rw (is.operands_are) (wants-over operator is.own is.below p.locals has) in
-      executed-want (op_wants operator is.own p.locals)
-      (op_wants-typed is.functions is.locals operator is.before parts.0 parts.1 is.linked is.own p.locals is.own_are is.locals_are)
-      memory answer operands values after
-      (subst (λ (w : OpWant). IsDone w p.locals memory spare answer operands values after) same done)
-      (λ globals. next-is globals memory)
+  pub executed-operator : (memory : List ℕ) (answer : Operated) (after : Held) →
+      IsDone (op_wants operator p.globals p.operands values) (record { operands = p.operands; globals = p.globals; locals = values; memory = memory }) spare answer after →
+      (told : Stepped) (q : Point) → told ≡ answer_of answer → q ≡ operated_at after → IsDoneAt m rooms spare p memory told q after.memory
+  executed-operator memory answer after done told q told_is q_is =
+      let same : op_wants operator p.globals p.operands values ≡ over is.below (op_wants operator p.globals is.own values) =
+      rw (is.operands_are) (wants-over operator p.globals is.own is.below values has) in
+      rw (told_is, q_is) (executed-want (op_wants operator p.globals is.own values)
+      (op_wants-typed scope operator is.before op_is.0 op_is.1 p.globals is.own values is.globals_are is.own_are is.locals_are)
+      memory answer after
+      (subst (λ (w : OpWant). IsDone w (record { operands = p.operands; globals = p.globals; locals = values; memory = memory }) spare answer after) same done)
+      (ap (λ (c : Config). next (λ pages. nat_le pages spare) c memory) (config-over is within (op operator rest) is.own code refl)))

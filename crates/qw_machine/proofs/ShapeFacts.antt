@@ -29,7 +29,7 @@ shape-found m None memory raise none some = λ number shaped.
 shape-found m (Some number) memory raise none (k, export, inside, same, run) = record {
   memory = memory;
   raise = raise.there;
-  raises = raise.each;
+  linked = raise.each;
   run = run.takes;
   exported = (export, (k, inside, same), run.named, run.exported);
 }

@@ -1,9 +1,9 @@
 -- An instance as its host sees it, and what a step of it answers.
-use Rattle.std.specs.Prelude.{◌≡◌, ℕ, nat_le, true, false, List, Some}
+use Rattle.std.specs.Prelude.{◌≡◌, ℕ, zero, suc, nat_le, true, false, List, Some}
 use Rattle.qw_module.specs.declared.module.Module.{Module}
-use Rattle.qw_machine.specs.declared.machine.Stepped.{Stepped}
-use Rattle.qw_machine.specs.declared.machine.Stepped.TheVariants.{Ran, Grew, Refused}
-use Rattle.qw_machine.specs.declared.machine.Stepped.TheVariants as stepped
+use Rattle.qw_machine.specs.declared.stepped.Stepped.{Stepped}
+use Rattle.qw_machine.specs.declared.stepped.Stepped.TheVariants.{Ran, Grew, Refused}
+use Rattle.qw_machine.specs.declared.stepped.Stepped.TheVariants as stepped
 use Rattle.qw_linear.specs.Memory.{pages_of}
 use Rattle.qw_module.specs.Execution.{Config, State, Running, Returned, Raised, Trapped, Event, Grows}
 use Rattle.qw_module.specs.Step.{next}
@@ -18,7 +18,7 @@ abbrev pub IsLast : Stepped → State → Type 0
 IsLast Ran (Running c) = Unit {0}
 IsLast stepped.Returned Returned = Unit {0}
 IsLast (stepped.Raised code) (Raised k) = code ≡ k
-IsLast stepped.Trapped Trapped = Unit {0}
+IsLast (stepped.Trapped why) (Trapped because) = why ≡ because
 IsLast _ _ = ⊥
 
 -- an event that is no request
@@ -34,7 +34,7 @@ IsAnswer (Grew at pages) memory event (Running c) = (event ≡ Grows pages true)
 IsAnswer (Refused pages) memory event (Running c) = event ≡ Grows pages false
 IsAnswer stepped.Returned memory event Returned = Unit {0}
 IsAnswer (stepped.Raised code) memory event (Raised k) = code ≡ k
-IsAnswer stepped.Trapped memory event Trapped = Unit {0}
+IsAnswer (stepped.Trapped why) memory event (Trapped because) = why ≡ because
 IsAnswer _ memory event _ = ⊥
 
 -- A configuration made the step that the definition says, where exactly requests of at most `spare` pages are granted, and
@@ -43,3 +43,10 @@ pub record Went (spare : ℕ) (c : Config) (before : List ℕ) (state : State) (
   pub event : Event
   pub made : next (λ pages. nat_le pages spare) c before ≡ Some (record { event = event; state = state; memory = after })
   pub answered : IsAnswer answer before event state
+
+-- So many steps were made one after another from a configuration and a memory, each but the last answered `Ran`, the last one so.
+-- None leads to the same configuration and memory, and is told as `Ran`.
+abbrev pub Runs : (spare steps : ℕ) → Config → (before : List ℕ) → State → (after : List ℕ) → Stepped → Type 0
+Runs spare zero c before state after answer = (state ≡ Running c) × (after ≡ before) × (answer ≡ Ran)
+Runs spare (suc steps) c before state after answer =
+    (d : Config) × (between : List ℕ) × Runs spare steps c before (Running d) between Ran × Went spare d between state after answer

@@ -1,3 +1,4 @@
+pub mod Descending
 pub mod Inner
 pub mod Instance
 pub use Rattle.qw_linear.specs.Memory

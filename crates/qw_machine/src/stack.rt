@@ -1,4 +1,4 @@
-ghost use Rattle.std.specs.Prelude.{◌≡◌, ◌-◌, ◌<◌, [], ◌∷◌, length, drop, IfOk};
+ghost use Rattle.std.specs.Prelude.{◌≡◌, ◌+◌, ◌-◌, ◌<◌, ◌≤◌, [], ◌∷◌, ◌++◌, length, take, drop, reverse, vec_capacity, IfOk};
 
 use qw_types::NoMemory;
 use std::alloc::Global;
@@ -42,18 +42,48 @@ impl<T: Drop> Stack<T> {
         self.items.push_reserved(value);
     }
 
+    // `pop` of the vector would test again whether there is one.
+    #[tactic(auto, using(crate::proofs::StackFacts::last_removed))]
     pub(crate) fn pop(&mut self) -> T
         requires { 0 < length self.old.values }
         ensures popped { self.old.values ≡ result ∷ self.new.values }
         ensures room { self.new.room ≡ self.old.room }
     {
-        self.items.pop().unwrap()
+        self.items.swap_remove(self.items.len() - 1)
+    }
+
+    /// The value that was pushed last. It stays.
+    #[tactic(auto, using(crate::proofs::StackFacts::first_is_last))]
+    pub(crate) fn top(&self) -> T
+    where
+        T: Copy,
+        requires { 0 < length self.now.values }
+        ensures { self.now.values ≡ result ∷ drop 1 self.now.values }
+    {
+        self.items[self.items.len() - 1]
     }
 
     /// Keeps the values that were pushed first, so many of them.
     pub(crate) fn truncate(&mut self, kept: usize)
         ensures { self.new ≡ record { values = drop (length self.old.values - kept) self.old.values; room = self.old.room } }
     {
+        self.items.truncate(kept);
+    }
+}
+
+impl Stack<u64> {
+    /// Moves the values that were pushed last, so many of them, to the end of a list, in the order in which they were pushed.
+    pub(crate) fn pass(&mut self, count: usize, to: &mut Vec<u64>)
+        requires there { count ≤ length self.old.values }
+        requires room { length to.old.items + count ≤ vec_capacity to.old }
+        ensures values { self.new ≡ record { values = drop count self.old.values; room = self.old.room } }
+        ensures passed { to.new.items ≡ to.old.items ++ reverse (take count self.old.values) }
+        ensures room { vec_capacity to.new ≡ vec_capacity to.old }
+    {
+        let kept = self.items.len() - count;
+        for value in self.items[kept..].iter() {
+            to.push_reserved(*value);
+        }
         self.items.truncate(kept);
     }
 }

@@ -9,7 +9,7 @@ use Rattle.qw_linear.proofs.MemoryFacts.{length-with_number, with_number-below, 
 use Rattle.qw_module.specs.Step.{Want, Next}
 use Rattle.qw_map.specs.Areas.{Area, World, SameIn, lies_in, lies_in_one, IsFine, world_after}
 use Rattle.qw_map.specs.Turns.{AreApart, AllApart, LiesWithin}
-use Rattle.qw_module.proofs.Outcomes.{Outcome, went, read, read_outside, put, put_outside, was_granted, was_refused, raised}
+use Rattle.qw_module.proofs.Outcomes.{Outcome, went, read, read_outside, put, put_outside, measured, was_granted, was_refused, raised, failed}
 
 -- ---- what holds of each element
 module _ {A : Type 0} (P : A → Type 0) where
@@ -71,10 +71,12 @@ outcome-kept w _ _ _ _ (read g m address width make room) fine areas apart insid
 outcome-kept w _ _ _ _ (read_outside g m address width make outside) fine areas apart inside = all-same m areas
 outcome-kept w _ _ _ _ (put g m address width value s room) fine areas apart inside = stored-apart m address width value w.own areas fine apart
 outcome-kept w _ _ _ _ (put_outside g m address width value s outside) fine areas apart inside = all-same m areas
+outcome-kept w _ _ _ _ (measured g m make) fine areas apart inside = all-same m areas
 outcome-kept w _ _ _ _ (was_granted g m pages make is room) fine areas apart inside =
     all-weaker (LiesWithin (length m)) (SameIn m (grown_by pages m)) (SameIn-grown_by pages m) areas inside
 outcome-kept w _ _ _ _ (was_refused g m pages make is) fine areas apart inside = all-same m areas
 outcome-kept w _ _ _ _ (raised g m code) fine areas apart inside = all-same m areas
+outcome-kept w _ _ _ _ (failed g m why) fine areas apart inside = all-same m areas
 
 -- ---- areas that a growth adds
 -- an area lies behind a memory of so many octets, in one of more
@@ -134,6 +136,7 @@ outcome-gains w _ _ _ _ (read_outside g m address width make outside) within = G
 outcome-gains w _ _ _ _ (put g m address width value s room) within =
     Gains-nothing (length m) (length (with_number m address width value)) w w.refused (length-with_number m address width value)
 outcome-gains w _ _ _ _ (put_outside g m address width value s outside) within = Gains-nothing (length m) (length m) w w.refused refl
+outcome-gains w _ _ _ _ (measured g m make) within = Gains-nothing (length m) (length m) w w.refused refl
 outcome-gains w _ _ _ _ (was_granted g m pages make is room) within =
     let longer : length (grown_by pages m) ≡ length m + pages * page = length-grown_by pages m in
     let fits : w.held + pages ≤ w.limit = within pages is in
@@ -148,6 +151,7 @@ outcome-gains w _ _ _ _ (was_granted g m pages make is room) within =
     }
 outcome-gains w _ _ _ _ (was_refused g m pages make is) within = Gains-nothing (length m) (length m) w (Some pages) refl
 outcome-gains w _ _ _ _ (raised g m code) within = Gains-nothing (length m) (length m) w w.refused refl
+outcome-gains w _ _ _ _ (failed g m why) within = Gains-nothing (length m) (length m) w w.refused refl
 
 -- each area that lay in the memory, and each that was added, lies in it now
 pub inside-gains : (octets more : ℕ) (w after : World) → Gains octets more w after → AllByRecursion (LiesWithin octets) (w.mapped ++ w.own) →

@@ -8,14 +8,14 @@ use Rattle.qw_map.specs.Areas.{World, Others, IsFine, AsksWithin, IsAnswered, gr
 use Rattle.qw_map.specs.Inner.Steps.{IsAllowed}
 use Rattle.qw_map.specs.Runs.{Moment, moment_after, OpenStep, OpenRun, begins, goes_on, Behaves}
 use Rattle.qw_map.specs.Inner.Steps.{OnStep, OnRunning, Within}
-use Rattle.qw_module.proofs.Outcomes.{Outcome, went, read, read_outside, put, put_outside, was_granted, was_refused, raised, outcome}
+use Rattle.qw_module.proofs.Outcomes.{Outcome, went, read, read_outside, put, put_outside, measured, was_granted, was_refused, raised, failed, outcome}
 use Rattle.qw_module.proofs.Steps.{next-rule, rule_from_next}
 
 OnRunning-more : (P Q : Config → Type 0) (s : State) → ((c : Config) → P c → Q c) → OnRunning s P → OnRunning s Q
 OnRunning-more P Q (Running c) weaker h = weaker c h
 OnRunning-more P Q Returned weaker h = h
 OnRunning-more P Q (Raised code) weaker h = h
-OnRunning-more P Q Trapped weaker h = h
+OnRunning-more P Q (Trapped why) weaker h = h
 
 module _ (pages : ℕ) where
   -- what holds after the steps may be weakened
@@ -67,7 +67,7 @@ allowed-fine pages w (Loads address width) state allowed = allowed
 allowed-fine pages w (Stores address width) state allowed = allowed
 allowed-fine pages w (Grows asked granted) state allowed = tt
 allowed-fine pages w (Raises code) state allowed = allowed
-allowed-fine pages w Traps state allowed = allowed
+allowed-fine pages w (Traps why) state allowed = allowed
 
 pub allowed-asks : (pages : ℕ) (w : World) (event : Event) (state : State) → IsAllowed pages w event state → AsksWithin pages w event state
 allowed-asks pages w Silent state allowed = tt
@@ -75,7 +75,7 @@ allowed-asks pages w (Loads address width) state allowed = tt
 allowed-asks pages w (Stores address width) state allowed = tt
 allowed-asks pages w (Grows asked granted) state allowed = allowed
 allowed-asks pages w (Raises code) state allowed = tt
-allowed-asks pages w Traps state allowed = tt
+allowed-asks pages w (Traps why) state allowed = tt
 
 -- A memory has room for what an instance may still ask for. So a growth is granted exactly where the limit lets it.
 abbrev pub HasRoom : World → List ℕ → Type 0
@@ -95,12 +95,14 @@ outcome-answered w _ _ _ _ (read g memory address width make inside) same room =
 outcome-answered w _ _ _ _ (read_outside g memory address width make outside) same room = tt
 outcome-answered w _ _ _ _ (put g memory address width value s inside) same room = tt
 outcome-answered w _ _ _ _ (put_outside g memory address width value s outside) same room = tt
+outcome-answered w _ _ _ _ (measured g memory make) same room = tt
 outcome-answered w _ _ _ _ (was_granted g memory asked make is fits) same room = sym is ∙ same asked
 outcome-answered w _ _ _ _ (was_refused g memory asked make is) same room = ⊎_elim
     (λ grants_it. absurd (false≢true (sym is ∙ and_from (g asked) (nat_le (pages_of memory + asked) most_pages) grants_it (room asked grants_it))))
     (λ refuses_it. sym refuses_it ∙ same asked)
     (cases_Bool (g asked))
 outcome-answered w _ _ _ _ (raised g memory code) same room = tt
+outcome-answered w _ _ _ _ (failed g memory why) same room = tt
 
 pub answered-rightly : (w : World) (memory : List ℕ) → HasRoom w memory → (want : Want) (t : Next) → answered (grants w) memory want ≡ Some t →
     IsAnswered w t.event
@@ -113,7 +115,7 @@ agrees w (Loads address width) answered = tt
 agrees w (Stores address width) answered = tt
 agrees w (Grows asked granted) answered = sym answered
 agrees w (Raises code) answered = tt
-agrees w Traps answered = tt
+agrees w (Traps why) answered = tt
 
 pub open-next : (a : Moment) (c : Config) (before : List ℕ) (event : Event) (state : State) (after : List ℕ) →
     OpenStep a c before event state after → next (grants a.world) c before ≡ Some (record { event = event; state = state; memory = after })
@@ -127,7 +129,7 @@ OnRunning-over : (P : Config → Type 0) (s : State) → IsOver s → OnRunning 
 OnRunning-over P (Running c) over h = over
 OnRunning-over P Returned over h = h
 OnRunning-over P (Raised code) over h = h
-OnRunning-over P Trapped over h = h
+OnRunning-over P (Trapped why) over h = h
 
 module _ (pages : ℕ) (Q : Moment → Type 0) (ended : (b : Moment) → Q b → IsOver b.state) where
   -- an instance that runs, and has at most n steps to go, has a next one

@@ -4,7 +4,7 @@ use Rattle.std.proofs.lemmas.Bool.{le-leb, leb-true, leb-false, and_from, and_le
 use Rattle.std.proofs.lemmas.Option.{none-some, same_Some}
 use Rattle.qw_module.specs.Execution.{Config, State, Running, Returned, Raised, Trapped, Raises, refusal}
 use Rattle.qw_linear.specs.Memory.{page, most_pages, number_at, with_number, grown_by, pages_of}
-use Rattle.qw_module.specs.Step.{Want, Stuck, Goes, Asks, Puts, AsksPages, Signals, wants}
+use Rattle.qw_module.specs.Step.{Want, Stuck, Goes, Asks, Puts, Measures, AsksPages, Signals, Fails, wants}
 use Rattle.qw_map.specs.Areas.{Area, World, Others, SameIn, lies_in_one, IsFine, GoesOn, grants}
 use Rattle.qw_map.specs.Runs.{Moment}
 use Rattle.qw_map.specs.Inner.Steps.{Within}
@@ -37,15 +37,17 @@ next_silent on Stuck = None
 next_silent on (Goes s) = on s
 next_silent on (Asks address width make) = None
 next_silent on (Puts address width value s) = None
+next_silent on (Measures make) = None
 next_silent on (AsksPages asked make) = None
 next_silent on (Signals code) = None
+next_silent on (Fails why) = None
 
 abbrev pub silent : ℕ → State → Option State
 silent zero s = Some s
 silent (suc k) (Running c) = next_silent (silent k) (wants c)
 silent (suc k) Returned = None
 silent (suc k) (Raised code) = None
-silent (suc k) Trapped = None
+silent (suc k) (Trapped why) = None
 
 pub record Silently (k : ℕ) (t s : State) : Type 0 where
   pub leads : silent k t ≡ Some s
@@ -80,15 +82,17 @@ module _ (pages : ℕ) (Q : Moment → Type 0) (w : World) where
   from_want M kept k n c (Goes t) s wanted following e = goes M kept (more k n) c t wanted (following t e)
   from_want M kept k n c (Asks address width make) s wanted following e = absurd (none-some s e)
   from_want M kept k n c (Puts address width value t) s wanted following e = absurd (none-some s e)
+  from_want M kept k n c (Measures make) s wanted following e = absurd (none-some s e)
   from_want M kept k n c (AsksPages asked make) s wanted following e = absurd (none-some s e)
   from_want M kept k n c (Signals code) s wanted following e = absurd (none-some s e)
+  from_want M kept k n c (Fails why) s wanted following e = absurd (none-some s e)
 
   go_on : (M : List ℕ → Type 0) → IsKept w M → (k n : ℕ) (t s : State) → silent k t ≡ Some s → Reaches pages Q w M n s → Reaches pages Q w M (more k n) t
   go_on M kept zero n t s e reaches = subst (λ (x : State). Reaches pages Q w M n x) (sym (same_Some t s e)) reaches
   go_on M kept (suc k) n (Running c) s e reaches = from_want M kept k n c (wants c) s refl (λ t h. go_on M kept k n t s h reaches) e
   go_on M kept (suc k) n Returned s e reaches = absurd (none-some s e)
   go_on M kept (suc k) n (Raised code) s e reaches = absurd (none-some s e)
-  go_on M kept (suc k) n Trapped s e reaches = absurd (none-some s e)
+  go_on M kept (suc k) n (Trapped why) s e reaches = absurd (none-some s e)
 
   pub go : {M : List ℕ → Type 0} {k n : ℕ} {t s : State} → IsKept w M → Silently k t s → Reaches pages Q w M n s → Reaches pages Q w M (more k n) t
   go {M} {k} {n} {t} {s} kept silently reaches = go_on M kept k n t s silently.leads reaches

@@ -8,7 +8,7 @@ use Rattle.qw_module.specs.Execution.{Config, State, Running, Event, pages_gaine
 use Rattle.qw_module.specs.Step.{wants, Next, next}
 use Rattle.qw_map.specs.Areas.{Area, World, SameIn, Others, IsFine, grants, world_after}
 use Rattle.qw_map.specs.Runs.{Moment, moment_after, OpenStep, OpenRun, begins, goes_on, Behaves}
-use Rattle.qw_map.specs.Turns.{Instance, Shared, moved, turns, EachInstance, EachAfter, AreApart, AllApart, LiesWithin, may_ask, AreSeparate, moment_of, StaysFine, AreSafe, LeadsTo}
+use Rattle.qw_map.specs.Turns.{Instance, Shared, moved, Act, turns, EachInstance, EachAfter, AreApart, AllApart, LiesWithin, may_ask, AreSeparate, moment_of, StaysFine, AreSafe, LeadsTo}
 use Rattle.qw_map.proofs.AreaLemmas.{all-append, all-front, all-back, all-weaker, all-same, all-then, outcome-kept, all-behind-apart, all-apart-behind, Gains, outcome-gains, inside-gains}
 use Rattle.qw_map.proofs.OpenRuns.{answered-rightly}
 use Rattle.qw_module.proofs.Outcomes.{outcome}
@@ -134,26 +134,26 @@ asks_changed (first ∷ instances) (suc j) one put found =
 
 -- ---- a step of one of the instances
 -- between steps others need make nothing of the memory
-others-none : (s : Shared) → AreSeparate s → (k : ℕ) (i : Instance) → slice_get s.instances k ≡ Some i → Others i.world s.memory s.memory
+others-none : (s : Shared) → AreSeparate s → (k : ℕ) (i : Instance) → slice_get s.instances k ≡ Some i → Others i.world s.common.memory s.common.memory
 others-none s separate k i found = record {
   grown = 0;
   length_is = omega arith;
   room = let asked = asks_within s.instances k i found in omega (arith, asked, separate.room);
   octets = separate.octets;
-  mapped_kept = all-same s.memory i.world.mapped;
-  own_kept = all-same s.memory i.world.own;
+  mapped_kept = all-same s.common.memory i.world.mapped;
+  own_kept = all-same s.common.memory i.world.own;
 }
 
 module _ (s : Shared) (separate : AreSeparate s) (j : ℕ) (one : Instance) (c : Config) (t : Next)
-    (there : slice_get s.instances j ≡ Some one) (running : one.state ≡ Running c) (made : next (grants one.world) c s.memory ≡ Some t) where
+    (there : slice_get s.instances j ≡ Some one) (running : one.state ≡ Running c) (made : next (grants one.world) c s.common.memory ≡ Some t) where
   abbrev put : Instance
-  put = moved one (world_after one.world s.memory t.event) t.state
+  put = moved one (world_after one.world s.common.memory t.event) t.state
 
-  length-put : length t.memory ≡ length s.memory + pages_gained t.event * page
-  length-put = length_grows (grants one.world) c s.memory t made
+  length-put : length t.memory ≡ length s.common.memory + pages_gained t.event * page
+  length-put = length_grows (grants one.world) c s.common.memory t made
 
-  gains-put : Gains (length s.memory) (length t.memory) one.world put.world
-  gains-put = outcome-gains one.world (grants one.world) s.memory (wants c) t (outcome (grants one.world) s.memory (wants c) t made)
+  gains-put : Gains (length s.common.memory) (length t.memory) one.world put.world
+  gains-put = outcome-gains one.world (grants one.world) s.common.memory (wants c) t (outcome (grants one.world) s.common.memory (wants c) t made)
       (λ asked is. leb-true (one.world.held + asked) one.world.limit is)
 
   pub put_there : slice_get (after_step s j one t).instances j ≡ Some put
@@ -176,28 +176,28 @@ module _ (s : Shared) (separate : AreSeparate s) (j : ℕ) (one : Instance) (c :
       (λ k i elsewhere found. (i, found, refl, refl))
 
   -- the areas of each lie in the memory
-  own_inside : (k : ℕ) (i : Instance) → slice_get s.instances k ≡ Some i → AllByRecursion (LiesWithin (length s.memory)) i.world.own
-  own_inside k i found = all-back (LiesWithin (length s.memory)) i.world.mapped i.world.own (separate.inside k i found)
+  own_inside : (k : ℕ) (i : Instance) → slice_get s.instances k ≡ Some i → AllByRecursion (LiesWithin (length s.common.memory)) i.world.own
+  own_inside k i found = all-back (LiesWithin (length s.common.memory)) i.world.mapped i.world.own (separate.inside k i found)
 
-  mapped_inside : (k : ℕ) (i : Instance) → slice_get s.instances k ≡ Some i → AllByRecursion (LiesWithin (length s.memory)) i.world.mapped
-  mapped_inside k i found = all-front (LiesWithin (length s.memory)) i.world.mapped i.world.own (separate.inside k i found)
+  mapped_inside : (k : ℕ) (i : Instance) → slice_get s.instances k ≡ Some i → AllByRecursion (LiesWithin (length s.common.memory)) i.world.mapped
+  mapped_inside k i found = all-front (LiesWithin (length s.common.memory)) i.world.mapped i.world.own (separate.inside k i found)
 
   inside-step : (k : ℕ) (i : Instance) → IsPutOrOld k i → AllByRecursion (LiesWithin (length t.memory)) (i.world.mapped ++ i.world.own)
-  inside-step k i (inl (here, is)) = rw is (inside-gains (length s.memory) (length t.memory) one.world put.world gains-put (separate.inside j one there))
+  inside-step k i (inl (here, is)) = rw is (inside-gains (length s.common.memory) (length t.memory) one.world put.world gains-put (separate.inside j one there))
   inside-step k i (inr (elsewhere, found)) =
-      let longer : length s.memory ≤ length t.memory = gains-put.longer in
-      all-weaker (LiesWithin (length s.memory)) (LiesWithin (length t.memory)) (λ area h. omega arith) (i.world.mapped ++ i.world.own)
+      let longer : length s.common.memory ≤ length t.memory = gains-put.longer in
+      all-weaker (LiesWithin (length s.common.memory)) (LiesWithin (length t.memory)) (λ area h. omega arith) (i.world.mapped ++ i.world.own)
       (separate.inside k i found)
 
   -- areas in the memory that are apart from the own ones of the instance are apart from those that it has then
-  put-apart : (areas : List Area) → AllByRecursion (LiesWithin (length s.memory)) areas → AllApart one.world.own areas → AllApart put.world.own areas
+  put-apart : (areas : List Area) → AllByRecursion (LiesWithin (length s.common.memory)) areas → AllApart one.world.own areas → AllApart put.world.own areas
   put-apart areas inside apart = rw (gains-put.own_is)
       (all-append (λ area. AllByRecursion (AreApart area) areas) one.world.own gains-put.gained apart
-      (all-behind-apart (length s.memory) (length t.memory) gains-put.gained areas gains-put.behind inside))
+      (all-behind-apart (length s.common.memory) (length t.memory) gains-put.gained areas gains-put.behind inside))
 
-  apart-put : (areas : List Area) → AllByRecursion (LiesWithin (length s.memory)) areas → AllApart areas one.world.own → AllApart areas put.world.own
+  apart-put : (areas : List Area) → AllByRecursion (LiesWithin (length s.common.memory)) areas → AllApart areas one.world.own → AllApart areas put.world.own
   apart-put areas inside apart = rw (gains-put.own_is)
-      (all-apart-behind (length s.memory) (length t.memory) gains-put.gained areas one.world.own gains-put.behind inside apart)
+      (all-apart-behind (length s.common.memory) (length t.memory) gains-put.gained areas one.world.own gains-put.behind inside apart)
 
   own_apart-step : (k l : ℕ) (i other : Instance) → k ≢ l → IsPutOrOld k i → IsPutOrOld l other → AllApart i.world.own other.world.own
   own_apart-step k l i other differ (inl (here, is)) (inl (also_here, other_is)) = absurd (differ (here ∙ sym also_here))
@@ -215,7 +215,7 @@ module _ (s : Shared) (separate : AreSeparate s) (j : ℕ) (one : Instance) (c :
 
   pub separate-step : AreSeparate (after_step s j one t)
   separate-step = record {
-    octets = octets_stay (grants one.world) c s.memory t separate.octets made;
+    octets = octets_stay (grants one.world) c s.common.memory t separate.octets made;
     inside = λ k i found. inside-step k i (put_or_old k i found);
     own_apart = λ k l i other differ found found_other. own_apart-step k l i other differ (put_or_old k i found) (put_or_old l other found_other);
     columns_apart = λ k l i other found found_other.
@@ -228,23 +228,23 @@ module _ (s : Shared) (separate : AreSeparate s) (j : ℕ) (one : Instance) (c :
   }
 
   -- the step is one of an open run
-  pub open-step : OpenStep (moment_of one s.memory) c s.memory t.event t.state t.memory
+  pub open-step : OpenStep (moment_of one s.common.memory) c s.common.memory t.event t.state t.memory
   open-step =
-      let others : Others one.world s.memory s.memory = others-none s separate j one there in
+      let others : Others one.world s.common.memory s.common.memory = others-none s separate j one there in
       record {
         running = running;
         others = others;
-        step = rule_from_next (grants one.world) c s.memory t made;
-        answered = answered-rightly one.world s.memory others.room (wants c) t made;
+        step = rule_from_next (grants one.world) c s.common.memory t made;
+        answered = answered-rightly one.world s.common.memory others.room (wants c) t made;
       }
 
   -- areas in the memory that are apart from its own ones are kept by the step, where it is fine
-  pub kept-step : IsFine one.world t.event → (areas : List Area) → AllApart one.world.own areas → AllByRecursion (LiesWithin (length s.memory)) areas →
-      AllByRecursion (SameIn s.memory t.memory) areas
-  kept-step = outcome-kept one.world (grants one.world) s.memory (wants c) t (outcome (grants one.world) s.memory (wants c) t made)
+  pub kept-step : IsFine one.world t.event → (areas : List Area) → AllApart one.world.own areas → AllByRecursion (LiesWithin (length s.common.memory)) areas →
+      AllByRecursion (SameIn s.common.memory t.memory) areas
+  kept-step = outcome-kept one.world (grants one.world) s.common.memory (wants c) t (outcome (grants one.world) s.common.memory (wants c) t made)
 
   -- which is what others may do to another instance
-  pub others-step : IsFine one.world t.event → (k : ℕ) (i : Instance) → k ≢ j → slice_get s.instances k ≡ Some i → Others i.world s.memory t.memory
+  pub others-step : IsFine one.world t.event → (k : ℕ) (i : Instance) → k ≢ j → slice_get s.instances k ≡ Some i → Others i.world s.common.memory t.memory
   others-step fine k i differ found =
       let stays : slice_get (after_step s j one t).instances k ≡ Some i = slice_get-set_other s.instances j k put differ ∙ found in
       record {
@@ -259,7 +259,7 @@ module _ (s : Shared) (separate : AreSeparate s) (j : ℕ) (one : Instance) (c :
 -- ---- every list of turns
 -- an open run with a step for each instruction that it ran leads an instance to what it is now
 abbrev IsReached : (s now : Shared) (i later : Instance) → Type 0
-IsReached s now i later = (steps : ℕ) × (later.ran ≡ i.ran + steps) × LeadsTo steps (moment_of i s.memory) (moment_of later now.memory)
+IsReached s now i later = (steps : ℕ) × (later.ran ≡ i.ran + steps) × LeadsTo steps (moment_of i s.common.memory) (moment_of later now.common.memory)
 
 -- what holds of the instances after turns, beside those before
 record Follows (s now : Shared) : Type 0 where
@@ -267,7 +267,7 @@ record Follows (s now : Shared) : Type 0 where
   many : length now.instances ≡ length s.instances
   reached : EachAfter (IsReached s now) s now
   worlds : EachAfter (λ i later. (later.world.mapped ≡ i.world.mapped) × (later.world.limit ≡ i.world.limit)) s now
-  columns : EachInstance (λ i. AllByRecursion (SameIn s.memory now.memory) i.world.mapped) s
+  columns : EachInstance (λ i. AllByRecursion (SameIn s.common.memory now.common.memory) i.world.mapped) s
 
 found-in : {A : Type 0} (xs : List A) (k : ℕ) → k < length xs → (x : A) × (slice_get xs k ≡ Some x)
 found-in [] k inside = absurd (omega arith)
@@ -275,17 +275,17 @@ found-in (x ∷ xs) zero inside = (x, refl)
 found-in (x ∷ xs) (suc k) inside = found-in xs k (omega arith)
 
 follows-step : (s : Shared) → AreSafe s → (now : Shared) (j : ℕ) (one : Instance) (c : Config) (t : Next) → slice_get now.instances j ≡ Some one →
-    one.state ≡ Running c → next (grants one.world) c now.memory ≡ Some t → Follows s now → Follows s (after_step now j one t)
+    one.state ≡ Running c → next (grants one.world) c now.common.memory ≡ Some t → Follows s now → Follows s (after_step now j one t)
 follows-step s safe now j one c t there running made follows =
-    let new : Instance = moved one (world_after one.world now.memory t.event) t.state in
-    let step : OpenStep (moment_of one now.memory) c now.memory t.event t.state t.memory = open-step now follows.separate j one c t there running made in
+    let new : Instance = moved one (world_after one.world now.common.memory t.event) t.state in
+    let step : OpenStep (moment_of one now.common.memory) c now.common.memory t.event t.state t.memory = open-step now follows.separate j one c t there running made in
     let after : AreSeparate (after_step now j one t) = separate-step now follows.separate j one c t there running made in
     let new_there : slice_get (after_step now j one t).instances j ≡ Some new = put_there now follows.separate j one c t there running made in
     let inside : j < length s.instances = let before = slice_get_within now.instances j one there in omega (arith, follows.many) in
     let first = found-in s.instances j inside in
     let led = follows.reached j first.0 one first.1 there in
-    let fine : IsFine one.world t.event = fine-after led.0 (moment_of first.0 s.memory) (moment_of one now.memory) led.2 (safe.fine j first.0 first.1)
-    0 (moment_of one now.memory) c now.memory t.event t.state t.memory (begins (moment_of one now.memory)) step in
+    let fine : IsFine one.world t.event = fine-after led.0 (moment_of first.0 s.common.memory) (moment_of one now.common.memory) led.2 (safe.fine j first.0 first.1)
+    0 (moment_of one now.common.memory) c now.common.memory t.event t.state t.memory (begins (moment_of one now.common.memory)) step in
     record {
       separate = after;
       many = length-set now.instances j new ∙ follows.many;
@@ -297,7 +297,7 @@ follows-step s safe now j one c t there running made follows =
             omega (arith, led.1),
             record {
               left = t.memory;
-              run = LeadsTo-step led.0 (moment_of i s.memory) (moment_of one now.memory) c now.memory t.event t.state t.memory led.2 step;
+              run = LeadsTo-step led.0 (moment_of i s.common.memory) (moment_of one now.common.memory) c now.common.memory t.event t.state t.memory led.2 step;
               others = others-none (after_step now j one t) after j new new_there;
             },
           ))
@@ -305,7 +305,7 @@ follows-step s safe now j one c t there running made follows =
           let led = follows.reached l i x found before in (
             led.0,
             led.1,
-            LeadsTo-others led.0 (moment_of i s.memory) x.world x.state now.memory t.memory
+            LeadsTo-others led.0 (moment_of i s.common.memory) x.world x.state now.common.memory t.memory
                 (others-step now follows.separate j one c t there running made fine l x elsewhere before) led.2,
           ))
           k later found_later i found;
@@ -317,11 +317,11 @@ follows-step s safe now j one c t there running made follows =
           let inside : k < length now.instances = let before = slice_get_within s.instances k i found in omega (arith, follows.many) in
           let between = found-in now.instances k inside in
           let same : between.0.world.mapped ≡ i.world.mapped = (follows.worlds k i between.0 found between.1).0 in
-          let kept : AllByRecursion (SameIn now.memory t.memory) between.0.world.mapped =
+          let kept : AllByRecursion (SameIn now.common.memory t.memory) between.0.world.mapped =
           kept-step now follows.separate j one c t there running made fine between.0.world.mapped
           (follows.separate.columns_apart j k one between.0 there between.1)
-          (all-front (LiesWithin (length now.memory)) between.0.world.mapped between.0.world.own (follows.separate.inside k between.0 between.1)) in
-          all-then s.memory now.memory t.memory i.world.mapped (follows.columns k i found) (rw same at kept);
+          (all-front (LiesWithin (length now.common.memory)) between.0.world.mapped between.0.world.own (follows.separate.inside k between.0 between.1)) in
+          all-then s.common.memory now.common.memory t.memory i.world.mapped (follows.columns k i found) (rw same at kept);
     }
 
 follows-none : (s : Shared) → AreSafe s → Follows s s
@@ -333,18 +333,18 @@ follows-none s safe = record {
       subst (IsReached s s i) is (
         0,
         omega arith,
-        record { left = s.memory; run = begins (moment_of i s.memory); others = others-none s safe.separate k i found },
+        record { left = s.common.memory; run = begins (moment_of i s.common.memory); others = others-none s safe.separate k i found },
       );
   worlds = λ k i later found found_later.
       let is : later ≡ i = same_Some later i (sym found_later ∙ found) in
       (ap (λ (x : Instance). x.world.mapped) is, ap (λ (x : Instance). x.world.limit) is);
-  columns = λ k i found. all-same s.memory i.world.mapped;
+  columns = λ k i found. all-same s.common.memory i.world.mapped;
 }
 
-follows-turns : (s : Shared) → AreSafe s → (ts : List (ℕ × ℕ)) → Follows s (turns ts s)
-follows-turns s safe ts = turns-keep (Follows s)
+follows-turns : (s : Shared) → AreSafe s → (acts : List Act) → Follows s (turns acts s)
+follows-turns s safe acts = turns-keep (Follows s)
     (λ now j one c t there unended running made follows. follows-step s safe now j one c t there running made follows)
-    ts s (follows-none s safe)
+    acts s (follows-none s safe)
 
 safe-after : (s now : Shared) → AreSafe s → Follows s now → AreSafe now
 safe-after s now safe follows = record {
@@ -353,46 +353,46 @@ safe-after s now safe follows = record {
       let inside : k < length s.instances = let there = slice_get_within now.instances k later found_later in omega (arith, follows.many) in
       let first = found-in s.instances k inside in
       let led = follows.reached k first.0 later first.1 found_later in
-      fine-after led.0 (moment_of first.0 s.memory) (moment_of later now.memory) led.2 (safe.fine k first.0 first.1);
+      fine-after led.0 (moment_of first.0 s.common.memory) (moment_of later now.common.memory) led.2 (safe.fine k first.0 first.1);
 }
 
-pub safe-turns : (s : Shared) (ts : List (ℕ × ℕ)) → AreSafe s → AreSafe (turns ts s)
-safe-turns s ts safe = safe-after s (turns ts s) safe (follows-turns s safe ts)
+pub safe-turns : (s : Shared) (acts : List Act) → AreSafe s → AreSafe (turns acts s)
+safe-turns s acts safe = safe-after s (turns acts s) safe (follows-turns s safe acts)
 
 pub safe-step : (s : Shared) (j : ℕ) (one : Instance) (c : Config) (t : Next) → slice_get s.instances j ≡ Some one →
-    one.state ≡ Running c → next (grants one.world) c s.memory ≡ Some t → AreSafe s → AreSafe (after_step s j one t)
+    one.state ≡ Running c → next (grants one.world) c s.common.memory ≡ Some t → AreSafe s → AreSafe (after_step s j one t)
 safe-step s j one c t there running made safe =
     safe-after s (after_step s j one t) safe (follows-step s safe s j one c t there running made (follows-none s safe))
 
 -- a step that an instance can make now is fine
 pub fine-now : (s : Shared) → AreSafe s → (k : ℕ) (i : Instance) (c : Config) (t : Next) → slice_get s.instances k ≡ Some i →
-    i.state ≡ Running c → next (grants i.world) c s.memory ≡ Some t → IsFine i.world t.event
-fine-now s safe k i c t found running made = safe.fine k i found 0 (moment_of i s.memory) c s.memory t.event t.state t.memory
-    (begins (moment_of i s.memory)) (open-step s safe.separate k i c t found running made)
+    i.state ≡ Running c → next (grants i.world) c s.common.memory ≡ Some t → IsFine i.world t.event
+fine-now s safe k i c t found running made = safe.fine k i found 0 (moment_of i s.common.memory) c s.common.memory t.event t.state t.memory
+    (begins (moment_of i s.common.memory)) (open-step s safe.separate k i c t found running made)
 
-pub runs-turns : (s : Shared) (ts : List (ℕ × ℕ)) → AreSafe s → (k : ℕ) (i later : Instance) → slice_get s.instances k ≡ Some i →
-    slice_get (turns ts s).instances k ≡ Some later →
-    (i.ran ≤ later.ran) × LeadsTo (later.ran - i.ran) (moment_of i s.memory) (moment_of later (turns ts s).memory)
-runs-turns s ts safe k i later found found_later =
-    let led = (follows-turns s safe ts).reached k i later found found_later in
+pub runs-turns : (s : Shared) (acts : List Act) → AreSafe s → (k : ℕ) (i later : Instance) → slice_get s.instances k ≡ Some i →
+    slice_get (turns acts s).instances k ≡ Some later →
+    (i.ran ≤ later.ran) × LeadsTo (later.ran - i.ran) (moment_of i s.common.memory) (moment_of later (turns acts s).common.memory)
+runs-turns s acts safe k i later found found_later =
+    let led = (follows-turns s safe acts).reached k i later found found_later in
     let count : led.0 ≡ later.ran - i.ran = omega (arith, led.1) in (
       omega (arith, led.1),
-      subst (λ (n : ℕ). LeadsTo n (moment_of i s.memory) (moment_of later (turns ts s).memory)) count led.2,
+      subst (λ (n : ℕ). LeadsTo n (moment_of i s.common.memory) (moment_of later (turns acts s).common.memory)) count led.2,
     )
 
-pub worlds-turns : (s : Shared) (ts : List (ℕ × ℕ)) → AreSafe s →
-    EachAfter (λ i later. (later.world.mapped ≡ i.world.mapped) × (later.world.limit ≡ i.world.limit)) s (turns ts s)
-worlds-turns s ts safe k i later found found_later = (follows-turns s safe ts).worlds k i later found found_later
+pub worlds-turns : (s : Shared) (acts : List Act) → AreSafe s →
+    EachAfter (λ i later. (later.world.mapped ≡ i.world.mapped) × (later.world.limit ≡ i.world.limit)) s (turns acts s)
+worlds-turns s acts safe k i later found found_later = (follows-turns s safe acts).worlds k i later found found_later
 
-pub columns-turns : (s : Shared) (ts : List (ℕ × ℕ)) → AreSafe s →
-    EachInstance (λ i. AllByRecursion (SameIn s.memory (turns ts s).memory) i.world.mapped) s
-columns-turns s ts safe k i found = (follows-turns s safe ts).columns k i found
+pub columns-turns : (s : Shared) (acts : List Act) → AreSafe s →
+    EachInstance (λ i. AllByRecursion (SameIn s.common.memory (turns acts s).common.memory) i.world.mapped) s
+columns-turns s acts safe k i found = (follows-turns s safe acts).columns k i found
 
 -- an instance that behaves goes on to behave, whatever turns there are
-pub behaves-turns : (s : Shared) (ts : List (ℕ × ℕ)) → AreSafe s → (k : ℕ) (i later : Instance) → slice_get s.instances k ≡ Some i →
-    slice_get (turns ts s).instances k ≡ Some later → (most pages : ℕ) (P : Moment → Type 0) →
+pub behaves-turns : (s : Shared) (acts : List Act) → AreSafe s → (k : ℕ) (i later : Instance) → slice_get s.instances k ≡ Some i →
+    slice_get (turns acts s).instances k ≡ Some later → (most pages : ℕ) (P : Moment → Type 0) →
     ((b : Moment) (after : List ℕ) → Others b.world b.memory after → P b → P (record b { memory = after })) →
-    Behaves most pages P (moment_of i s.memory) → Behaves (most - (later.ran - i.ran)) pages P (moment_of later (turns ts s).memory)
-behaves-turns s ts safe k i later found found_later most pages P kept behaves =
-    behaves-after (later.ran - i.ran) most pages P kept (moment_of i s.memory) (moment_of later (turns ts s).memory)
-    (runs-turns s ts safe k i later found found_later).1 behaves
+    Behaves most pages P (moment_of i s.common.memory) → Behaves (most - (later.ran - i.ran)) pages P (moment_of later (turns acts s).common.memory)
+behaves-turns s acts safe k i later found found_later most pages P kept behaves =
+    behaves-after (later.ran - i.ran) most pages P kept (moment_of i s.common.memory) (moment_of later (turns acts s).common.memory)
+    (runs-turns s acts safe k i later found found_later).1 behaves

@@ -58,6 +58,6 @@ instance_code =
 abbrev pub shared_code : Coded Shared
 shared_code =
     code_by (List ℕ × List Instance) (coded× (coded_list coded_ℕ) (coded_list instance_code))
-    (λ s. (s.memory, s.instances))
-    (λ p. record { memory = p.0; instances = p.1 })
+    (λ s. (s.common.memory, s.instances))
+    (λ p. record { common = record { memory = p.0 }; instances = p.1 })
     (λ _. refl)

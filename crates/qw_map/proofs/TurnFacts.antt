@@ -1,4 +1,4 @@
--- What every list of turns keeps, by one step at a time.
+-- What every list of acts keeps, by one step at a time.
 use Rattle.std.proofs.Common.{◌≡◌, ◌≢◌, ℕ, zero, suc, ◌<◌, false, List, [], ◌∷◌, length, Option, Some, None, slice_get, slice_set, is_some, refl, sym, ap, ◌∙◌, subst, ⊎_elim, arith}
 use Rattle.std.proofs.lemmas.Bool.{cases_Bool, cases_eq}
 use Rattle.std.proofs.lemmas.List.{set-set}
@@ -6,7 +6,7 @@ use Rattle.std.proofs.lemmas.Option.{same_Some, none-some, slice_get_within}
 use Rattle.qw_module.specs.Execution.{Config, State, Running, Returned, Raised, Trapped}
 use Rattle.qw_module.specs.Step.{Next, next}
 use Rattle.qw_map.specs.Areas.{grants, world_after}
-use Rattle.qw_map.specs.Turns.{Instance, Shared, moved, after_next, stepped_from, stepped, steps_of, with_instance, turn_at, turn, turns}
+use Rattle.qw_map.specs.Turns.{Instance, Common, Shared, moved, after_next, stepped_from, stepped, steps_of, with_instance, turn_at, Act, turn, acted, turns}
 
 -- ---- an element that was put
 pub slice_get-set_same : {A : Type 0} (xs : List A) (k : ℕ) (x : A) → k < length xs → slice_get (slice_set xs k x) k ≡ Some x
@@ -27,23 +27,23 @@ slice_set-unchanged (y ∷ xs) zero x found = ap (λ z. z ∷ xs) (sym (same_Som
 slice_set-unchanged (y ∷ xs) (suc k) x found = ap (λ zs. y ∷ zs) (slice_set-unchanged xs k x found)
 
 -- ---- one instance of several
-pub unchanged : (s : Shared) (j : ℕ) (i : Instance) → slice_get s.instances j ≡ Some i → with_instance s j (i, s.memory) ≡ s
-unchanged s j i found = ap (λ (instances : List Instance). record { memory = s.memory; instances = instances }) (slice_set-unchanged s.instances j i found)
+pub unchanged : (s : Shared) (j : ℕ) (i : Instance) → slice_get s.instances j ≡ Some i → with_instance s j (i, s.common) ≡ s
+unchanged s j i found = ap (λ (instances : List Instance). record { common = s.common; instances = instances }) (slice_set-unchanged s.instances j i found)
 
-pub changed_twice : (s : Shared) (j : ℕ) (one other : Instance × List ℕ) → with_instance (with_instance s j one) j other ≡ with_instance s j other
-changed_twice s j one other = ap (λ (instances : List Instance). record { memory = other.1; instances = instances }) (set-set s.instances j one.0 other.0)
+pub changed_twice : (s : Shared) (j : ℕ) (one other : Instance × Common) → with_instance (with_instance s j one) j other ≡ with_instance s j other
+changed_twice s j one other = ap (λ (instances : List Instance). record { common = other.1; instances = instances }) (set-set s.instances j one.0 other.0)
 
 -- the shared state after a step of one instance
 abbrev pub after_step : Shared → ℕ → Instance → Next → Shared
-after_step s j i t = with_instance s j (moved i (world_after i.world s.memory t.event) t.state, t.memory)
+after_step s j i t = with_instance s j (moved i (world_after i.world s.common.memory t.event) t.state, record s.common { memory = t.memory })
 
 -- what holds of the instance that was put, and of the others, holds of each
 pub each-step : (P : ℕ → Instance → Type 0) (s : Shared) (j : ℕ) (one : Instance) (t : Next) → slice_get s.instances j ≡ Some one →
-    P j (moved one (world_after one.world s.memory t.event) t.state) →
+    P j (moved one (world_after one.world s.common.memory t.event) t.state) →
     ((k : ℕ) (i : Instance) → k ≢ j → slice_get s.instances k ≡ Some i → P k i) →
     (k : ℕ) (i : Instance) → slice_get (after_step s j one t).instances k ≡ Some i → P k i
 each-step P s j one t there new others k i found =
-    let put : Instance = moved one (world_after one.world s.memory t.event) t.state in
+    let put : Instance = moved one (world_after one.world s.common.memory t.event) t.state in
     ⊎_elim
     (λ here.
     let put_there : slice_get (slice_set s.instances j put) j ≡ Some put =
@@ -56,28 +56,28 @@ each-step P s j one t there new others k i found =
 -- P stays at each step that an instance makes which has not ended
 abbrev pub StaysAtSteps : (Shared → Type 0) → Type 0
 StaysAtSteps P = (s : Shared) (j : ℕ) (i : Instance) (c : Config) (t : Next) → slice_get s.instances j ≡ Some i → is_some i.end ≡ false →
-    i.state ≡ Running c → next (grants i.world) c s.memory ≡ Some t → P s → P (after_step s j i t)
+    i.state ≡ Running c → next (grants i.world) c s.common.memory ≡ Some t → P s → P (after_step s j i t)
 
 module _ (P : Shared → Type 0) (kept : StaysAtSteps P) where
   after_next-keeps : (s : Shared) (j : ℕ) (i : Instance) (c : Config) (made : Option Next) → slice_get s.instances j ≡ Some i → is_some i.end ≡ false →
-      i.state ≡ Running c → next (grants i.world) c s.memory ≡ made → P s → P (with_instance s j (after_next i s.memory made))
+      i.state ≡ Running c → next (grants i.world) c s.common.memory ≡ made → P s → P (with_instance s j (after_next i s.common made))
   after_next-keeps s j i c None found unended running made h = subst P (sym (unchanged s j i found)) h
   after_next-keeps s j i c (Some t) found unended running made h = kept s j i c t found unended running made h
 
   stepped-keeps : (s : Shared) (j : ℕ) (i : Instance) (state : State) → slice_get s.instances j ≡ Some i → is_some i.end ≡ false →
-      i.state ≡ state → P s → P (with_instance s j (stepped_from state i s.memory))
-  stepped-keeps s j i (Running c) found unended is h = after_next-keeps s j i c (next (grants i.world) c s.memory) found unended is refl h
+      i.state ≡ state → P s → P (with_instance s j (stepped_from state i s.common))
+  stepped-keeps s j i (Running c) found unended is h = after_next-keeps s j i c (next (grants i.world) c s.common.memory) found unended is refl h
   stepped-keeps s j i Returned found unended is h = subst P (sym (unchanged s j i found)) h
   stepped-keeps s j i (Raised code) found unended is h = subst P (sym (unchanged s j i found)) h
-  stepped-keeps s j i Trapped found unended is h = subst P (sym (unchanged s j i found)) h
+  stepped-keeps s j i (Trapped why) found unended is h = subst P (sym (unchanged s j i found)) h
 
   pub steps_of-keeps : (quantum : ℕ) (s : Shared) (j : ℕ) (i : Instance) → slice_get s.instances j ≡ Some i → P s →
-      P (with_instance s j (steps_of quantum i s.memory))
+      P (with_instance s j (steps_of quantum i s.common))
   steps_of-keeps zero s j i found h = subst P (sym (unchanged s j i found)) h
   steps_of-keeps (suc q) s j i found h = ⊎_elim
       (λ ended. rw ended (subst P (sym (unchanged s j i found)) h))
       (λ unended.
-      let one : Instance × List ℕ = stepped i s.memory in
+      let one : Instance × Common = stepped i s.common in
       let after : Shared = with_instance s j one in
       let there : slice_get after.instances j ≡ Some one.0 = slice_get-set_same s.instances j one.0 (slice_get_within s.instances j i found) in
       let here : P after = stepped-keeps s j i i.state found unended refl h in
@@ -88,9 +88,9 @@ module _ (P : Shared → Type 0) (kept : StaysAtSteps P) where
   turn_at-keeps s j quantum None found h = h
   turn_at-keeps s j quantum (Some i) found h = steps_of-keeps quantum s j i found h
 
-  pub turn-keeps : (s : Shared) (t : ℕ × ℕ) → P s → P (turn s t)
-  turn-keeps s (j, quantum) h = turn_at-keeps s j quantum (slice_get s.instances j) refl h
+  pub acted-keeps : (s : Shared) (act : Act) → P s → P (acted s act)
+  acted-keeps s (turn j quantum) h = turn_at-keeps s j quantum (slice_get s.instances j) refl h
 
-  pub turns-keep : (ts : List (ℕ × ℕ)) (s : Shared) → P s → P (turns ts s)
+  pub turns-keep : (acts : List Act) (s : Shared) → P s → P (turns acts s)
   turns-keep [] s h = h
-  turns-keep (t ∷ ts) s h = turns-keep ts (turn s t) (turn-keeps s t h)
+  turns-keep (act ∷ acts) s h = turns-keep acts (acted s act) (acted-keeps s act h)

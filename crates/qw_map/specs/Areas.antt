@@ -47,7 +47,7 @@ IsFine w (Loads address width) = IsTrue (lies_in_one (w.mapped ++ w.own) address
 IsFine w (Stores address width) = IsTrue (lies_in_one w.own address width)
 IsFine w (Grows pages granted) = Unit {0}
 IsFine w (Raises code) = (code ≡ 1) ⊎ (code ≡ 2) ⊎ ((code ≡ 3) × IsSome w.refused)
-IsFine w Traps = ⊥
+IsFine w (Traps why) = ⊥
 
 -- whether memory grants a request: exactly where it stays within the limit
 abbrev pub grants : World → ℕ → Bool
@@ -62,7 +62,7 @@ abbrev pub GoesOn : State → Type 0
 GoesOn (Running c) = Unit {0}
 GoesOn Returned = ⊥
 GoesOn (Raised code) = ⊥
-GoesOn Trapped = ⊥
+GoesOn (Trapped why) = ⊥
 
 -- A request asks for a page at least, and for no more than that with it so many are held; and the run goes on after it.
 abbrev pub AsksWithin : (most : ℕ) → World → Event → State → Type 0

@@ -27,9 +27,13 @@ pub record Instance : Type 0 where
   pub ran : ℕ
   pub end : Option End
 
--- One memory and the instances that share it.
-pub record Shared : Type 0 where
+-- What instances have in common: one memory.
+pub record Common : Type 0 where
   pub memory : List ℕ
+
+-- What is common, and the instances that share it.
+pub record Shared : Type 0 where
+  pub common : Common
   pub instances : List Instance
 
 -- the end at a raise of 3, with the last request that was refused; where none was, it counts as a trap
@@ -47,7 +51,7 @@ end_of_raise code w =
 abbrev pub end_at : State → World → (ran most : ℕ) → Option End
 end_at Returned w ran most = Some Done
 end_at (Raised code) w ran most = end_of_raise code w
-end_at Trapped w ran most = Some Trap
+end_at (Trapped why) w ran most = Some Trap
 end_at (Running c) w ran most = if nat_le most ran then Some (Steps most) else None
 
 -- the instance after a step to a state, with what it has then
@@ -60,41 +64,45 @@ moved i w s = record {
   end = end_at s w (i.ran + 1) i.most_steps;
 }
 
--- an instance and the memory after a step of it; a state that has none stays
-abbrev pub after_next : Instance → List ℕ → Option Next → Instance × List ℕ
-after_next i m None = (i, m)
-after_next i m (Some t) = (moved i (world_after i.world m t.event) t.state, t.memory)
+-- an instance and what is common after a step of it; a state that has none stays
+abbrev pub after_next : Instance → Common → Option Next → Instance × Common
+after_next i common None = (i, common)
+after_next i common (Some t) = (moved i (world_after i.world common.memory t.event) t.state, record common { memory = t.memory })
 
-abbrev pub stepped_from : State → Instance → List ℕ → Instance × List ℕ
-stepped_from (Running c) i m = after_next i m (next (grants i.world) c m)
-stepped_from Returned i m = (i, m)
-stepped_from (Raised code) i m = (i, m)
-stepped_from Trapped i m = (i, m)
+abbrev pub stepped_from : State → Instance → Common → Instance × Common
+stepped_from (Running c) i common = after_next i common (next (grants i.world) c common.memory)
+stepped_from Returned i common = (i, common)
+stepped_from (Raised code) i common = (i, common)
+stepped_from (Trapped why) i common = (i, common)
 
-abbrev pub stepped : Instance → List ℕ → Instance × List ℕ
-stepped i m = stepped_from i.state i m
+abbrev pub stepped : Instance → Common → Instance × Common
+stepped i common = stepped_from i.state i common
 
--- an instance and the memory after at most `quantum` steps of it, none after its end
-abbrev pub steps_of : (quantum : ℕ) → Instance → List ℕ → Instance × List ℕ
-steps_of zero i m = (i, m)
-steps_of (suc q) i m = if is_some i.end then (i, m) else steps_of q (stepped i m).0 (stepped i m).1
+-- an instance and what is common after at most `quantum` steps of it, none after its end
+abbrev pub steps_of : (quantum : ℕ) → Instance → Common → Instance × Common
+steps_of zero i common = (i, common)
+steps_of (suc q) i common = if is_some i.end then (i, common) else steps_of q (stepped i common).0 (stepped i common).1
 
--- with one instance and the memory changed
-abbrev pub with_instance : Shared → ℕ → Instance × List ℕ → Shared
-with_instance s i changed = record { memory = changed.1; instances = slice_set s.instances i changed.0 }
+-- with one instance and what is common changed
+abbrev pub with_instance : Shared → ℕ → Instance × Common → Shared
+with_instance s i changed = record { common = changed.1; instances = slice_set s.instances i changed.0 }
+
+-- What is done to the instances. A turn: the instance of this number takes steps until it has ended or has taken `quantum`.
+pub data Act : Type 0 where
+  turn : (instance quantum : ℕ) → Act
 
 abbrev pub turn_at : Shared → ℕ → ℕ → Option Instance → Shared
 turn_at s i quantum None = s
-turn_at s i quantum (Some instance) = with_instance s i (steps_of quantum instance s.memory)
+turn_at s i quantum (Some instance) = with_instance s i (steps_of quantum instance s.common)
 
--- A turn: the instance of this number takes steps until it has ended or has taken `quantum`.
-abbrev pub turn : Shared → ℕ × ℕ → Shared
-turn s (i, quantum) = turn_at s i quantum (slice_get s.instances i)
+-- what an act makes of them
+abbrev pub acted : Shared → Act → Shared
+acted s (turn i quantum) = turn_at s i quantum (slice_get s.instances i)
 
--- turns one after another
-abbrev pub turns : List (ℕ × ℕ) → Shared → Shared
+-- acts one after another
+abbrev pub turns : List Act → Shared → Shared
 turns [] s = s
-turns (t ∷ ts) s = turns ts (turn s t)
+turns (act ∷ acts) s = turns acts (acted s act)
 
 -- P holds of each instance
 abbrev pub EachInstance : (Instance → Type 0) → Shared → Type 0
@@ -131,13 +139,13 @@ may_ask (i ∷ instances) = (i.world.limit - i.world.held) + may_ask instances
 -- The instances' areas lie in the memory; the own areas of one meet neither those of another nor any mapped columns;
 -- and the memory has room for all that the instances may still ask for.
 pub record AreSeparate (s : Shared) : Type 0 where
-  pub octets : AreOctets s.memory
-  pub inside : EachInstance (λ i. AllByRecursion (LiesWithin (length s.memory)) (i.world.mapped ++ i.world.own)) s
+  pub octets : AreOctets s.common.memory
+  pub inside : EachInstance (λ i. AllByRecursion (LiesWithin (length s.common.memory)) (i.world.mapped ++ i.world.own)) s
   pub own_apart : (j k : ℕ) (one other : Instance) → j ≢ k → slice_get s.instances j ≡ Some one → slice_get s.instances k ≡ Some other →
       AllApart one.world.own other.world.own
   pub columns_apart : (j k : ℕ) (one other : Instance) → slice_get s.instances j ≡ Some one → slice_get s.instances k ≡ Some other →
       AllApart one.world.own other.world.mapped
-  pub room : length s.memory + may_ask s.instances * page ≤ most_pages * page
+  pub room : length s.common.memory + may_ask s.instances * page ≤ most_pages * page
 
 -- an instance over a memory, between two of its steps
 abbrev pub moment_of : Instance → List ℕ → Moment
@@ -151,7 +159,7 @@ StaysFine a = (k : ℕ) (b : Moment) (c : Config) (before : List ℕ) (event : E
 -- instances that lie apart, and of which each does only what it may
 pub record AreSafe (s : Shared) : Type 0 where
   pub separate : AreSeparate s
-  pub fine : EachInstance (λ i. StaysFine (moment_of i s.memory)) s
+  pub fine : EachInstance (λ i. StaysFine (moment_of i s.common.memory)) s
 
 -- An open run of so many steps leads from one moment to another, but for what others make of the memory after the last.
 pub record LeadsTo (steps : ℕ) (a b : Moment) : Type 0 where

@@ -5,6 +5,7 @@ ghost use Rattle.std.specs.Prelude.{◌≡◌, ℕ, List, [], ◌∷◌, length,
 ghost use Rattle.qw_types.specs.declared.value.Ty.TheVariants.{Integer};
 ghost use Rattle.qw_types.specs.declared.value.Val.TheVariants.{Num};
 ghost use Rattle.qw_meaning.specs.declared.query.Comparison.TheVariants.{Greater};
+ghost use Rattle.qw_module.specs.declared.trap.Trap.{Trap};
 ghost use Rattle.qw_module.specs.Execution.{Config, Running, Returned, Event, Silent, Loads, Stores, Grows, Raises, Traps};
 ghost use Rattle.qw_map.specs.Areas.{Area, World, IsFine, IsAnswered, AsksWithin, grants, world_after};
 ghost use Rattle.qw_map.specs.Columns.{column_start, column_pages, integer_at};
@@ -68,7 +69,7 @@ pub fn raises()
     ensures unrefused { (w : World) → w ≡ first_world (64 ∷ []) 3 65536 128 → IsFine w (Raises 3) → ⊥ }
     ensures refused { (w : World) → w.refused ≡ Some 1 → IsFine w (Raises 3) }
     ensures others { (w : World) → (IsFine w (Raises 0) → ⊥) × (IsFine w (Raises 4) → ⊥) }
-    ensures traps { (w : World) → IsFine w Traps → ⊥ }
+    ensures traps { (w : World) (why : Trap) → IsFine w (Traps why) → ⊥ }
 {}
 
 /// Of 128 pages with 127 held, one page is granted, and two are refused.

@@ -1,15 +1,16 @@
 -- What a specification keeps, at each of its conjuncts and items and at a row of its columns.
 use Rattle.std.proofs.Common.{◌≡◌, ◌<◌, ◌++◌, ℕ, zero, suc, List, [], ◌∷◌, length, map, slice_index_or, arith, append-nil, subst}
 use Rattle.std.specs.List.{All, AllByRecursion}
+use Rattle.qw_types.specs.Kind.{IsOfKind, IsRowOf, type_kind}
 use Rattle.qw_types.specs.declared.value.Ty.{Ty}
 use Rattle.qw_types.specs.declared.value.Val.{Val}
 use Rattle.qw_meaning.specs.declared.expression.Expr.{Expr}
 use Rattle.qw_meaning.specs.declared.expression.Cond.{Cond}
-use Rattle.qw_meaning.specs.Columns.{HasColumns, HaveColumns, HoldsIn, IsColumnOf, IsRowOf}
+use Rattle.qw_meaning.specs.Columns.{HasColumns, HaveColumns, HoldsIn, IsColumnOf}
 use Rattle.qw_meaning.specs.Expression.{Expression, Condition, null, number, date, text, column, arithmetic, negative, extract, brought, choice, comparison, is_null, both, either, negation_of, is}
 use Rattle.qw_meaning.specs.Select.{IsConditionOver, IsItemOver, IsSpecification, Parts, specification_of}
 use Rattle.qw_meaning.specs.Tree.{condition_of, expression_of}
-use Rattle.qw_meaning.specs.Typing.{AreTyped, IsOfKind, IsTyped, type_kind}
+use Rattle.qw_meaning.specs.Typing.{AreTyped, IsTyped}
 
 -- what holds of each column may be replaced by what follows from it
 mutual
@@ -35,7 +36,7 @@ mutual
   conditions_more Holds More more (is c t) h = conditions_more Holds More more c h
 
 -- a row of the columns holds a value of each one's kind
-pub row_holds : (types : List Ty) (row : List Val) → IsRowOf types row → (i : ℕ) (ty : Ty) → IsColumnOf types i ty → HoldsIn row i ty
+pub row_holds : (types : List Ty) (row : List Val) → IsRowOf (map type_kind types) row → (i : ℕ) (ty : Ty) → IsColumnOf types i ty → HoldsIn row i ty
 row_holds [] row r i ty h = absurd cc
 row_holds (t ∷ types) [] r i ty h = absurd r
 row_holds (t ∷ types) (value ∷ row) r zero ty h =
@@ -65,7 +66,7 @@ item_at parts h k d lt =
 pub conjuncts_typed : (parts : Parts) → IsSpecification (specification_of parts) → All (λ c. AreTyped (condition_of c)) parts.conjuncts
 conjuncts_typed parts h k d lt = (conjunct_at parts h k d lt).0
 
-pub conjuncts_hold : (parts : Parts) (row : List Val) → IsSpecification (specification_of parts) → IsRowOf parts.types row
+pub conjuncts_hold : (parts : Parts) (row : List Val) → IsSpecification (specification_of parts) → IsRowOf (map type_kind parts.types) row
     → All (λ c. HaveColumns (HoldsIn row) (condition_of c)) parts.conjuncts
 conjuncts_hold parts row h r k d lt =
     conditions_more (IsColumnOf parts.types) (HoldsIn row) (row_holds parts.types row r) (condition_of (slice_index_or parts.conjuncts k d)) (conjunct_at parts h k d lt).1
@@ -73,7 +74,7 @@ conjuncts_hold parts row h r k d lt =
 pub items_typed : (parts : Parts) → IsSpecification (specification_of parts) → All (λ e. IsTyped (expression_of e)) parts.items
 items_typed parts h k d lt = (item_at parts h k d lt).0.0
 
-pub items_hold : (parts : Parts) (row : List Val) → IsSpecification (specification_of parts) → IsRowOf parts.types row
+pub items_hold : (parts : Parts) (row : List Val) → IsSpecification (specification_of parts) → IsRowOf (map type_kind parts.types) row
     → All (λ e. HasColumns (HoldsIn row) (expression_of e)) parts.items
 items_hold parts row h r k d lt =
     columns_more (IsColumnOf parts.types) (HoldsIn row) (row_holds parts.types row r) (expression_of (slice_index_or parts.items k d)) (item_at parts h k d lt).1

@@ -13,12 +13,13 @@ use Rattle.qw_meaning.specs.declared.expression.Operator.{Operator}
 use Rattle.qw_meaning.specs.declared.expression.Operator.TheVariants as op
 use Rattle.qw_meaning.specs.declared.expression.Field.{Field}
 use Rattle.qw_meaning.specs.declared.expression.Field.TheVariants as fields
-use Rattle.qw_meaning.specs.declared.kind.Kind.{Kind}
-use Rattle.qw_meaning.specs.declared.kind.Kind.TheVariants as kind
+use Rattle.qw_types.specs.Kind.{IsDateNumber, IsOfKind}
+use Rattle.qw_types.specs.declared.kind.Kind.{Kind}
+use Rattle.qw_types.specs.declared.kind.Kind.TheVariants as kind
 use Rattle.qw_meaning.specs.Columns.{HasColumns, HoldsIn}
 use Rattle.qw_meaning.specs.Evaluation.{applied, as_number, chosen, combined, extracted, field_of, negated, raised, truth_of, value_of}
 use Rattle.qw_meaning.specs.Expression.{Expression, null, number, date, text, column, arithmetic, negative, extract, brought, choice, scale_after, scale_of}
-use Rattle.qw_meaning.specs.Typing.{IsDateNumber, IsOfKind, IsTyped, IsValueOf, agree, at_scale, is_date, is_number, joined, kind_of}
+use Rattle.qw_meaning.specs.Typing.{IsTyped, IsValueOf, agree, at_scale, is_date, is_number, joined, kind_of}
 
 -- a value of a kind, or an exception
 abbrev Gives : Option Kind → Result Val Code → Type 0

@@ -1,10 +1,10 @@
 -- The columns that an expression names, and the rows that have them (ISO/IEC 9075:1992, 4.8, 6.4).
-use Rattle.std.specs.Prelude.{◌≡◌, ℕ, List, [], ◌∷◌, Some, slice_get}
+use Rattle.std.specs.Prelude.{◌≡◌, ℕ, List, Some, slice_get}
+use Rattle.qw_types.specs.Kind.{IsOfKind, type_kind}
 use Rattle.qw_types.specs.declared.value.Ty.{Ty}
 use Rattle.qw_types.specs.declared.value.Val.{Val}
 use Rattle.qw_meaning.specs.Expression.{Expression, Condition, null, number, date, text, column, arithmetic, negative, extract, brought, choice, comparison, is_null, both, either, negation_of, is}
 use Rattle.qw_meaning.specs.Evaluation.{cell_of}
-use Rattle.qw_meaning.specs.Typing.{IsOfKind, type_kind}
 
 -- something holds of each column that an expression names, with the type that it names it with
 abbrev mutual
@@ -35,10 +35,3 @@ IsColumnOf types i ty = slice_get types i ≡ Some ty
 -- a column's value in a row is of the type's kind
 abbrev pub HoldsIn : List Val → ℕ → Ty → Type 0
 HoldsIn row i ty = IsOfKind (type_kind ty) (cell_of (slice_get row i))
-
--- a row of columns of these types
-abbrev pub IsRowOf : List Ty → List Val → Type 0
-IsRowOf [] [] = Unit {0}
-IsRowOf [] (value ∷ values) = ⊥
-IsRowOf (ty ∷ types) [] = ⊥
-IsRowOf (ty ∷ types) (value ∷ values) = IsOfKind (type_kind ty) value × IsRowOf types values

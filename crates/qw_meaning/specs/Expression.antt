@@ -2,7 +2,7 @@
 -- abbreviates. What an abbreviation stands for is below.
 use Rattle.std.specs.Prelude.{ℕ, ℤ, ◌+◌, max, List}
 use Rattle.qw_types.specs.declared.value.Ty.{Ty}
-use Rattle.qw_types.specs.declared.value.Ty.TheVariants as type
+use Rattle.qw_types.specs.Value.{type_scale}
 use Rattle.qw_types.specs.declared.truth.Truth.{Truth}
 use Rattle.qw_meaning.specs.declared.expression.Operator.{Operator}
 use Rattle.qw_meaning.specs.declared.expression.Operator.TheVariants.{Add, Subtract, Multiply, Divide}
@@ -37,13 +37,6 @@ mutual
     either : Condition → Condition → Condition
     negation_of : Condition → Condition
     is : Condition → Truth → Condition
-
--- the scale of a type, 0 where it is no number (4.4)
-abbrev pub type_scale : Ty → ℕ
-type_scale type.Integer = 0
-type_scale (type.Decimal p s) = s
-type_scale type.Date = 0
-type_scale (type.Varchar n) = 0
 
 -- the scale of a result (6.12): the larger one; for a product the sum, for a quotient the dividend's
 abbrev pub scale_after : Operator → ℕ → ℕ → ℕ

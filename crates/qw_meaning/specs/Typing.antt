@@ -1,39 +1,15 @@
 -- The kinds of expressions (ISO/IEC 9075:1992, 4.1, 6.11, 6.12), and which expressions and conditions are typed.
-use Rattle.std.specs.Prelude.{◌≡◌, ℕ, ℤ, pos, ◌+◌, ◌≤◌, ◌≤ℤ◌, max, Bool, true, false, IsTrue, Option, Some, None}
+use Rattle.std.specs.Prelude.{◌≡◌, ℕ, ◌+◌, ◌≤◌, max, Bool, true, false, IsTrue, Option, Some, None}
 use Rattle.qw_types.specs.Arithmetic.{fits}
-use Rattle.qw_types.specs.declared.value.Ty.{Ty}
-use Rattle.qw_types.specs.declared.value.Ty.TheVariants as type
+use Rattle.qw_types.specs.Kind.{IsDateNumber, IsOfKind, type_kind}
+use Rattle.qw_types.specs.Value.{type_scale}
+use Rattle.qw_types.specs.declared.kind.Kind.{Kind}
+use Rattle.qw_types.specs.declared.kind.Kind.TheVariants as kind
 use Rattle.qw_types.specs.declared.value.Val.{Val}
 use Rattle.qw_types.specs.declared.value.Val.TheVariants as val
 use Rattle.qw_meaning.specs.declared.expression.Operator.{Operator}
 use Rattle.qw_meaning.specs.declared.expression.Operator.TheVariants.{Add, Subtract, Multiply, Divide}
-use Rattle.qw_meaning.specs.declared.kind.Kind.{Kind}
-use Rattle.qw_meaning.specs.declared.kind.Kind.TheVariants as kind
-use Rattle.qw_meaning.specs.Expression.{Expression, Condition, null, number, date, text, column, arithmetic, negative, extract, brought, choice, comparison, is_null, both, either, negation_of, is, scale_after, scale_of, type_scale}
-
--- the kind of a type's values
-abbrev pub type_kind : Ty → Kind
-type_kind type.Integer = kind.Number 0
-type_kind (type.Decimal p s) = kind.Number s
-type_kind type.Date = kind.Date
-type_kind (type.Varchar n) = kind.Text
-
--- from 0001-01-01 to 9999-12-31, as year * 10000 + month * 100 + day; that the calendar has the day is not said
-abbrev pub IsDateNumber : ℤ → Type 0
-IsDateNumber d = (pos 10101 ≤ℤ d) × (d ≤ℤ pos 99991231)
-
--- a value of a kind; null is of every kind, and a number has at most 18 digits
-abbrev pub IsOfKind : Kind → Val → Type 0
-IsOfKind k val.Null = Unit {0}
-IsOfKind (kind.Number s) (val.Num v) = IsTrue (fits v)
-IsOfKind (kind.Number s) (val.Date d) = ⊥
-IsOfKind (kind.Number s) (val.Text t) = ⊥
-IsOfKind kind.Date (val.Num v) = ⊥
-IsOfKind kind.Date (val.Date d) = IsDateNumber d
-IsOfKind kind.Date (val.Text t) = ⊥
-IsOfKind kind.Text (val.Num v) = ⊥
-IsOfKind kind.Text (val.Date d) = ⊥
-IsOfKind kind.Text (val.Text t) = Unit {0}
+use Rattle.qw_meaning.specs.Expression.{Expression, Condition, null, number, date, text, column, arithmetic, negative, extract, brought, choice, comparison, is_null, both, either, negation_of, is, scale_after, scale_of}
 
 -- a value of an expression's kind: null alone where it has none
 abbrev pub IsValueOf : Option Kind → Val → Type 0

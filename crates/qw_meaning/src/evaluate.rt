@@ -242,7 +242,7 @@ pub fn scale(expr: &Expr) -> u8
     match expr {
         Expr::Null | Expr::Date(_) | Expr::Text(_) | Expr::Extract(_, _) => 0,
         Expr::Number(_, scale) => *scale,
-        Expr::Column(_, ty) => type_scale(*ty),
+        Expr::Column(_, ty) => ty.scale(),
         Expr::Arithmetic(operator, left, right) => scale_after(
             *operator,
             scale(left),
@@ -292,19 +292,6 @@ pub(crate) fn largest_argument(arguments: &Exprs) -> u8
     match arguments {
         Exprs::Last(argument) => scale(argument),
         Exprs::More(argument, rest) => scale(argument).max(largest_argument(rest)),
-    }
-}
-
-/// The scale of a type, 0 where its values are no numbers.
-fn type_scale(ty: Ty) -> u8
-    ensures { result ≡ Rattle.qw_meaning.specs.Expression.type_scale ty }
-{
-    match ty {
-        Ty::Decimal {
-            precision: _,
-            scale,
-        } => scale,
-        Ty::Integer | Ty::Date | Ty::Varchar { length: _ } => 0,
     }
 }
 

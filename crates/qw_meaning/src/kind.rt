@@ -1,40 +1,14 @@
-//! The kinds of values, and which kind an expression's values are of.
+//! Which kind an expression's values are of.
 
 ghost use Rattle.std.specs.Prelude.{◌≡◌, ◌≤◌};
 ghost use Rattle.qw_meaning.specs.Expression.{cases, coalesced};
 ghost use Rattle.qw_meaning.specs.Tree.{choices_of, expression_of, expressions_of, matches_of};
-ghost use Rattle.qw_meaning.specs.Typing.{IsTyped, at_scale, kind_of, joined, type_kind};
+ghost use Rattle.qw_meaning.specs.Typing.{IsTyped, at_scale, kind_of, joined};
 ghost use Rattle.qw_meaning.specs.Inner.Results.{AreResultsTyped};
 
 use crate::evaluate::{largest_argument, largest_branch, largest_match, scale};
 use crate::expression::{Branches, Expr, Exprs, Matches};
-use qw_types::Ty;
-
-/// What values of an expression are compared and computed with (ISO/IEC 9075:1992, 4.1).
-#[derive(Clone, Copy, Debug, PartialEq, Eq)]
-pub enum Kind {
-    /// Numbers, with so many digits behind the point.
-    Number(u8),
-    /// Dates.
-    Date,
-    /// Texts.
-    Text,
-}
-
-/// The kind of a type's values.
-pub fn of_type(ty: Ty) -> Kind
-    ensures { result ≡ type_kind ty }
-{
-    match ty {
-        Ty::Integer => Kind::Number(0),
-        Ty::Decimal {
-            precision: _,
-            scale,
-        } => Kind::Number(scale),
-        Ty::Date => Kind::Date,
-        Ty::Varchar { length: _ } => Kind::Text,
-    }
-}
+use qw_types::Kind;
 
 /// The kind of an expression's values, none where null is the only one.
 #[cycle(kind)]
@@ -48,7 +22,7 @@ pub fn of_expression(expr: &Expr) -> Option<Kind>
         Expr::Number(_, scale) => Some(Kind::Number(*scale)),
         Expr::Date(_) => Some(Kind::Date),
         Expr::Text(_) => Some(Kind::Text),
-        Expr::Column(_, ty) => Some(of_type(*ty)),
+        Expr::Column(_, ty) => Some(Kind::of_type(*ty)),
         Expr::Arithmetic(_, _, _) | Expr::Negative(_) | Expr::Extract(_, _) => {
             Some(Kind::Number(scale(expr)))
         }

@@ -2,7 +2,7 @@
 //!
 //! - [`select::Select`]: a typed query specification over one table; [`outcome::plain_outcome`]: what it comes to over tables
 //!   (`specs/Outcome`), as a slow program that compiled queries are compared with.
-//! - [`expression::Expr`], [`expression::Cond`]: typed expressions and conditions; [`kind::Kind`]: of which kind their values are;
+//! - [`expression::Expr`], [`expression::Cond`]: typed expressions and conditions; [`kind::of_expression`]: of which kind their values are;
 //!   [`value::Value`]: such a value, which borrows its text.
 //! - [`evaluate`]: values, truth and exceptions at a row, without memory; [`conjuncts::pass`]: whether a row passes a WHERE.
 //! - [`typing_laws`], [`evaluation_laws`], [`outcome_laws`]: what holds of every expression, clause and outcome, and worked cases.

@@ -1,13 +1,14 @@
 //! What typing gives, and worked cases of it. No function here computes anything.
 
-ghost use Rattle.std.specs.Prelude.{◌≡◌, pos, [], ◌∷◌, IfOk, List, Some, None};
+ghost use Rattle.std.specs.Prelude.{◌≡◌, pos, [], ◌∷◌, map, IfOk, List, Some, None};
+ghost use Rattle.qw_types.specs.Kind.{IsRowOf, type_kind};
+ghost use Rattle.qw_types.specs.declared.kind.Kind.TheVariants as kind;
 ghost use Rattle.qw_types.specs.declared.value.Ty.TheVariants as type;
 ghost use Rattle.qw_types.specs.declared.value.Val.{Val};
 ghost use Rattle.qw_meaning.specs.declared.expression.Field.TheVariants.{Year};
 ghost use Rattle.qw_meaning.specs.declared.expression.Operator.TheVariants.{Add, Multiply, Divide};
-ghost use Rattle.qw_meaning.specs.declared.kind.Kind.TheVariants as kind;
 ghost use Rattle.qw_meaning.specs.declared.query.Comparison.TheVariants.{Equal};
-ghost use Rattle.qw_meaning.specs.Columns.{HasColumns, HoldsIn, IsRowOf};
+ghost use Rattle.qw_meaning.specs.Columns.{HasColumns, HoldsIn};
 ghost use Rattle.qw_meaning.specs.Evaluation.{value_of};
 ghost use Rattle.qw_meaning.specs.Expression.{Expression, null, number, date, text, column, arithmetic, negative, extract, comparison, is_null, last, more, otherwise, when, case, coalesced, null_if};
 ghost use Rattle.qw_meaning.specs.Select.{IsSpecification};
@@ -64,6 +65,6 @@ pub fn specifications_and_rows()
     ensures other_type { IsSpecification (record { entries = record { table = 0; types = type.Varchar 20 ∷ [] } ∷ []; conjuncts = []; items = column 0 type.Integer ∷ [] }) → ⊥ }
     ensures no_column { IsSpecification (record { entries = record { table = 0; types = type.Integer ∷ [] } ∷ []; conjuncts = []; items = column 1 type.Integer ∷ [] }) → ⊥ }
     ensures no_item { IsSpecification (record { entries = record { table = 0; types = type.Integer ∷ [] } ∷ []; conjuncts = []; items = [] }) → ⊥ }
-    ensures row { IsRowOf (type.Integer ∷ type.Decimal 9 2 ∷ type.Date ∷ type.Varchar 20 ∷ []) first_item.row }
-    ensures short_row { IsRowOf (type.Integer ∷ type.Decimal 9 2 ∷ type.Date ∷ type.Varchar 20 ∷ type.Integer ∷ []) first_item.row → ⊥ }
+    ensures row { IsRowOf (map type_kind (type.Integer ∷ type.Decimal 9 2 ∷ type.Date ∷ type.Varchar 20 ∷ [])) first_item.row }
+    ensures short_row { IsRowOf (map type_kind (type.Integer ∷ type.Decimal 9 2 ∷ type.Date ∷ type.Varchar 20 ∷ type.Integer ∷ [])) first_item.row → ⊥ }
 {}

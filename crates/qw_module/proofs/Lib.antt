@@ -1,7 +1,9 @@
+pub mod NumberFacts
 pub mod Numbered
 pub mod Outcomes
 pub mod Sound
+pub mod PlaceLemmas
 pub mod StateCode
 pub mod Steps
 pub mod TypedOperands
-mod WorkedTyping
+pub mod TypedParts

@@ -1,9 +1,11 @@
 pub mod Execution
 pub mod Numbers
+pub mod Places
 pub mod Soundness
 pub mod Start
 pub mod Step
 pub mod Syntax
 pub mod Typing
 pub mod Validity
+pub mod Worked
 pub use Rattle.qw_linear.specs.Memory

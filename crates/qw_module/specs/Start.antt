@@ -1,39 +1,91 @@
 -- How a call of a module's own function begins, and how many instructions it has.
-use Rattle.std.specs.Prelude.{ℕ, ◌+◌, List, [], ◌∷◌, length, map, replicate, Option, Some, None, slice_get}
-use Rattle.qw_module.specs.declared.instruction.Instr.{Instr}
+use Rattle.std.specs.Prelude.{ℕ, zero, suc, ◌+◌, ◌==◌, if◌then◌else◌, List, [], ◌∷◌, ◌++◌, length, map, replicate, Option, Some, None, slice_get}
+use Rattle.std.specs.List.{filter_map}
+use Rattle.qw_module.specs.declared.module.Import.{Import}
+use Rattle.qw_module.specs.declared.module.Import.TheVariants as import
 use Rattle.qw_module.specs.declared.module.Module.{Module}
 use Rattle.qw_module.specs.declared.module.Function.{Function}
 use Rattle.qw_module.specs.declared.module.Global.{Global}
 use Rattle.qw_module.specs.Numbers.{constant}
-use Rattle.qw_module.specs.Syntax.{Code, done, op, block, loop, if_else, br, br_if, code_of}
-use Rattle.qw_module.specs.Execution.{State, label, settled}
-use Rattle.qw_module.specs.Validity.{sequences_of}
+use Rattle.qw_module.specs.Syntax.{Code, done, op, unreachable, block, loop, if_then, if_else, br, br_if, br_table, return, call, Sequences, code_of}
+use Rattle.qw_module.specs.Typing.{Signature}
+use Rattle.qw_module.specs.Execution.{Closure, Callee, host_raise, own, Store, State, label, settled}
+use Rattle.qw_module.specs.Validity.{sequences_of, code_of_body, declared_types, signature_in}
 
--- the sequences and the declared locals of a module's own function, by its number
-abbrev pub sequences_of_function : Option Function → List (List Instr)
-sequences_of_function None = []
+-- what the host gives for an import, where it is a function (4.5.4)
+abbrev pub host_of : Import → Option Callee
+host_of (import.Memory limits) = None
+host_of (import.Raise type) = Some host_raise
+
+-- a module's own function as it is called
+abbrev pub closure_with : Signature → Function → Closure
+closure_with signature function =
+    record {
+      params = length signature.params;
+      declared = length (declared_types function.locals.items);
+      results = length signature.results;
+      body = code_of_body function.body;
+    }
+
+abbrev pub closure_of : Module → Function → Closure
+closure_of m function = closure_with (signature_in m function.type_index) function
+
+-- The store of a module at first: the imported functions are the host's, the others its own, and globals are as declared
+-- (4.5.4, "Instantiation").
+abbrev pub callees_of : Module → List Callee
+callees_of m = filter_map host_of m.imports.items ++ map (λ function. own (closure_of m function)) m.functions.items
+
+abbrev pub first_store : Module → Store
+first_store m = record { functions = callees_of m; globals = map (λ (global : Global). constant global.init) m.globals.items }
+
+-- the sequences and the number of declared locals of a module's own function, by its number
+abbrev pub sequences_of_function : Option Function → Sequences
+sequences_of_function None = record { each = []; labels = [] }
 sequences_of_function (Some function) = sequences_of function.body
 
 abbrev pub locals_of_function : Option Function → ℕ
 locals_of_function None = 0
-locals_of_function (Some function) = length function.locals.items
+locals_of_function (Some function) = length (declared_types function.locals.items)
 
-abbrev pub body_of : Module → ℕ → List (List Instr)
+abbrev pub body_of : Module → ℕ → Sequences
 body_of m number = sequences_of_function (slice_get m.functions.items number)
 
--- How a call of a function without results begins (4.4.7, "Invocation"): its globals are as declared (4.5.4), its locals its
--- argument and zeros, and its body is in a label whose end is the return.
+-- How a call of a function without results begins (4.5.5 and 4.4.7, "Invocation"): its locals are its argument and zeros, and its
+-- body is in a label whose end is the return.
 abbrev pub begun : Module → (number argument : ℕ) → State
 begun m number argument =
-    settled (map (λ (global : Global). constant global.init) m.globals.items) (label done 0 [] done ∷ []) (code_of (body_of m number)) []
+    settled (first_store m) (label done 0 [] done ∷ []) (code_of (body_of m number)) []
     (argument ∷ replicate (locals_of_function (slice_get m.functions.items number)) 0)
 
--- how many instructions a code has
+-- How many instructions a code has with those of the functions that it calls, of which `called` tells how many they have.
+abbrev pub weight_with : (called : ℕ → ℕ) → Code → ℕ
+weight_with called done = 0
+weight_with called (op o rest) = 1 + weight_with called rest
+weight_with called (unreachable rest) = 1 + weight_with called rest
+weight_with called (block result inner rest) = 1 + weight_with called inner + weight_with called rest
+weight_with called (loop result inner rest) = 1 + weight_with called inner + weight_with called rest
+weight_with called (if_then result inner rest) = 1 + weight_with called inner + weight_with called rest
+weight_with called (if_else result inner other rest) = 1 + weight_with called inner + weight_with called other + weight_with called rest
+weight_with called (br index rest) = 1 + weight_with called rest
+weight_with called (br_if index rest) = 1 + weight_with called rest
+weight_with called (br_table labels default rest) = 1 + weight_with called rest
+weight_with called (return rest) = 1 + weight_with called rest
+weight_with called (call index rest) = 1 + called index + weight_with called rest
+
+-- how many instructions a code has of its own
 abbrev pub weight : Code → ℕ
-weight done = 0
-weight (op o rest) = 1 + weight rest
-weight (block result inner rest) = 1 + weight inner + weight rest
-weight (loop result inner rest) = 1 + weight inner + weight rest
-weight (if_else result inner other rest) = 1 + weight inner + weight other + weight rest
-weight (br index rest) = 1 + weight rest
-weight (br_if index rest) = 1 + weight rest
+weight code = weight_with (λ index. 0) code
+
+-- The same of a function by its index, where functions call only functions below them. A function of the host has none.
+abbrev pub weight_of_callee : (ℕ → ℕ) → Option Callee → ℕ
+weight_of_callee called None = 0
+weight_of_callee called (Some host_raise) = 0
+weight_of_callee called (Some (own function)) = weight_with called function.body
+
+unfoldable pub weights_below : List Callee → ℕ → ℕ → ℕ
+weights_below callees zero index = 0
+weights_below callees (suc n) index =
+    if index == n then weight_of_callee (weights_below callees n) (slice_get callees n) else weights_below callees n index
+
+abbrev pub weight_of_function : Module → ℕ → ℕ
+weight_of_function m index = weights_below (callees_of m) (length (callees_of m)) index

@@ -1,13 +1,14 @@
 -- When a module is valid (WebAssembly Core Specification 1.0, 3.2 and 3.4).
-use Rattle.std.specs.Prelude.{◌≡◌, ◌≢◌, ℕ, ◌+◌, ◌^◌, ◌<◌, ◌≤◌, Bool, true, false, ◌||◌, IsTrue, List, [], ◌∷◌, ◌++◌, length, map, codes, All, Contains, Option, Some, None, IfSome, IsSomeAnd, slice_get}
-use Rattle.std.specs.List.{filter_map, AllPairs}
-use Rattle.std.specs.Option.{option_to_list, option_map_or}
+use Rattle.std.specs.Prelude.{◌≡◌, ◌≢◌, ℕ, ◌+◌, ◌^◌, ◌<◌, ◌≤◌, List, [], ◌∷◌, ◌++◌, length, map, reverse, replicate, codes, All, Contains, Option, Some, None, IfSome, IsSomeAnd, slice_get}
+use Rattle.std.specs.List.{filter_map, AllByRecursion, AllPairs}
+use Rattle.std.specs.Option.{option_map_or}
 use Rattle.std.specs.String.{string_bytes}
 use Rattle.std.specs.Global.{Vec}
+use Rattle.qw_module.specs.declared.instruction.ValType.{ValType}
 use Rattle.qw_module.specs.declared.instruction.ValType.TheVariants.{I32}
-use Rattle.qw_module.specs.declared.instruction.Op.{Op}
-use Rattle.qw_module.specs.declared.instruction.Op.TheVariants.{Load, Store, MemoryGrow}
 use Rattle.qw_module.specs.declared.instruction.Instr.{Instr}
+use Rattle.qw_module.specs.declared.instruction.Instr.TheVariants as i
+use Rattle.qw_module.specs.declared.module.Locals.{Locals}
 use Rattle.qw_module.specs.declared.module.FuncType.{FuncType}
 use Rattle.qw_module.specs.declared.module.Limits.{Limits}
 use Rattle.qw_module.specs.declared.module.Import.{Import}
@@ -20,18 +21,23 @@ use Rattle.qw_module.specs.declared.module.ExportKind.{ExportKind}
 use Rattle.qw_module.specs.declared.module.ExportKind.TheVariants as kind
 use Rattle.qw_module.specs.declared.module.Module.{Module}
 use Rattle.qw_module.specs.Numbers.{values_of, constant, type_of_constant}
-use Rattle.qw_module.specs.Syntax.{Code, done, op, block, loop, if_else, br, br_if, code_of, IsNumbered}
-use Rattle.qw_module.specs.Typing.{Signature, Typed}
+use Rattle.qw_module.specs.Syntax.{Code, Sequences, code_of, IsNumbered}
+use Rattle.qw_module.specs.Typing.{Signature, GlobalType, Outside, Scope, scope_of, Typed}
 
 -- the sequences of a body, and the code that it stands for
 abbrev pub items_of : List (Vec Instr) → List (List Instr)
 items_of sequences = map (λ (sequence : Vec Instr). sequence.items) sequences
 
-abbrev pub sequences_of : Body → List (List Instr)
-sequences_of body = items_of body.sequences.items
+abbrev pub sequences_of : Body → Sequences
+sequences_of body = record { each = items_of body.sequences.items; labels = body.labels.items }
 
 abbrev pub code_of_body : Body → Code
 code_of_body body = code_of (sequences_of body)
+
+-- the types of a function's locals after its parameters: each run is so many of its type (5.4.6)
+abbrev pub declared_types : List Locals → List ValType
+declared_types [] = []
+declared_types (run ∷ runs) = replicate run.count run.ty ++ declared_types runs
 
 -- what an import adds to the functions, as the index of its type, and to the memories
 abbrev pub imported_function : Import → Option ℕ
@@ -50,7 +56,7 @@ abbrev pub functions_of : Module → List ℕ
 functions_of m = imported_functions m ++ map (λ (function : Function). function.type_index) m.functions.items
 
 abbrev pub memories_of : Module → List Limits
-memories_of m = filter_map imported_memory m.imports.items ++ option_to_list m.memory
+memories_of m = filter_map imported_memory m.imports.items ++ m.memories.items
 
 -- a function has at most one result (3.2.2)
 abbrev pub IsValidType : FuncType → Type 0
@@ -82,39 +88,36 @@ IsExportedOf m (kind.Global index) = index < length m.globals.items
 abbrev pub IsExport : Module → Export → Type 0
 IsExport m export = IsExportedOf m export.kind
 
--- the types of the imported functions
+-- the types of functions by the indices of these; a type that isn't there is read as one that takes and leaves nothing
 abbrev pub signature_of : FuncType → Signature
 signature_of type = record { params = type.params.items; results = type.results.items }
 
 abbrev pub signature_in : Module → ℕ → Signature
 signature_in m index = option_map_or signature_of (slice_get m.types.items index) (record { params = []; results = [] })
 
-abbrev pub imported_signatures : Module → List Signature
-imported_signatures m = map (signature_in m) (imported_functions m)
+abbrev pub global_type : Global → GlobalType
+global_type global = record { type = global.ty; mutable = global.mutable }
 
--- whether there is a load, a store or a growth in a sequence: these want a memory (3.3.4)
-abbrev pub is_access : Op → Bool
-is_access (Load load arg) = true
-is_access (Store store arg) = true
-is_access MemoryGrow = true
-is_access _ = false
+-- what the code of a module may name: all its functions, imported or its own, its globals and its memories (3.4.10)
+abbrev pub outside_of : Module → Outside
+outside_of m =
+    record {
+      functions = map (signature_in m) (functions_of m);
+      globals = map global_type m.globals.items;
+      memories = length (memories_of m);
+    }
 
-abbrev pub accesses_memory : Code → Bool
-accesses_memory done = false
-accesses_memory (op o rest) = is_access o || accesses_memory rest
-accesses_memory (block result inner rest) = accesses_memory inner || accesses_memory rest
-accesses_memory (loop result inner rest) = accesses_memory inner || accesses_memory rest
-accesses_memory (if_else result inner other rest) = accesses_memory inner || accesses_memory other || accesses_memory rest
-accesses_memory (br index rest) = accesses_memory rest
-accesses_memory (br_if index rest) = accesses_memory rest
+-- what the body of a function is typed under: its locals begin with its parameters, and its outermost label takes its results (3.4.1)
+abbrev pub function_scope : Outside → Signature → (declared : List ValType) → Scope
+function_scope outside signature declared =
+    scope_of outside (signature.params ++ declared) (reverse signature.results) (reverse signature.results ∷ [])
 
 -- A function of a module, whose type this is, is valid: its body is numbered, and the code that it stands for leads from no
--- operands to its results. Its locals begin with its parameters, and its outermost label takes its results (3.4.1).
+-- operands to its results (3.4.1).
 pub record IsTypedFunction (m : Module) (function : Function) (type : FuncType) : Type 0 where
   pub numbered : IsNumbered (sequences_of function.body)
-  pub typed : Typed (record { functions = imported_signatures m; locals = type.params.items ++ function.locals.items; labels = type.results.items ∷ [] })
-      (code_of_body function.body) [] type.results.items
-  pub memory : IsTrue (accesses_memory (code_of_body function.body)) → 1 ≤ length (memories_of m)
+  pub typed : Typed (function_scope (outside_of m) (signature_of type) (declared_types function.locals.items)) (code_of_body function.body) []
+      (reverse type.results.items)
 
 abbrev pub IsValidFunction : Module → Function → Type 0
 IsValidFunction m function = IsSomeAnd (slice_get m.types.items function.type_index) (IsTypedFunction m function)
@@ -128,7 +131,7 @@ pub record IsValid (m : Module) : Type 0 where
   pub types : All IsValidType m.types.items
   pub imports : All (IsValidImport m) m.imports.items
   pub functions : All (IsValidFunction m) m.functions.items
-  pub memory : IfSome m.memory IsValidMemory
+  pub memories : All IsValidMemory m.memories.items
   pub one_memory : length (memories_of m) ≤ 1
   pub globals : All IsValidGlobal m.globals.items
   pub exports : All (IsExport m) m.exports.items
@@ -142,10 +145,24 @@ abbrev pub IsOneI32 : Module → ℕ → Type 0
 IsOneI32 m type = IsSomeAnd (slice_get m.types.items type) TakesOneI32
 
 -- The shape that is executed: the module imports the memory and the function `raise`, and exports its own function of this
--- number as `run`; each of these functions takes one i32 and leaves nothing.
+-- number as `run`; `run` and each imported function takes one i32 and leaves nothing.
 pub record IsShaped (m : Module) (number : ℕ) : Type 0 where
   pub memory : (limits : Limits) × Contains m.imports.items (import.Memory limits)
   pub raise : (type : ℕ) × Contains m.imports.items (import.Raise type)
-  pub raises : All (IsOneI32 m) (imported_functions m)
+  pub linked : All (IsOneI32 m) (imported_functions m)
   pub run : IsSomeAnd (slice_get m.functions.items number) (λ (function : Function). IsOneI32 m function.type_index)
   pub exported : (export : Export) × Contains m.exports.items export × (string_bytes export.name ≡ codes "run") × (export.kind ≡ kind.Function (length (imported_functions m) + number))
+
+-- an instruction calls only functions of indices below n
+abbrev pub CallsBelow : ℕ → Instr → Type 0
+CallsBelow n (i.Call index) = index < n
+CallsBelow n _ = Unit {0}
+
+-- the own function of this number calls only functions numbered below it, the imported ones before all its own
+abbrev pub DescendsAt : Module → (number : ℕ) → Function → Type 0
+DescendsAt m number function =
+    AllByRecursion (AllByRecursion (CallsBelow (length (imported_functions m) + number))) (items_of function.body.sequences.items)
+
+-- all functions call downwards only, so no function is ever called within itself
+abbrev pub IsDescending : Module → Type 0
+IsDescending m = (number : ℕ) (function : Function) → slice_get m.functions.items number ≡ Some function → DescendsAt m number function

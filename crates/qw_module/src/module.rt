@@ -28,11 +28,23 @@ pub enum Import {
 }
 
 /// A function's body as sequences by number. A block names its inner sequences by lower numbers, so
-/// the last sequence is the outermost, and no sequence is reached from itself.
+/// the last sequence is the outermost, and no sequence is reached from itself. Who reads a body from left to right gives a
+/// sequence its number where its end is read.
 #[derive(Debug, Drop)]
 pub struct Body {
     /// The sequences, each at its number.
     pub sequences: Vec<Vec<Instr>>,
+    /// The labels of the body's `br_table`s, of which each names a range.
+    pub labels: Vec<u32>,
+}
+
+/// So many locals of one type (5.4.6). A few octets of a module may announce 2^32 - 1 of them.
+#[derive(Clone, Copy, Debug, PartialEq, Eq)]
+pub struct Locals {
+    /// How many there are.
+    pub count: u32,
+    /// Their type.
+    pub ty: ValType,
 }
 
 /// A function of the module's own (2.5.3).
@@ -40,8 +52,8 @@ pub struct Body {
 pub struct Function {
     /// The index of its type.
     pub type_index: u32,
-    /// The types of its locals after its parameters.
-    pub locals: Vec<ValType>,
+    /// Its locals after its parameters, in order.
+    pub locals: Vec<Locals>,
     /// Its code.
     pub body: Body,
 }
@@ -83,8 +95,8 @@ pub struct Module {
     pub imports: Vec<Import>,
     /// The functions of its own, in order.
     pub functions: Vec<Function>,
-    /// The memory of its own, where it has one.
-    pub memory: Option<Limits>,
+    /// The memories of its own; a valid module has at most one, imported or of its own.
+    pub memories: Vec<Limits>,
     /// The globals, in order.
     pub globals: Vec<Global>,
     /// What is exported.

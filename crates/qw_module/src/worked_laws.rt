@@ -1,60 +1,107 @@
 //! The definitions on given numbers, types and limits, worked out by hand from the WebAssembly Core Specification 1.0. A
 //! definition that were weaker or wrong would refuse a line here. No function here computes anything.
 
-ghost use Rattle.std.specs.Prelude.{◌≡◌, [], ◌∷◌, List, Some, None, true, false};
-ghost use Rattle.qw_module.specs.Numbers.{binary, relation, loaded_value, load_width, store_width, constant, values_of};
-ghost use Rattle.qw_module.specs.Numbers.{type_of_binary, type_of_relation, type_of_load, type_of_store, type_of_constant};
-ghost use Rattle.qw_module.specs.Execution.{effective, refusal, label, Running, Trapped, Silent, Grows, Traps};
-ghost use Rattle.qw_module.specs.Step.{op_wants, Leaves, Throws, next};
-ghost use Rattle.qw_module.specs.Typing.{OpTyped, Typed};
-ghost use Rattle.qw_module.specs.Syntax.{done, op, block, loop, if_else, br, br_if};
-ghost use Rattle.qw_module.specs.Soundness.{scope_of};
-ghost use Rattle.qw_module.specs.Start.{weight};
-ghost use Rattle.qw_module.specs.Validity.{IsValidMemory, IsValidGlobal};
+ghost use Rattle.std.specs.Prelude.{◌≡◌, [], ◌∷◌, List, Some, None, Ok, Err, true, false};
+ghost use Rattle.qw_module.specs.Numbers.{unary, binary, division, relation, converted, loaded_value, load_width, store_width, constant, values_of};
+ghost use Rattle.qw_module.specs.Numbers.{converts_from, converts_to, type_of_load, type_of_store, type_of_constant};
+ghost use Rattle.qw_module.specs.Execution.{effective, refusal, label, frame, Running, Returned, Raised, Trapped, Silent, Grows, Raises, Traps};
+ghost use Rattle.qw_module.specs.Step.{op_wants, Leaves, Sets, Fails', next};
+ghost use Rattle.qw_module.specs.Start.{weight, weights_below};
+ghost use Rattle.qw_module.specs.Typing.{OpTyped, Typed, within};
+ghost use Rattle.qw_module.specs.Syntax.{done, op, unreachable, block, loop, if_then, if_else, br, br_if, br_table, return, call};
+ghost use Rattle.qw_module.specs.Places.{Typing, tokens_of, plain, block_begins, if_begins, else_begins, ends, branches};
+ghost use Rattle.qw_module.specs.Validity.{IsValidMemory, IsValidGlobal, declared_types};
+ghost use Rattle.qw_module.specs.Worked.{scope, outside, nothing, store, at_code};
+ghost use Rattle.qw_module.specs.Execution.{host_raise, own};
+ghost use Rattle.qw_module.specs.declared.trap.Trap.TheVariants.{DivideByZero, Overflow, OutOfBounds, Unreachable};
 ghost use Rattle.qw_module.specs.declared.instruction.Sign.TheVariants.{Signed, Unsigned};
 ghost use Rattle.qw_module.specs.declared.instruction.Op.TheVariants as o;
 ghost use Rattle.qw_module.specs.declared.instruction.Const.TheVariants as const;
-ghost use Rattle.qw_module.specs.declared.instruction.Binary.TheVariants.{I32Add, I32Sub, I32Mul, I64Add};
-ghost use Rattle.qw_module.specs.declared.instruction.Relation.TheVariants.{I32Eq, I32Gt, I64Eq, I64Ne, I64Lt, I64Gt, I64Le, I64Ge};
+ghost use Rattle.qw_module.specs.declared.instruction.Unary.TheVariants.{Clz, Ctz, Popcnt};
+ghost use Rattle.qw_module.specs.declared.instruction.Binary.TheVariants.{Add, Sub, Mul, And, Or, Xor, Shl, Shr, Rotl, Rotr};
+ghost use Rattle.qw_module.specs.declared.instruction.Division.TheVariants.{Div, Rem};
+ghost use Rattle.qw_module.specs.declared.instruction.Relation.TheVariants.{Eq, Ne, Lt, Gt, Le, Ge};
+ghost use Rattle.qw_module.specs.declared.instruction.Conversion.TheVariants.{Wrap, Extend};
 ghost use Rattle.qw_module.specs.declared.instruction.Load.TheVariants as load;
-ghost use Rattle.qw_module.specs.declared.instruction.Store.TheVariants as store;
+ghost use Rattle.qw_module.specs.declared.instruction.Store.TheVariants as store_of;
 ghost use Rattle.qw_module.specs.declared.instruction.ValType.{ValType};
 ghost use Rattle.qw_module.specs.declared.instruction.ValType.TheVariants.{I32, I64};
 
-/// Sums, differences and products wrap at their width (4.3.2), and take and leave values of its type (3.3.1).
+/// Counts of bits at both ends, and of those that are 1 (4.3.2).
+#[tactic(auto, unfolding(crate::specs::Numbers::zeros_above, crate::specs::Numbers::zeros_below, crate::specs::Numbers::ones))]
+pub fn unary_operators()
+    ensures leading { (unary I32 Clz 0 ≡ 32) × (unary I32 Clz 1 ≡ 31) × (unary I32 Clz 4294967295 ≡ 0) × (unary I64 Clz 1 ≡ 63) × (unary I64 Clz 4294967296 ≡ 31) }
+    ensures trailing { (unary I32 Ctz 0 ≡ 32) × (unary I32 Ctz 8 ≡ 3) × (unary I32 Ctz 2147483648 ≡ 31) × (unary I64 Ctz 0 ≡ 64) × (unary I64 Ctz 1099511627776 ≡ 40) }
+    ensures set { (unary I32 Popcnt 0 ≡ 0) × (unary I32 Popcnt 4294967295 ≡ 32) × (unary I32 Popcnt 2147483651 ≡ 3) × (unary I64 Popcnt 18446744073709551615 ≡ 64) }
+{}
+
+/// Sums, differences and products wrap at their width (4.3.2).
 pub fn binary_operators()
-    ensures sums { (binary I32Add 4294967295 1 ≡ 0) × (binary I32Add 2147483647 1 ≡ 2147483648) × (binary I32Add 2 3 ≡ 5) }
-    ensures differences { (binary I32Sub 0 1 ≡ 4294967295) × (binary I32Sub 7 5 ≡ 2) × (binary I32Sub 5 7 ≡ 4294967294) }
-    ensures products { (binary I32Mul 65536 65536 ≡ 0) × (binary I32Mul 4294967295 4294967295 ≡ 1) × (binary I32Mul 6 7 ≡ 42) }
-    ensures wide_sums { (binary I64Add 18446744073709551615 1 ≡ 0) × (binary I64Add 4294967295 1 ≡ 4294967296) }
-    ensures types { (type_of_binary I32Add ≡ I32) × (type_of_binary I32Sub ≡ I32) × (type_of_binary I32Mul ≡ I32) × (type_of_binary I64Add ≡ I64) }
+    ensures sums { (binary I32 Add 4294967295 1 ≡ 0) × (binary I32 Add 2147483647 1 ≡ 2147483648) × (binary I32 Add 2 3 ≡ 5) }
+    ensures differences { (binary I32 Sub 0 1 ≡ 4294967295) × (binary I32 Sub 7 5 ≡ 2) × (binary I32 Sub 5 7 ≡ 4294967294) × (binary I64 Sub 0 1 ≡ 18446744073709551615) }
+    ensures products { (binary I32 Mul 65536 65536 ≡ 0) × (binary I32 Mul 4294967295 4294967295 ≡ 1) × (binary I32 Mul 6 7 ≡ 42) × (binary I64 Mul 4294967296 4294967296 ≡ 0) }
+    ensures wide_sums { (binary I64 Add 18446744073709551615 1 ≡ 0) × (binary I64 Add 4294967295 1 ≡ 4294967296) }
+{}
+
+/// Bits by bits, shifts and rotations (4.3.2): counts are modulo the width, a signed shift rounds down and keeps the sign.
+pub fn bits()
+    ensures each { (binary I32 And 12 10 ≡ 8) × (binary I32 Or 12 10 ≡ 14) × (binary I32 Xor 12 10 ≡ 6) × (binary I64 Xor 18446744073709551615 1 ≡ 18446744073709551614) }
+    ensures left { (binary I32 Shl 1 31 ≡ 2147483648) × (binary I32 Shl 1 33 ≡ 2) × (binary I32 Shl 2147483649 1 ≡ 2) × (binary I64 Shl 1 33 ≡ 8589934592) × (binary I64 Shl 3 64 ≡ 3) }
+    ensures right { (binary I32 (Shr Unsigned) 2147483648 31 ≡ 1) × (binary I32 (Shr Unsigned) 7 33 ≡ 3) × (binary I64 (Shr Unsigned) 9223372036854775808 63 ≡ 1) }
+    ensures right_signed { (binary I32 (Shr Signed) 2147483648 31 ≡ 4294967295) × (binary I32 (Shr Signed) 4294967289 1 ≡ 4294967292) × (binary I32 (Shr Signed) 7 1 ≡ 3)
+        × (binary I64 (Shr Signed) 9223372036854775808 62 ≡ 18446744073709551614) × (binary I64 (Shr Signed) 2147483648 31 ≡ 1) }
+    ensures rotated_left { (binary I32 Rotl 2147483649 1 ≡ 3) × (binary I32 Rotl 2147483649 32 ≡ 2147483649) × (binary I32 Rotl 1 63 ≡ 2147483648) × (binary I64 Rotl 9223372036854775809 4 ≡ 24) }
+    ensures rotated_right { (binary I32 Rotr 3 1 ≡ 2147483649) × (binary I32 Rotr 3 32 ≡ 3) × (binary I64 Rotr 1 1 ≡ 9223372036854775808) }
+{}
+
+/// Quotients are rounded toward zero and remainders have the dividend's sign; which there are none of (4.3.2).
+pub fn divisions()
+    ensures unsigned_quotients { (division I32 (Div Unsigned) 7 2 ≡ Ok 3) × (division I32 (Div Unsigned) 4294967295 2 ≡ Ok 2147483647) × (division I64 (Div Unsigned) 18446744073709551615 10 ≡ Ok 1844674407370955161) }
+    ensures signed_quotients { (division I32 (Div Signed) 4294967289 2 ≡ Ok 4294967293) × (division I32 (Div Signed) 7 4294967294 ≡ Ok 4294967293)
+        × (division I32 (Div Signed) 4294967289 4294967294 ≡ Ok 3) × (division I64 (Div Signed) 18446744073709551609 2 ≡ Ok 18446744073709551613) × (division I64 (Div Signed) 7 2 ≡ Ok 3) }
+    ensures overflow { (division I32 (Div Signed) 2147483648 4294967295 ≡ Err Overflow) × (division I64 (Div Signed) 9223372036854775808 18446744073709551615 ≡ Err Overflow)
+        × (division I32 (Div Signed) 2147483649 4294967295 ≡ Ok 2147483647) × (division I32 (Div Signed) 2147483648 1 ≡ Ok 2147483648) × (division I32 (Div Unsigned) 2147483648 4294967295 ≡ Ok 0) }
+    ensures remainders { (division I32 (Rem Unsigned) 7 4 ≡ Ok 3) × (division I32 (Rem Signed) 4294967289 2 ≡ Ok 4294967295) × (division I32 (Rem Signed) 7 4294967294 ≡ Ok 1)
+        × (division I32 (Rem Signed) 2147483648 4294967295 ≡ Ok 0) × (division I64 (Rem Signed) 9223372036854775808 18446744073709551615 ≡ Ok 0) }
+    ensures by_zero { (division I32 (Div Unsigned) 7 0 ≡ Err DivideByZero) × (division I32 (Div Signed) 2147483648 0 ≡ Err DivideByZero)
+        × (division I64 (Rem Unsigned) 7 0 ≡ Err DivideByZero) × (division I64 (Rem Signed) 7 0 ≡ Err DivideByZero) }
 {}
 
 /// Comparisons at the edges of both readings (4.3.2): 2^31 and 2^63 are the least of the signed numbers.
 pub fn relations()
-    ensures equal { (relation I32Eq 5 5 ≡ 1) × (relation I32Eq 5 6 ≡ 0) × (relation I64Eq 4294967297 1 ≡ 0) × (relation I64Eq 7 7 ≡ 1) }
-    ensures unequal { (relation I64Ne 4294967297 1 ≡ 1) × (relation I64Ne 7 7 ≡ 0) }
-    ensures words { (relation (I32Gt Signed) 2147483648 0 ≡ 0) × (relation (I32Gt Unsigned) 2147483648 0 ≡ 1)
-        × (relation (I32Gt Signed) 0 4294967295 ≡ 1) × (relation (I32Gt Unsigned) 0 4294967295 ≡ 0)
-        × (relation (I32Gt Signed) 3 3 ≡ 0) × (relation (I32Gt Unsigned) 3 3 ≡ 0) }
-    ensures less { (relation (I64Lt Signed) 9223372036854775808 9223372036854775807 ≡ 1) × (relation (I64Lt Unsigned) 9223372036854775808 9223372036854775807 ≡ 0)
-        × (relation (I64Lt Signed) 3 3 ≡ 0) × (relation (I64Lt Unsigned) 3 4 ≡ 1) }
-    ensures greater { (relation (I64Gt Signed) 9223372036854775808 9223372036854775807 ≡ 0) × (relation (I64Gt Unsigned) 9223372036854775808 9223372036854775807 ≡ 1)
-        × (relation (I64Gt Signed) 3 3 ≡ 0) × (relation (I64Gt Unsigned) 3 4 ≡ 0) }
-    ensures at_most { (relation (I64Le Signed) 9223372036854775808 9223372036854775807 ≡ 1) × (relation (I64Le Unsigned) 9223372036854775808 9223372036854775807 ≡ 0)
-        × (relation (I64Le Signed) 3 3 ≡ 1) × (relation (I64Le Unsigned) 3 3 ≡ 1) }
-    ensures at_least { (relation (I64Ge Signed) 9223372036854775808 9223372036854775807 ≡ 0) × (relation (I64Ge Unsigned) 9223372036854775808 9223372036854775807 ≡ 1)
-        × (relation (I64Ge Signed) 3 3 ≡ 1) × (relation (I64Ge Unsigned) 3 3 ≡ 1) }
-    ensures types { (type_of_relation I32Eq ≡ I32) × (type_of_relation (I32Gt Signed) ≡ I32) × (type_of_relation I64Eq ≡ I64) × (type_of_relation I64Ne ≡ I64)
-        × (type_of_relation (I64Lt Signed) ≡ I64) × (type_of_relation (I64Gt Unsigned) ≡ I64) × (type_of_relation (I64Le Signed) ≡ I64) × (type_of_relation (I64Ge Unsigned) ≡ I64) }
+    ensures equal { (relation I32 Eq 5 5 ≡ 1) × (relation I32 Eq 5 6 ≡ 0) × (relation I64 Eq 4294967297 1 ≡ 0) × (relation I64 Eq 7 7 ≡ 1) }
+    ensures unequal { (relation I64 Ne 4294967297 1 ≡ 1) × (relation I64 Ne 7 7 ≡ 0) × (relation I32 Ne 5 6 ≡ 1) }
+    ensures words { (relation I32 (Gt Signed) 2147483648 0 ≡ 0) × (relation I32 (Gt Unsigned) 2147483648 0 ≡ 1)
+        × (relation I32 (Lt Signed) 2147483648 0 ≡ 1) × (relation I32 (Lt Unsigned) 2147483648 0 ≡ 0)
+        × (relation I32 (Le Signed) 3 3 ≡ 1) × (relation I32 (Ge Unsigned) 3 3 ≡ 1) × (relation I32 (Gt Signed) 3 3 ≡ 0) }
+    ensures less { (relation I64 (Lt Signed) 9223372036854775808 9223372036854775807 ≡ 1) × (relation I64 (Lt Unsigned) 9223372036854775808 9223372036854775807 ≡ 0)
+        × (relation I64 (Lt Signed) 3 3 ≡ 0) × (relation I64 (Lt Unsigned) 3 4 ≡ 1) }
+    ensures greater { (relation I64 (Gt Signed) 9223372036854775808 9223372036854775807 ≡ 0) × (relation I64 (Gt Unsigned) 9223372036854775808 9223372036854775807 ≡ 1)
+        × (relation I64 (Gt Signed) 3 3 ≡ 0) × (relation I64 (Gt Unsigned) 3 4 ≡ 0) }
+    ensures at_most { (relation I64 (Le Signed) 9223372036854775808 9223372036854775807 ≡ 1) × (relation I64 (Le Unsigned) 9223372036854775808 9223372036854775807 ≡ 0)
+        × (relation I64 (Le Signed) 3 3 ≡ 1) × (relation I64 (Le Unsigned) 3 3 ≡ 1) }
+    ensures at_least { (relation I64 (Ge Signed) 9223372036854775808 9223372036854775807 ≡ 0) × (relation I64 (Ge Unsigned) 9223372036854775808 9223372036854775807 ≡ 1)
+        × (relation I64 (Ge Signed) 3 3 ≡ 1) × (relation I64 (Ge Unsigned) 3 3 ≡ 1) }
+{}
+
+/// Conversions (4.3.4) and their types (3.3.1).
+pub fn conversions()
+    ensures wrapped { (converted Wrap 4294967297 ≡ 1) × (converted Wrap 18446744073709551615 ≡ 4294967295) }
+    ensures extended { (converted (Extend Signed) 4294967295 ≡ 18446744073709551615) × (converted (Extend Signed) 2147483647 ≡ 2147483647) × (converted (Extend Unsigned) 4294967295 ≡ 4294967295) }
+    ensures types { (converts_from Wrap ≡ I64) × (converts_to Wrap ≡ I32) × (converts_from (Extend Signed) ≡ I32) × (converts_to (Extend Signed) ≡ I64) }
 {}
 
 /// Loads, stores and growths (4.4.4): a loaded number is extended by the sign that the load names, and addresses don't wrap.
 pub fn accesses()
-    ensures extended { (loaded_value (load.I64From32 Signed) 4294967295 ≡ 18446744073709551615) × (loaded_value (load.I64From32 Signed) 2147483648 ≡ 18446744071562067968)
-        × (loaded_value (load.I64From32 Signed) 2147483647 ≡ 2147483647) × (loaded_value (load.I64From32 Unsigned) 4294967295 ≡ 4294967295) × (loaded_value load.I32 4294967295 ≡ 4294967295) }
-    ensures widths { (load_width load.I32 ≡ 4) × (load_width (load.I64From32 Signed) ≡ 4) × (store_width store.I32 ≡ 4) × (store_width store.I64 ≡ 8) }
-    ensures types { (type_of_load load.I32 ≡ I32) × (type_of_load (load.I64From32 Unsigned) ≡ I64) × (type_of_store store.I32 ≡ I32) × (type_of_store store.I64 ≡ I64) }
+    ensures octets { (loaded_value (load.From8 I32 Signed) 255 ≡ 4294967295) × (loaded_value (load.From8 I64 Signed) 128 ≡ 18446744073709551488)
+        × (loaded_value (load.From8 I32 Signed) 127 ≡ 127) × (loaded_value (load.From8 I64 Unsigned) 255 ≡ 255) }
+    ensures pairs { (loaded_value (load.From16 I32 Signed) 32768 ≡ 4294934528) × (loaded_value (load.From16 I64 Signed) 65535 ≡ 18446744073709551615) × (loaded_value (load.From16 I32 Unsigned) 65535 ≡ 65535) }
+    ensures fours { (loaded_value (load.I64From32 Signed) 4294967295 ≡ 18446744073709551615) × (loaded_value (load.I64From32 Signed) 2147483648 ≡ 18446744071562067968)
+        × (loaded_value (load.I64From32 Signed) 2147483647 ≡ 2147483647) × (loaded_value (load.I64From32 Unsigned) 4294967295 ≡ 4294967295) × (loaded_value (load.Full I32) 4294967295 ≡ 4294967295) }
+    ensures widths { (load_width (load.Full I32) ≡ 4) × (load_width (load.Full I64) ≡ 8) × (load_width (load.From8 I64 Signed) ≡ 1) × (load_width (load.From16 I32 Signed) ≡ 2) × (load_width (load.I64From32 Signed) ≡ 4)
+        × (store_width (store_of.Full I32) ≡ 4) × (store_width (store_of.Full I64) ≡ 8) × (store_width (store_of.To8 I64) ≡ 1) × (store_width (store_of.To16 I32) ≡ 2) × (store_width store_of.I64To32 ≡ 4) }
+    ensures types { (type_of_load (load.Full I32) ≡ I32) × (type_of_load (load.From8 I64 Signed) ≡ I64) × (type_of_load (load.I64From32 Unsigned) ≡ I64)
+        × (type_of_store (store_of.Full I32) ≡ I32) × (type_of_store (store_of.To16 I64) ≡ I64) × (type_of_store store_of.I64To32 ≡ I64) }
     ensures addresses { effective 4294967295 (record { align = 0; offset = 4294967295 }) ≡ 8589934590 }
     ensures refused { refusal ≡ 4294967295 }
 {}
@@ -65,41 +112,88 @@ pub fn values()
     ensures constants { (constant (const.I32 7) ≡ 7) × (constant (const.I64 8) ≡ 8) × (type_of_constant (const.I32 7) ≡ I32) × (type_of_constant (const.I64 8) ≡ I64) }
 {}
 
-/// What operators take and leave (4.4.1 to 4.4.3): the last operand stands first, so 5 is taken from 7.
+/// What operators take and leave (4.4.1 to 4.4.3): the last operand stands first, so 5 is taken from 7, and divides it.
 pub fn operators_on_operands()
-    ensures read { op_wants (o.LocalGet 1) (6 ∷ []) (8 ∷ 9 ∷ []) ≡ Leaves (9 ∷ 6 ∷ []) (8 ∷ 9 ∷ []) }
-    ensures set { op_wants (o.LocalSet 1) (5 ∷ 6 ∷ []) (8 ∷ 9 ∷ []) ≡ Leaves (6 ∷ []) (8 ∷ 5 ∷ []) }
-    ensures tee { op_wants (o.LocalTee 0) (5 ∷ 6 ∷ []) (8 ∷ 9 ∷ []) ≡ Leaves (5 ∷ 6 ∷ []) (5 ∷ 9 ∷ []) }
-    ensures constant { op_wants (o.Const (const.I64 7)) (6 ∷ []) [] ≡ Leaves (7 ∷ 6 ∷ []) [] }
-    ensures difference { op_wants (o.Binary I32Sub) (5 ∷ 7 ∷ 6 ∷ []) [] ≡ Leaves (2 ∷ 6 ∷ []) [] }
-    ensures comparison { op_wants (o.Relation (I32Gt Unsigned)) (5 ∷ 7 ∷ 6 ∷ []) [] ≡ Leaves (1 ∷ 6 ∷ []) [] }
-    ensures raise { op_wants (o.Call 0) (3 ∷ 6 ∷ []) [] ≡ Throws 3 }
+    ensures nop { op_wants o.Nop [] (6 ∷ []) (8 ∷ []) ≡ Leaves (6 ∷ []) (8 ∷ []) }
+    ensures dropped { op_wants o.Drop [] (5 ∷ 6 ∷ []) [] ≡ Leaves (6 ∷ []) [] }
+    ensures first_selected { op_wants o.Select [] (1 ∷ 5 ∷ 7 ∷ 6 ∷ []) [] ≡ Leaves (7 ∷ 6 ∷ []) [] }
+    ensures second_selected { op_wants o.Select [] (0 ∷ 5 ∷ 7 ∷ 6 ∷ []) [] ≡ Leaves (5 ∷ 6 ∷ []) [] }
+    ensures read { op_wants (o.LocalGet 1) [] (6 ∷ []) (8 ∷ 9 ∷ []) ≡ Leaves (9 ∷ 6 ∷ []) (8 ∷ 9 ∷ []) }
+    ensures set { op_wants (o.LocalSet 1) [] (5 ∷ 6 ∷ []) (8 ∷ 9 ∷ []) ≡ Leaves (6 ∷ []) (8 ∷ 5 ∷ []) }
+    ensures tee { op_wants (o.LocalTee 0) [] (5 ∷ 6 ∷ []) (8 ∷ 9 ∷ []) ≡ Leaves (5 ∷ 6 ∷ []) (5 ∷ 9 ∷ []) }
+    ensures global_read { op_wants (o.GlobalGet 1) (3 ∷ 4 ∷ []) (6 ∷ []) (8 ∷ []) ≡ Leaves (4 ∷ 6 ∷ []) (8 ∷ []) }
+    ensures global_set { op_wants (o.GlobalSet 1) (3 ∷ 4 ∷ []) (5 ∷ 6 ∷ []) (8 ∷ []) ≡ Sets (6 ∷ []) (3 ∷ 5 ∷ []) }
+    ensures constant { op_wants (o.Const (const.I64 7)) [] (6 ∷ []) [] ≡ Leaves (7 ∷ 6 ∷ []) [] }
+    ensures difference { op_wants (o.Binary I32 Sub) [] (5 ∷ 7 ∷ 6 ∷ []) [] ≡ Leaves (2 ∷ 6 ∷ []) [] }
+    ensures quotient { op_wants (o.Division I32 (Div Unsigned)) [] (3 ∷ 7 ∷ 6 ∷ []) [] ≡ Leaves (2 ∷ 6 ∷ []) [] }
+    ensures no_quotient { op_wants (o.Division I32 (Div Unsigned)) [] (0 ∷ 7 ∷ 6 ∷ []) [] ≡ Fails' DivideByZero }
+    ensures zero { op_wants (o.Eqz I64) [] (0 ∷ 6 ∷ []) [] ≡ Leaves (1 ∷ 6 ∷ []) [] }
+    ensures no_zero { op_wants (o.Eqz I64) [] (4294967296 ∷ 6 ∷ []) [] ≡ Leaves (0 ∷ 6 ∷ []) [] }
+    ensures comparison { op_wants (o.Relation I32 (Gt Unsigned)) [] (5 ∷ 7 ∷ 6 ∷ []) [] ≡ Leaves (1 ∷ 6 ∷ []) [] }
+    ensures conversion { op_wants (o.Convert Wrap) [] (4294967297 ∷ 6 ∷ []) [] ≡ Leaves (1 ∷ 6 ∷ []) [] }
 {}
 
-/// Steps of configurations (4.4.4 to 4.4.6): a refused growth leaves -1, an access outside the memory traps, a branch keeps what
-/// its label takes and what lies below, and any number but 0 takes the first sequence of an `if`.
-pub fn steps()
-    ensures refused_growth { next (λ _. false) (record { globals = []; code = op o.MemoryGrow (br 0 done); operands = 2 ∷ 6 ∷ []; locals = []; contexts = [] }) []
-        ≡ Some (record { event = Grows 2 false; state = Running (record { globals = []; code = br 0 done; operands = 4294967295 ∷ 6 ∷ []; locals = []; contexts = [] }); memory = [] }) }
-    ensures outside { next (λ _. true) (record { globals = []; code = op (o.Load load.I32 (record { align = 0; offset = 1 })) done; operands = 0 ∷ []; locals = []; contexts = [] }) (1 ∷ 2 ∷ 3 ∷ 4 ∷ [])
-        ≡ Some (record { event = Traps; state = Trapped; memory = 1 ∷ 2 ∷ 3 ∷ 4 ∷ [] }) }
-    ensures branch { next (λ _. true) (record { globals = []; code = br 0 done; operands = 5 ∷ 6 ∷ []; locals = []; contexts = label (br 1 done) 1 (3 ∷ []) done ∷ [] }) []
-        ≡ Some (record { event = Silent; state = Running (record { globals = []; code = br 1 done; operands = 5 ∷ 3 ∷ []; locals = []; contexts = [] }); memory = [] }) }
-    ensures first { next (λ _. true) (record { globals = []; code = if_else (Some I32) (br 0 done) (br 1 done) done; operands = 2 ∷ 6 ∷ []; locals = []; contexts = [] }) []
-        ≡ Some (record { event = Silent; state = Running (record { globals = []; code = br 0 done; operands = []; locals = []; contexts = label done 1 (6 ∷ []) done ∷ [] }); memory = [] }) }
-    ensures other { next (λ _. true) (record { globals = []; code = if_else (Some I32) (br 0 done) (br 1 done) done; operands = 0 ∷ 6 ∷ []; locals = []; contexts = [] }) []
-        ≡ Some (record { event = Silent; state = Running (record { globals = []; code = br 1 done; operands = []; locals = []; contexts = label done 1 (6 ∷ []) done ∷ [] }); memory = [] }) }
+/// Steps over the memory (4.4.4): the number of its pages, a refused growth leaves -1, and an access outside it traps.
+pub fn memory_steps()
+    ensures size { next (λ _. false) (at_code (op o.MemorySize (br 0 done)) (6 ∷ []) []) (1 ∷ [])
+        ≡ Some (record { event = Silent; state = Running (at_code (br 0 done) (0 ∷ 6 ∷ []) []); memory = 1 ∷ [] }) }
+    ensures refused_growth { next (λ _. false) (at_code (op o.MemoryGrow (br 0 done)) (2 ∷ 6 ∷ []) []) []
+        ≡ Some (record { event = Grows 2 false; state = Running (at_code (br 0 done) (4294967295 ∷ 6 ∷ []) []); memory = [] }) }
+    ensures outside { next (λ _. true) (at_code (op (o.Load (load.Full I32) (record { align = 0; offset = 1 })) done) (0 ∷ []) []) (1 ∷ 2 ∷ 3 ∷ 4 ∷ [])
+        ≡ Some (record { event = Traps OutOfBounds; state = Trapped OutOfBounds; memory = 1 ∷ 2 ∷ 3 ∷ 4 ∷ [] }) }
 {}
 
-/// Each instruction counts once, with those of all sequences that it holds: of a choice, both arms.
-pub fn weights_of_code()
-    ensures nothing { weight done ≡ 0 }
-    ensures plain { weight (op (o.LocalGet 0) (op (o.LocalSet 1) done)) ≡ 2 }
-    ensures branches { weight (br_if 1 (br 0 done)) ≡ 2 }
-    ensures of_block { weight (block None (op (o.LocalGet 0) (br_if 0 done)) (op (o.LocalGet 1) done)) ≡ 4 }
-    ensures of_loop { weight (loop None (op (o.LocalGet 0) (br_if 0 done)) (op (o.LocalGet 1) done)) ≡ 4 }
-    ensures of_choice { weight (if_else None (br 1 done) (op (o.LocalGet 0) (op (o.LocalSet 1) done)) (op (o.LocalGet 1) done)) ≡ 5 }
-    ensures nested { weight (block None (loop None (op (o.LocalGet 0) (br_if 1 (br 0 done))) done) (op (o.LocalGet 1) done)) ≡ 6 }
+/// Steps of control (4.4.5, 4.4.6): a branch keeps what its label takes and what lies below, any number but 0 takes the first
+/// sequence of an `if`, and a table's label stands at its operand, or is the default.
+pub fn control_steps()
+    ensures stopped { next (λ _. true) (at_code (unreachable done) [] []) [] ≡ Some (record { event = Traps Unreachable; state = Trapped Unreachable; memory = [] }) }
+    ensures branch { next (λ _. true) (at_code (br 0 done) (5 ∷ 6 ∷ []) (label (br 1 done) 1 (3 ∷ []) done ∷ [])) []
+        ≡ Some (record { event = Silent; state = Running (at_code (br 1 done) (5 ∷ 3 ∷ []) []); memory = [] }) }
+    ensures first { next (λ _. true) (at_code (if_else (Some I32) (br 0 done) (br 1 done) done) (2 ∷ 6 ∷ []) []) []
+        ≡ Some (record { event = Silent; state = Running (at_code (br 0 done) [] (label done 1 (6 ∷ []) done ∷ [])); memory = [] }) }
+    ensures other { next (λ _. true) (at_code (if_else (Some I32) (br 0 done) (br 1 done) done) (0 ∷ 6 ∷ []) []) []
+        ≡ Some (record { event = Silent; state = Running (at_code (br 1 done) [] (label done 1 (6 ∷ []) done ∷ [])); memory = [] }) }
+    ensures no_other { next (λ _. true) (at_code (if_then None (br 0 done) (br 1 done)) (0 ∷ 6 ∷ []) []) []
+        ≡ Some (record { event = Silent; state = Running (at_code (br 1 done) (6 ∷ []) []); memory = [] }) }
+    ensures chosen { next (λ _. true) (at_code (br_table (1 ∷ 0 ∷ []) 1 done) (1 ∷ 5 ∷ []) (label (br 1 done) 1 [] done ∷ label (br 2 done) 0 [] done ∷ [])) []
+        ≡ Some (record { event = Silent; state = Running (at_code (br 1 done) (5 ∷ []) (label (br 2 done) 0 [] done ∷ [])); memory = [] }) }
+    ensures chosen_past { next (λ _. true) (at_code (br_table (1 ∷ 0 ∷ []) 0 done) (2 ∷ 5 ∷ []) (label (br 1 done) 1 [] done ∷ [])) []
+        ≡ Some (record { event = Silent; state = Running (at_code (br 1 done) (5 ∷ []) []); memory = [] }) }
+{}
+
+/// Calls and returns (4.4.5, 4.4.7): the function's locals are its argument and zeros, its results come on the caller's operands,
+/// and `raise` ends all.
+pub fn call_steps()
+    ensures raised { next (λ _. true) (at_code (call 0 done) (3 ∷ 6 ∷ []) []) [] ≡ Some (record { event = Raises 3; state = Raised 3; memory = [] }) }
+    ensures called { next (λ _. true) (at_code (call 1 (br 0 done)) (3 ∷ 6 ∷ []) []) []
+        ≡ Some (record {
+          event = Silent;
+          state = Running (record {
+            store = store;
+            code = return done;
+            operands = [];
+            locals = 3 ∷ 0 ∷ 0 ∷ [];
+            contexts = label done 1 [] done ∷ frame (8 ∷ []) 1 (6 ∷ []) (br 0 done) ∷ [];
+          });
+          memory = [];
+        }) }
+    ensures returned { next (λ _. true) (record {
+      store = store;
+      code = return done;
+      operands = 4 ∷ 5 ∷ [];
+      locals = 3 ∷ [];
+      contexts = label done 1 (7 ∷ []) done ∷ frame (8 ∷ []) 1 (6 ∷ []) (br 0 done) ∷ [];
+    }) []
+        ≡ Some (record { event = Silent; state = Running (at_code (br 0 done) (4 ∷ 6 ∷ []) []); memory = [] }) }
+    ensures left { next (λ _. true) (record {
+      store = store;
+      code = op o.Nop done;
+      operands = 4 ∷ [];
+      locals = 3 ∷ [];
+      contexts = label done 1 [] done ∷ frame (8 ∷ []) 1 (6 ∷ []) (br 0 done) ∷ [];
+    }) []
+        ≡ Some (record { event = Silent; state = Running (at_code (br 0 done) (4 ∷ 6 ∷ []) []); memory = [] }) }
+    ensures ended { next (λ _. true) (at_code (return done) [] (label done 0 [] done ∷ [])) [] ≡ Some (record { event = Silent; state = Returned; memory = [] }) }
 {}
 
 /// A memory's limits (3.2.1, 3.2.4) and a global's first value (3.4.4), on both sides of each.
@@ -113,48 +207,92 @@ pub fn limits_and_globals()
     ensures no_value { IsValidGlobal (record { ty = I32; mutable = false; init = const.I32 4294967296 }) → ⊥ }
 {}
 
-/// Each operator at types that its rule admits, and at some that it doesn't (3.3.1 to 3.3.5). The last operand stands first.
+/// Runs of locals (5.4.6), places (each instruction, `else` and `end`), and counts of instructions, called ones with theirs.
+#[tactic(auto, unfolding(crate::specs::Start::weights_below))]
+pub fn counts()
+    ensures locals { declared_types (record { count = 2; ty = I32 } ∷ record { count = 0; ty = I32 } ∷ record { count = 1; ty = I64 } ∷ []) ≡ I32 ∷ I32 ∷ I64 ∷ [] }
+    ensures places { tokens_of (if_else None (op o.Nop done) (br 0 done) done) ≡ if_begins None ∷ plain o.Nop ∷ else_begins ∷ branches 0 ∷ ends ∷ ends ∷ [] }
+    ensures places_without_else { tokens_of (if_then None (op o.Nop done) (block None done done)) ≡ if_begins None ∷ plain o.Nop ∷ ends ∷ block_begins None ∷ ends ∷ ends ∷ [] }
+    ensures own { weight (loop None (op o.Nop (call 1 done)) (if_else None done (br 0 done) done)) ≡ 5 }
+    ensures with_called { weights_below (host_raise ∷ own (record { params = 0; declared = 0; results = 0; body = op o.Nop (call 0 done) })
+        ∷ own (record { params = 0; declared = 0; results = 0; body = call 1 (call 1 (call 0 done)) }) ∷ []) 3 2 ≡ 7 }
+{}
+
+/// Each operator at types that its rule admits, and at some that it doesn't (3.3.1 to 3.3.4). The last operand stands first.
 pub fn typed_operators()
-    ensures local_get { OpTyped [] (I32 ∷ I64 ∷ []) (o.LocalGet 1) [] (I64 ∷ []) }
-    ensures no_local { (before after : List ValType) → OpTyped [] (I32 ∷ []) (o.LocalGet 1) before after → ⊥ }
-    ensures local_set { OpTyped [] (I32 ∷ I64 ∷ []) (o.LocalSet 1) (I64 ∷ []) [] }
-    ensures set_of_another_type { (types after : List ValType) → OpTyped [] (I32 ∷ []) (o.LocalSet 0) (I64 ∷ types) after → ⊥ }
-    ensures local_tee { OpTyped [] (I32 ∷ []) (o.LocalTee 0) (I32 ∷ []) (I32 ∷ []) }
-    ensures tee_of_another_type { (types after : List ValType) → OpTyped [] (I32 ∷ []) (o.LocalTee 0) (I64 ∷ types) after → ⊥ }
-    ensures constant { OpTyped [] [] (o.Const (const.I32 4294967295)) [] (I32 ∷ []) }
-    ensures constant_too_great { (before after : List ValType) → OpTyped [] [] (o.Const (const.I32 4294967296)) before after → ⊥ }
-    ensures binary { OpTyped [] [] (o.Binary I64Add) (I64 ∷ I64 ∷ []) (I64 ∷ []) }
-    ensures binary_of_another_type { (types after : List ValType) → OpTyped [] [] (o.Binary I32Add) (I32 ∷ I64 ∷ types) after → ⊥ }
-    ensures binary_of_one { (after : List ValType) → OpTyped [] [] (o.Binary I32Add) (I32 ∷ []) after → ⊥ }
-    ensures relation { OpTyped [] [] (o.Relation (I64Lt Signed)) (I64 ∷ I64 ∷ []) (I32 ∷ []) }
-    ensures relation_leaves_i32 { (before after : List ValType) → OpTyped [] [] (o.Relation (I64Lt Signed)) before (I64 ∷ after) → ⊥ }
-    ensures load { OpTyped [] [] (o.Load (load.I64From32 Signed) (record { align = 2; offset = 9 })) (I32 ∷ []) (I64 ∷ []) }
-    ensures load_aligned_past_itself { (before after : List ValType) → OpTyped [] [] (o.Load (load.I64From32 Signed) (record { align = 3; offset = 9 })) before after → ⊥ }
-    ensures load_from_i64 { (types after : List ValType) → OpTyped [] [] (o.Load load.I32 (record { align = 2; offset = 9 })) (I64 ∷ types) after → ⊥ }
-    ensures store { OpTyped [] [] (o.Store store.I64 (record { align = 3; offset = 9 })) (I64 ∷ I32 ∷ []) [] }
-    ensures store_aligned_past_itself { (before after : List ValType) → OpTyped [] [] (o.Store store.I64 (record { align = 4; offset = 9 })) before after → ⊥ }
-    ensures store_of_another_type { (types after : List ValType) → OpTyped [] [] (o.Store store.I32 (record { align = 2; offset = 9 })) (I64 ∷ types) after → ⊥ }
-    ensures growth { OpTyped [] [] o.MemoryGrow (I32 ∷ []) (I32 ∷ []) }
-    ensures growth_by_i64 { (types after : List ValType) → OpTyped [] [] o.MemoryGrow (I64 ∷ types) after → ⊥ }
-    ensures call { OpTyped (record { params = I32 ∷ I64 ∷ []; results = I64 ∷ [] } ∷ []) [] (o.Call 0) (I64 ∷ I32 ∷ []) (I64 ∷ []) }
-    ensures call_of_none { (before after : List ValType) → OpTyped (record { params = []; results = [] } ∷ []) [] (o.Call 1) before after → ⊥ }
+    ensures dropped { OpTyped scope o.Drop (I64 ∷ I32 ∷ []) (I32 ∷ []) }
+    ensures dropped_of_none { (after : List ValType) → OpTyped scope o.Drop [] after → ⊥ }
+    ensures selected { OpTyped scope o.Select (I32 ∷ I64 ∷ I64 ∷ []) (I64 ∷ []) }
+    ensures selected_of_two_types { (types after : List ValType) → OpTyped scope o.Select (I32 ∷ I64 ∷ I32 ∷ types) after → ⊥ }
+    ensures selected_by_i64 { (types after : List ValType) → OpTyped scope o.Select (I64 ∷ types) after → ⊥ }
+    ensures local_get { OpTyped scope (o.LocalGet 1) [] (I64 ∷ []) }
+    ensures no_local { (before after : List ValType) → OpTyped scope (o.LocalGet 2) before after → ⊥ }
+    ensures local_set { OpTyped scope (o.LocalSet 1) (I64 ∷ []) [] }
+    ensures set_of_another_type { (types after : List ValType) → OpTyped scope (o.LocalSet 0) (I64 ∷ types) after → ⊥ }
+    ensures local_tee { OpTyped scope (o.LocalTee 0) (I32 ∷ []) (I32 ∷ []) }
+    ensures tee_of_another_type { (types after : List ValType) → OpTyped scope (o.LocalTee 0) (I64 ∷ types) after → ⊥ }
+    ensures global_get { OpTyped scope (o.GlobalGet 1) [] (I32 ∷ []) }
+    ensures no_global { (before after : List ValType) → OpTyped scope (o.GlobalGet 2) before after → ⊥ }
+    ensures global_set { OpTyped scope (o.GlobalSet 0) (I64 ∷ []) [] }
+    ensures set_of_immutable { (before after : List ValType) → OpTyped scope (o.GlobalSet 1) before after → ⊥ }
+    ensures constant { OpTyped scope (o.Const (const.I32 4294967295)) [] (I32 ∷ []) }
+    ensures constant_too_great { (before after : List ValType) → OpTyped scope (o.Const (const.I32 4294967296)) before after → ⊥ }
+    ensures unary { OpTyped scope (o.Unary I64 Clz) (I64 ∷ []) (I64 ∷ []) }
+    ensures unary_of_another_type { (types after : List ValType) → OpTyped scope (o.Unary I64 Clz) (I32 ∷ types) after → ⊥ }
+    ensures binary { OpTyped scope (o.Binary I64 Add) (I64 ∷ I64 ∷ []) (I64 ∷ []) }
+    ensures binary_of_another_type { (types after : List ValType) → OpTyped scope (o.Binary I32 Add) (I32 ∷ I64 ∷ types) after → ⊥ }
+    ensures binary_of_one { (after : List ValType) → OpTyped scope (o.Binary I32 Add) (I32 ∷ []) after → ⊥ }
+    ensures division { OpTyped scope (o.Division I32 (Div Signed)) (I32 ∷ I32 ∷ []) (I32 ∷ []) }
+    ensures division_of_another_type { (types after : List ValType) → OpTyped scope (o.Division I32 (Rem Signed)) (I64 ∷ types) after → ⊥ }
+    ensures eqz { OpTyped scope (o.Eqz I64) (I64 ∷ []) (I32 ∷ []) }
+    ensures eqz_of_another_type { (types after : List ValType) → OpTyped scope (o.Eqz I64) (I32 ∷ types) after → ⊥ }
+    ensures relation { OpTyped scope (o.Relation I64 (Lt Signed)) (I64 ∷ I64 ∷ []) (I32 ∷ []) }
+    ensures relation_leaves_i32 { (before after : List ValType) → OpTyped scope (o.Relation I64 (Lt Signed)) before (I64 ∷ after) → ⊥ }
+    ensures convert { OpTyped scope (o.Convert (Extend Signed)) (I32 ∷ []) (I64 ∷ []) }
+    ensures convert_of_another_type { (types after : List ValType) → OpTyped scope (o.Convert Wrap) (I32 ∷ types) after → ⊥ }
+    ensures load { OpTyped scope (o.Load (load.I64From32 Signed) (record { align = 2; offset = 9 })) (I32 ∷ []) (I64 ∷ []) }
+    ensures load_aligned_past_itself { (before after : List ValType) → OpTyped scope (o.Load (load.I64From32 Signed) (record { align = 3; offset = 9 })) before after → ⊥ }
+    ensures load_from_i64 { (types after : List ValType) → OpTyped scope (o.Load (load.Full I32) (record { align = 2; offset = 9 })) (I64 ∷ types) after → ⊥ }
+    ensures load_of_an_octet { OpTyped scope (o.Load (load.From8 I64 Unsigned) (record { align = 0; offset = 9 })) (I32 ∷ []) (I64 ∷ []) }
+    ensures load_of_an_octet_aligned { (before after : List ValType) → OpTyped scope (o.Load (load.From8 I64 Unsigned) (record { align = 1; offset = 9 })) before after → ⊥ }
+    ensures store { OpTyped scope (o.Store (store_of.Full I64) (record { align = 3; offset = 9 })) (I64 ∷ I32 ∷ []) [] }
+    ensures store_aligned_past_itself { (before after : List ValType) → OpTyped scope (o.Store (store_of.To16 I64) (record { align = 2; offset = 9 })) before after → ⊥ }
+    ensures store_of_another_type { (types after : List ValType) → OpTyped scope (o.Store (store_of.Full I32) (record { align = 2; offset = 9 })) (I64 ∷ types) after → ⊥ }
+    ensures size { OpTyped scope o.MemorySize [] (I32 ∷ []) }
+    ensures growth { OpTyped scope o.MemoryGrow (I32 ∷ []) (I32 ∷ []) }
+    ensures growth_by_i64 { (types after : List ValType) → OpTyped scope o.MemoryGrow (I64 ∷ types) after → ⊥ }
+    ensures size_of_no_memory { (before after : List ValType) → OpTyped (record scope { outside = nothing }) o.MemorySize before after → ⊥ }
+    ensures load_of_no_memory { (before after : List ValType) → OpTyped (record scope { outside = nothing }) (o.Load (load.Full I32) (record { align = 2; offset = 9 })) before after → ⊥ }
+    ensures store_in_no_memory { (before after : List ValType) → OpTyped (record scope { outside = nothing }) (o.Store (store_of.Full I32) (record { align = 2; offset = 9 })) before after → ⊥ }
+    ensures growth_of_no_memory { (before after : List ValType) → OpTyped (record scope { outside = nothing }) o.MemoryGrow before after → ⊥ }
 {}
 
 /// Each form of a sequence at types that its rule admits, and at some that it doesn't (3.3.5, 3.3.6). There is one label, which
 /// takes nothing.
 pub fn typed_sequences()
-    ensures end { (after : List ValType) → Typed (scope_of [] [] ([] ∷ [])) done [] (I32 ∷ after) → ⊥ }
-    ensures block { Typed (scope_of [] [] ([] ∷ [])) (block (Some I32) (op (o.Const (const.I32 7)) done) done) [] (I32 ∷ []) }
-    ensures block_without_result { (before after : List ValType) → Typed (scope_of [] [] ([] ∷ [])) (block (Some I32) done done) before after → ⊥ }
-    ensures begun_again { Typed (scope_of [] [] ([] ∷ [])) (loop (Some I32) (br 0 done) done) [] (I32 ∷ []) }
-    ensures loop_without_result { (before after : List ValType) → Typed (scope_of [] [] ([] ∷ [])) (loop (Some I32) done done) before after → ⊥ }
-    ensures if_else { Typed (scope_of [] [] ([] ∷ [])) (if_else None done done done) (I32 ∷ []) [] }
-    ensures if_of_another_type { (types after : List ValType) → Typed (scope_of [] [] ([] ∷ [])) (if_else None done done done) (I64 ∷ types) after → ⊥ }
+    ensures end { (after : List ValType) → Typed scope done [] (I32 ∷ after) → ⊥ }
+    ensures stopped { Typed scope (unreachable (op (o.Binary I64 Add) done)) [] (I64 ∷ []) }
+    ensures block { Typed scope (block (Some I32) (op (o.Const (const.I32 7)) done) done) [] (I32 ∷ []) }
+    ensures block_without_result { (before after : List ValType) → Typed scope (block (Some I32) done done) before after → ⊥ }
+    ensures begun_again { Typed scope (loop (Some I32) (br 0 done) done) [] (I32 ∷ []) }
+    ensures loop_without_result { (before after : List ValType) → Typed scope (loop (Some I32) done done) before after → ⊥ }
+    ensures if_then { Typed scope (if_then None (op o.Nop done) done) (I32 ∷ []) [] }
+    ensures if_then_of_a_result { (before after : List ValType) → Typed scope (if_then (Some I32) (op (o.Const (const.I32 7)) done) done) before after → ⊥ }
+    ensures if_else { Typed scope (if_else None done done done) (I32 ∷ []) [] }
+    ensures if_of_another_type { (types after : List ValType) → Typed scope (if_else None done done done) (I64 ∷ types) after → ⊥ }
     ensures if_without_its_other_result { (before after : List ValType) →
-        Typed (scope_of [] [] ([] ∷ [])) (if_else (Some I32) (op (o.Const (const.I32 7)) done) done done) before after → ⊥ }
-    ensures branch { Typed (scope_of [] [] ([] ∷ [])) (br 0 (op (o.Binary I64Add) done)) [] (I64 ∷ []) }
-    ensures branch_to_no_label { (before after : List ValType) → Typed (scope_of [] [] ([] ∷ [])) (br 1 done) before after → ⊥ }
-    ensures branch_without_operand { (after : List ValType) → Typed (scope_of [] [] ((I32 ∷ []) ∷ [])) (br 0 done) [] after → ⊥ }
-    ensures choice { Typed (scope_of [] [] ([] ∷ [])) (br_if 0 done) (I32 ∷ []) [] }
-    ensures choice_by_i64 { (types after : List ValType) → Typed (scope_of [] [] ([] ∷ [])) (br_if 0 done) (I64 ∷ types) after → ⊥ }
+        Typed scope (if_else (Some I32) (op (o.Const (const.I32 7)) done) done done) before after → ⊥ }
+    ensures branch { Typed scope (br 0 (op (o.Binary I64 Add) done)) [] (I64 ∷ []) }
+    ensures branch_to_no_label { (before after : List ValType) → Typed scope (br 1 done) before after → ⊥ }
+    ensures branch_without_operand { (after : List ValType) → Typed (within scope (I32 ∷ [])) (br 0 done) [] after → ⊥ }
+    ensures choice { Typed scope (br_if 0 done) (I32 ∷ []) [] }
+    ensures choice_by_i64 { (types after : List ValType) → Typed scope (br_if 0 done) (I64 ∷ types) after → ⊥ }
+    ensures table { Typed (within scope []) (br_table (1 ∷ []) 0 done) (I32 ∷ []) (I64 ∷ []) }
+    ensures table_of_unlike_labels { (before after : List ValType) → Typed (within scope (I32 ∷ [])) (br_table (1 ∷ []) 0 done) before after → ⊥ }
+    ensures table_to_no_label { (before after : List ValType) → Typed scope (br_table (1 ∷ []) 0 done) before after → ⊥ }
+    ensures returned { Typed scope (return done) (I64 ∷ I32 ∷ []) [] }
+    ensures returned_of_another_type { (types after : List ValType) → Typed scope (return done) (I32 ∷ types) after → ⊥ }
+    ensures called { Typed scope (call 0 done) (I64 ∷ I32 ∷ []) (I64 ∷ []) }
+    ensures called_with_turned_arguments { (types after : List ValType) → Typed scope (call 0 done) (I32 ∷ I64 ∷ types) after → ⊥ }
+    ensures called_none { (before after : List ValType) → Typed scope (call 1 done) before after → ⊥ }
 {}

@@ -1,13 +1,11 @@
 -- A reader reads a form exactly: what it takes is of the form, and what is of the form it takes. One lemma for each way to put
 -- readers together.
-use Rattle.std.proofs.Common.{◌≡◌, ℕ, Bool, true, false, List, [], ◌∷◌, ◌++◌, Option, Some, None, refl, sym, ap, subst, ◌∙◌, inl, inr}
-use Rattle.std.specs.Prelude.{◌⊎◌, codes, if◌then◌else◌}
+use Rattle.std.proofs.Common.{◌≡◌, Bool, true, false, List, [], ◌∷◌, ◌++◌, Option, Some, None, refl, sym, ap, subst, ◌∙◌, inl, inr}
+use Rattle.std.specs.Prelude.{◌⊎◌, if◌then◌else◌}
 use Rattle.std.specs.List.{AllZip}
-use Rattle.std.proofs.lemmas.Slice.Eq.{bytes_eq-Decides}
-use Rattle.qw_token.specs.Token.{Lexeme, AreTokens}
-use Rattle.qw_token.proofs.TokenRun.{AreTokens-unique}
-use Rattle.qw_ast.specs.Grammar.{Terminal, symbol, Matches, IsTextOf}
-use Rattle.qw_parse.specs.Inner.Parser.{terminal_at, token_at, fixed_at, behind_at, before_at, both_at, made_at, optional_at, given, then_at, is_none, all_of, is_end, whole_of}
+use Rattle.qw_token.specs.Token.{Lexeme}
+use Rattle.qw_ast.specs.Grammar.{Terminal, Matches}
+use Rattle.qw_parse.specs.Inner.Parser.{terminal_at, token_at, fixed_at, behind_at, before_at, both_at, made_at, optional_at, given, then_at, is_none, all_of}
 use Rattle.qw_parse.proofs.TerminalLemmas.{bind_some, guard_some, cases_option, some_same, TakesOne, terminal_exactly, Fronts, fronts_append, fronts_split, fronts_whole, fixed_exactly}
 
 -- The reader reads the form exactly. A w says which words the form has, and tree w is what is read then. What `Stops` says must
@@ -238,61 +236,4 @@ all_exactly {form = form} {tree = tree} {read = read} reads ends ts = (
       let w = reads.takes ts x.0 x.1 in
       (w.0, w.1 ∙ g.1, (fronts_whole (form w.0) ts).0 (subst (Fronts (form w.0) ts) (none_left x.0.1 g.0) w.2)),
   λ w h. rw (reads.is w ts [] ((fronts_whole (form w) ts).1 h) ends) refl,
-)
-
--- ---- a statement
-
--- a `;` or nothing
-abbrev Ends : List Lexeme → Type 0
-Ends ts = (ts ≡ []) ⊎ Fronts (symbol (codes ";") ∷ []) ts []
-
-end_takes : (ts : List Lexeme) → is_end ts ≡ true → Ends ts
-unfolding is_end
-end_takes [] e = inl refl
-end_takes (t ∷ []) e = inr ([], record { token = t; parts = refl; matches = (bytes_eq-Decides t.octets (codes ";")).0 e }, refl)
-end_takes (t ∷ u ∷ ts) e = absurd cc
-
-no_end : is_end [] ≡ true
-unfolding is_end
-no_end = refl
-
-one_end : (t : Lexeme) → t.octets ≡ codes ";" → is_end (t ∷ []) ≡ true
-unfolding is_end
-one_end t h = (bytes_eq-Decides t.octets (codes ";")).1 h
-
-end_is : (ts : List Lexeme) → Ends ts → is_end ts ≡ true
-end_is ts (inl none) = ap is_end none ∙ no_end
-end_is ts (inr h) =
-    let one = h.1 in
-    ap is_end (one.parts ∙ ap (λ (x : List Lexeme). one.token ∷ x) h.2) ∙ one_end one.token one.matches
-
--- the tokens follow the form, with a `;` behind it or none
-abbrev Follows : List Terminal → List Lexeme → Type 0
-Follows form ts = AllZip Matches form ts ⊎ AllZip Matches (form ++ symbol (codes ";") ∷ []) ts
-
-to_follows : (form : List Terminal) (ts last : List Lexeme) → Fronts form ts last → Ends last → Follows form ts
-to_follows form ts last h (inl none) = inl ((fronts_whole form ts).0 (subst (Fronts form ts) none h))
-to_follows form ts last h (inr more) =
-    inr ((fronts_whole (form ++ symbol (codes ";") ∷ []) ts).0 (fronts_append form (symbol (codes ";") ∷ []) ts last [] h more))
-
-from_follows : (form : List Terminal) (ts : List Lexeme) → Follows form ts → (last : List Lexeme) × Fronts form ts last × Ends last
-from_follows form ts (inl h) = ([], (fronts_whole form ts).1 h, inl refl)
-from_follows form ts (inr h) =
-    let parts = fronts_split form (symbol (codes ";") ∷ []) ts [] ((fronts_whole (form ++ symbol (codes ";") ∷ []) ts).1 h) in
-    (parts.0, parts.1, inr parts.2)
-
--- what is read of the whole text is its statement of the form, and what is its statement is read
-pub statement_exactly : {W A : Type 0} {form : W → List Terminal} {tree : W → A} {read : List Lexeme → Option (A × List Lexeme)}
-    → ReadsExactly form tree Anything read → (text : List ℕ) (ts : List Lexeme) → AreTokens text ts
-    → ((a : A) → whole_of read ts ≡ Some a → (w : W) × (tree w ≡ a) × IsTextOf (form w) text) × ((w : W) → IsTextOf (form w) text → whole_of read ts ≡ Some (tree w))
-statement_exactly {form = form} {tree = tree} {read = read} reads text ts are = (
-  λ a e.
-      let x = bind_some (read ts) _ a e in
-      let g = guard_some (is_end x.0.1) x.0.0 a x.2 in
-      let w = reads.takes ts x.0 x.1 in
-      (w.0, w.1 ∙ g.1, record { tokens = ts; are_tokens = are; follows = to_follows (form w.0) ts x.0.1 w.2 (end_takes x.0.1 g.0) }),
-  λ w is.
-      let same = AreTokens-unique text ts is.tokens are is.are_tokens in
-      let parts = from_follows (form w) ts (subst (Follows (form w)) (sym same) is.follows) in
-      rw (reads.is w ts parts.0 parts.1 tt, end_is parts.0 parts.2) refl,
 )

@@ -1,18 +1,17 @@
 -- The readers of src/parse/form.rt read the grammar's rules exactly: a lemma for each rule.
-use Rattle.std.proofs.Common.{◌≡◌, ℕ, ◌<◌, ◌^◌, Bool, cond, ltb, ◌&&◌, not, true, false, List, [], ◌∷◌, length, map, Option, Some, None, refl, sym, ap, subst, ◌∙◌, arith, inl, inr}
-use Rattle.std.specs.Prelude.{◌⊎◌, ℤ, pos, neg_ℤ, codes}
+use Rattle.std.proofs.Common.{◌≡◌, ℕ, ◌<◌, Bool, cond, ◌&&◌, not, true, false, List, [], ◌∷◌, length, map, Option, Some, None, refl, sym, ap, subst, ◌∙◌, arith, inl, inr}
+use Rattle.std.specs.Prelude.{◌⊎◌, codes, if◌then◌else◌}
 use Rattle.std.specs.Str.{bytes_eq}
-use Rattle.std.specs.Str.Parse.{digits_value}
-use Rattle.std.proofs.lemmas.Bool.{and_parts, lt-ltb, ltb-true, false≢true}
+use Rattle.std.proofs.lemmas.Bool.{and_parts, false≢true}
 use Rattle.std.proofs.lemmas.Slice.Eq.{bytes_eq-Decides}
 use Rattle.qw_meaning.specs.declared.query.Comparison.{Comparison}
 use Rattle.qw_meaning.specs.declared.query.Comparison.TheVariants.{Equal, NotEqual, Less, LessOrEqual, Greater, GreaterOrEqual}
 use Rattle.qw_token.specs.Token.{Lexeme}
 use Rattle.qw_types.specs.Digits.{are_digits}
-use Rattle.qw_ast.specs.Grammar.{folded, key_word, regular, symbol, unsigned, Matches, separated, column_reference, comparison_symbol, signed_literal, signed, Source, Selection, table_expression, query_specification}
-use Rattle.qw_parse.specs.Inner.Parser.{is_word, is_reserved, matches, regular_of, literal_of, comparison_of, comma, regular_at, unsigned_at, literal_at, comparison_at, list_at, table_expression_at, query_specification_at}
+use Rattle.qw_ast.specs.Grammar.{folded, key_word, regular, symbol, digits, Matches, separated, column_reference, comparison_symbol, signed_literal, Source, Selection, table_expression, query_specification, IsQueryOf}
+use Rattle.qw_parse.specs.Inner.Parser.{is_word, is_reserved, matches, regular_of, digits_of, comparison_of, comma, all_of, regular_at, digits_at, literal_at, comparison_at, list_at, table_expression_at, query_specification_at}
 use Rattle.qw_parse.proofs.TerminalLemmas.{guard_some, other_than, is_word-Decides, not_reserved-Decides}
-use Rattle.qw_parse.proofs.FormLemmas.{ReadsExactly, Anything, token_exactly, both_exactly, behind_exactly, made_exactly, same_exactly, optional_exactly}
+use Rattle.qw_parse.proofs.FormLemmas.{ReadsExactly, Anything, token_exactly, both_exactly, behind_exactly, made_exactly, same_exactly, optional_exactly, all_exactly}
 use Rattle.qw_parse.proofs.ListLemmas.{StopsList, list_exactly}
 
 -- ---- a name
@@ -32,32 +31,35 @@ regular_exactly = token_exactly regular (λ name. name) regular_of regular_found
 
 -- ---- a literal
 
--- a number without sign that fits
-abbrev pub Magnitude : Type 0
-Magnitude = (n : ℕ) × (n < 10 ^ 18)
+digits_found : (t : Lexeme) (octets : List ℕ) → digits_of t ≡ Some octets → (w : List ℕ) × (w ≡ octets) × Matches (digits w) t
+digits_found t octets e =
+    let g = guard_some (are_digits t.octets) t.octets octets e in
+    (t.octets, g.1, (g.0, refl))
 
-unsigned_found : (t : Lexeme) (z : ℤ) → literal_of t.octets ≡ Some z → (w : Magnitude) × (pos w.0 ≡ z) × Matches (unsigned w.0) t
-unsigned_found t z e =
-    let n = digits_value 10 t.octets in
-    let g = guard_some (are_digits t.octets && ltb n (10 ^ 18)) (pos n) z e in
-    let tests = and_parts (are_digits t.octets) (ltb n (10 ^ 18)) g.0 in
-    ((n, ltb-true n (10 ^ 18) tests.1), g.1, (tests.0, refl))
+digits_matched : (octets : List ℕ) (t : Lexeme) → Matches (digits octets) t → digits_of t ≡ Some octets
+digits_matched octets t h = rw h.0 (ap (λ (x : List ℕ). Some x) h.1)
 
-unsigned_matched : (w : Magnitude) (t : Lexeme) → Matches (unsigned w.0) t → literal_of t.octets ≡ Some (pos w.0)
-unsigned_matched w t h = rw (h.0, h.1, lt-ltb w.0 (10 ^ 18) w.1) refl
+digits_exactly : ReadsExactly (λ octets. digits octets ∷ []) (λ octets. octets) Anything digits_at
+unfolding digits_at
+digits_exactly = token_exactly digits (λ octets. octets) digits_of digits_found digits_matched
 
-unsigned_exactly : ReadsExactly (λ (w : Magnitude). unsigned w.0 ∷ []) (λ (w : Magnitude). pos w.0) Anything unsigned_at
-unfolding unsigned_at
-unsigned_exactly = token_exactly (λ (w : Magnitude). unsigned w.0) (λ (w : Magnitude). pos w.0) (λ (t : Lexeme). literal_of t.octets) unsigned_found unsigned_matched
+no_minus : (octets : List ℕ) (t : Lexeme) → Matches (digits octets) t → Matches (symbol (codes "-")) t → ⊥
+no_minus octets t matches e = false≢true (subst (λ x. are_digits x ≡ true) e matches.0)
 
-no_minus : (n : ℕ) (t : Lexeme) → Matches (unsigned n) t → Matches (symbol (codes "-")) t → ⊥
-no_minus n t matches e = false≢true (subst (λ x. are_digits x ≡ true) e matches.0)
+-- whether a `-` stands in front, and the digits
+abbrev pub Literal : Type 0
+Literal = Bool × List ℕ
 
-literal_exactly : ReadsExactly (λ (w : Bool × Magnitude). signed_literal w.0 w.1.0) (λ (w : Bool × Magnitude). signed w.0 w.1.0) Anything literal_at
+same_literal : (w : Literal) → (if w.0 then (true, w.1) else (false, w.1)) ≡ w
+same_literal (true, octets) = refl
+same_literal (false, octets) = refl
+
+literal_exactly : ReadsExactly (λ (w : Literal). signed_literal w.0 w.1) (λ (w : Literal). w) Anything literal_at
 unfolding literal_at
 literal_exactly =
-    optional_exactly (symbol (codes "-")) (made_exactly neg_ℤ unsigned_exactly) unsigned_exactly
-    (λ w ts rest h. other_than (symbol (codes "-")) (unsigned w.0) ts h.0 h.1 (no_minus w.0))
+    same_exactly (λ (w : Literal). w) same_literal
+    (optional_exactly (symbol (codes "-")) (made_exactly (λ (x : List ℕ). (true, x)) digits_exactly) (made_exactly (λ (x : List ℕ). (false, x)) digits_exactly)
+    (λ w ts rest h. other_than (symbol (codes "-")) (digits w) ts h.0 h.1 (no_minus w)))
 
 -- ---- a comparison
 
@@ -119,13 +121,13 @@ names_exactly = same_exactly (λ (names : Names). names.0) (λ names. same_names
 
 -- the words of a table expression
 abbrev pub SourceWords : Type 0
-SourceWords = List ℕ × (List ℕ × (Comparison × (Bool × Magnitude)))
+SourceWords = List ℕ × (List ℕ × (Comparison × Literal))
 
 -- what is read of it
 abbrev pub source_of : SourceWords → Source
-source_of w = record { table = w.0; tested = w.1.0; comparison = w.1.1.0; literal = signed w.1.1.1.0 w.1.1.1.1.0 }
+source_of w = record { table = w.0; tested = w.1.0; comparison = w.1.1.0; negative = w.1.1.1.0; digits = w.1.1.1.1 }
 
-table_expression_exactly : ReadsExactly (λ (w : SourceWords). table_expression (source_of w) w.1.1.1.0 w.1.1.1.1.0) source_of Anything table_expression_at
+table_expression_exactly : ReadsExactly (λ (w : SourceWords). table_expression (source_of w)) source_of Anything table_expression_at
 unfolding table_expression_at
 table_expression_exactly =
     made_exactly _
@@ -145,10 +147,25 @@ SelectionWords = Names × SourceWords
 abbrev pub selected : SelectionWords → Selection
 selected w = record { columns = w.0.0; source = source_of w.1 }
 
-pub query_specification_exactly : ReadsExactly (λ (w : SelectionWords). query_specification (selected w) w.1.1.1.1.0 w.1.1.1.1.1.0) selected Anything query_specification_at
+query_specification_exactly : ReadsExactly (λ (w : SelectionWords). query_specification (selected w)) selected Anything query_specification_at
 unfolding query_specification_at
 query_specification_exactly =
     made_exactly _
     (behind_exactly (key_word (codes "SELECT") ∷ [])
     (both_exactly names_exactly table_expression_exactly
     (λ w ts rest h. (other_than comma (key_word (codes "FROM")) ts h.0 h.1 from_is_no_comma, tt))))
+
+-- ---- all tokens
+
+-- what is read of all tokens is the query that they are
+pub query_read : (ts : List Lexeme) (selection : Selection) → all_of query_specification_at ts ≡ Some selection → IsQueryOf ts selection
+query_read ts selection e =
+    let w = (all_exactly query_specification_exactly tt ts).0 selection e in
+    subst (IsQueryOf ts) w.1 record { some = w.0.0.1; follows = w.2 }
+
+-- the query that they are is read
+pub query_is_read : (ts : List Lexeme) (selection : Selection) → IsQueryOf ts selection → all_of query_specification_at ts ≡ Some selection
+query_is_read ts selection is =
+    let source = selection.source in
+    let words : SelectionWords = ((selection.columns, is.some), (source.table, (source.tested, (source.comparison, (source.negative, source.digits))))) in
+    (all_exactly query_specification_exactly tt ts).1 words is.follows

@@ -154,7 +154,7 @@ columns_wrong cs bad =
 
 -- ---- one statement
 
-shallow_test : (ts : List Lexeme) → (IsTooDeep ts → ⊥) → exceeds 0 ts ≡ false
+pub shallow_test : (ts : List Lexeme) → (IsTooDeep ts → ⊥) → exceeds 0 ts ≡ false
 shallow_test ts shallow =
     elim (cases_Bool (exceeds 0 ts)) [
       | inl deep ↦ absurd (shallow ((deep-Decides ts).0 deep))

@@ -4,7 +4,7 @@ mod JudgeLemmas
 mod ListLemmas
 mod LiteralLemmas
 mod NameLemmas
-pub mod ParserLemmas
+pub mod QueryLemmas
 mod ResolveLemmas
 pub mod SchemaLemmas
 mod StatementLemmas

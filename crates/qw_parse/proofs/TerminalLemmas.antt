@@ -13,7 +13,7 @@ use Rattle.qw_token.specs.declared.token.Kind.{Kind}
 use Rattle.qw_token.specs.declared.token.Kind.TheVariants.{Word, DelimitedIdentifier, CharacterString, Number, Symbol}
 use Rattle.qw_token.specs.Token.{Lexeme}
 use Rattle.qw_types.specs.Digits.{are_digits}
-use Rattle.qw_ast.specs.Grammar.{folded, name_of, reserved, IsReserved, Terminal, key_word, regular, identifier, symbol, unsigned, Matches}
+use Rattle.qw_ast.specs.Grammar.{folded, name_of, reserved, IsReserved, Terminal, key_word, regular, identifier, symbol, unsigned, digits, Matches}
 use Rattle.qw_parse.specs.Inner.Parser.{◌>>=◌, is_word, is_delimited, is_identifier, is_reserved, matches, terminal_at, fixed_at}
 
 -- ---- options
@@ -86,6 +86,8 @@ matches-Decides (identifier name) t =
 matches-Decides (symbol octets) t = bytes_eq-Decides t.octets octets
 matches-Decides (unsigned n) t =
     Decides-and (are_digits t.octets) (nat_eq (digits_value 10 t.octets) n) (λ e. e, λ e. e) (Decides-eqb (digits_value 10 t.octets) n)
+matches-Decides (digits octets) t =
+    Decides-and (are_digits t.octets) (bytes_eq t.octets octets) (λ e. e, λ e. e) (bytes_eq-Decides t.octets octets)
 
 -- ---- one terminal
 

@@ -2,5 +2,6 @@
 pub mod Faults
 pub mod Judges
 pub mod Parser
+pub mod Queries
 pub mod Tables
 pub mod Written

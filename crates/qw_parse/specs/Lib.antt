@@ -4,3 +4,4 @@ pub use Rattle.qw_meaning.specs.Statement
 pub use Rattle.qw_types.specs.Schema
 pub mod Inner
 pub mod Parse
+pub mod Query

@@ -1,13 +1,9 @@
--- What the two texts say, and why a text is refused.
-use Rattle.std.specs.Prelude.{◌≡◌, ◌≤◌, ◌<◌, ◌⊎◌, ℕ, suc, true, false, List, [], ◌∷◌, ◌++◌, length, map, Contains, Option, Some, find, position, Bool, ◌&&◌}
-use Rattle.std.specs.Str.{IsUtf8, bytes_eq}
+-- The schema that a text declares, or why it declares none.
+use Rattle.std.specs.Prelude.{◌≡◌, ◌≤◌, ◌<◌, ◌⊎◌, ℕ, suc, false, List, [], ◌∷◌, ◌++◌, length, map, Contains}
+use Rattle.std.specs.Str.{IsUtf8}
 use Rattle.qw_types.specs.declared.schema.Column.{Column}
 use Rattle.qw_types.specs.declared.schema.Table.{Table}
-use Rattle.qw_types.specs.declared.value.Ty.{Ty}
-use Rattle.qw_types.specs.declared.value.Ty.TheVariants.{Integer}
 use Rattle.qw_token.specs.Token.{Lexeme, AreTokens, StopsAt}
-use Rattle.qw_meaning.specs.Statement.{most_items, Statement}
-use Rattle.qw_ast.specs.Grammar.{Selection, Selects}
 use Rattle.qw_ast.specs.SchemaGrammar.{IsTableOf, IsTooDeep, is_sized, statements}
 use Rattle.qw_parse.specs.declared.parse.SchemaFault.{SchemaFault}
 use Rattle.qw_parse.specs.declared.parse.SchemaFault.TheVariants.{NotUtf8, NotToken, NotGrammar, TooDeep, TooMany, Duplicate, BadSize}
@@ -73,34 +69,3 @@ pub data IsRefused (text : List ℕ) : SchemaFault → Type 0 where
   too_many : (tokens : List Lexeme) → AreTokens text tokens → 32 < length (statements tokens) → IsRefused text (TooMany 1 Tables 32)
   no_statement : (tokens : List Lexeme) → AreTokens text tokens → statements tokens ≡ [] → IsRefused text (NotGrammar 1)
   statement : (tokens : List Lexeme) (fault : SchemaFault) → AreTokens text tokens → length (statements tokens) ≤ 32 → HasFirstFault [] 1 (statements tokens) fault → IsRefused text fault
-
--- ---- a query
-
--- the table of this name
-abbrev pub table_of : List Table → List ℕ → Option Table
-table_of schema name = find (λ (t : Table). bytes_eq name t.name) schema
-
--- whether the type is INTEGER
-abbrev pub is_integer : Ty → Bool
-is_integer Integer = true
-is_integer _ = false
-
--- the index of the INTEGER NOT NULL column of this name; statements use no other columns
-abbrev pub index_of : List Column → List ℕ → Option ℕ
-index_of columns name = position (λ (c : Column). bytes_eq name c.name && (is_integer c.ty && c.not_null)) columns
-
--- The names mean this statement over the schema's tables; a column may be selected more than once.
-pub record Means (schema : List Table) (selection : Selection) (statement : Statement) : Type 0 where
-  pub table : Table
-  pub table_is : table_of schema selection.source.table ≡ Some table
-  pub few : length selection.columns ≤ most_items
-  pub columns_are : map (index_of table.columns) selection.columns ≡ map Some statement.columns
-  pub tested_is : index_of table.columns selection.source.tested ≡ Some statement.tested
-  pub comparison_is : statement.comparison ≡ selection.source.comparison
-  pub literal_is : statement.literal ≡ selection.source.literal
-
--- The text is this statement over the schema's tables (ISO/IEC 9075:1992, 7.3, 7.4, 7.6, 7.9 and 8.2).
-pub record ReadsQuery (schema : List Table) (text : List ℕ) (statement : Statement) : Type 0 where
-  pub selection : Selection
-  pub selects : Selects text selection
-  pub means : Means schema selection statement

@@ -46,15 +46,15 @@ module _ (b : Standing) (i : ℕ) (is : IsDone b i) where
   record HasAnswer (table : List (List Val)) : Type 0 where
     bag : List (List Val)
     outcome_is : outcome is.task.statement table ≡ Rows bag
-    rows_are : rows_at (cell_types is.task.statement) is.instance.world.own b.shared.memory is.task.descriptor ≡ Some bag
+    rows_are : rows_at (cell_types is.task.statement) is.instance.world.own b.shared.common.memory is.task.descriptor ≡ Some bag
 
-  serves : (table : List (List Val)) → AreServing table b.tasks b.shared → Serves table b.shared.memory is.task is.instance
+  serves : (table : List (List Val)) → AreServing table b.tasks b.shared → Serves table b.shared.common.memory is.task is.instance
   serves table serving = serving.serving i is.task is.instance is.task_found is.instance_found
 
   answer : (table : List (List Val)) → AreServing table b.tasks b.shared → HasAnswer table
   answer table serving =
       let one = serves table serving in
-      let at = subst (IsAt table b.shared.memory is.task one.number is.instance) is.done (served-at table b.shared.memory is.task is.instance one) in
+      let at = subst (IsAt table b.shared.common.memory is.task one.number is.instance) is.done (served-at table b.shared.common.memory is.task is.instance one) in
       record { bag = at.2.0; outcome_is = at.2.1; rows_are = at.2.2 }
 
   descriptor-is : (d : ℕ) → IfSome (slice_get b.tasks i) (λ (task : Task). d ≡ task.descriptor) → d ≡ is.task.descriptor
@@ -64,26 +64,26 @@ module _ (b : Standing) (i : ℕ) (is : IsDone b i) where
   statement-is statement told = rw is.task_found at told
 
   module _ (kept : IsBench b) where
-    inside : AllByRecursion (LiesWithin (length b.shared.memory)) is.instance.world.own
+    inside : AllByRecursion (LiesWithin (length b.shared.common.memory)) is.instance.world.own
     inside =
-        all-back (LiesWithin (length b.shared.memory)) is.instance.world.mapped is.instance.world.own
+        all-back (LiesWithin (length b.shared.common.memory)) is.instance.world.mapped is.instance.world.own
         (kept.serving.safe.separate.inside i is.instance is.instance_found)
 
     -- what it has lies in the memory
-    own-inside : AllByRecursion (LiesWithin (length b.shared.memory)) (own_in b i)
+    own-inside : AllByRecursion (LiesWithin (length b.shared.common.memory)) (own_in b i)
     own-inside = rw own_found inside
 
     descriptor-small : is.task.descriptor < 2 ^ 32
     descriptor-small =
         let first = (serves kept.table kept.serving).first_page in
-        let within : AllByRecursion (LiesWithin (length b.shared.memory)) (record { start = is.task.descriptor; size = page } ∷ first.0) = rw first.1 at inside in
-        let ends : is.task.descriptor + page ≤ length b.shared.memory = within.0 in
+        let within : AllByRecursion (LiesWithin (length b.shared.common.memory)) (record { start = is.task.descriptor; size = page } ∷ first.0) = rw first.1 at inside in
+        let ends : is.task.descriptor + page ≤ length b.shared.common.memory = within.0 in
         omega (arith, kept.serving.safe.separate.room, ends)
 
-    rows-there : IsSome (rows_at (cell_types is.task.statement) (own_in b i) b.shared.memory is.task.descriptor)
+    rows-there : IsSome (rows_at (cell_types is.task.statement) (own_in b i) b.shared.common.memory is.task.descriptor)
     rows-there = rw (own_found, (answer kept.table kept.serving).rows_are) refl
 
-  rows-are : (rows : List (List Val)) → rows_at (cell_types is.task.statement) (own_in b i) b.shared.memory is.task.descriptor ≡ Some rows → rows_in b i ≡ Some rows
+  rows-are : (rows : List (List Val)) → rows_at (cell_types is.task.statement) (own_in b i) b.shared.common.memory is.task.descriptor ≡ Some rows → rows_in b i ≡ Some rows
   rows-are rows read = rw (is.task_found, is.instance_found) (rw own_found at read)
 
   -- what was told of a bench leads to its rows
@@ -94,7 +94,7 @@ module _ (b : Standing) (i : ℕ) (is : IsDone b i) where
     pub reads : (rows : List (List Val)) → rows_at types (own_in b i) memory descriptor ≡ Some rows → rows_in b i ≡ Some rows
 
   pub leads : IsBench b → (types : List Ty) (memory : List ℕ) (descriptor : ℕ) (statement : Statement) → types ≡ cell_types statement →
-      IfSome (slice_get b.tasks i) (λ (task : Task). statement ≡ task.statement) → memory ≡ b.shared.memory →
+      IfSome (slice_get b.tasks i) (λ (task : Task). statement ≡ task.statement) → memory ≡ b.shared.common.memory →
       IfSome (slice_get b.tasks i) (λ (task : Task). descriptor ≡ task.descriptor) → Leads types memory descriptor
   leads kept types memory descriptor statement types_are asked memory_is begins =
       rw (types_are, statement-is statement asked, memory_is, descriptor-is descriptor begins) (record {

@@ -3,10 +3,10 @@ use Rattle.std.specs.Prelude.{◌≡◌, ℕ, ◌*◌, ◌/◌, ◌%◌, List, [
 use Rattle.std.specs.Fmt.{decimal, signed_decimal}
 use Rattle.std.specs.List.{flat_map}
 use Rattle.csv.specs.Writing.{default_writer, row_text}
+use Rattle.qw_types.specs.declared.kind.Kind.TheVariants.{Number}
 use Rattle.qw_types.specs.declared.value.Val.{Val}
 use Rattle.qw_types.specs.declared.value.Val.TheVariants.{Null, Num, Date, Text}
 use Rattle.qw_sink.specs.declared.sink.Head.{Head}
-use Rattle.qw_sink.specs.declared.sink.Kind.TheVariants.{Number}
 
 -- one digit of a number behind a text: that of this power of ten
 abbrev pub with_digit : List ℕ → ℕ → ℕ → List ℕ

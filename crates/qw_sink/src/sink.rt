@@ -6,21 +6,10 @@ ghost use Rattle.qw_sink.specs.Sink.{AreRowsOf, date_text, line_of, printed, rep
 ghost use Rattle.qw_sink.specs.Inner.Sink.{HasBegun, HasWritten};
 
 use csv::{Writer, WriterBuilder};
-use qw_types::{NoMemory, Row, Text, Val};
+use qw_types::{Kind, NoMemory, Row, Text, Val};
 use std::alloc::{AllocError, Global};
 
-/// The kind of a result's column. Rows are printed where all columns are numbers of scale 0.
-#[derive(Clone, Copy, Debug, PartialEq, Eq)]
-pub enum Kind {
-    /// Numbers, with their scale: how many digits stand after the point.
-    Number(u8),
-    /// Dates.
-    Date,
-    /// Texts.
-    Text,
-}
-
-/// A column of a result.
+/// A column of a result. Rows are printed where all columns are numbers of scale 0.
 #[derive(Debug, Drop)]
 pub struct Head {
     /// The name in the header.

@@ -2,8 +2,8 @@
 ghost use Rattle.std.specs.Prelude.{IfOk};
 ghost use Rattle.qw_sink.specs.Sink.{AreRowsOf};
 
-use qw_sink::sink::{Head, Kind, pages_text, report_text};
-use qw_types::{Row, Text, Val};
+use qw_sink::sink::{Head, pages_text, report_text};
+use qw_types::{Kind, Row, Text, Val};
 use std::alloc::{AllocError, Global};
 use std::test::Fail;
 

@@ -22,7 +22,7 @@ use Rattle.qw_top.specs.Delivered.{Asks, HasRun, IsLine, Leaves, LeavesBench, No
 use Rattle.qw_top.specs.Inner.Noted.{NotesLine, NotesStop}
 use Rattle.qw_map.specs.Layout.{used}
 use Rattle.std.proofs.lemmas.List.{length-map}
-use Rattle.qw_csv.specs.Contents.{AreIntegerKinds, Contents, kind_of}
+use Rattle.qw_csv.specs.Contents.{AreIntegerKinds, Contents, column_type}
 use Rattle.qw_csv.proofs.KindLaws.{integer_kinds}
 use Rattle.qw_top.specs.Notes.{read_fault_line, want_of_memory_line}
 use Rattle.qw_top.specs.Inner.Sinks.{CountsWrite, write_fault_of}
@@ -189,12 +189,12 @@ no_steps schema b limit ran is =
     subst (λ (end : End). ShowsEnd ran.table ran.rows ran.statement b end shown.0) same shown.1
 
 -- as many columns are loaded as are declared
-same_width : (contents : Contents) (table : Table) → contents.columns ≡ map kind_of table.columns → length contents.columns ≡ length table.columns
-same_width contents table wide = ap length wide ∙ length-map table.columns kind_of
+same_width : (contents : Contents) (table : Table) → contents.columns ≡ map column_type table.columns → length contents.columns ≡ length table.columns
+same_width contents table wide = ap length wide ∙ length-map table.columns column_type
 
 -- a bench that has run what was asked for
 pub has_asked : (files : Files) (words : List (List ℕ)) (schema : List Table) (contents : Contents) (statement : Statement) (b : Standing) → IsOneTable schema →
-    ((table : Table) × (schema ≡ table ∷ []) × (contents.columns ≡ map kind_of table.columns) × Asks files words table contents.rows statement) → HasRun (length contents.columns) contents.rows statement b → HasAsked files words schema b
+    ((table : Table) × (schema ≡ table ∷ []) × (contents.columns ≡ map column_type table.columns) × Asks files words table contents.rows statement) → HasRun (length contents.columns) contents.rows statement b → HasAsked files words schema b
 has_asked files words schema contents statement b one (table, is, wide, asks) run = (
   record {
     table = table;
@@ -210,13 +210,13 @@ has_asked files words schema contents statement b one (table, is, wide, asks) ru
 
 -- its columns are INTEGERs
 pub asked_integers : (files : Files) (words : List (List ℕ)) (schema : List Table) (contents : Contents) (statement : Statement) → IsOneTable schema →
-    ((table : Table) × (schema ≡ table ∷ []) × (contents.columns ≡ map kind_of table.columns) × Asks files words table contents.rows statement) → AreIntegerKinds contents.columns
+    ((table : Table) × (schema ≡ table ∷ []) × (contents.columns ≡ map column_type table.columns) × Asks files words table contents.rows statement) → AreIntegerKinds contents.columns
 asked_integers files words schema contents statement one (table, is, wide, asks) =
     rw wide (integer_kinds table.columns (subst (λ (s : List Table). IsOneTable s) is one))
 
 -- it uses columns of the table alone
 pub asked_within : (files : Files) (words : List (List ℕ)) (schema : List Table) (contents : Contents) (statement : Statement) →
-    ((table : Table) × (schema ≡ table ∷ []) × (contents.columns ≡ map kind_of table.columns) × Asks files words table contents.rows statement) → AllByRecursion (λ column. column < length contents.columns) (used statement)
+    ((table : Table) × (schema ≡ table ∷ []) × (contents.columns ≡ map column_type table.columns) × Asks files words table contents.rows statement) → AllByRecursion (λ column. column < length contents.columns) (used statement)
 asked_within files words schema contents statement (table, is, wide, asks) =
     used_within table statement (length contents.columns) (same_width contents table wide) (ReadsQuery-columns table asks.asked.asked.text statement asks.asked.asked.reads)
 

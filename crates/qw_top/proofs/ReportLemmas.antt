@@ -18,11 +18,12 @@ use Rattle.qw_map.specs.Turns.{Instance}
 use Rattle.qw_meaning.specs.Statement.{Statement}
 use Rattle.qw_map.specs.Layout.{before, cell_at, cell_types, cells_at, row_at, row_size, rows_at, rows_from}
 use Rattle.qw_sink.specs.declared.sink.Head.{Head}
-use Rattle.qw_sink.specs.declared.sink.Kind.TheVariants.{Number}
+use Rattle.qw_types.specs.Kind.{type_kind}
+use Rattle.qw_types.specs.declared.kind.Kind.TheVariants.{Number}
 use Rattle.qw_bench.specs.Bench.{Task}
 use Rattle.qw_bench.specs.Standing.{Standing, rows_in}
 use Rattle.qw_sink.specs.Sink.{AreRowsOf}
-use Rattle.qw_top.specs.Top.{head_of, header_of, kind_of}
+use Rattle.qw_top.specs.Top.{head_of, header_of}
 use Rattle.qw_top.specs.Inner.Inputs.{AreColumnsOf}
 
 -- ---- the widths of rows
@@ -67,8 +68,8 @@ widths_in (Some t) (Some i) memory rows statement same is =
 
 -- ---- the header
 
-kind_of-number : (column : Column) → column.ty ≡ Integer → kind_of column.ty ≡ Number 0
-kind_of-number column is = rw is refl
+integer_number : (column : Column) → column.ty ≡ Integer → type_kind column.ty ≡ Number 0
+integer_number column is = rw is refl
 
 integer_at : (columns : List Column) (place : ℕ) (column : Column) → AreIntegers columns → slice_get columns place ≡ Some column → column.ty ≡ Integer
 integer_at [] place column are found = absurd cc
@@ -91,7 +92,7 @@ header-kinds columns [] are within = All-nil (λ (h : Head). h.kind ≡ Number 0
 header-kinds columns (place ∷ places) are within =
     let column = there_at columns place within.0 in
     rw (head_added columns place places column.0 column.1)
-    (All-cons (λ (h : Head). h.kind ≡ Number 0) (head_of column.0) (heads columns places) (kind_of-number column.0 (integer_at columns place column.0 are column.1)) (header-kinds columns places are within.1))
+    (All-cons (λ (h : Head). h.kind ≡ Number 0) (head_of column.0) (heads columns places) (integer_number column.0 (integer_at columns place column.0 are column.1)) (header-kinds columns places are within.1))
 
 pub length-header : (columns : List Column) (places : List ℕ) → AllByRecursion (λ place. place < length columns) places → length (heads columns places) ≡ length places
 length-header columns [] within = refl
@@ -124,7 +125,7 @@ rows_in-header b table rows statement task integers columns is =
     record {
       kinds = header-kinds table.columns statement.columns integers columns.1;
       widths = subst (λ width. All (λ (row : List Val). length row ≡ width) rows) width
-          (widths_in (slice_get b.tasks 0) (slice_get b.shared.instances 0) b.shared.memory rows statement task is);
+          (widths_in (slice_get b.tasks 0) (slice_get b.shared.instances 0) b.shared.common.memory rows statement task is);
     }
 
 -- the statement that is asked for by a bench is that of its task

@@ -10,7 +10,7 @@ use Rattle.qw_types.specs.declared.value.Val.{Val}
 use Rattle.qw_module.specs.declared.module.Module.{Module}
 use Rattle.qw_module.specs.Validity.{IsShaped}
 use Rattle.std.specs.Option.{option_and_then}
-use Rattle.qw_map.specs.Turns.{Done, EachInstance, End, Exception, Instance, Pages, Shared, Steps, Trap, turns}
+use Rattle.qw_map.specs.Turns.{Act, Done, EachInstance, End, Exception, Instance, Pages, Shared, Steps, Trap, turns}
 use Rattle.qw_meaning.specs.Statement.{Statement}
 use Rattle.qw_meaning.specs.Meaning.{condition, is_true, results, selected}
 use Rattle.qw_emit.specs.Compiled.{IsCompiled, bound, page_bound, units, weight_of}
@@ -46,7 +46,7 @@ abbrev pub task_for : (width : ℕ) → List (List Val) → Statement → Module
 task_for width rows statement program = first_task width (length rows) (record { statement = statement; program = program }) default_limits
 
 -- instances have served a bench's one task from the start on
-serving_one : (width : ℕ) (rows : List (List Val)) (statement : Statement) (program : Module) (b : Standing) (start : Shared) (given : List (ℕ × ℕ)) →
+serving_one : (width : ℕ) (rows : List (List Val)) (statement : Statement) (program : Module) (b : Standing) (start : Shared) (given : List Act) →
     b.tasks ≡ task_for width rows statement program ∷ [] → IsStart width rows b.tasks start → b.shared ≡ turns given start →
     AreServing rows (task_for width rows statement program ∷ []) b.shared
 serving_one width rows statement program b start given tasks starts turned =
@@ -68,9 +68,9 @@ record Served (width : ℕ) (rows : List (List Val)) (t : Task) (b : Standing) :
   task : b.tasks ≡ t ∷ []
   number : ℕ
   enough : bound t.statement rows t.program number ≤ t.steps
-  at : IsAt rows b.shared.memory t number instance instance.end
+  at : IsAt rows b.shared.common.memory t number instance instance.end
 
-served : (width : ℕ) (rows : List (List Val)) (statement : Statement) (program : Module) (b : Standing) (start : Shared) (given : List (ℕ × ℕ)) →
+served : (width : ℕ) (rows : List (List Val)) (statement : Statement) (program : Module) (b : Standing) (start : Shared) (given : List Act) →
     IsCompiled statement program → b.tasks ≡ task_for width rows statement program ∷ [] → IsStart width rows b.tasks start →
     b.shared ≡ turns given start → Served width rows (task_for width rows statement program) b
 served width rows statement program b start given compiled tasks starts turned =
@@ -78,14 +78,14 @@ served width rows statement program b start given compiled tasks starts turned =
     let began : IsStart width rows (t ∷ []) start = subst (λ (tasks : List Task). IsStart width rows tasks start) tasks starts in
     let serving = serving_one width rows statement program b start given tasks starts turned in
     let one = the_one rows t b.shared serving in
-    let serves : Serves rows b.shared.memory t one.0 = serving.serving 0 t one.0 refl one.1 in
+    let serves : Serves rows b.shared.common.memory t one.0 = serving.serving 0 t one.0 refl one.1 in
     record {
       instance = one.0;
       found = one.1;
       task = tasks;
       number = serves.number;
       enough = bounded statement rows program serves.number compiled serves.shaped (few_at_start width rows t start began);
-      at = served-at rows b.shared.memory t one.0 serves;
+      at = served-at rows b.shared.common.memory t one.0 serves;
     }
 
 -- what there is, where it is said to be there
@@ -96,7 +96,7 @@ some_of (Some x) is = (x, refl)
 -- turns from the start of a statement on, after which its instance has ended
 pub HasRun-from : (width : ℕ) (rows : List (List Val)) (statement : Statement) (program : Module) (before b : Standing) → IsCompiled statement program →
     before.tasks ≡ task_for width rows statement program ∷ [] → IsStart width rows before.tasks before.shared → b.tasks ≡ before.tasks →
-    ((given : List (ℕ × ℕ)) × AreRounds quantum given before.shared × (b.shared ≡ turns given before.shared)) →
+    ((given : List Act) × AreRounds quantum given before.shared × (b.shared ≡ turns given before.shared)) →
     EachInstance (λ instance. IsSome instance.end) b.shared → HasRun width rows statement b
 HasRun-from width rows statement program before b compiled task start same (given, rounds, turned) ended =
     let t = task_for width rows statement program in
@@ -120,15 +120,15 @@ HasRun-from width rows statement program before b compiled task start same (give
 ended_at : (width : ℕ) (rows : List (List Val)) (statement : Statement) (b : Standing) (run : HasRun width rows statement b) → Served width rows (task_for width rows statement run.program) b
 ended_at width rows statement b run = served width rows statement run.program b run.start run.given run.compiled run.tasks run.began run.turned
 
-at_end : (width : ℕ) (rows : List (List Val)) (t : Task) (b : Standing) (end : End) (s : Served width rows t b) → end_in b.shared 0 ≡ Some end → IsAt rows b.shared.memory t s.number s.instance (Some end)
+at_end : (width : ℕ) (rows : List (List Val)) (t : Task) (b : Standing) (end : End) (s : Served width rows t b) → end_in b.shared 0 ≡ Some end → IsAt rows b.shared.common.memory t s.number s.instance (Some end)
 at_end width rows t b end s is =
-    subst (λ (o : Option End). IsAt rows b.shared.memory t s.number s.instance o) (sym (end_is b.shared s.instance s.found) ∙ is) s.at
+    subst (λ (o : Option End). IsAt rows b.shared.common.memory t s.number s.instance o) (sym (end_is b.shared s.instance s.found) ∙ is) s.at
 
 -- the result rows of the one instance are those that stand at its task's descriptor
-found_in : (width : ℕ) (rows : List (List Val)) (t : Task) (b : Standing) (s : Served width rows t b) → rows_in b 0 ≡ rows_at (cell_types t.statement) s.instance.world.own b.shared.memory t.descriptor
+found_in : (width : ℕ) (rows : List (List Val)) (t : Task) (b : Standing) (s : Served width rows t b) → rows_in b 0 ≡ rows_at (cell_types t.statement) s.instance.world.own b.shared.common.memory t.descriptor
 found_in width rows t b s = rw (s.task, s.found) refl
 
-shown : (width : ℕ) (table : Table) (rows : List (List Val)) (t : Task) (b : Standing) (end : End) (s : Served width rows t b) → IsAt rows b.shared.memory t s.number s.instance (Some end) →
+shown : (width : ℕ) (table : Table) (rows : List (List Val)) (t : Task) (b : Standing) (end : End) (s : Served width rows t b) → IsAt rows b.shared.common.memory t s.number s.instance (Some end) →
     (report : List ℕ) × ShowsEnd table rows t.statement b end report
 shown width table rows t b Done s (ran, none, (bag, meant, found)) = (report_of_rows 1 (header_of table t.statement) bag, (bag, meant, found_in width rows t b s ∙ found, refl))
 shown width table rows t b (Pages held asked limit) s at = (report_of_pages 1 held asked limit, refl)

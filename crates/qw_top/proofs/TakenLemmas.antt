@@ -1,5 +1,5 @@
 -- Columns that pass the test are INTEGER NOT NULL.
-use Rattle.std.proofs.Common.{◌≡◌, ◌≤◌, ℕ, length, get_or, arith, Bool, true, false, ◌&&◌, List, [], ◌∷◌, refl, sym, ap, ◌∙◌, subst}
+use Rattle.std.proofs.Common.{◌≡◌, ◌≤◌, length, get_or, arith, Bool, true, ◌&&◌, List, [], ◌∷◌, refl, sym, ap, ◌∙◌, subst}
 use Rattle.std.specs.Prelude.{◌↔◌}
 use Rattle.std.specs.List.{AllByRecursion, list_all}
 use Rattle.std.proofs.lemmas.Bool.{and_parts}
@@ -7,7 +7,7 @@ use Rattle.qw_types.specs.declared.schema.Column.{Column}
 use Rattle.qw_types.specs.declared.schema.Table.{Table}
 use Rattle.qw_types.specs.declared.value.Ty.{Ty}
 use Rattle.qw_types.specs.declared.value.Ty.TheVariants.{Integer, Decimal, Date, Varchar}
-use Rattle.qw_parse.specs.Parse.{is_integer}
+use Rattle.qw_parse.specs.Query.{is_integer}
 use Rattle.qw_top.specs.Top.{IsOneTable}
 
 integer_is : (ty : Ty) → is_integer ty ≡ true → ty ≡ Integer

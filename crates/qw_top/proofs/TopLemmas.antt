@@ -1,6 +1,6 @@
 -- How the reading of the files goes on from stage to stage, and that told files settle one end.
 use Rattle.std.proofs.Common.{◌≡◌, ◌⊎◌, ℕ, zero, suc, Bool, ◌<◌, ◌≤◌, List, [], ◌∷◌, Option, Some, None, inl, inr, refl, sym, subst, length, ap, ◌∙◌, arith, map}
-use Rattle.std.specs.Prelude.{IsSomeAnd, slice_get, true, false, ◌==◌, ◌&&◌, ◌||◌, if◌then◌else◌, filter}
+use Rattle.std.specs.Prelude.{IsSomeAnd, slice_get, true, false, ◌==◌, ◌||◌, if◌then◌else◌, filter}
 use Rattle.std.specs.Str.{bytes_eq}
 use Rattle.std.specs.List.{AllByRecursion, list_any, position_or_len, range_with_len}
 use Rattle.std.proofs.lemmas.Bool.{eqb-true}
@@ -23,15 +23,18 @@ use Rattle.qw_top.specs.declared.stop.Stop.TheVariants.{Refused, Unread, NoMemor
 use Rattle.qw_top.specs.FileNames.{table_file_of}
 use Rattle.qw_parse.specs.declared.parse.SchemaFault.{SchemaFault}
 use Rattle.qw_parse.specs.declared.parse.SchemaFault.TheVariants as schema_faults
-use Rattle.qw_parse.specs.Parse.{IsRefused, ReadsQuery, ReadsSchema, index_of, is_integer, table_of}
-use Rattle.qw_csv.specs.Contents.{Contents, kind_of}
+use Rattle.qw_parse.specs.declared.parse.QueryFault.{QueryFault}
+use Rattle.qw_parse.specs.declared.parse.QueryFault.TheVariants as query_faults
+use Rattle.qw_parse.specs.Parse.{IsRefused, ReadsSchema}
+use Rattle.qw_parse.specs.Query.{IsQueryRefused, ReadsQuery, index_of, table_of}
+use Rattle.qw_csv.specs.Contents.{Contents, column_type}
 use Rattle.qw_csv.specs.Loading.{Loads}
 use Rattle.qw_top.specs.Inner.Stages.{FilesStop, StopsAs}
 use Rattle.qw_top.specs.Inner.Stop.{refusal_status}
 use Rattle.qw_top.specs.Top.{AreNames, DeclaresNothing, Explains, Files, FilesExplain, HasQuery, HasRows, IsFault, IsFile, IsFileOf, IsNoQuery, IsNoSchema, IsNoTable, IsOneTable, IsSettled, IsTooLong, Names, QueryIs, SchemaIs, TableIs}
 use Rattle.qw_top.specs.Inner.Inputs.{AreColumnsOf}
 use Rattle.qw_csv.proofs.LoadingLaws.{same_loads, loads_or_fails}
-use Rattle.qw_parse.proofs.ParserLemmas.{ReadsQuery-unique}
+use Rattle.qw_parse.proofs.QueryLemmas.{ReadsQuery-unique, query_or_refused}
 use Rattle.qw_parse.proofs.SchemaLemmas.{ReadsSchema-unique, reads_or_refused}
 
 -- a stage that stopped for a reason of its own, or at a file that a run may read, is explained
@@ -58,8 +61,8 @@ table_stops files now names schema stop same declared one stops =
 
 -- what was accepted before the queries file
 pub rows_accepted : (files now : Files) (names : Names) (schema : List Table) (contents : Contents) → now ≡ files → SchemaIs files names.schema schema → IsOneTable schema →
-    ((table : Table) → schema ≡ table ∷ [] → TableIs now names.folder table contents.rows) → ((table : Table) → schema ≡ table ∷ [] → contents.columns ≡ map kind_of table.columns) →
-    (table : Table) × (schema ≡ table ∷ []) × (contents.columns ≡ map kind_of table.columns) × HasRows files names table contents.rows
+    ((table : Table) → schema ≡ table ∷ [] → TableIs now names.folder table contents.rows) → ((table : Table) → schema ≡ table ∷ [] → contents.columns ≡ map column_type table.columns) →
+    (table : Table) × (schema ≡ table ∷ []) × (contents.columns ≡ map column_type table.columns) × HasRows files names table contents.rows
 rows_accepted files now names schema contents same declared one loaded wide =
     let t = only_table schema one in (
       t.0,
@@ -73,7 +76,7 @@ rows_accepted files now names schema contents same declared one loaded wide =
 
 -- where the queries' stage stopped, after a table that was accepted
 pub queries_stop : (files now : Files) (names : Names) (schema : List Table) (contents : Contents) (stop : Stop) → now ≡ files →
-    ((table : Table) × (schema ≡ table ∷ []) × (contents.columns ≡ map kind_of table.columns) × HasRows files names table contents.rows) → StopsAs Queries (IsNoQuery now names.queries schema) names.queries stop → FilesStop files names stop
+    ((table : Table) × (schema ≡ table ∷ []) × (contents.columns ≡ map column_type table.columns) × HasRows files names table contents.rows) → StopsAs Queries (IsNoQuery now names.queries schema) names.queries stop → FilesStop files names stop
 queries_stop files now names schema contents stop same (table, is, wide, held) stops =
     StopsAs-explained files names Queries (IsNoQuery now names.queries schema) names.queries stop
     (λ none. (table, contents.rows, held, subst (λ (s : List Table). IsNoQuery files names.queries s) is (subst (λ (f : Files). IsNoQuery f names.queries schema) same none)))
@@ -82,8 +85,8 @@ queries_stop files now names schema contents stop same (table, is, wide, held) s
 
 -- all was accepted
 pub all_accepted : (files now : Files) (names : Names) (schema : List Table) (contents : Contents) (statement : Statement) → now ≡ files →
-    ((table : Table) × (schema ≡ table ∷ []) × (contents.columns ≡ map kind_of table.columns) × HasRows files names table contents.rows) → QueryIs now names.queries schema statement →
-    (table : Table) × (schema ≡ table ∷ []) × (contents.columns ≡ map kind_of table.columns) × HasQuery files names table contents.rows statement
+    ((table : Table) × (schema ≡ table ∷ []) × (contents.columns ≡ map column_type table.columns) × HasRows files names table contents.rows) → QueryIs now names.queries schema statement →
+    (table : Table) × (schema ≡ table ∷ []) × (contents.columns ≡ map column_type table.columns) × HasQuery files names table contents.rows statement
 all_accepted files now names schema contents statement same (table, is, wide, held) asked = (
   table,
   is,
@@ -102,7 +105,7 @@ only_element x y (suc k) h = cc
 place_within : (columns : List Column) (name : List ℕ) (place : ℕ) → index_of columns name ≡ Some place → place < length columns
 place_within columns name place is =
     let other : Column = record { name = []; ty = Integer; not_null = true } in
-    (position-Some (λ (c : Column). bytes_eq name c.name && (is_integer c.ty && c.not_null)) columns place other is).0
+    (position-Some (λ (c : Column). bytes_eq name c.name) columns place other is).0
 
 places_within : (columns : List Column) (names : List (List ℕ)) (places : List ℕ) → map (index_of columns) names ≡ map Some places → AllByRecursion (λ place. place < length columns) places
 places_within columns names [] is = tt
@@ -225,9 +228,9 @@ QueryIs-unique told name schema a b h k =
 
 pub QueryIs-refused : (told : List ℕ → Option (List ℕ)) (name : List ℕ) (schema : List Table) (statement : Statement) → QueryIs (Some told) name schema statement → IsNoQuery (Some told) name schema → ⊥
 QueryIs-refused told name schema statement h (inl long) = IsFile-short told name most_text_octets h.text h.file long
-QueryIs-refused told name schema statement h (inr (text, file, none)) =
+QueryIs-refused told name schema statement h (inr (text, fault, file, refused)) =
     let e = IsFile-unique told name most_text_octets h.text text h.file file in
-    none statement (subst (λ (t : List ℕ). ReadsQuery schema t statement) e h.reads)
+    query_or_refused schema text statement fault (subst (λ (t : List ℕ). ReadsQuery schema t statement) e h.reads) refused
 
 -- schema files that declare one table each declare the same one
 pub one_declared : (told : List ℕ → Option (List ℕ)) (name : List ℕ) (a b : Table) → SchemaIs (Some told) name (a ∷ []) → SchemaIs (Some told) name (b ∷ []) → a ≡ b
@@ -339,20 +342,47 @@ declares_nothing text fault refused schema reads taken = reads_or_refused text s
 pub declares_others : (text : List ℕ) (tables : List Table) → ReadsSchema text tables → (IsOneTable tables → ⊥) → DeclaresNothing text
 declares_others text tables reads others schema declared taken = others (subst IsOneTable (ReadsSchema-unique text schema tables declared reads) taken)
 
--- how a run stops at a schema that is none
-module _ (files : Files) (name text : List ℕ) (file : IsFile files name most_text_octets text) where
-  stopped : (fault : SchemaFault) (stop : Stop) → (fault ≡ schema_faults.NoMemory → ⊥) → (fault ≡ schema_faults.NoMemory) ⊎ IsRefused text fault →
-      ((fault ≡ schema_faults.NoMemory → ⊥) → stop ≡ Refused Schema) → StopsAs Schema (IsNoSchema files name) name stop
-  stopped fault stop other (inl is) refused = absurd (other is)
-  stopped fault stop other (inr why) refused = rw (refused other) (refl, inr (text, file, declares_nothing text fault why))
+-- how a stage stops at a fault of a text: for want of memory, or by its refusal
+fault_stops : {F : Type 0} (refusal : Refusal) (reason : Type 0) (name : List ℕ) (memory fault : F) (stop : Stop) → (fault ≡ memory) ⊎ (fault ≡ memory → ⊥) → (fault ≡ memory) ⊎ reason → (fault ≡ memory → stop ≡ NoMemory) →
+    ((fault ≡ memory → ⊥) → stop ≡ Refused refusal) → StopsAs refusal reason name stop
+fault_stops refusal reason name memory fault stop (inl is) why wanted refused = rw (wanted is) tt
+fault_stops refusal reason name memory fault stop (inr other) (inl is) wanted refused = absurd (other is)
+fault_stops refusal reason name memory fault stop (inr other) (inr holds) wanted refused = rw (refused other) (refl, holds)
 
+schema_or_memory : (fault : SchemaFault) → (fault ≡ schema_faults.NoMemory) ⊎ (fault ≡ schema_faults.NoMemory → ⊥)
+schema_or_memory schema_faults.NoMemory = inl refl
+schema_or_memory schema_faults.NotUtf8 = inr (λ same. cc)
+schema_or_memory (schema_faults.NotToken at) = inr (λ same. cc)
+schema_or_memory (schema_faults.NotGrammar k) = inr (λ same. cc)
+schema_or_memory (schema_faults.TooDeep k) = inr (λ same. cc)
+schema_or_memory (schema_faults.TooMany k what limit) = inr (λ same. cc)
+schema_or_memory (schema_faults.Duplicate k) = inr (λ same. cc)
+schema_or_memory (schema_faults.BadSize k) = inr (λ same. cc)
+
+query_or_memory : (fault : QueryFault) → (fault ≡ query_faults.NoMemory) ⊎ (fault ≡ query_faults.NoMemory → ⊥)
+query_or_memory query_faults.NoMemory = inl refl
+query_or_memory query_faults.NotUtf8 = inr (λ same. cc)
+query_or_memory (query_faults.NotToken at) = inr (λ same. cc)
+query_or_memory (query_faults.NotGrammar k) = inr (λ same. cc)
+query_or_memory (query_faults.TooDeep k) = inr (λ same. cc)
+query_or_memory (query_faults.TooMany k what limit) = inr (λ same. cc)
+query_or_memory (query_faults.Mistyped k kind named) = inr (λ same. cc)
+
+module _ (files : Files) (name text : List ℕ) (file : IsFile files name most_text_octets text) where
+  -- how a run stops at a schema that is none
   pub schema_stops : (fault : SchemaFault) (stop : Stop) → (fault ≡ schema_faults.NoMemory) ⊎ IsRefused text fault → (fault ≡ schema_faults.NoMemory → stop ≡ NoMemory) →
       ((fault ≡ schema_faults.NoMemory → ⊥) → stop ≡ Refused Schema) → StopsAs Schema (IsNoSchema files name) name stop
-  schema_stops schema_faults.NoMemory stop why memory refused = rw (memory refl) tt
-  schema_stops schema_faults.NotUtf8 stop why memory refused = stopped schema_faults.NotUtf8 stop (λ same. cc) why refused
-  schema_stops (schema_faults.NotToken at) stop why memory refused = stopped (schema_faults.NotToken at) stop (λ same. cc) why refused
-  schema_stops (schema_faults.NotGrammar k) stop why memory refused = stopped (schema_faults.NotGrammar k) stop (λ same. cc) why refused
-  schema_stops (schema_faults.TooDeep k) stop why memory refused = stopped (schema_faults.TooDeep k) stop (λ same. cc) why refused
-  schema_stops (schema_faults.TooMany k what limit) stop why memory refused = stopped (schema_faults.TooMany k what limit) stop (λ same. cc) why refused
-  schema_stops (schema_faults.Duplicate k) stop why memory refused = stopped (schema_faults.Duplicate k) stop (λ same. cc) why refused
-  schema_stops (schema_faults.BadSize k) stop why memory refused = stopped (schema_faults.BadSize k) stop (λ same. cc) why refused
+  schema_stops fault stop why memory refused = fault_stops Schema (IsNoSchema files name) name schema_faults.NoMemory fault stop (schema_or_memory fault) (no_schema why) memory refused
+    where
+      no_schema : (fault ≡ schema_faults.NoMemory) ⊎ IsRefused text fault → (fault ≡ schema_faults.NoMemory) ⊎ IsNoSchema files name
+      no_schema (inl is) = inl is
+      no_schema (inr holds) = inr (inr (text, file, declares_nothing text fault holds))
+
+  -- how it stops at a text that is no query
+  pub query_stops : (schema : List Table) (fault : QueryFault) (stop : Stop) → (fault ≡ query_faults.NoMemory) ⊎ IsQueryRefused schema text fault → (fault ≡ query_faults.NoMemory → stop ≡ NoMemory) →
+      ((fault ≡ query_faults.NoMemory → ⊥) → stop ≡ Refused Queries) → StopsAs Queries (IsNoQuery files name schema) name stop
+  query_stops schema fault stop why memory refused = fault_stops Queries (IsNoQuery files name schema) name query_faults.NoMemory fault stop (query_or_memory fault) (no_query why) memory refused
+    where
+      no_query : (fault ≡ query_faults.NoMemory) ⊎ IsQueryRefused schema text fault → (fault ≡ query_faults.NoMemory) ⊎ IsNoQuery files name schema
+      no_query (inl is) = inl is
+      no_query (inr holds) = inr (inr (text, fault, file, holds))

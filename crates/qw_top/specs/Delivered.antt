@@ -3,7 +3,7 @@ use Rattle.std.specs.Prelude.{◌≡◌, ◌⊎◌, ℕ, List, [], ◌∷◌, le
 use Rattle.qw_types.specs.declared.schema.Table.{Table}
 use Rattle.qw_types.specs.declared.value.Val.{Val}
 use Rattle.qw_module.specs.declared.module.Module.{Module}
-use Rattle.qw_map.specs.Turns.{End, Done as EndedDone, Pages, Shared, turns}
+use Rattle.qw_map.specs.Turns.{Act, End, Done as EndedDone, Pages, Shared, turns}
 use Rattle.qw_meaning.specs.Statement.{Statement}
 use Rattle.qw_meaning.specs.Meaning.{Rows, outcome}
 use Rattle.qw_emit.specs.Compiled.{IsCompiled}
@@ -31,7 +31,7 @@ pub record HasRun (width : ℕ) (rows : List (List Val)) (statement : Statement)
   pub tasks : b.tasks ≡ first_task width (length rows) (record { statement = statement; program = program }) default_limits ∷ []
   pub start : Shared
   pub began : IsStart width rows b.tasks start
-  pub given : List (ℕ × ℕ)
+  pub given : List Act
   pub rounds : AreRounds quantum given start
   pub turned : b.shared ≡ turns given start
   pub end : End

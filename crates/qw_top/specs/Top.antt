@@ -3,24 +3,23 @@ use Rattle.std.specs.List.{filter_map}
 use Rattle.std.specs.Option.{option_map}
 use Rattle.std.specs.Prelude.{◌≡◌, ◌⊎◌, ℕ, ◌<◌, ◌≤◌, List, [], ◌∷◌, Option, length, slice_get}
 use Rattle.qw_io.specs.Files.{OfFile}
+use Rattle.qw_types.specs.Kind.{type_kind}
 use Rattle.qw_types.specs.declared.schema.Column.{Column}
 use Rattle.qw_types.specs.declared.schema.Table.{Table}
-use Rattle.qw_types.specs.declared.value.Ty.{Ty}
-use Rattle.qw_types.specs.declared.value.Ty.TheVariants as type
 use Rattle.qw_types.specs.declared.value.Val.{Val}
 use Rattle.qw_top.specs.Limits.{most_table_octets, most_text_octets, default_limits}
 use Rattle.qw_csv.specs.declared.loading.LoadFault.{LoadFault}
 use Rattle.qw_meaning.specs.Statement.{Statement}
 use Rattle.qw_sink.specs.declared.sink.Head.{Head}
-use Rattle.qw_sink.specs.declared.sink.Kind.{Kind}
-use Rattle.qw_sink.specs.declared.sink.Kind.TheVariants as kind
 use Rattle.qw_top.specs.declared.status.Status.{Status}
 use Rattle.qw_top.specs.declared.status.Status.TheVariants.{Done, WordsRefused, SchemaRefused, TableFileRefused, QueriesRefused, ReadFailed, WriteFailed, PageLimitMet, NoMemory}
 use Rattle.qw_top.specs.FileNames.{table_file_of}
 use Rattle.qw_emit.specs.Compiled.{page_bound}
 use Rattle.qw_csv.specs.Contents.{AreIntegers}
 use Rattle.qw_csv.specs.Loading.{IsFirstFault, Loads}
-use Rattle.qw_parse.specs.Parse.{ReadsQuery, ReadsSchema}
+use Rattle.qw_parse.specs.declared.parse.QueryFault.{QueryFault}
+use Rattle.qw_parse.specs.Parse.{ReadsSchema}
+use Rattle.qw_parse.specs.Query.{IsQueryRefused, ReadsQuery}
 use Rattle.qw_top.specs.Words.{IsRun}
 
 -- The octets of each file by its name, where they are told. What is said of files below holds of the told
@@ -76,14 +75,10 @@ pub record QueryIs (files : Files) (name : List ℕ) (schema : List Table) (stat
   pub file : IsFile files name most_text_octets text
   pub reads : ReadsQuery schema text statement
 
--- a text that is no query over the schema
-abbrev pub AsksNothing : List Table → List ℕ → Type 0
-AsksNothing schema text = (statement : Statement) → ReadsQuery schema text statement → ⊥
-
--- the queries file of this name is refused: it is too long, or its text is no query over the schema
+-- the queries file of this name is refused: it is too long, or its text is no query over the schema, for this cause
 abbrev pub IsNoQuery : Files → List ℕ → List Table → Type 0
 IsNoQuery files name schema = IsTooLong files name most_text_octets
-    ⊎ ((text : List ℕ) × IsFile files name most_text_octets text × AsksNothing schema text)
+    ⊎ ((text : List ℕ) × (fault : QueryFault) × IsFile files name most_text_octets text × IsQueryRefused schema text fault)
 
 -- what the words of `run` name: the schema file, the folder of the table files, the queries file
 pub record Names : Type 0 where
@@ -155,16 +150,9 @@ IsFault WriteFailed = Unit {0}
 IsFault NoMemory = Unit {0}
 IsFault _ = ⊥
 
--- how the values of a type are printed: a number with so many digits behind a point, of an INTEGER with none
-abbrev pub kind_of : Ty → Kind
-kind_of type.Integer = kind.Number 0
-kind_of (type.Decimal precision scale) = kind.Number scale
-kind_of type.Date = kind.Date
-kind_of (type.Varchar limit) = kind.Text
-
--- what the header says of a column
+-- what the header says of a column: its name, and the kind that its values are printed as
 abbrev pub head_of : Column → Head
-head_of column = record { name = column.name; kind = kind_of column.ty }
+head_of column = record { name = column.name; kind = type_kind column.ty }
 
 -- the header of the rows that a statement gives: its columns, in its order
 abbrev pub header_of : Table → Statement → List Head

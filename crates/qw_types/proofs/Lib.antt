@@ -2,6 +2,9 @@ pub mod ArithmeticLaws
 mod ArithmeticLemmas
 mod DateLemmas
 pub mod DigitLemmas
+pub mod KindLemmas
+pub mod NumberTextLaws
+mod NumberTextLemmas
 mod NumeralLemmas
 mod TextOrderLemmas
 mod ValueLemmas

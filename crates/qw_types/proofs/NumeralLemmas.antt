@@ -11,11 +11,11 @@ use Rattle.std.proofs.lemmas.Bool.{cases_lt}
 use Rattle.std.proofs.lemmas.Int.{ints}
 use Rattle.std.proofs.Math.Nat.{one-le-pow, pow-le-pow_right, pow-suc}
 use Rattle.qw_types.specs.Inner.Numeral.{greatest}
-use Rattle.qw_types.specs.Value.{IsNumeric, IsOfType, IsSized}
+use Rattle.qw_types.specs.Value.{IsNumeric, IsOfType, IsSized, type_scale}
 use Rattle.qw_types.specs.declared.value.Ty.{Ty}
 use Rattle.qw_types.specs.declared.value.Ty.TheVariants as ty
 use Rattle.qw_types.specs.declared.value.Val.TheVariants.{Num}
-use Rattle.qw_types.specs.Numeral.{IsNumberOf, after_digits, after_fraction, are_spaces, fraction_at, fraction_digits, is_fine, is_negative, is_number, leading_digits, magnitude, scale_of, signed, whole_digits, without_spaces}
+use Rattle.qw_types.specs.Numeral.{IsNumberOf, after_digits, after_fraction, are_spaces, fraction_at, fraction_digits, is_fine, is_negative, is_number, leading_digits, magnitude, signed, whole_digits, without_spaces}
 
 -- the digits at the start of a text, and what follows
 abbrev pub EndsAt : (octets digits rest : List ℕ) → Type 0
@@ -240,11 +240,11 @@ out_of_range (ty.Varchar n) negative m kind large h = kind
 
 -- a capped magnitude within the range is the magnitude, so the text stands for the number
 pub number_read : (type : Ty) (bytes : List ℕ) (negative fine : Bool) (shown : ℕ) → IsNumeric type → IsSized type → IsTrue (is_number bytes) → negative ≡ is_negative bytes
-    → fine ≡ is_fine (scale_of type) bytes → not fine ≡ false → shown ≡ min (magnitude (scale_of type) bytes) 1000000000000000000 → shown ≤ greatest type negative
+    → fine ≡ is_fine (type_scale type) bytes → not fine ≡ false → shown ≡ min (magnitude (type_scale type) bytes) 1000000000000000000 → shown ≤ greatest type negative
     → IsNumberOf type bytes (signed negative shown)
 number_read type bytes negative fine shown kind sized form hn hf exact hs small =
     let below = greatest_small type negative sized in
-    let same : shown ≡ magnitude (scale_of type) bytes = omega (arith, hs, small, below) in
+    let same : shown ≡ magnitude (type_scale type) bytes = omega (arith, hs, small, below) in
     record {
       shows = record { form = form; fine = sym hf ∙ not_false fine exact; value = rw (hn, same) refl };
       range = in_range type negative shown kind small;

@@ -3,7 +3,9 @@ pub mod Calendar
 pub mod DateText
 pub mod Digits
 pub mod Inner
+pub mod Kind
 pub mod Limits
+pub mod NumberText
 pub mod Numeral
 pub mod Octets
 pub mod Schema

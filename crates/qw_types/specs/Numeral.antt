@@ -5,9 +5,8 @@ use Rattle.std.specs.Char.{is_ascii_digit}
 use Rattle.std.specs.List.{list_all}
 use Rattle.std.specs.Str.Parse.{digits_value, starts_with_minus, without_leading_sign}
 use Rattle.qw_types.specs.Octets.{period, space}
-use Rattle.qw_types.specs.Value.{IsOfType}
+use Rattle.qw_types.specs.Value.{IsOfType, type_scale}
 use Rattle.qw_types.specs.declared.value.Ty.{Ty}
-use Rattle.qw_types.specs.declared.value.Ty.TheVariants as ty
 use Rattle.qw_types.specs.declared.value.Val.TheVariants.{Num}
 use Rattle.qw_types.specs.declared.numeral.FieldFault.{FieldFault}
 use Rattle.qw_types.specs.declared.numeral.FieldFault.TheVariants as fault
@@ -76,11 +75,6 @@ signed negative magnitude' = if negative then neg_ℤ (pos magnitude') else pos 
 abbrev pub number_at : ℕ → List ℕ → ℤ
 number_at scale text = signed (is_negative text) (magnitude scale text)
 
--- the digits behind the point that a type has
-abbrev pub scale_of : Ty → ℕ
-scale_of (ty.Decimal precision scale) = scale
-scale_of _ = 0
-
 -- the text shows the number at the scale
 pub record ShowsNumber (scale : ℕ) (text : List ℕ) (number : ℤ) : Type 0 where
   pub form : IsTrue (is_number text)
@@ -89,13 +83,13 @@ pub record ShowsNumber (scale : ℕ) (text : List ℕ) (number : ℤ) : Type 0 w
 
 -- a text stands for a number of the type
 pub record IsNumberOf (type : Ty) (text : List ℕ) (number : ℤ) : Type 0 where
-  pub shows : ShowsNumber (scale_of type) text number
+  pub shows : ShowsNumber (type_scale type) text number
   pub range : IsOfType type (Num number)
 
 -- why it stands for none: it is no number's text, else a digit past the scale isn't 0, else the number is out of range
 abbrev pub IsNumberFault : Ty → List ℕ → FieldFault → Type 0
 IsNumberFault type text fault.NotNumber = is_number text ≡ false
-IsNumberFault type text fault.TooFine = IsTrue (is_number text) × (is_fine (scale_of type) text ≡ false)
-IsNumberFault type text fault.TooLarge = ShowsNumber (scale_of type) text (number_at (scale_of type) text)
-    × (IsOfType type (Num (number_at (scale_of type) text)) → ⊥)
+IsNumberFault type text fault.TooFine = IsTrue (is_number text) × (is_fine (type_scale type) text ≡ false)
+IsNumberFault type text fault.TooLarge = ShowsNumber (type_scale type) text (number_at (type_scale type) text)
+    × (IsOfType type (Num (number_at (type_scale type) text)) → ⊥)
 IsNumberFault type text fault.NotDate = ⊥

@@ -31,15 +31,15 @@ IsOfType (ty.Varchar limit) (val.Text octets) = IsTextOf limit octets
 IsOfType _ _ = ⊥
 
 -- a value of a type, or null where that isn't forbidden
-abbrev pub IsOfKind : Ty → (not_null : Bool) → Val → Type 0
-IsOfKind type not_null val.Null = not_null ≡ false
-IsOfKind type not_null (val.Num number) = IsOfType type (val.Num number)
-IsOfKind type not_null (val.Date number) = IsOfType type (val.Date number)
-IsOfKind type not_null (val.Text octets) = IsOfType type (val.Text octets)
+abbrev pub IsOfTypeOrNull : Ty → (not_null : Bool) → Val → Type 0
+IsOfTypeOrNull type not_null val.Null = not_null ≡ false
+IsOfTypeOrNull type not_null (val.Num number) = IsOfType type (val.Num number)
+IsOfTypeOrNull type not_null (val.Date number) = IsOfType type (val.Date number)
+IsOfTypeOrNull type not_null (val.Text octets) = IsOfType type (val.Text octets)
 
 -- a value of a column: null where the column isn't declared NOT NULL, else a value of its type (11.4)
 abbrev pub IsOfColumn : Column → Val → Type 0
-IsOfColumn column value = IsOfKind column.ty column.not_null value
+IsOfColumn column value = IsOfTypeOrNull column.ty column.not_null value
 
 -- A type of a size that it may have: a DECIMAL's precision is from 1 to 18 and its scale at most that, a VARCHAR's length is
 -- from 1 to 1,000 (11.1 leaves the greatest ones to the implementation).
@@ -48,6 +48,13 @@ IsSized ty.Integer = Unit {0}
 IsSized (ty.Decimal precision scale) = (1 ≤ precision) × (precision ≤ 18) × (scale ≤ precision)
 IsSized ty.Date = Unit {0}
 IsSized (ty.Varchar limit) = (1 ≤ limit) × (limit ≤ 1000)
+
+-- the scale of a type: the digits after the point of its numbers, 0 where they are whole or its values are no numbers (4.4)
+abbrev pub type_scale : Ty → ℕ
+type_scale ty.Integer = 0
+type_scale (ty.Decimal precision scale) = scale
+type_scale ty.Date = 0
+type_scale (ty.Varchar limit) = 0
 
 -- a type of numbers
 abbrev pub IsNumeric : Ty → Type 0

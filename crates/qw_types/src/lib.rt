@@ -5,7 +5,9 @@
 //! - [`value_laws`]: what holds of both, and worked cases.
 //! - [`digits`]: whether octets are digits.
 //! - [`numeral::read_number`], [`date_text::read_date`]: a number or a date from its text.
+//! - [`number_text::decimal_text`]: the text of a number.
 //! - [`value::Ty`] and [`value::Val`]: a column's type, and a value of a row.
+//! - [`kind::Kind`]: number with a scale, date or text, and that a type's values are of its kind.
 //! - [`text::Text`]: a text, which contracts see as its octets; [`text_order`]: how texts compare.
 //! - [`row::Row`]: the values of one row, which contracts see as a list.
 //! - [`schema::Schema`]: the declared tables, each with its columns.
@@ -18,7 +20,9 @@ pub mod arithmetic;
 pub mod code;
 pub mod date_text;
 pub mod digits;
+pub mod kind;
 pub mod memory;
+pub mod number_text;
 pub mod numeral;
 pub mod row;
 pub mod schema;
@@ -30,6 +34,7 @@ pub mod value_laws;
 pub mod worked_laws;
 
 pub use code::Code;
+pub use kind::Kind;
 pub use memory::NoMemory;
 pub use numeral::FieldFault;
 pub use row::Row;

@@ -2,7 +2,7 @@
 
 ghost use Rattle.std.specs.Prelude.{◌≡◌, ◌+◌, ◌-◌, ◌*◌, ◌^◌, ◌≤◌, ◌==◌, ◌||◌, ◌&&◌, nat_lt, false, min, length, take, drop, IsTrue, MatchResult, IfSome, IfNone};
 ghost use Rattle.std.specs.Str.Parse.{digits_value, digits_value_after, starts_with_minus, without_leading_sign};
-ghost use Rattle.qw_types.specs.Numeral.{IsNumberFault, IsNumberOf, after_digits, after_fraction, are_spaces, fraction_at, fraction_digits, is_fine, is_negative, is_number, leading_digits, magnitude, scale_of, signed, without_spaces};
+ghost use Rattle.qw_types.specs.Numeral.{IsNumberFault, IsNumberOf, after_digits, after_fraction, are_spaces, fraction_at, fraction_digits, is_fine, is_negative, is_number, leading_digits, magnitude, signed, without_spaces};
 ghost use Rattle.std.specs.Char.{digit_value, is_ascii_digit};
 ghost use Rattle.std.specs.List.{list_all};
 ghost use Rattle.qw_types.specs.Inner.Numeral.{greatest};
@@ -70,7 +70,7 @@ pub fn read_number(bytes: &[u8], ty: &Ty) -> Result<i64, FieldFault>
     requires sized { IsSized ty.now }
     ensures { MatchResult result (IsNumberOf ty.now bytes.now) (IsNumberFault ty.now bytes.now) }
 {
-    let Some(numeral) = numeral_of(bytes, scale_of(ty)) else {
+    let Some(numeral) = numeral_of(bytes, usize::from(ty.scale())) else {
         return Err(FieldFault::NotNumber);
     };
     if !numeral.fine {
@@ -89,16 +89,6 @@ fn signed(negative: bool, magnitude: u64) -> i64
 {
     let number = magnitude as i64;
     if negative { -number } else { number }
-}
-
-/// The digits behind the point that a type has.
-fn scale_of(ty: &Ty) -> usize
-    ensures { result ≡ scale_of ty.now }
-{
-    match ty {
-        Ty::Decimal { scale, .. } => usize::from(*scale),
-        _ => 0,
-    }
 }
 
 /// The greatest magnitude of a type's negative numbers, or of the others.

@@ -1,3 +1,6 @@
+ghost use Rattle.std.specs.Prelude.{◌≡◌};
+ghost use Rattle.qw_types.specs.Value.{type_scale};
+
 use crate::text::Text;
 
 /// The type of a column (ISO/IEC 9075:1992, 6.1 "data type"). Which values it has is `IsOfType` of
@@ -12,6 +15,18 @@ pub enum Ty {
     Date,
     /// A text of at most `length` characters (1 to 1,000).
     Varchar { length: u16 },
+}
+
+impl Ty {
+    /// The scale: how many digits after the point the numbers of the type have, 0 where its values are no numbers.
+    pub fn scale(self) -> u8
+        ensures { result ≡ type_scale self }
+    {
+        match self {
+            Ty::Decimal { scale, .. } => scale,
+            Ty::Integer | Ty::Date | Ty::Varchar { .. } => 0,
+        }
+    }
 }
 
 /// A value of a row.

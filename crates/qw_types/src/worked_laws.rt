@@ -1,9 +1,10 @@
 //! Worked cases of the definitions, with numbers, stated as contracts. No function here computes anything.
 
-ghost use Rattle.std.specs.Prelude.{◌≡◌, ℤ, pos, negsuc, [], ◌∷◌, true, false, Some, None};
+ghost use Rattle.std.specs.Prelude.{◌≡◌, ℤ, pos, negsuc, [], ◌∷◌, codes, true, false, Some, None};
 ghost use Rattle.qw_types.specs.Calendar.{IsDate};
 ghost use Rattle.qw_types.specs.DateText.{ShowsDate};
 ghost use Rattle.qw_types.specs.Numeral.{ShowsNumber, is_fine, is_number};
+ghost use Rattle.qw_types.specs.NumberText.{decimal_text};
 ghost use Rattle.qw_types.specs.declared.value.Ty.TheVariants as ty;
 ghost use Rattle.qw_types.specs.declared.value.Ty.TheVariants.{Decimal, Integer, Varchar};
 ghost use Rattle.qw_types.specs.declared.value.Val.TheVariants as val;
@@ -85,4 +86,21 @@ pub fn dates_of_texts()
     ensures spaces { ShowsDate (32 ∷ 49 ∷ 57 ∷ 57 ∷ 56 ∷ 45 ∷ 48 ∷ 57 ∷ 45 ∷ 48 ∷ 50 ∷ 32 ∷ []) (pos 19980902) }
     ensures short { (number : ℤ) → ShowsDate (49 ∷ 57 ∷ 57 ∷ 56 ∷ 45 ∷ 57 ∷ 45 ∷ 50 ∷ []) number → ⊥ }
     ensures no_day { (number : ℤ) → ShowsDate (49 ∷ 57 ∷ 57 ∷ 56 ∷ 45 ∷ 48 ∷ 57 ∷ 45 ∷ 51 ∷ 49 ∷ []) number → ⊥ }
+{}
+
+/// Texts of numbers: 0 at scales 0 and 2 is "0" and "0.00"; -5 at scale 2 is "-0.05"; 123456 is "123456", "1234.56" and "0.00123456" at
+/// scales 0, 2 and 8.
+pub fn texts_of_numbers()
+    ensures zero { (decimal_text (pos 0) 0 ≡ codes "0") × (decimal_text (pos 0) 2 ≡ codes "0.00") }
+    ensures below_one { (decimal_text (negsuc 4) 2 ≡ codes "-0.05") × (decimal_text (pos 5) 1 ≡ codes "0.5") }
+    ensures negative { (decimal_text (negsuc 0) 0 ≡ codes "-1") × (decimal_text (negsuc 149) 2 ≡ codes "-1.50") }
+    ensures places { (decimal_text (pos 123456) 0 ≡ codes "123456") × (decimal_text (pos 123456) 2 ≡ codes "1234.56") × (decimal_text (pos 123456) 8 ≡ codes "0.00123456") }
+{}
+
+/// Texts at the limits: 18 digits at scales 0 and 18, the least and the greatest INTEGER, and the least and the greatest number of 64 bits.
+pub fn texts_at_limits()
+    ensures digits { (decimal_text (pos 999999999999999999) 0 ≡ codes "999999999999999999") × (decimal_text (negsuc 999999999999999998) 4 ≡ codes "-99999999999999.9999") }
+    ensures scale { (decimal_text (pos 999999999999999999) 18 ≡ codes "0.999999999999999999") × (decimal_text (negsuc 0) 18 ≡ codes "-0.000000000000000001") }
+    ensures integers { (decimal_text (negsuc 2147483647) 0 ≡ codes "-2147483648") × (decimal_text (pos 2147483647) 0 ≡ codes "2147483647") }
+    ensures words { (decimal_text (negsuc 9223372036854775807) 0 ≡ codes "-9223372036854775808") × (decimal_text (pos 9223372036854775807) 2 ≡ codes "92233720368547758.07") }
 {}

@@ -1,6 +1,11 @@
-mod Checked
-mod CheckedBodies
-pub mod Imported
+mod ControlPlaces
+mod Faults
+mod KindFacts
+mod LocalsLemmas
 mod Names
 mod Numbering
-pub mod ValidFunctions
+mod OpPlaces
+mod Places
+mod Reached
+mod ValidBodies
+mod WalkLemmas

@@ -11,32 +11,35 @@ use Rattle.qw_module.specs.Syntax.{sequence_at, NamesBelow, IsNumbered}
 use Rattle.qw_module.specs.Validity.{items_of}
 
 -- each sequence of a number below a bound names lower ones alone
-abbrev pub NameLower : List (Vec Instr) → ℕ → Type 0
-NameLower sequences n = (k : ℕ) (d : Vec Instr) → k < n → All (NamesBelow k) (get_or sequences k d).items
+abbrev pub NameLower : ℕ → List (Vec Instr) → ℕ → Type 0
+NameLower labels sequences n = (k : ℕ) (d : Vec Instr) → k < n → All (NamesBelow labels k) (get_or sequences k d).items
 
-sequence_at-get_or : (sequences : List (Vec Instr)) (k : ℕ) (d : Vec Instr) → k < length sequences → sequence_at (items_of sequences) k ≡ (get_or sequences k d).items
-sequence_at-get_or sequences k d h =
+sequence_at-get_or : (labels : List ℕ) (sequences : List (Vec Instr)) (k : ℕ) (d : Vec Instr) → k < length sequences →
+    sequence_at (record { each = items_of sequences; labels = labels }) k ≡ (get_or sequences k d).items
+sequence_at-get_or labels sequences k d h =
     let found : slice_get sequences k ≡ Some (get_or sequences k d) = slice_get-get_or sequences k d h in
     rw (slice_get-map, found) refl
 
-lower_at : (sequences : List (Vec Instr)) → NameLower sequences (length sequences) → (n : ℕ) → n < length sequences →
-    AllByRecursion (NamesBelow n) (sequence_at (items_of sequences) n)
-lower_at [] lower n h = absurd (omega arith)
-lower_at (first ∷ sequences) lower n h =
-    subst (AllByRecursion (NamesBelow n)) (sym (sequence_at-get_or (first ∷ sequences) n first h))
-    (recursion_from_All (NamesBelow n) (get_or (first ∷ sequences) n first).items (lower n first h))
+lower_at : (labels : List ℕ) (sequences : List (Vec Instr)) → NameLower (length labels) sequences (length sequences) → (n : ℕ) → n < length sequences →
+    AllByRecursion (NamesBelow (length labels) n) (sequence_at (record { each = items_of sequences; labels = labels }) n)
+lower_at labels [] lower n h = absurd (omega arith)
+lower_at labels (first ∷ sequences) lower n h =
+    subst (AllByRecursion (NamesBelow (length labels) n)) (sym (sequence_at-get_or labels (first ∷ sequences) n first h))
+    (recursion_from_All (NamesBelow (length labels) n) (get_or (first ∷ sequences) n first).items (lower n first h))
 
-pub numbered_from_items : (sequences : List (Vec Instr)) → 1 ≤ length sequences → NameLower sequences (length sequences) → IsNumbered (items_of sequences)
-numbered_from_items sequences some lower = record {
+pub numbered_from_items : (labels : List ℕ) (sequences : List (Vec Instr)) → 1 ≤ length sequences → NameLower (length labels) sequences (length sequences) →
+    IsNumbered (record { each = items_of sequences; labels = labels })
+numbered_from_items labels sequences some lower = record {
   some = rw length-map some;
-  lower = λ n h. lower_at sequences lower n (rw length-map at h);
+  lower = λ n h. lower_at labels sequences lower n (rw length-map at h);
 }
 
-pub items_from_numbered : (sequences : List (Vec Instr)) → IsNumbered (items_of sequences) → NameLower sequences (length sequences)
-items_from_numbered sequences numbered k d h =
+pub items_from_numbered : (labels : List ℕ) (sequences : List (Vec Instr)) → IsNumbered (record { each = items_of sequences; labels = labels }) →
+    NameLower (length labels) sequences (length sequences)
+items_from_numbered labels sequences numbered k d h =
     let within : k < length (items_of sequences) = rw length-map h in
-    All-from_recursion (NamesBelow k) (get_or sequences k d).items
-    (subst (AllByRecursion (NamesBelow k)) (sequence_at-get_or sequences k d h) (numbered.lower k within))
+    All-from_recursion (NamesBelow (length labels) k) (get_or sequences k d).items
+    (subst (AllByRecursion (NamesBelow (length labels) k)) (sequence_at-get_or labels sequences k d h) (numbered.lower k within))
 
-pub length_from_numbered : (sequences : List (Vec Instr)) → IsNumbered (items_of sequences) → 1 ≤ length sequences
-length_from_numbered sequences numbered = rw length-map at numbered.some
+pub length_from_numbered : (labels : List ℕ) (sequences : List (Vec Instr)) → IsNumbered (record { each = items_of sequences; labels = labels }) → 1 ≤ length sequences
+length_from_numbered labels sequences numbered = rw length-map at numbered.some

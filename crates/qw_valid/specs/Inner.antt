@@ -2,3 +2,4 @@
 pub mod Checkers
 pub mod Checking
 pub mod Refusals
+pub mod Walks

@@ -2,9 +2,9 @@
 
 ghost use Rattle.std.specs.Prelude.{◌≡◌, ◌≤◌, length, slice_get};
 ghost use Rattle.std.specs.List.{filter_map};
-ghost use Rattle.qw_module.specs.Validity.{imported_function, imported_memory};
+ghost use Rattle.qw_module.specs.Validity.{imported_function, imported_memory, functions_of};
 
-use qw_module::module::Import;
+use qw_module::module::{Import, Module};
 
 pub fn imported_functions(imports: &[Import]) -> usize
     ensures count { result ≡ length (filter_map imported_function imports.now) }
@@ -31,6 +31,18 @@ pub fn imported_function(imports: &[Import], index: usize) -> Option<u32>
         }
     }
     None
+}
+
+/// The index of the type of the function of an index, imported or of the module's own.
+pub fn function_type(module: &Module, index: usize) -> Option<u32>
+    ensures { result ≡ slice_get (functions_of «module».now) index }
+{
+    let imported = imported_functions(&module.imports);
+    if index < imported {
+        return imported_function(&module.imports, index);
+    }
+    let function = module.functions.get(index - imported)?;
+    Some(function.type_index)
 }
 
 pub fn imported_memories(imports: &[Import]) -> usize

@@ -1,44 +1,56 @@
 //! Whether a module is valid (WebAssembly Core Specification 1.0, 3.4).
 
-ghost use Rattle.std.specs.Prelude.{◌≡◌, ◌≢◌, ◌↔◌, [], ◌∷◌, ◌++◌, ◌≤◌, length};
-ghost use Rattle.std.specs.Prelude.{All, IsTrue, IfOk, IfErr, IfSome, OnOk};
+ghost use Rattle.std.specs.Prelude.{◌≡◌, ◌≢◌, ◌↔◌, ◌<◌, ◌≤◌, ℕ, length, reverse, Some, slice_get};
+ghost use Rattle.std.specs.Prelude.{All, IsTrue, IfOk, IfErr, IfSome, OnOk, Err};
 ghost use Rattle.std.specs.List.{AllPairs};
 ghost use Rattle.std.specs.String.{string_bytes};
 ghost use Rattle.qw_module.specs.declared.module.Export.{Export};
 ghost use Rattle.qw_module.specs.Syntax.{NamesBelow, IsNumbered};
-ghost use Rattle.qw_valid.specs.Inner.Checking.{nothing, conditions_of, checks};
-ghost use Rattle.qw_valid.specs.Inner.Refusals.{Decides};
-ghost use Rattle.qw_module.specs.Validity.{items_of, sequences_of, code_of_body};
-ghost use Rattle.qw_module.specs.Validity.{imported_signatures, functions_of};
+ghost use Rattle.qw_module.specs.Typing.{types_of};
+ghost use Rattle.qw_module.specs.Places.{tokens_of, IsRefusedAt};
+ghost use Rattle.qw_module.specs.Validity.{items_of, sequences_of, code_of_body, outside_of, functions_of, imported_functions};
 ghost use Rattle.qw_module.specs.Validity.{memories_of, IsValidType, IsValidMemory};
 ghost use Rattle.qw_module.specs.Validity.{IsValidImport, IsValidGlobal, IsExportedOf};
 ghost use Rattle.qw_module.specs.Validity.{IsExport, IsValidFunction, HaveOtherNames, IsValid};
-ghost use Rattle.qw_valid.specs.ValidFaults.{IsAgainst};
+ghost use Rattle.qw_valid.specs.Inner.Refusals.{fault_in};
+ghost use Rattle.qw_valid.specs.ValidFaults.{HasBody, PartHolds, ArePartsValid, typing_in, IsFault};
 
-use crate::checker::{Checker, Labels, Refusal, constant_type};
+use crate::checker::{Checker, constant_type};
 use crate::imports::{imported_functions, imported_memories};
-use qw_module::instruction::Instr;
-use qw_module::module::{Export, ExportKind, FuncType, Function, Global, Import, Limits, Module};
+use crate::walk::{BodyFault, check_body};
+use qw_module::instruction::{BlockType, Instr};
+use qw_module::module::{
+    Body, Export, ExportKind, FuncType, Function, Global, Import, Limits, Module,
+};
 use std::alloc;
 use std::marker::Model;
 use thiserror::Error;
 
-/// Why a module is refused: a part that isn't valid, or want of memory.
+/// A part of a module, in the order in which they are tried.
+#[derive(Clone, Copy, Debug, PartialEq, Eq)]
+pub enum Part {
+    /// A function's type has at most one result.
+    Types,
+    /// An import has a type, or is within its limits.
+    Imports,
+    /// Each function has a type, and a numbered body.
+    Functions,
+    /// The memory is within its limits, and the only one.
+    Memory,
+    /// A global begins as a value of its type.
+    Globals,
+    /// What is exported is there, each under a name of its own.
+    Exports,
+}
+
+/// Why a module is refused: a part that isn't valid, a place of a body, or want of memory.
 #[derive(Clone, Copy, Debug, PartialEq, Eq, Error)]
 pub enum ValidFault {
-    #[error("a function's type has more than one result")]
-    Types,
-    #[error("an import has no type, or isn't within its limits")]
-    Imports,
-    #[error("the memory isn't within its limits, or isn't the only one")]
-    Memory,
-    #[error("a global doesn't begin as a value of its type")]
-    Globals,
-    #[error("an export isn't there, or has another's name")]
-    Exports,
-    /// By its index among the functions of the module's own.
-    #[error("function {number} isn't typed")]
-    Function { number: usize },
+    #[error("a part isn't valid")]
+    Part(Part),
+    /// The function, counted among all functions, the imported ones first; and the place in its body.
+    #[error("function {func} isn't typed at place {at}")]
+    Body { func: usize, at: usize },
     #[error("want of memory")]
     NoMemory,
 }
@@ -118,7 +130,7 @@ fn functions(module: &Module) -> usize
 fn memories(module: &Module) -> usize
     ensures { result ≡ length (memories_of «module».now) }
 {
-    imported_memories(&module.imports) + usize::from(module.memory.is_some())
+    imported_memories(&module.imports) + module.memories.len()
 }
 
 fn is_global(global: Global) -> bool
@@ -135,13 +147,9 @@ fn are_globals(globals: &[Global]) -> bool
 
 fn is_memory_part(module: &Module) -> bool
     ensures { IsTrue result ↔
-        (IfSome «module».now.memory IsValidMemory × (length (memories_of «module».now) ≤ 1)) }
+        (All IsValidMemory «module».now.memories.items × (length (memories_of «module».now) ≤ 1)) }
 {
-    memories(module) <= 1
-        && match module.memory {
-            None => true,
-            Some(limits) => is_memory(limits),
-        }
+    memories(module) <= 1 && module.memories.iter().all(|limits| is_memory(*limits))
 }
 
 fn is_export(module: &Module, kind: ExportKind) -> bool
@@ -182,132 +190,152 @@ fn are_exports(module: &Module) -> bool
         && names_differ(&module.exports)
 }
 
-/// Whether an instruction of the sequence of this number names only lower ones.
-fn names_below(number: usize, instr: Instr) -> bool
-    ensures { IsTrue result ↔ NamesBelow number instr }
+/// Whether an instruction of the sequence of this number names only lower ones, and only labels that are there.
+fn names_below(labels: usize, number: usize, instr: Instr) -> bool
+    ensures { IsTrue result ↔ NamesBelow labels number instr }
 {
     match instr {
-        Instr::Op(_) | Instr::Br(_) | Instr::BrIf(_) => true,
         Instr::Block { body, .. } | Instr::Loop { body, .. } => body < number,
         Instr::If {
             then_body,
-            else_body,
+            else_body: None,
+            ..
+        } => then_body < number,
+        Instr::If {
+            then_body,
+            else_body: Some(else_body),
             ..
         } => then_body < number && else_body < number,
+        Instr::BrTable { first, count, .. } => first <= labels && count <= labels - first,
+        _ => true,
     }
 }
 
-fn all_names_below(number: usize, sequence: &[Instr]) -> bool
-    ensures { IsTrue result ↔ All (NamesBelow number) sequence.now }
+fn all_names_below(labels: usize, number: usize, sequence: &[Instr]) -> bool
+    ensures { IsTrue result ↔ All (NamesBelow labels number) sequence.now }
 {
-    sequence.iter().all(|instr| names_below(number, *instr))
+    sequence
+        .iter()
+        .all(|instr| names_below(labels, number, *instr))
 }
 
-fn is_numbered(sequences: &[Vec<Instr>]) -> bool
-    ensures { IsTrue result ↔ IsNumbered (items_of sequences.now) }
+fn is_numbered(labels: &[u32], sequences: &[Vec<Instr>]) -> bool
+    ensures { IsTrue result ↔ IsNumbered (record { each = items_of sequences.now; labels = labels.now }) }
 {
     for (number, sequence) in sequences.iter().enumerate() {
-        if !all_names_below(number, sequence) {
+        if !all_names_below(labels.len(), number, sequence) {
             return false;
         }
     }
     !sequences.is_empty()
 }
 
-/// Whether a body leads from no operands to the results of the type.
-fn check_body(
+/// Whether each function has a type of the module and a numbered body.
+fn are_functions(module: &Module) -> bool
+    ensures { IsTrue result ↔ All (HasBody «module».now) «module».now.functions.items }
+{
+    module
+        .functions
+        .iter()
+        .all(|function| has_body(module, function))
+}
+
+fn has_body(module: &Module, function: &Function) -> bool
+    ensures { IsTrue result ↔ HasBody «module».now function.now }
+{
+    (function.type_index as usize) < module.types.len()
+        && is_numbered(&function.body.labels, &function.body.sequences)
+}
+
+/// Whether the parts of a module other than bodies are valid, and otherwise which is the first that isn't.
+fn check_parts(module: &Module) -> Result<(), ValidFault>
+    ensures valid { OnOk result (ArePartsValid «module».now) }
+    ensures fault { IfErr result (λ fault. IsFault fault «module».now) }
+{
+    if !are_types(&module.types) {
+        return Err(ValidFault::Part(Part::Types));
+    }
+    if !are_imports(module) {
+        return Err(ValidFault::Part(Part::Imports));
+    }
+    if !are_functions(module) {
+        return Err(ValidFault::Part(Part::Functions));
+    }
+    if !is_memory_part(module) {
+        return Err(ValidFault::Part(Part::Memory));
+    }
+    if !are_globals(&module.globals) {
+        return Err(ValidFault::Part(Part::Globals));
+    }
+    if !are_exports(module) {
+        return Err(ValidFault::Part(Part::Exports));
+    }
+    Ok(())
+}
+
+/// The result of a function of a type, if it has one.
+fn result_of(ty: &FuncType) -> BlockType
+    requires { IsValidType ty.now }
+    ensures { types_of result ≡ reverse ty.now.results.items }
+{
+    match ty.results.as_slice() {
+        [] => None,
+        [result, ..] => Some(*result),
+    }
+}
+
+/// Whether the body of a function is typed, and otherwise its first place refused.
+fn check_function(
     alloc: alloc::Global,
     module: &Module,
-    ty: &FuncType,
     function: &Function,
-    has_memory: bool,
-) -> Result<(), Refusal>
-    requires imports { All (IsValidImport «module».now) «module».now.imports.items }
-    requires results { IsValidType ty.now }
-    requires numbered { IsNumbered (sequences_of function.now.body) }
-    ensures { Decides result (checks (code_of_body function.now.body)
-        (conditions_of (imported_signatures «module».now) (ty.now.params.items ++ function.now.locals.items) (ty.now.results.items ∷ []) has_memory)
-        nothing ty.now.results.items) }
+) -> Result<(), BodyFault>
+    requires parts { ArePartsValid «module».now }
+    requires body { HasBody «module».now function.now }
+    ensures valid { OnOk result (IsValidFunction «module».now function.now) }
+    ensures refused { (at : ℕ) → result ≡ Err (BodyFault.At at) → IsRefusedAt (typing_in «module».now function.now) (tokens_of (code_of_body function.now.body)) at }
 {
-    let ends = ty.results.first().copied();
-    let mut labels = Labels::new(alloc);
-    labels.push(ends)?;
-    let sequences = function.body.sequences.as_slice();
-    let checker = Checker {
+    let ty = &module.types[function.type_index as usize];
+    check_body(Checker {
         alloc,
         module,
         parameters: &ty.params,
         locals: &function.locals,
-        has_memory,
-        sequences,
-    };
-    checker.sequence(sequences.len() - 1, ends, &mut labels)
+        result: result_of(ty),
+        has_memory: memories(module) > 0,
+        body: &function.body,
+    })
 }
 
-/// Whether a function is typed over the types and memories of a module.
-fn check_function(alloc: alloc::Global, module: &Module, function: &Function) -> Result<(), Refusal>
-    requires types { All IsValidType «module».now.types.items }
-    requires imports { All (IsValidImport «module».now) «module».now.imports.items }
-    ensures valid { OnOk result (IsValidFunction «module».now function.now) }
-    ensures ill_typed { result ≡ Err Refusal.IllTyped → ¬ IsValidFunction «module».now function.now }
-{
-    let Some(ty) = module.types.get(function.type_index as usize) else {
-        return Err(Refusal::IllTyped);
-    };
-    if !is_numbered(&function.body.sequences) {
-        return Err(Refusal::IllTyped);
-    }
-    check_body(alloc, module, ty, function, memories(module) > 0)
-}
-
+/// Whether the bodies of all functions are typed, and otherwise the first function and place refused.
 fn check_functions(alloc: alloc::Global, module: &Module) -> Result<(), ValidFault>
-    requires types { All IsValidType «module».now.types.items }
-    requires imports { All (IsValidImport «module».now) «module».now.imports.items }
+    requires { ArePartsValid «module».now }
     ensures valid { OnOk result (All (IsValidFunction «module».now) «module».now.functions.items) }
-    ensures fault { IfErr result (λ fault. IsAgainst fault «module».now) }
+    ensures fault { IfErr result (λ fault. IsFault fault «module».now) }
 {
+    let imported = imported_functions(&module.imports);
     for (number, function) in module.functions.iter().enumerate() {
         match check_function(alloc, module, function) {
             Ok(()) => {}
-            Err(Refusal::IllTyped) => return Err(ValidFault::Function { number }),
-            Err(Refusal::NoMemory) => return Err(ValidFault::NoMemory),
+            Err(fault) => return Err(fault_in(imported + number, fault)),
         }
     }
     Ok(())
 }
 
-/// Whether the parts of a module other than its functions are valid.
-fn check_parts(module: &Module) -> Result<(), ValidFault>
-    ensures types { OnOk result (All IsValidType «module».now.types.items) }
-    ensures imports { OnOk result (All (IsValidImport «module».now) «module».now.imports.items) }
-    ensures memory { OnOk result (IfSome «module».now.memory IsValidMemory) }
-    ensures one_memory { OnOk result (length (memories_of «module».now) ≤ 1) }
-    ensures globals { OnOk result (All IsValidGlobal «module».now.globals.items) }
-    ensures exports { OnOk result (All (IsExport «module».now) «module».now.exports.items) }
-    ensures names { OnOk result (AllPairs HaveOtherNames «module».now.exports.items) }
-    ensures fault { IfErr result (λ fault. IsAgainst fault «module».now) }
+/// The fault of the body of a function of an index.
+fn fault_in(func: usize, fault: BodyFault) -> ValidFault
+    ensures { result ≡ fault_in func fault }
 {
-    if !are_types(&module.types) {
-        return Err(ValidFault::Types);
+    match fault {
+        BodyFault::At(at) => ValidFault::Body { func, at },
+        BodyFault::NoMemory => ValidFault::NoMemory,
     }
-    if !are_imports(module) {
-        return Err(ValidFault::Imports);
-    }
-    if !is_memory_part(module) {
-        return Err(ValidFault::Memory);
-    }
-    if !are_globals(&module.globals) {
-        return Err(ValidFault::Globals);
-    }
-    if !are_exports(module) {
-        return Err(ValidFault::Exports);
-    }
-    Ok(())
 }
 
 fn check(alloc: alloc::Global, module: &Module) -> Result<(), ValidFault>
     ensures valid { OnOk result (IsValid «module».now) }
-    ensures fault { IfErr result (λ fault. IsAgainst fault «module».now) }
+    ensures fault { IfErr result (λ fault. IsFault fault «module».now) }
 {
     check_parts(module)?;
     check_functions(alloc, module)
@@ -317,12 +345,13 @@ fn check(alloc: alloc::Global, module: &Module) -> Result<(), ValidFault>
 ///
 /// # Errors
 ///
-/// The fault names a part that isn't valid, which need not be the first, or says that there was no memory left.
+/// The fault names the first part that isn't valid; where all are, the first function whose body isn't typed, and its first place
+/// refused; or it says that there was no memory left.
 pub fn validate(alloc: alloc::Global, module: Module) -> Result<ValidModule, ValidFault>
     ensures value { IfOk result (λ valid. valid ≡ «module») }
     ensures valid { OnOk result (IsValid «module») }
+    ensures fault { IfErr result (λ fault. IsFault fault «module») }
     ensures invalid { IfErr result (λ fault. fault ≢ ValidFault.NoMemory → ¬ IsValid «module») }
-    ensures fault { IfErr result (λ fault. IsAgainst fault «module») }
 {
     check(alloc, &module)?;
     Ok(ValidModule { module })

@@ -11,7 +11,7 @@ folded_names names = map (λ name. folded name.now) names
 
 -- what stands behind a select list
 abbrev pub source : TableExpression → Source
-source e = record { table = folded e.table.now; tested = folded e.tested.now; comparison = e.comparison; literal = e.literal }
+source e = record { table = folded e.table.now; tested = folded e.tested.now; comparison = e.comparison; negative = e.negative; digits = e.digits.now }
 
 -- what a query names
 abbrev pub selection : QuerySpecification → Selection

@@ -6,7 +6,7 @@ use Rattle.qw_linear.specs.Linear.{Octets}
 use Rattle.qw_module.specs.Execution.{Config, State, Running, Returned, Raised, Trapped, Event, Grows}
 use Rattle.qw_map.specs.Areas.{Area, World, GoesOn, grants}
 use Rattle.qw_module.specs.Step.{Next, next}
-use Rattle.qw_map.specs.Turns.{Instance, end_at, steps_of}
+use Rattle.qw_map.specs.Turns.{Instance, Common, end_at, steps_of}
 use Rattle.qw_map.specs.Layout.{column_starts, column_areas}
 use Rattle.qw_bench.specs.declared.bench.Ended.{Ended}
 use Rattle.qw_bench.specs.declared.bench.Ended.TheVariants as ended
@@ -91,20 +91,24 @@ pub record HasGrants (seat : Seat) : Type 0 where
 -- raised after a refused request alone
 abbrev pub CanBeTold : World → Event → State → Type 0
 CanBeTold w (Grows pages granted) state = (1 ≤ pages) × GoesOn state
-CanBeTold w event Trapped = ⊥
+CanBeTold w event (Trapped why) = ⊥
 CanBeTold w event (Raised code) = (code ≡ 3) × ((asked : ℕ) × (w.refused ≡ Some asked))
 CanBeTold w event state = Unit {0}
 
--- however long its turn is over this memory, each step that an instance makes can be told
-abbrev pub IsTold : Instance → List ℕ → Type 0
-IsTold i memory = (quantum : ℕ) (c : Config) (t : Next) → (steps_of quantum i memory).0.state ≡ Running c →
-    next (grants (steps_of quantum i memory).0.world) c (steps_of quantum i memory).1 ≡ Some t →
-    CanBeTold (steps_of quantum i memory).0.world t.event t.state
+-- however long its turn is over what is common, each step that an instance makes can be told
+abbrev pub IsTold : Instance → Common → Type 0
+IsTold i common = (quantum : ℕ) (c : Config) (t : Next) → (steps_of quantum i common).0.state ≡ Running c →
+    next (grants (steps_of quantum i common).0.world) c (steps_of quantum i common).1.memory ≡ Some t →
+    CanBeTold (steps_of quantum i common).0.world t.event t.state
+
+-- what the instances of a bench have in common: its memory
+abbrev pub common_of : Octets → Common
+common_of memory = record { memory = memory.octets }
 
 -- what a bench of this memory and these seats stands for
 abbrev pub standing_of : Octets → List Seat → Standing
 standing_of memory seats = record {
-  shared = record { memory = memory.octets; instances = map instance_of seats };
+  shared = record { common = common_of memory; instances = map instance_of seats };
   tasks = map task_of seats;
   reserved = memory.reserved;
 }

@@ -4,7 +4,7 @@ ghost use Rattle.std.specs.Prelude.{◌≡◌, ◌+◌, ◌≤◌, ℕ, length, 
 ghost use Rattle.qw_csv.specs.Contents.{AreIntegerKinds};
 ghost use Rattle.qw_map.specs.Columns.{column_pages};
 ghost use Rattle.qw_module.specs.Start.{begun};
-ghost use Rattle.qw_module.specs.Validity.{IsShaped};
+ghost use Rattle.qw_module.specs.Validity.{IsDescending, IsShaped};
 ghost use Rattle.qw_bench.specs.Inner.FirstMemory.{IsFirstMemory};
 
 use crate::bench::MAX_INSTANCE_PAGES;
@@ -52,8 +52,8 @@ pub(super) fn first_memory(
     Ok(memory)
 }
 
-/// An instance of a module of the shape that is executed, whose `run` has the address of its descriptor
-/// as its argument.
+/// An instance of a module of the shape that is executed, whose functions call downwards only. Its `run` has the address
+/// of its descriptor as its argument.
 ///
 /// # Errors
 ///
@@ -63,7 +63,8 @@ pub(super) fn first_instance(
     valid: ValidModule,
     descriptor: u32,
 ) -> Result<Instance, NoMemory>
-    requires { (number : ℕ) × IsShaped valid number }
+    requires shaped { (number : ℕ) × IsShaped valid number }
+    requires descends { IsDescending valid }
     ensures { (number : ℕ) → IsShaped valid number
         → IfOk result (λ instance. instance ≡ record { program = valid; state = begun valid number descriptor }) }
 {
@@ -71,5 +72,6 @@ pub(super) fn first_instance(
         Ok(instance) => Ok(instance),
         Err(InstanceFault::NoMemory) => Err(NoMemory),
         Err(InstanceFault::NotShaped) => unreachable!(),
+        Err(InstanceFault::NotDescending { .. }) => unreachable!(),
     }
 }

@@ -1,14 +1,14 @@
 -- Mirrors how `storage::Values` keeps the values of a column.
 use Rattle.std.specs.Prelude.{◌≡◌, ◌≤◌, ◌-◌, ℕ, pos, List, [], ◌∷◌, Bool, true, false, length, map, take, drop, if◌then◌else◌}
 use Rattle.std.specs.List.{AllByRecursion}
-use Rattle.qw_types.specs.Value.{IsOfKind}
 use Rattle.qw_types.specs.declared.value.Ty.{Ty}
 use Rattle.qw_types.specs.declared.value.Ty.TheVariants as ty
 use Rattle.qw_types.specs.declared.value.Val.{Val}
 use Rattle.qw_types.specs.declared.value.Val.TheVariants as val
+use Rattle.qw_csv.specs.Contents.{IsOfColumnType}
 use Rattle.qw_csv.specs.declared.storage.Cells.{Cells}
 use Rattle.qw_csv.specs.declared.storage.Cells.TheVariants as cells
-use Rattle.qw_csv.specs.declared.storage.Kind.{Kind}
+use Rattle.qw_csv.specs.declared.storage.ColumnType.{ColumnType}
 use Rattle.qw_csv.specs.declared.storage.Values.{Values}
 
 -- texts of which the first starts here
@@ -69,7 +69,7 @@ abbrev pub values_in : Values → List Val
 values_in kept = with_nulls (plain_values kept.cells) kept.nulls.items
 
 -- what is kept is a column's of the kind
-pub record AreKept (kind : Kind) (kept : Values) : Type 0 where
+pub record AreKept (kind : ColumnType) (kept : Values) : Type 0 where
   pub form : AreCellsOf kind.ty kept.cells
   pub flags : AreFlags kind.not_null (length (plain_values kept.cells)) kept.nulls.items
-  pub typed : AllByRecursion (IsOfKind kind.ty kind.not_null) (values_in kept)
+  pub typed : AllByRecursion (IsOfColumnType kind) (values_in kept)

@@ -49,16 +49,16 @@ pub fn i64_const(number: i64) -> Instr
     Instr::Op(Op::Const(Const::I64(number.cast_unsigned())))
 }
 
-pub fn binary(operator: Binary) -> Instr
-    ensures { result ≡ Instr.Op (Op.Binary operator) }
+pub fn binary(ty: ValType, operator: Binary) -> Instr
+    ensures { result ≡ Instr.Op (Op.Binary ty operator) }
 {
-    Instr::Op(Op::Binary(operator))
+    Instr::Op(Op::Binary(ty, operator))
 }
 
-pub fn relation(operator: Relation) -> Instr
-    ensures { result ≡ Instr.Op (Op.Relation operator) }
+pub fn relation(ty: ValType, operator: Relation) -> Instr
+    ensures { result ≡ Instr.Op (Op.Relation ty operator) }
 {
-    Instr::Op(Op::Relation(operator))
+    Instr::Op(Op::Relation(ty, operator))
 }
 
 /// A load of four octets.
@@ -69,15 +69,15 @@ pub fn load(load: Load, offset: u32) -> Instr
 }
 
 pub fn store_i32(offset: u32) -> Instr
-    ensures { result ≡ Instr.Op (Op.Store Store.I32 (record { align = 2; offset = offset })) }
+    ensures { result ≡ Instr.Op (Op.Store (Store.Full ValType.I32) (record { align = 2; offset = offset })) }
 {
-    Instr::Op(Op::Store(Store::I32, four_octets(offset)))
+    Instr::Op(Op::Store(Store::Full(ValType::I32), four_octets(offset)))
 }
 
 pub fn store_i64(offset: u32) -> Instr
-    ensures { result ≡ Instr.Op (Op.Store Store.I64 (record { align = 3; offset = offset })) }
+    ensures { result ≡ Instr.Op (Op.Store (Store.Full ValType.I64) (record { align = 3; offset = offset })) }
 {
-    Instr::Op(Op::Store(Store::I64, eight_octets(offset)))
+    Instr::Op(Op::Store(Store::Full(ValType::I64), eight_octets(offset)))
 }
 
 /// A block that leaves nothing.
@@ -96,22 +96,22 @@ pub fn repeat(body: usize) -> Instr
 
 /// A choice that leaves nothing.
 pub fn choice(then_body: usize, else_body: usize) -> Instr
-    ensures { result ≡ Instr.If None then_body else_body }
+    ensures { result ≡ Instr.If None then_body (Some else_body) }
 {
     Instr::If {
         result: None,
         then_body,
-        else_body,
+        else_body: Some(else_body),
     }
 }
 
 /// The i32 that one of two sequences leaves.
 pub fn i32_choice(then_body: usize, else_body: usize) -> Instr
-    ensures { result ≡ Instr.If (Some ValType.I32) then_body else_body }
+    ensures { result ≡ Instr.If (Some ValType.I32) then_body (Some else_body) }
 {
     Instr::If {
         result: Some(ValType::I32),
         then_body,
-        else_body,
+        else_body: Some(else_body),
     }
 }

@@ -3,14 +3,14 @@
 ghost use Rattle.std.specs.Prelude.{◌≡◌, ℕ, IfOk, OnOk, length, ◌∷◌, [], ◌+◌, ◌-◌, ◌^◌, ◌≤◌, None, Some};
 ghost use Rattle.std.specs.List.{AllByRecursion};
 ghost use Rattle.qw_types.specs.Limits.{most_columns};
-ghost use Rattle.qw_module.specs.declared.instruction.Binary.TheVariants.{I32Add, I32Mul};
-ghost use Rattle.qw_module.specs.declared.instruction.Relation.TheVariants.{I64Eq};
-ghost use Rattle.qw_module.specs.declared.instruction.ValType.TheVariants.{I32};
+ghost use Rattle.qw_module.specs.declared.instruction.Binary.TheVariants.{Add, Mul};
+ghost use Rattle.qw_module.specs.declared.instruction.Relation.TheVariants.{Eq};
+ghost use Rattle.qw_module.specs.declared.instruction.ValType.TheVariants.{I32, I64};
 ghost use Rattle.qw_module.specs.declared.instruction.Op.TheVariants as o;
-ghost use Rattle.qw_module.specs.Syntax.{Code, NamesBelow, nested, op, block, if_else};
+ghost use Rattle.qw_module.specs.Syntax.{Code, nested, op, block, if_else};
 ghost use Rattle.qw_emit.specs.Inner.Emit as emit;
 ghost use Rattle.qw_map.specs.Layout as layout;
-ghost use Rattle.qw_emit.specs.Inner.Sequences.{Adds};
+ghost use Rattle.qw_emit.specs.Inner.Sequences.{Adds, RefersBelow};
 
 use super::instructions::{
     binary, block, get, i32_choice, i32_const, i64_const, load, relation, set, store_i32,
@@ -25,7 +25,7 @@ use qw_map::layout::{
     COUNT_OFFSET, ENTRY_ROWS_OFFSET, FIRST_ROW_OFFSET, FREE_OFFSET, INTEGER_SIZE, LAST_ROW_OFFSET,
     PAGE_END_OFFSET, entry_offset, row_size,
 };
-use qw_module::instruction::{Binary, Instr, Load, Relation};
+use qw_module::instruction::{Binary, Instr, Load, Relation, ValType};
 use qw_types::NoMemory;
 use std::alloc::Global;
 
@@ -41,20 +41,23 @@ fn minus(number: u32) -> u32
 fn push_addresses(sequence: &mut Vec<Instr>, tested: u32) -> Result<(), NoMemory>
     requires { tested ≤ most_columns }
     ensures { OnOk result (Adds 7 sequence.old.items sequence.new.items (λ named rest.
-        emit.get emit.descriptor_local (emit.load_i32 (layout.entry_offset tested) (emit.i32 (2 ^ 32 - 4) (op (o.Binary I32Add) (emit.tee emit.value_address_local
-        (emit.get emit.descriptor_local (emit.load_i32 (layout.entry_offset tested + 12) (emit.i32 4 (op (o.Binary I32Mul) (op (o.Binary I32Add) (emit.set emit.last_value_address_local rest)))))))))))) }
+        emit.get emit.descriptor_local (emit.load_i32 (layout.entry_offset tested) (emit.i32 (2 ^ 32 - 4) (op (o.Binary I32 Add) (emit.tee emit.value_address_local
+        (emit.get emit.descriptor_local (emit.load_i32 (layout.entry_offset tested + 12) (emit.i32 4 (op (o.Binary I32 Mul) (op (o.Binary I32 Add) (emit.set emit.last_value_address_local rest)))))))))))) }
 {
     sequence.extend_from_slice(&[
         get(DESCRIPTOR),
-        load(Load::I32, entry_offset(tested)),
+        load(Load::Full(ValType::I32), entry_offset(tested)),
         i32_const(minus(INTEGER_SIZE as u32)),
-        binary(Binary::I32Add),
+        binary(ValType::I32, Binary::Add),
         tee(VALUE_ADDRESS),
         get(DESCRIPTOR),
-        load(Load::I32, entry_offset(tested) + ENTRY_ROWS_OFFSET),
+        load(
+            Load::Full(ValType::I32),
+            entry_offset(tested) + ENTRY_ROWS_OFFSET,
+        ),
         i32_const(INTEGER_SIZE as u32),
-        binary(Binary::I32Mul),
-        binary(Binary::I32Add),
+        binary(ValType::I32, Binary::Mul),
+        binary(ValType::I32, Binary::Add),
         set(LAST_VALUE_ADDRESS),
     ])?;
     Ok(())
@@ -74,10 +77,10 @@ fn push_distance(
 {
     sequence.extend_from_slice(&[
         get(DESCRIPTOR),
-        load(Load::I32, entry_offset(index)),
+        load(Load::Full(ValType::I32), entry_offset(index)),
         get(DESCRIPTOR),
-        load(Load::I32, entry_offset(tested)),
-        binary(Binary::I32Sub),
+        load(Load::Full(ValType::I32), entry_offset(tested)),
+        binary(ValType::I32, Binary::Sub),
         set(distance_of(number)),
     ])?;
     Ok(())
@@ -101,21 +104,21 @@ fn push_rows(sequence: &mut Vec<Instr>, size: u32) -> Result<(), NoMemory>
     requires { 1 ≤ size }
     ensures { OnOk result (Adds 7 sequence.old.items sequence.new.items (λ named rest.
         emit.get emit.descriptor_local (emit.load_i32 0 (emit.set emit.next_row_local
-        (emit.get emit.descriptor_local (emit.load_i32 4 (emit.i32 (2 ^ 32 - size) (op (o.Binary I32Add) (emit.set emit.last_start_local
-        (emit.get emit.descriptor_local (emit.i32 8 (op (o.Binary I32Add) (emit.set emit.link_local (block None (named 4) rest)))))))))))))) }
+        (emit.get emit.descriptor_local (emit.load_i32 4 (emit.i32 (2 ^ 32 - size) (op (o.Binary I32 Add) (emit.set emit.last_start_local
+        (emit.get emit.descriptor_local (emit.i32 8 (op (o.Binary I32 Add) (emit.set emit.link_local (block None (named 4) rest)))))))))))))) }
 {
     sequence.extend_from_slice(&[
         get(DESCRIPTOR),
-        load(Load::I32, FREE_OFFSET),
+        load(Load::Full(ValType::I32), FREE_OFFSET),
         set(NEXT_ROW),
         get(DESCRIPTOR),
-        load(Load::I32, PAGE_END_OFFSET),
+        load(Load::Full(ValType::I32), PAGE_END_OFFSET),
         i32_const(minus(size)),
-        binary(Binary::I32Add),
+        binary(ValType::I32, Binary::Add),
         set(LAST_START),
         get(DESCRIPTOR),
         i32_const(FIRST_ROW_OFFSET),
-        binary(Binary::I32Add),
+        binary(ValType::I32, Binary::Add),
         set(LINK),
         block(ALL_ROWS),
     ])?;
@@ -126,7 +129,7 @@ fn push_rows(sequence: &mut Vec<Instr>, size: u32) -> Result<(), NoMemory>
 fn push_end(sequence: &mut Vec<Instr>) -> Result<(), NoMemory>
     ensures { OnOk result (Adds 7 sequence.old.items sequence.new.items (λ named rest.
         emit.get emit.descriptor_local (emit.get emit.next_row_local (emit.store_i32 0
-        (emit.get emit.descriptor_local (emit.get emit.count_local (emit.i64 0 (op (o.Relation I64Eq) (if_else (Some I32) (named 5) (named 6)
+        (emit.get emit.descriptor_local (emit.get emit.count_local (emit.i64 0 (op (o.Relation I64 Eq) (if_else (Some I32) (named 5) (named 6)
         (emit.store_i32 12 (emit.get emit.descriptor_local (emit.get emit.count_local (emit.store_i64 16 rest))))))))))))) }
 {
     sequence.extend_from_slice(&[
@@ -136,7 +139,7 @@ fn push_end(sequence: &mut Vec<Instr>) -> Result<(), NoMemory>
         get(DESCRIPTOR),
         get(COUNT),
         i64_const(0),
-        relation(Relation::I64Eq),
+        relation(ValType::I64, Relation::Eq),
         i32_choice(NO_ROW, LAST_ROW),
         store_i32(LAST_ROW_OFFSET),
         get(DESCRIPTOR),
@@ -148,8 +151,8 @@ fn push_end(sequence: &mut Vec<Instr>) -> Result<(), NoMemory>
 
 /// The outermost sequence.
 pub fn outer_sequence(alloc: Global, shape: &ScanShape) -> Result<Vec<Instr>, NoMemory>
-    ensures code { IfOk result (λ v. (named : ℕ → Code) → nested named v.items ≡ emit.scan_frame shape.now (named 4) (named 5) (named 6)) }
-    ensures names { IfOk result (λ v. AllByRecursion (NamesBelow 7) v.items) }
+    ensures code { IfOk result (λ v. (named : ℕ → Code) → nested [] named v.items ≡ emit.scan_frame shape.now (named 4) (named 5) (named 6)) }
+    ensures refers { IfOk result (λ v. AllByRecursion (RefersBelow 7) v.items) }
 {
     let mut sequence = Vec::new(alloc);
     push_addresses(&mut sequence, shape.tested())?;

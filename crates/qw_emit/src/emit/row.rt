@@ -6,13 +6,14 @@ ghost use Rattle.std.specs.List.{AllByRecursion};
 ghost use Rattle.qw_types.specs.Limits.{most_columns};
 ghost use Rattle.qw_meaning.specs.Statement.{most_items};
 ghost use Rattle.qw_linear.specs.Memory.{page};
-ghost use Rattle.qw_module.specs.declared.instruction.Binary.TheVariants.{I32Add, I64Add};
-ghost use Rattle.qw_module.specs.declared.instruction.Relation.TheVariants.{I32Eq, I32Gt};
+ghost use Rattle.qw_module.specs.declared.instruction.Binary.TheVariants.{Add};
+ghost use Rattle.qw_module.specs.declared.instruction.Relation.TheVariants.{Eq, Gt};
+ghost use Rattle.qw_module.specs.declared.instruction.ValType.TheVariants.{I32, I64};
 ghost use Rattle.qw_module.specs.declared.instruction.Sign.TheVariants.{Unsigned};
 ghost use Rattle.qw_module.specs.declared.instruction.Op.TheVariants as o;
-ghost use Rattle.qw_module.specs.Syntax.{Code, NamesBelow, nested, op, if_else, br, br_if};
+ghost use Rattle.qw_module.specs.Syntax.{Code, nested, op, if_else, br, br_if};
 ghost use Rattle.qw_emit.specs.Inner.Emit as emit;
-ghost use Rattle.qw_emit.specs.Inner.Sequences.{Adds, each};
+ghost use Rattle.qw_emit.specs.Inner.Sequences.{Adds, RefersBelow, each};
 
 use super::RAISE_INDEX;
 use super::instructions::{
@@ -27,7 +28,7 @@ use super::sequences::{ASK, NOTHING, RAISE};
 use qw_linear::linear::PAGE;
 use qw_map::layout::{CELL_OFFSET, CELL_SIZE, INTEGER_SIZE, NEXT_OFFSET, row_size};
 use qw_meaning::query::Comparison;
-use qw_module::instruction::{Binary, Instr, Load, Op, REFUSAL, Relation, Sign};
+use qw_module::instruction::{Binary, Instr, Load, Op, REFUSAL, Relation, Sign, ValType};
 use qw_types::NoMemory;
 use std::alloc::Global;
 
@@ -45,31 +46,31 @@ pub enum Piece {
 
 /// Raises after a request that was refused.
 pub fn raise_sequence(alloc: Global) -> Result<Vec<Instr>, NoMemory>
-    ensures code { IfOk result (λ v. (named : ℕ → Code) → nested named v.items ≡ emit.raise_refused) }
-    ensures names { IfOk result (λ v. AllByRecursion (NamesBelow 0) v.items) }
+    ensures code { IfOk result (λ v. (named : ℕ → Code) → nested [] named v.items ≡ emit.raise_refused) }
+    ensures refers { IfOk result (λ v. AllByRecursion (RefersBelow 0) v.items) }
 {
-    Ok(vec![in alloc; i32_const(OUT_OF_PAGES), Instr::Op(Op::Call(RAISE_INDEX))]?)
+    Ok(vec![in alloc; i32_const(OUT_OF_PAGES), Instr::Call(RAISE_INDEX)]?)
 }
 
 /// Asks for one page. The next row, of so many octets, then stands where the page begins.
 pub fn ask_sequence(alloc: Global, size: u32) -> Result<Vec<Instr>, NoMemory>
     requires { size ≤ page }
-    ensures code { IfOk result (λ v. (named : ℕ → Code) → nested named v.items ≡ emit.ask_page size (named 0) (named 1)) }
-    ensures names { IfOk result (λ v. AllByRecursion (NamesBelow 2) v.items) }
+    ensures code { IfOk result (λ v. (named : ℕ → Code) → nested [] named v.items ≡ emit.ask_page size (named 0) (named 1)) }
+    ensures refers { IfOk result (λ v. AllByRecursion (RefersBelow 2) v.items) }
 {
     Ok(vec![in alloc;
         i32_const(1),
         Instr::Op(Op::MemoryGrow),
         tee(NEXT_ROW),
         i32_const(REFUSAL),
-        relation(Relation::I32Eq),
+        relation(ValType::I32, Relation::Eq),
         choice(RAISE, NOTHING),
         get(NEXT_ROW),
         i32_const(PAGE as u32),
-        binary(Binary::I32Mul),
+        binary(ValType::I32, Binary::Mul),
         tee(NEXT_ROW),
         i32_const(PAGE as u32 - size),
-        binary(Binary::I32Add),
+        binary(ValType::I32, Binary::Add),
         set(LAST_START),
     ]?)
 }
@@ -79,35 +80,35 @@ fn rejecting(comparison: Comparison) -> Relation
     ensures { result ≡ emit.rejects comparison }
 {
     match comparison {
-        Comparison::Equal => Relation::I64Ne,
-        Comparison::NotEqual => Relation::I64Eq,
-        Comparison::Less => Relation::I64Ge(Sign::Signed),
-        Comparison::LessOrEqual => Relation::I64Gt(Sign::Signed),
-        Comparison::Greater => Relation::I64Le(Sign::Signed),
-        Comparison::GreaterOrEqual => Relation::I64Lt(Sign::Signed),
+        Comparison::Equal => Relation::Ne,
+        Comparison::NotEqual => Relation::Eq,
+        Comparison::Less => Relation::Ge(Sign::Signed),
+        Comparison::LessOrEqual => Relation::Gt(Sign::Signed),
+        Comparison::Greater => Relation::Le(Sign::Signed),
+        Comparison::GreaterOrEqual => Relation::Lt(Sign::Signed),
     }
 }
 
 /// Leaves the loop after the last row, and goes to the next. Where its compared value is rejected, the loop begins again.
 fn push_test(sequence: &mut Vec<Instr>, shape: &ScanShape) -> Result<(), NoMemory>
     ensures { OnOk result (Adds 3 sequence.old.items sequence.new.items (λ named rest.
-        emit.get emit.value_address_local (emit.get emit.last_value_address_local (op (o.Relation I32Eq) (br_if 1
-        (emit.get emit.value_address_local (emit.i32 4 (op (o.Binary I32Add) (emit.tee emit.value_address_local (emit.load_value (emit.tee emit.value_local
-        (emit.i64 (cast_unsigned w64 shape.now.literal) (op (o.Relation (emit.rejects shape.now.comparison)) (br_if 0 rest)))))))))))))) }
+        emit.get emit.value_address_local (emit.get emit.last_value_address_local (op (o.Relation I32 Eq) (br_if 1
+        (emit.get emit.value_address_local (emit.i32 4 (op (o.Binary I32 Add) (emit.tee emit.value_address_local (emit.load_value (emit.tee emit.value_local
+        (emit.i64 (cast_unsigned w64 shape.now.literal) (op (o.Relation I64 (emit.rejects shape.now.comparison)) (br_if 0 rest)))))))))))))) }
 {
     sequence.extend_from_slice(&[
         get(VALUE_ADDRESS),
         get(LAST_VALUE_ADDRESS),
-        relation(Relation::I32Eq),
+        relation(ValType::I32, Relation::Eq),
         Instr::BrIf(1),
         get(VALUE_ADDRESS),
         i32_const(INTEGER_SIZE as u32),
-        binary(Binary::I32Add),
+        binary(ValType::I32, Binary::Add),
         tee(VALUE_ADDRESS),
         load(Load::I64From32(Sign::Signed), 0),
         tee(VALUE),
         i64_const(shape.literal()),
-        relation(rejecting(shape.comparison())),
+        relation(ValType::I64, rejecting(shape.comparison())),
         Instr::BrIf(0),
     ])?;
     Ok(())
@@ -116,13 +117,13 @@ fn push_test(sequence: &mut Vec<Instr>, shape: &ScanShape) -> Result<(), NoMemor
 /// Asks for a page where the next result row does not fit this one, and links the row to those before.
 fn push_room(sequence: &mut Vec<Instr>) -> Result<(), NoMemory>
     ensures { OnOk result (Adds 3 sequence.old.items sequence.new.items (λ named rest.
-        emit.get emit.next_row_local (emit.get emit.last_start_local (op (o.Relation (I32Gt Unsigned)) (if_else None (named 2) (named 1)
+        emit.get emit.next_row_local (emit.get emit.last_start_local (op (o.Relation I32 (Gt Unsigned)) (if_else None (named 2) (named 1)
         (emit.get emit.link_local (emit.get emit.next_row_local (emit.tee emit.link_local (emit.store_i32 0 rest))))))))) }
 {
     sequence.extend_from_slice(&[
         get(NEXT_ROW),
         get(LAST_START),
-        relation(Relation::I32Gt(Sign::Unsigned)),
+        relation(ValType::I32, Relation::Gt(Sign::Unsigned)),
         choice(ASK, NOTHING),
         get(LINK),
         get(NEXT_ROW),
@@ -136,12 +137,12 @@ fn push_room(sequence: &mut Vec<Instr>) -> Result<(), NoMemory>
 fn push_value(sequence: &mut Vec<Instr>, number: u32) -> Result<(), NoMemory>
     requires { number ≤ most_columns }
     ensures { OnOk result (Adds 3 sequence.old.items sequence.new.items (λ named rest.
-        emit.get emit.value_address_local (emit.get (emit.distance_of number) (op (o.Binary I32Add) (emit.load_value (emit.set (emit.value_of_other number) rest)))))) }
+        emit.get emit.value_address_local (emit.get (emit.distance_of number) (op (o.Binary I32 Add) (emit.load_value (emit.set (emit.value_of_other number) rest)))))) }
 {
     sequence.extend_from_slice(&[
         get(VALUE_ADDRESS),
         get(distance_of(number)),
-        binary(Binary::I32Add),
+        binary(ValType::I32, Binary::Add),
         load(Load::I64From32(Sign::Signed), 0),
         set(value_of_other(number)),
     ])?;
@@ -191,17 +192,17 @@ fn push_each(sequence: &mut Vec<Instr>, piece: Piece, elements: &[u32]) -> Resul
 /// Goes behind the row, counts it, and begins the loop again.
 fn push_count(sequence: &mut Vec<Instr>, size: u32) -> Result<(), NoMemory>
     ensures { OnOk result (Adds 3 sequence.old.items sequence.new.items (λ named rest.
-        emit.get emit.next_row_local (emit.i32 size (op (o.Binary I32Add) (emit.set emit.next_row_local
-        (emit.get emit.count_local (emit.i64 1 (op (o.Binary I64Add) (emit.set emit.count_local (br 0 rest)))))))))) }
+        emit.get emit.next_row_local (emit.i32 size (op (o.Binary I32 Add) (emit.set emit.next_row_local
+        (emit.get emit.count_local (emit.i64 1 (op (o.Binary I64 Add) (emit.set emit.count_local (br 0 rest)))))))))) }
 {
     sequence.extend_from_slice(&[
         get(NEXT_ROW),
         i32_const(size),
-        binary(Binary::I32Add),
+        binary(ValType::I32, Binary::Add),
         set(NEXT_ROW),
         get(COUNT),
         i64_const(1),
-        binary(Binary::I64Add),
+        binary(ValType::I64, Binary::Add),
         set(COUNT),
         Instr::Br(0),
     ])?;
@@ -210,8 +211,8 @@ fn push_count(sequence: &mut Vec<Instr>, size: u32) -> Result<(), NoMemory>
 
 /// The loop's body, which looks at one row of the table.
 pub fn row_sequence(alloc: Global, shape: &ScanShape) -> Result<Vec<Instr>, NoMemory>
-    ensures code { IfOk result (λ v. (named : ℕ → Code) → nested named v.items ≡ emit.scan_row shape.now (named 2) (named 1)) }
-    ensures names { IfOk result (λ v. AllByRecursion (NamesBelow 3) v.items) }
+    ensures code { IfOk result (λ v. (named : ℕ → Code) → nested [] named v.items ≡ emit.scan_row shape.now (named 2) (named 1)) }
+    ensures refers { IfOk result (λ v. AllByRecursion (RefersBelow 3) v.items) }
 {
     let mut sequence = Vec::new(alloc);
     push_test(&mut sequence, shape)?;

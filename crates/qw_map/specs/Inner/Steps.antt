@@ -20,7 +20,7 @@ abbrev pub OnRunning : State → (Config → Type 0) → Type 0
 OnRunning (Running c) P = P c
 OnRunning Returned P = ⊥
 OnRunning (Raised code) P = ⊥
-OnRunning Trapped P = ⊥
+OnRunning (Trapped why) P = ⊥
 
 -- At most n steps follow, each allowed whatever others do before it, and then Q holds.
 abbrev pub Within : (pages : ℕ) → (Moment → Type 0) → ℕ → Moment → Type 0

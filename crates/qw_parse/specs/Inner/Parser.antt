@@ -1,7 +1,7 @@
 -- Mirrors the readers of src/parse/form.rt, and the tests of src/parse/word.rt and literal.rt. A reader answers
 -- what it found and the tokens behind that. Each way to put readers together has its lemma in proofs/FormLemmas and
 -- proofs/ListLemmas.
-use Rattle.std.specs.Prelude.{ℕ, zero, suc, ◌^◌, nat_lt, nat_eq, Bool, true, false, ◌&&◌, ◌||◌, not, List, [], ◌∷◌, ◌++◌, length, ℤ, pos, neg_ℤ, codes, Option, Some, None, if◌then◌else◌}
+use Rattle.std.specs.Prelude.{ℕ, zero, suc, ◌^◌, nat_lt, nat_eq, Bool, true, false, ◌&&◌, ◌||◌, not, List, [], ◌∷◌, ◌++◌, length, ℤ, pos, codes, Option, Some, None, if◌then◌else◌}
 use Rattle.std.specs.List.{list_any}
 use Rattle.std.specs.Option.{option_map_or}
 use Rattle.std.specs.Str.{bytes_eq}
@@ -10,7 +10,7 @@ use Rattle.qw_token.specs.declared.token.Kind.{Kind}
 use Rattle.qw_token.specs.declared.token.Kind.TheVariants.{Word, DelimitedIdentifier}
 use Rattle.qw_types.specs.Digits.{are_digits}
 use Rattle.qw_token.specs.Token.{Lexeme}
-use Rattle.qw_ast.specs.Grammar.{folded, name_of, reserved, Terminal, key_word, regular, identifier, symbol, unsigned, Source, Selection}
+use Rattle.qw_ast.specs.Grammar.{folded, name_of, reserved, Terminal, key_word, regular, identifier, symbol, unsigned, digits, Source, Selection}
 use Rattle.qw_meaning.specs.declared.query.Comparison.{Comparison}
 use Rattle.qw_meaning.specs.declared.query.Comparison.TheVariants.{Equal, NotEqual, Less, LessOrEqual, Greater, GreaterOrEqual}
 
@@ -45,6 +45,7 @@ matches (regular name) t = is_word t.kind && (bytes_eq (folded t.octets) name &&
 matches (identifier name) t = is_identifier t && bytes_eq (name_of t.octets) name
 matches (symbol octets) t = bytes_eq t.octets octets
 matches (unsigned n) t = are_digits t.octets && nat_eq (digits_value 10 t.octets) n
+matches (digits octets) t = are_digits t.octets && bytes_eq t.octets octets
 
 -- ---- readers of one token
 
@@ -71,6 +72,10 @@ identifier_of t = if is_identifier t then Some (name_of t.octets) else None
 -- the number that digits are
 abbrev pub number_of : Lexeme → Option ℕ
 number_of t = if are_digits t.octets then Some (digits_value 10 t.octets) else None
+
+-- the digits, if they are such
+abbrev pub digits_of : Lexeme → Option (List ℕ)
+digits_of t = if are_digits t.octets then Some t.octets else None
 
 -- the number that digits are, if it fits
 abbrev pub literal_of : List ℕ → Option ℤ
@@ -168,12 +173,6 @@ list_at read ts = do
   first ← read ts
   behind (first.0 ∷ []) (further read first.1)
 
--- whether nothing is left but a `;`
-unfoldable pub is_end : List Lexeme → Bool
-is_end [] = true
-is_end (t ∷ []) = bytes_eq t.octets (codes ";")
-is_end (t ∷ u ∷ ts) = false
-
 -- whether no token is left
 abbrev pub is_none : List Lexeme → Bool
 is_none [] = true
@@ -185,25 +184,20 @@ all_of read ts = do
   x ← read ts
   if is_none x.1 then Some x.0 else None
 
--- what is read of the whole
-abbrev pub whole_of : {A : Type 0} → (List Lexeme → Option (A × List Lexeme)) → List Lexeme → Option A
-whole_of read ts = do
-  x ← read ts
-  if is_end x.1 then Some x.0 else None
-
 -- ---- the rules of the grammar
 
 -- a regular identifier
 unfoldable pub regular_at : List Lexeme → Option (List ℕ × List Lexeme)
 regular_at ts = token_at regular_of ts
 
--- a literal with no sign
-unfoldable pub unsigned_at : List Lexeme → Option (ℤ × List Lexeme)
-unsigned_at ts = token_at (λ (t : Lexeme). literal_of t.octets) ts
+-- digits
+unfoldable pub digits_at : List Lexeme → Option (List ℕ × List Lexeme)
+digits_at ts = token_at digits_of ts
 
--- a literal, behind a `-` or not
-unfoldable pub literal_at : List Lexeme → Option (ℤ × List Lexeme)
-literal_at ts = optional_at (symbol (codes "-")) (made_at neg_ℤ unsigned_at) unsigned_at ts
+-- a literal: whether a `-` stands before its digits, and these
+unfoldable pub literal_at : List Lexeme → Option ((Bool × List ℕ) × List Lexeme)
+literal_at ts =
+    optional_at (symbol (codes "-")) (made_at (λ (x : List ℕ). (true, x)) digits_at) (made_at (λ (x : List ℕ). (false, x)) digits_at) ts
 
 -- a comparison
 unfoldable pub comparison_at : List Lexeme → Option (Comparison × List Lexeme)
@@ -212,7 +206,7 @@ comparison_at ts = token_at (λ (t : Lexeme). comparison_of t.octets) ts
 -- what stands behind a select list
 unfoldable pub table_expression_at : List Lexeme → Option (Source × List Lexeme)
 table_expression_at ts =
-    made_at (λ (x : List ℕ × (List ℕ × (Comparison × ℤ))). record { table = x.0; tested = x.1.0; comparison = x.1.1.0; literal = x.1.1.1 })
+    made_at (λ (x : List ℕ × (List ℕ × (Comparison × (Bool × List ℕ)))). record { table = x.0; tested = x.1.0; comparison = x.1.1.0; negative = x.1.1.1.0; digits = x.1.1.1.1 })
     (behind_at (key_word (codes "FROM") ∷ [])
     (both_at regular_at (behind_at (key_word (codes "WHERE") ∷ []) (both_at regular_at (both_at comparison_at literal_at))))) ts
 

@@ -1,17 +1,20 @@
 //! The form of a query, read from left to right, and what other forms are made of.
 
-ghost use Rattle.std.specs.Prelude.{◌≡◌, ◌≤ℤ◌, pos, IfOk, IfSome, option_map};
+ghost use Rattle.std.specs.Prelude.{◌≡◌, IfOk, IfSome, IsTrue, option_map};
+ghost use Rattle.std.specs.Str.Parse.{digits_value};
+ghost use Rattle.qw_types.specs.Digits.{are_digits};
 ghost use Rattle.qw_ast.specs.Grammar.{folded, key_word, symbol};
-ghost use Rattle.qw_parse.specs.Inner.Parser.{terminal_at, regular_at, unsigned_at, literal_at, comparison_of, comparison_at, is_end, list_at, whole_of, table_expression_at, query_specification_at};
+ghost use Rattle.qw_parse.specs.Inner.Parser.{terminal_at, regular_at, digits_at, literal_at, comparison_of, comparison_at, list_at, all_of, table_expression_at, query_specification_at};
+ghost use Rattle.qw_parse.specs.Inner.Tables.{number_at};
 ghost use Rattle.qw_token.specs.Token.{lexemes};
 ghost use Rattle.qw_ast.specs.Inner.Views.{folded_names, source, selection};
 
-use super::literal::literal_of;
 use super::word::{folds_to, is_reserved};
 use qw_ast::tree::{QuerySpecification, TableExpression};
 use qw_meaning::query::Comparison;
 use qw_token::token::{Kind, Token};
 use qw_types::NoMemory;
+use qw_types::digits::are_digits;
 use std::alloc::Global;
 
 /// The tokens behind the key word.
@@ -49,40 +52,29 @@ pub(crate) fn regular<'t, 'a>(tokens: &'t [Token<'a>]) -> Option<(&'a [u8], &'t 
     }
 }
 
-/// Whether nothing is left but a `;`.
-#[tactic(auto, unfolding(crate::specs::Inner::Parser::is_end))]
-fn is_end(tokens: &[Token<'_>]) -> bool
-    ensures { result ≡ is_end (lexemes tokens.now) }
+/// The digits in front, and the tokens behind them.
+#[tactic(auto, unfolding(crate::specs::Inner::Parser::digits_at, crate::specs::Inner::Tables::number_at, crate::specs::Inner::Parser::token_at))]
+pub(crate) fn digits<'t, 'a>(tokens: &'t [Token<'a>]) -> Option<(&'a [u8], &'t [Token<'a>])>
+    ensures written { option_map (λ x. (x.0.now, lexemes x.1.now)) result ≡ digits_at (lexemes tokens.now) }
+    ensures read { option_map (λ x. (digits_value 10 x.0.now, lexemes x.1.now)) result ≡ number_at (lexemes tokens.now) }
+    ensures digits { IfSome result (λ x. IsTrue (are_digits x.0.now)) }
 {
     match tokens {
-        [] => true,
-        [last] => last.octets == b";".as_slice(),
-        _ => false,
+        [first, rest @ ..] if are_digits(first.octets) => Some((first.octets, rest)),
+        _ => None,
     }
 }
 
-/// The literal in front, without a sign, and the tokens behind it.
-#[tactic(auto, unfolding(crate::specs::Inner::Parser::unsigned_at, crate::specs::Inner::Parser::token_at))]
-fn unsigned<'t, 'a>(tokens: &'t [Token<'a>]) -> Option<(i64, &'t [Token<'a>])>
-    ensures read { option_map (λ x. (x.0, lexemes x.1.now)) result ≡ unsigned_at (lexemes tokens.now) }
-    ensures no_sign { IfSome result (λ x. pos 0 ≤ℤ x.0) }
-{
-    let [first, rest @ ..] = tokens else {
-        return None;
-    };
-    Some((literal_of(first.octets)?, rest))
-}
-
-/// The literal in front, with a `-` before it or not, and the tokens behind it.
+/// Whether a `-` stands in front of a literal, the digits of the literal, and the tokens behind them.
 #[tactic(auto, unfolding(crate::specs::Inner::Parser::literal_at))]
-fn literal<'t, 'a>(tokens: &'t [Token<'a>]) -> Option<(i64, &'t [Token<'a>])>
-    ensures { option_map (λ x. (x.0, lexemes x.1.now)) result ≡ literal_at (lexemes tokens.now) }
+fn literal<'t, 'a>(tokens: &'t [Token<'a>]) -> Option<((bool, &'a [u8]), &'t [Token<'a>])>
+    ensures read { option_map (λ x. ((x.0.0, x.0.1.now), lexemes x.1.now)) result ≡ literal_at (lexemes tokens.now) }
+    ensures digits { IfSome result (λ x. IsTrue (are_digits x.0.1.now)) }
 {
-    let Some(behind_sign) = symbol(tokens, b"-") else {
-        return unsigned(tokens);
-    };
-    let (magnitude, rest) = unsigned(behind_sign)?;
-    Some((-magnitude, rest))
+    let behind_sign = symbol(tokens, b"-");
+    let negative = behind_sign.is_some();
+    let (digits, rest) = digits(behind_sign.unwrap_or(tokens))?;
+    Some(((negative, digits), rest))
 }
 
 /// The comparison of the symbol.
@@ -137,30 +129,33 @@ fn list<'t, 'a>(
 fn table_expression<'t, 'a>(
     tokens: &'t [Token<'a>],
 ) -> Option<(TableExpression<'a>, &'t [Token<'a>])>
-    ensures { option_map (λ x. (source x.0, lexemes x.1.now)) result ≡ table_expression_at (lexemes tokens.now) }
+    ensures read { option_map (λ x. (source x.0, lexemes x.1.now)) result ≡ table_expression_at (lexemes tokens.now) }
+    ensures digits { IfSome result (λ x. IsTrue (are_digits x.0.digits.now)) }
 {
     let rest = key_word(tokens, b"FROM")?;
     let (table, rest) = regular(rest)?;
     let rest = key_word(rest, b"WHERE")?;
     let (tested, rest) = regular(rest)?;
     let (comparison, rest) = comparison(rest)?;
-    let (literal, rest) = literal(rest)?;
+    let ((negative, digits), rest) = literal(rest)?;
     let read = TableExpression {
         table,
         tested,
         comparison,
-        literal,
+        negative,
+        digits,
     };
     Some((read, rest))
 }
 
-/// The names and the literal of the query.
+/// The names and the literal of the query that all tokens are.
 #[tactic(auto, unfolding(crate::specs::Inner::Parser::query_specification_at))]
 pub(crate) fn query_specification<'a>(
     alloc: Global,
     tokens: &[Token<'a>],
 ) -> Result<Option<QuerySpecification<'a>>, NoMemory>
-    ensures { IfOk result (λ read. option_map selection read ≡ whole_of query_specification_at (lexemes tokens.now)) }
+    ensures read { IfOk result (λ read. option_map selection read ≡ all_of query_specification_at (lexemes tokens.now)) }
+    ensures digits { IfOk result (λ read. IfSome read (λ query. IsTrue (are_digits query.source.digits.now))) }
 {
     let Some(rest) = key_word(tokens, b"SELECT") else {
         return Ok(None);
@@ -171,7 +166,7 @@ pub(crate) fn query_specification<'a>(
     let Some((source, rest)) = table_expression(rest) else {
         return Ok(None);
     };
-    if is_end(rest) {
+    if rest.is_empty() {
         Ok(Some(QuerySpecification { columns, source }))
     } else {
         Ok(None)

@@ -6,11 +6,11 @@ ghost use Rattle.qw_types.specs.declared.value.Ty.TheVariants as types;
 ghost use Rattle.qw_types.specs.Digits.{are_digits};
 ghost use Rattle.qw_ast.specs.Grammar.{folded, name_of};
 ghost use Rattle.qw_parse.specs.Inner.Parser.{all_of, is_identifier, is_none, list_at};
-ghost use Rattle.qw_parse.specs.Inner.Tables.{sized, type_word_of, type_word_at, identifier_at, number_at, scale_at, decimal_at, varchar_at, type_at, nullability_at, column_at, table_at, create_table_at, read_of};
+ghost use Rattle.qw_parse.specs.Inner.Tables.{sized, type_word_of, type_word_at, identifier_at, scale_at, decimal_at, varchar_at, type_at, nullability_at, column_at, table_at, create_table_at, read_of};
 ghost use Rattle.qw_parse.specs.Inner.Written.{written, closing, definition_read};
 ghost use Rattle.qw_token.specs.Token.{lexeme, lexemes};
 
-use super::form::{key_word, regular, symbol};
+use super::form::{digits, key_word, regular, symbol};
 use super::literal::literal_of;
 use super::name::{folded_text, name_text};
 use super::word::{folds_to, is_reserved};
@@ -91,18 +91,6 @@ fn identifier<'t, 'a>(tokens: &'t [Token<'a>]) -> Option<(&'a [u8], &'t [Token<'
 {
     match tokens {
         [first, rest @ ..] if is_identifier(first) => Some((first.octets, rest)),
-        _ => None,
-    }
-}
-
-/// The digits in front, and the tokens behind them.
-#[tactic(auto, unfolding(crate::specs::Inner::Tables::number_at, crate::specs::Inner::Parser::token_at))]
-fn digits<'t, 'a>(tokens: &'t [Token<'a>]) -> Option<(&'a [u8], &'t [Token<'a>])>
-    ensures read { option_map (λ x. (digits_value 10 x.0.now, lexemes x.1.now)) result ≡ number_at (lexemes tokens.now) }
-    ensures digits { IfSome result (λ x. IsTrue (are_digits x.0.now)) }
-{
-    match tokens {
-        [first, rest @ ..] if are_digits(first.octets) => Some((first.octets, rest)),
         _ => None,
     }
 }

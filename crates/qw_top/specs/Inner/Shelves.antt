@@ -1,11 +1,11 @@
 -- What reading leaves of a shelf.
-use Rattle.std.specs.Prelude.{◌≡◌, ℕ, ◌≤◌, List, Option, Some, None, IfSome, Result, Ok, Err}
+use Rattle.std.specs.Prelude.{◌≡◌, ℕ, ◌≤◌, List, Option, Some, None, IfSome, Result, Err}
 use Rattle.qw_io.specs.Faults.{IsCounted}
 use Rattle.qw_io.specs.declared.shelf.Shelf.{Ghosts}
 use Rattle.qw_io.specs.declared.fault.IoFault.{IoFault}
 use Rattle.qw_io.specs.declared.fault.IoFault.TheVariants.{Failed as DeviceFailed, NoMemory as NoMemoryLeft}
 use Rattle.qw_top.specs.declared.files.ReadFault.{ReadFault}
-use Rattle.qw_top.specs.declared.files.ReadFault.TheVariants.{TooLong, Failed, NoMemory}
+use Rattle.qw_top.specs.declared.files.ReadFault.TheVariants.{Failed, NoMemory}
 
 -- what a shelf tells: its files, its count of faults, and the name of the file that the last one was at
 pub record Told : Type 0 where

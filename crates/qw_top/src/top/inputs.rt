@@ -2,7 +2,7 @@
 
 ghost use Rattle.std.specs.Prelude.{◌≡◌, ◌≤◌, [], ◌∷◌, IfOk, IfErr, map};
 ghost use Rattle.qw_types.specs.declared.schema.Table.{Table};
-ghost use Rattle.qw_csv.specs.Contents.{AreIntegers, kind_of};
+ghost use Rattle.qw_csv.specs.Contents.{AreIntegers, column_type};
 ghost use Rattle.qw_top.specs.FileNames.{table_file_of};
 ghost use Rattle.qw_top.specs.Inner.Stages.{FilesStop, StopsAs, failed_stop};
 ghost use Rattle.qw_top.specs.Inner.Shelves.{HasRead, told_by};
@@ -18,7 +18,7 @@ use qw_csv::Loaded;
 use qw_csv::loading::{LoadFault, load};
 use qw_io::Shelf;
 use qw_meaning::query::Query;
-use qw_parse::parse::{ParseFault, SchemaFault, query_of, schema_of};
+use qw_parse::parse::{QueryFault, SchemaFault, query_of, schema_of};
 use qw_types::{Schema, Table};
 use std::alloc::Global;
 
@@ -45,7 +45,7 @@ pub fn prepare<'a, F: Shelf>(
     files: &mut F,
 ) -> Result<Prepared, Stop<'a>>
     ensures accepted { IfOk result (λ run. (table : Table) × (run.schema ≡ table ∷ [])
-        × (run.loaded.columns ≡ map kind_of table.columns)
+        × (run.loaded.columns ≡ map column_type table.columns)
         × HasQuery (F.files files.old) (names_of names.now) table run.loaded.rows run.query) }
     ensures one_table { IfOk result (λ run. IsOneTable run.schema) }
     ensures stops { IfErr result (λ stop. FilesStop (F.files files.old) (names_of names.now) stop) }
@@ -119,7 +119,7 @@ fn read_table<'a, F: Shelf>(
     ensures accepted { IfOk result (λ loaded. (table : Table) → schema.now ≡ table ∷ []
         → TableIs (F.files files.old) folder.now table loaded.rows) }
     ensures kinds { IfOk result (λ loaded. (table : Table) → schema.now ≡ table ∷ []
-        → loaded.columns ≡ map kind_of table.columns) }
+        → loaded.columns ≡ map column_type table.columns) }
     ensures stops { IfErr result (λ stop. (table : Table) → schema.now ≡ table ∷ []
         → StopsAs Refusal.TableFile (IsNoTable (F.files files.old) folder.now table) (table_file_of folder.now table.name) stop) }
     ensures shelf { HasRead (failed_stop result) (told_by F.Shelf files.old) (told_by F.Shelf files.new) }
@@ -150,8 +150,23 @@ fn read_query<'a, F: Shelf>(
     let text = read_file(alloc, files, name, MAX_TEXT_FILE, Refusal::Queries)?;
     match query_of(alloc, schema, text.as_slice()) {
         Ok(query) => Ok(query),
-        Err(ParseFault::Refused) => Err(Stop::Refused(Refusal::Queries)),
-        Err(ParseFault::NoMemory) => Err(Stop::NoMemory),
+        Err(fault) => Err(query_stop(&fault)),
+    }
+}
+
+/// Why a run stops at a text that is no query.
+fn query_stop<'a>(fault: &QueryFault) -> Stop<'a>
+    ensures memory { fault.now ≡ QueryFault.NoMemory → result ≡ Stop.NoMemory }
+    ensures refused { (fault.now ≡ QueryFault.NoMemory → ⊥) → result ≡ Stop.Refused Refusal.Queries }
+{
+    match fault {
+        QueryFault::NoMemory => Stop::NoMemory,
+        QueryFault::NotUtf8
+        | QueryFault::NotToken { .. }
+        | QueryFault::NotGrammar { .. }
+        | QueryFault::TooDeep { .. }
+        | QueryFault::TooMany { .. }
+        | QueryFault::Mistyped { .. } => Stop::Refused(Refusal::Queries),
     }
 }
 

@@ -21,8 +21,8 @@ use qw_bench::bench::{Bench, Ended};
 use qw_io::Sink;
 use qw_meaning::query::Query;
 use qw_sink::results::received;
-use qw_sink::sink::{Head, Kind, pages_text, report_text};
-use qw_types::{Column, NoMemory, Table, Text, Ty};
+use qw_sink::sink::{Head, pages_text, report_text};
+use qw_types::{Column, Kind, NoMemory, Table, Text};
 use std::alloc::Global;
 
 /// Writes the report of a bench that has run the query of a run. At a fault a front of it was taken.
@@ -103,14 +103,8 @@ fn head(alloc: Global, column: &Column) -> Result<Head, NoMemory>
     ensures { IfOk result (λ head. head ≡ head_of column.now) }
 {
     let name = String::from_str(alloc, column.name.as_str())?;
-    let kind = match column.ty {
-        Ty::Integer => Kind::Number(0),
-        Ty::Decimal { scale, .. } => Kind::Number(scale),
-        Ty::Date => Kind::Date,
-        Ty::Varchar { .. } => Kind::Text,
-    };
     Ok(Head {
         name: Text::new(name),
-        kind,
+        kind: Kind::of_type(column.ty),
     })
 }

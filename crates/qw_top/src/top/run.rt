@@ -4,7 +4,7 @@ ghost use Rattle.std.specs.Prelude.{◌≡◌, ◌<◌, [], ◌∷◌, map, leng
 ghost use Rattle.std.specs.List.{AllByRecursion};
 ghost use Rattle.std.specs.String.{string_bytes};
 ghost use Rattle.qw_types.specs.declared.schema.Table.{Table};
-ghost use Rattle.qw_csv.specs.Contents.{AreIntegerKinds, kind_of};
+ghost use Rattle.qw_csv.specs.Contents.{AreIntegerKinds, column_type};
 ghost use Rattle.qw_emit.specs.Compiled.{IsCompiled};
 ghost use Rattle.qw_map.specs.Layout.{used};
 ghost use Rattle.qw_top.specs.Delivered.{Asks, HasRun};
@@ -22,7 +22,7 @@ use qw_emit::emit::module_of;
 use qw_io::Shelf;
 use qw_meaning::query::Query;
 use qw_types::{NoMemory, Schema};
-use qw_valid::valid::validate;
+use qw_valid::valid::{ValidFault, validate};
 use std::alloc::Global;
 
 /// The schema of a run, and the bench that was turned to its end.
@@ -63,7 +63,7 @@ fn accept<'a, F: Shelf>(
     files: &mut F,
 ) -> Result<Prepared, Stop<'a>>
     ensures asks { IfOk result (λ run. (table : Table) × (run.schema ≡ table ∷ [])
-        × (run.loaded.columns ≡ map kind_of table.columns)
+        × (run.loaded.columns ≡ map column_type table.columns)
         × Asks (F.files files.old) (map string_bytes words.now) table run.loaded.rows run.query) }
     ensures one_table { IfOk result (λ run. IsOneTable run.schema) }
     ensures stops { IfErr result (λ stop. Stops (F.files files.old) (map string_bytes words.now) stop) }
@@ -91,6 +91,10 @@ fn compiled(alloc: Global, query: Query) -> Result<Job, NoMemory>
     ensures compiled { IfOk result (λ job. IsCompiled query job.program) }
 {
     let module = module_of(alloc, &query)?;
-    let valid = validate(alloc, module).map_err(|_| NoMemory)?;
-    Ok(Job::new(query, valid))
+    match validate(alloc, module) {
+        Ok(valid) => Ok(Job::new(query, valid)),
+        Err(ValidFault::NoMemory) => Err(NoMemory),
+        Err(ValidFault::Part(_)) => unreachable!(),
+        Err(ValidFault::Body { .. }) => unreachable!(),
+    }
 }

@@ -2,7 +2,7 @@
 
 ghost use Rattle.std.specs.Prelude.{◌≡◌, ◌&&◌, ◌↔◌, IsTrue};
 ghost use Rattle.std.specs.List.{list_all};
-ghost use Rattle.qw_parse.specs.Parse.{is_integer};
+ghost use Rattle.qw_parse.specs.Query.{is_integer};
 ghost use Rattle.qw_top.specs.Top.{IsOneTable};
 
 use qw_types::{Column, Schema, Ty};

@@ -19,11 +19,11 @@ push-requires-clause-kept c =
     let next = next_there c.loop-index.index c.args.len c.args.columns.now (fields_of c.args.row.now) c.args.values.now.items c.loop-index.values.items more c.index-columns-index.result pushed there in
     let below = get_below c.loop-index.values.items c.loop-index.index next.kept next.there in
     let same : next.kept ≡ c.index_mut-kept.result.now = cc (next.there, get_is c.loop-index.values.items c.loop-index.index c.index_mut-kept.result.now below c.index_mut-kept.ensures.value) in
-    rw c.kind_of.ensures (rw same at next.valid)
+    rw c.column_type.ensures (rw same at next.valid)
 
 pub push-requires-clause-typed : goal.push-requires-clause-typed
 push-requires-clause-typed c =
-    rw c.kind_of.ensures (field_kind c.index-columns-index.result c.field.result.now (val_of c.in-Ok.cell) c.in-Ok.ensures)
+    rw c.column_type.ensures (field_kind c.index-columns-index.result c.field.result.now (val_of c.in-Ok.cell) c.in-Ok.ensures)
 
 pub returns-in-Err-clause-fault : goal.returns-in-Err-clause-fault
 returns-in-Err-clause-fault c _ =
@@ -48,7 +48,7 @@ loop-index-preserved c =
       more ++ val_of c.in-Ok.cell ∷ [],
       rw add-one (pushed_more c.loop-index.index c.args.len c.args.columns.now (fields_of c.args.row.now) c.args.values.now.items c.loop-index.values.items more c.index-columns-index.result
           next.kept c.push.new.self (val_of c.in-Ok.cell) pushed (omega (arith, count, c.loop-index-test.true)) there next.there next.long (rw c.field.ensures at c.in-Ok.ensures)
-          (rw c.kind_of.ensures at c.in_ok-push-in-Ok.ensures.kept) (rw same c.in_ok-push-in-Ok.ensures.pushed)),
+          (rw c.column_type.ensures at c.in_ok-push-in-Ok.ensures.kept) (rw same c.in_ok-push-in-Ok.ensures.pushed)),
     )
 
 pub returns-clause-pushed : goal.returns-clause-pushed

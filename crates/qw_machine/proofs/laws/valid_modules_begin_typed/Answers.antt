@@ -1,5 +1,5 @@
-use Rattle.qw_machine.proofs.Begins.{begins_typed}
+use Rattle.qw_machine.proofs.Begins.{valid-begins-typed}
 use Rattle.qw_machine.proofs.laws.valid_modules_begin_typed.Goals as goal
 
 pub returns : goal.returns
-returns c = begins_typed
+returns c = valid-begins-typed

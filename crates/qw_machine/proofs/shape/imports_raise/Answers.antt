@@ -1,5 +1,5 @@
 use Rattle.qw_module.specs.Validity.{IsOneI32}
-use Rattle.qw_valid.proofs.Imported.{functions_from_imports, imports_from_functions}
+use Rattle.qw_machine.proofs.Imported.{functions_from_imports, imports_from_functions}
 use Rattle.qw_machine.proofs.shape.imports_raise.Goals as goal
 
 pub returns-then-imports_function : goal.returns-then-imports_function

@@ -1,26 +1,32 @@
-use Rattle.std.proofs.Common.{◌≡◌, List, Some, length, slice_get, refl, rules, ap, sym, ◌∙◌}
+use Rattle.std.proofs.Common.{length, refl, sym, subst, ◌∙◌}
 use Rattle.std.proofs.lemmas.Option.{slice_get_read}
-use Rattle.qw_module.specs.declared.module.FuncType.{FuncType}
-use Rattle.qw_module.specs.Syntax.{IsNumbered}
-use Rattle.qw_module.specs.Validity.{sequences_of}
-use Rattle.qw_valid.proofs.ValidFunctions.{valid_from_decided, invalid_from_decided}
+use Rattle.qw_module.specs.Places.{Typing, tokens_of, IsRefusedAt}
+use Rattle.qw_module.specs.Validity.{code_of_body, IsValidType}
+use Rattle.qw_valid.specs.declared.valid.Part.TheVariants as part
+use Rattle.qw_valid.proofs.ValidBodies.{have_types, typing_is, typing_same, valid_by}
 use Rattle.qw_valid.proofs.valid.check_function.Goals as goal
+
+pub result_of-requires : goal.result_of-requires
+result_of-requires c =
+    let m = c.args.module.now in
+    subst IsValidType (sym c.index-ty.ensures) (c.requires.parts part.Types c.args.function.now.type_index c.index-ty.result.now c.requires.body.0)
+
+pub check_body-requires-clause-types : goal.check_body-requires-clause-types
+check_body-requires-clause-types c = have_types c.args.module.now (c.requires.parts part.Imports) (c.requires.parts part.Functions)
 
 pub returns-clause-valid : goal.returns-clause-valid
 returns-clause-valid c =
-    let read = c.in-Some.ensures.lookup in
-    let found : slice_get c.args.module.now.types.items c.args.function.now.type_index ≡ Some c.in-Some.ty.now =
-    ap (λ (types : List FuncType). slice_get types c.args.function.now.type_index) (sym c.deref.ensures.value)
-    ∙ slice_get_read c.deref.result.now (length c.deref.result.now) c.args.function.now.type_index c.in-Some.ty.now refl read.3.0 read.1 in
-    let numbered : IsNumbered (sequences_of c.args.function.now.body) = search rules in
-    let decided = rw c.memories.ensures at c.check_body.ensures in
-    valid_from_decided c.check_body.result c.args.module.now c.args.function.now c.in-Some.ty.now found numbered decided
+    let m = c.args.module.now in
+    let f = c.args.function.now in
+    let ty = c.index-ty.result.now in
+    let found = slice_get_read m.types.items (length m.types.items) f.type_index ty refl c.requires.body.0 c.index-ty.ensures in
+    valid_by c.check_body.result m f ty _ (typing_same m f ty _ _ _ c.deref.ensures.value c.deref-2.ensures.value c.result_of.ensures) found c.requires.body c.check_body.ensures.typable
 
-pub returns-clause-ill_typed : goal.returns-clause-ill_typed
-returns-clause-ill_typed c =
-    let read = c.in-Some.ensures.lookup in
-    let found : slice_get c.args.module.now.types.items c.args.function.now.type_index ≡ Some c.in-Some.ty.now =
-    ap (λ (types : List FuncType). slice_get types c.args.function.now.type_index) (sym c.deref.ensures.value)
-    ∙ slice_get_read c.deref.result.now (length c.deref.result.now) c.args.function.now.type_index c.in-Some.ty.now refl read.3.0 read.1 in
-    let decided = rw c.memories.ensures at c.check_body.ensures in
-    invalid_from_decided c.check_body.result c.args.module.now c.args.function.now c.in-Some.ty.now found decided
+pub returns-clause-refused : goal.returns-clause-refused
+returns-clause-refused c =
+    let m = c.args.module.now in
+    let f = c.args.function.now in
+    let ty = c.index-ty.result.now in
+    let found = slice_get_read m.types.items (length m.types.items) f.type_index ty refl c.requires.body.0 c.index-ty.ensures in
+    let same = typing_same m f ty _ _ _ c.deref.ensures.value c.deref-2.ensures.value c.result_of.ensures ∙ sym (typing_is m f ty found) in
+    λ at e. subst (λ (g : Typing). IsRefusedAt g (tokens_of (code_of_body f.body)) at) same (c.check_body.ensures.refused at e)

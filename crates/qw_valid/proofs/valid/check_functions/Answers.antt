@@ -1,12 +1,26 @@
-use Rattle.std.proofs.Common.{◌≡◌, List, Some, length, slice_get, refl, ap, sym, ◌∙◌}
-use Rattle.std.proofs.lemmas.Option.{slice_get_read}
+use Rattle.std.proofs.Common.{◌≡◌, ◌+◌, ◌<◌, get_or, List, All, length, ap, sym, subst, ◌∙◌}
 use Rattle.qw_module.specs.declared.module.Function.{Function}
+use Rattle.std.specs.List.{filter_map}
+use Rattle.qw_module.specs.declared.module.Import.{Import}
+use Rattle.qw_module.specs.Validity.{imported_function, imported_functions}
+use Rattle.qw_valid.specs.declared.valid.Part.TheVariants as part
+use Rattle.qw_valid.specs.ValidFaults.{HasBody}
+use Rattle.qw_valid.proofs.Faults.{fault_is}
 use Rattle.qw_valid.proofs.valid.check_functions.Goals as goal
 
-pub returns-in-Err-IllTyped-clause-fault : goal.returns-in-Err-IllTyped-clause-fault
-returns-in-Err-IllTyped-clause-fault c =
-    let items : List Function = c.deref-function-items.result.now in
-    let found : slice_get c.args.module.now.functions.items c.loop-number.number ≡ Some c.function-item.result =
-    ap (λ (functions : List Function). slice_get functions c.loop-number.number) (sym c.deref-function-items.ensures.value)
-    ∙ slice_get_read items (length items) c.loop-number.number c.function-item.result refl c.loop-number-test.true c.function-item.is in
-    (c.function-item.result, found, c.check_function.ensures.ill_typed (cc))
+pub check_function-requires-clause-body : goal.check_function-requires-clause-body
+check_function-requires-clause-body c =
+    let m = c.args.module.now in
+    let all = subst (λ (xs : List Function). All (HasBody m) xs) (sym c.deref-function-items.ensures.value) (c.requires part.Functions) in
+    subst (HasBody m) (sym c.function-item.is) (all c.loop-number.number c.function-item.result c.loop-number-test.true)
+
+pub returns-in-Err-clause-fault : goal.returns-in-Err-clause-fault
+returns-in-Err-clause-fault c =
+    let m = c.args.module.now in
+    let f = c.function-item.result in
+    let within = subst (λ (xs : List Function). c.loop-number.number < length xs) c.deref-function-items.ensures.value c.loop-number-test.true in
+    let is = subst (λ (xs : List Function). f ≡ get_or xs c.loop-number.number f) c.deref-function-items.ensures.value c.function-item.is in
+    let imported : c.imported_functions-imported.result ≡ length (imported_functions m) =
+    c.imported_functions-imported.ensures.count ∙ ap (λ (imports : List Import). length (filter_map imported_function imports)) c.deref.ensures.value in
+    fault_is c.check_function.result _ m c.loop-number.number (c.imported_functions-imported.result + c.loop-number.number) f c.fault_in.result c.in-Err.is c.requires within is
+    (ap (λ n. n + c.loop-number.number) imported) c.loop-number.invariant c.check_function.ensures.refused c.fault_in.ensures

@@ -1,5 +1,5 @@
 use Rattle.std.proofs.Common.{ap, ◌+◌, ◌∙◌}
-use Rattle.qw_map.specs.Turns.{turn}
+use Rattle.qw_map.specs.Turns.{turn, acted}
 use Rattle.qw_bench.specs.Standing.{Standing}
 use Rattle.qw_bench.specs.Bench.{ran_in}
 use Rattle.qw_bench.proofs.BenchTurns.{Sits, seat-found, seat-granted, seat-room, seat-told, seat-whole, turned-bench, turned-none, turned-ran, turned-shared, turned-tasks}
@@ -42,7 +42,7 @@ pub returns-clause-turn : goal.returns-clause-turn
 returns-clause-turn c =
     let seat = sits (goal.at.returns-clause-turn c).After-index_mut-seat in
     turned-shared seat c.args.quantum c.turn.new.self c.turn.new.memory c.turn.ensures.turned
-    ∙ ap (λ (b : Standing). turn b.shared (c.args.i, c.args.quantum)) c.self.view_is
+    ∙ ap (λ (b : Standing). acted b.shared (turn c.args.i c.args.quantum)) c.self.view_is
 
 pub returns-clause-tasks : goal.returns-clause-tasks
 returns-clause-tasks c =

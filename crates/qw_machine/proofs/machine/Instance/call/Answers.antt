@@ -1,38 +1,70 @@
 use Rattle.std.proofs.Common.{◌≡◌, ◌∙◌, sym, ap}
 use Rattle.qw_module.specs.Execution.{State}
-use Rattle.qw_machine.specs.Inner.Machine.{rooms_of}
-use Rattle.qw_machine.proofs.Instances.{function-read, read-body}
-use Rattle.qw_machine.proofs.Starts.{first_end, started-point, started-state, started-held}
+use Rattle.qw_module.specs.Validity.{IsShaped}
+use Rattle.qw_module.specs.Start.{begun}
+use Rattle.qw_machine.specs.declared.machine.Instance.TheInside.{Inside}
+use Rattle.qw_machine.specs.Inner.Held.{state_of, IsHeld}
+use Rattle.qw_machine.specs.Inner.Rooms.{needed, rooms_of}
+use Rattle.qw_machine.proofs.Starts.{executed-shaped, run-there, first_end, started-awaiting, started-locals, started-point, started}
 use Rattle.qw_machine.proofs.machine.Instance.call.Goals as goal
 use Rattle.qw_machine.proofs.machine.Instance.call.Goals.{then-runs, else-runs}
 
-pub leave_finished-runs-requires : goal.leave_finished-runs-requires
-leave_finished-runs-requires c =
-    let m = c.args.valid in
-    let found = function-read m c.args.number _ c.requires (rw c.module-module.ensures.«module» at c.index-function.ensures) in
-    let body = read-body m c.args.number _ _ c.requires (rw c.module-module.ensures.«module» at c.index-function.ensures) c.as_slice-sequences.ensures.value in
-    let first = started-point m c.args.number _ c.module-module.ensures.valid c.requires found c.args.argument c.ranges.argument.fits in
-    rw (c.in_ok-activity.ensures.point, c.in_ok-activity.ensures.rooms, body, c.deref-2.ensures.value) first
+pub begin-requires-clause-executed : goal.begin-requires-clause-executed
+begin-requires-clause-executed c =
+    executed-shaped c.args.valid c.module-module.result.now c.args.number c.module-module.ensures.«module» c.module-module.ensures.valid c.requires.shaped c.requires.descends
+
+pub begin-requires-clause-awaiting : goal.begin-requires-clause-awaiting
+begin-requires-clause-awaiting c =
+    let m = c.module-module.result.now in
+    let shaped : IsShaped m c.args.number = rw c.module-module.ensures.«module» c.requires.shaped in
+    let executed = executed-shaped c.args.valid m c.args.number c.module-module.ensures.«module» c.module-module.ensures.valid c.requires.shaped c.requires.descends in
+    let run = run-there m c.args.number shaped in
+    started-awaiting m c.args.number run.0 executed shaped run.1 c.in_ok-rooms.rooms (rw c.in_ok-rooms.ensures.ok_part at c.needed_rooms.ensures)
+
+pub begin-requires-clause-locals : goal.begin-requires-clause-locals
+begin-requires-clause-locals c = λ function found.
+    let m = c.module-module.result.now in
+    let shaped : IsShaped m c.args.number = rw c.module-module.ensures.«module» c.requires.shaped in
+    let executed = executed-shaped c.args.valid m c.args.number c.module-module.ensures.«module» c.module-module.ensures.valid c.requires.shaped c.requires.descends in
+    started-locals m c.args.number function executed shaped found c.in_ok-rooms.rooms (rw c.in_ok-rooms.ensures.ok_part at c.needed_rooms.ensures)
+
+pub leave_finished-runs-requires-clause-executed : goal.leave_finished-runs-requires-clause-executed
+leave_finished-runs-requires-clause-executed c =
+    executed-shaped c.args.valid c.module-module.result.now c.args.number c.module-module.ensures.«module» c.module-module.ensures.valid c.requires.shaped c.requires.descends
+
+pub leave_finished-runs-requires-clause-point : goal.leave_finished-runs-requires-clause-point
+leave_finished-runs-requires-clause-point c =
+    let m = c.module-module.result.now in
+    let shaped : IsShaped m c.args.number = rw c.module-module.ensures.«module» c.requires.shaped in
+    let executed = executed-shaped c.args.valid m c.args.number c.module-module.ensures.«module» c.module-module.ensures.valid c.requires.shaped c.requires.descends in
+    let run = run-there m c.args.number shaped in
+    let enough : c.in_ok-rooms.rooms ≡ needed m = rw c.in_ok-rooms.ensures.ok_part at c.needed_rooms.ensures in
+    let rooms = rooms_of c.in_ok-activity.activity in
+    rw (c.in_ok-activity.ensures.point run.0 run.1)
+    (started-point m c.args.number run.0 executed shaped run.1 rooms (c.in_ok-activity.ensures.rooms ∙ enough) c.args.argument c.ranges.argument.fits)
 
 told : (c : goal.Joined-runs) → c.if-runs.result ≡ first_end c.leave_finished-runs.result
 told c = elim c.if-runs.branch [ then-runs w ↦ w.result-is ∙ sym (ap first_end w.if-runs.true) | else-runs w ↦ w.result-is ∙ sym (ap first_end w.if-runs.false) ]
 
+-- the instance that is made holds what it has to, and stands for the call's beginning
+abbrev made : goal.Joined-runs → Inside
+made c = record { valid = c.args.valid; imported = c.imported_functions-imported.result; ended = c.if-runs.result; activity = c.leave_finished-runs.new.self }
+
+began : (c : goal.Joined-runs) → IsHeld (made c) × (state_of (made c) ≡ begun c.args.valid c.args.number c.args.argument)
+began c =
+    let m = c.module-module.result.now in
+    let shaped : IsShaped m c.args.number = rw c.module-module.ensures.«module» c.requires.shaped in
+    let executed = executed-shaped c.args.valid m c.args.number c.module-module.ensures.«module» c.module-module.ensures.valid c.requires.shaped c.requires.descends in
+    let run = run-there m c.args.number shaped in
+    let enough : c.in_ok-rooms.rooms ≡ needed m = rw c.in_ok-rooms.ensures.ok_part at c.needed_rooms.ensures in
+    let left = rw (c.in_ok-activity.ensures.point run.0 run.1) at c.leave_finished-runs.ensures.left in
+    let imported = rw c.deref.ensures.value at c.imported_functions-imported.ensures.count in
+    rw c.module-module.ensures.«module» at
+    (started m c.args.number run.0 executed shaped run.1 (rooms_of c.in_ok-activity.activity) (c.in_ok-activity.ensures.rooms ∙ enough) c.args.argument c.ranges.argument.fits
+    c.imported_functions-imported.result imported c.leave_finished-runs.new.self c.if-runs.result c.leave_finished-runs.result (told c) c.leave_finished-runs.ensures.rooms left)
+
 pub invariant_of-result : goal.invariant_of-result
-invariant_of-result c =
-    let m = c.args.valid in
-    let found = function-read m c.args.number _ c.requires (rw c.module-module.ensures.«module» at c.index-function.ensures) in
-    let body = read-body m c.args.number _ _ c.requires (rw c.module-module.ensures.«module» at c.index-function.ensures) c.as_slice-sequences.ensures.value in
-    let left = rw (c.in_ok-activity.ensures.point, body, c.deref-2.ensures.value) at c.leave_finished-runs.ensures.left in
-    started-held m c.args.number _ c.module-module.ensures.valid c.requires found c.args.argument c.ranges.argument.fits (rooms_of c.in_ok-activity.activity)
-    c.in_ok-globals.globals c.leave_finished-runs.new.self c.if-runs.result c.leave_finished-runs.result (told c) c.leave_finished-runs.ensures.rooms left
+invariant_of-result c = (began c).0
 
 pub returns : goal.returns
-returns c =
-    let m = c.args.valid in
-    let found = function-read m c.args.number _ c.requires (rw c.module-module.ensures.«module» at c.index-function.ensures) in
-    let body = read-body m c.args.number _ _ c.requires (rw c.module-module.ensures.«module» at c.index-function.ensures) c.as_slice-sequences.ensures.value in
-    let left = rw (c.in_ok-activity.ensures.point, body, c.deref-2.ensures.value) at c.leave_finished-runs.ensures.left in
-    ap (λ (s : State). record { program = m; state = s })
-    (started-state m c.args.number _ c.module-module.ensures.valid c.requires found c.args.argument c.ranges.argument.fits (rooms_of c.in_ok-activity.activity)
-    c.in_ok-globals.globals c.leave_finished-runs.new.self c.if-runs.result c.leave_finished-runs.result (told c)
-    (rw (c.deref.ensures.value, c.module-module.ensures.«module») at c.in_ok-globals.ensures) left)
+returns c = ap (λ (s : State). record { program = c.args.valid; state = s }) (began c).1

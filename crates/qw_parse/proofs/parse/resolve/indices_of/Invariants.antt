@@ -1,5 +1,5 @@
 use Rattle.std.proofs.Common.{◌≡◌, map, take, Some}
-use Rattle.qw_parse.specs.Parse.{index_of}
+use Rattle.qw_parse.specs.Query.{index_of}
 use Rattle.qw_ast.specs.Inner.Views.{folded_names}
 use Rattle.qw_parse.proofs.parse.resolve.indices_of.Given as goal
 

@@ -1,9 +1,9 @@
-use Rattle.std.proofs.Common.{◌≡◌, Err, ap, inr, refl, arith}
+use Rattle.std.proofs.Common.{◌≡◌, arith}
 use Rattle.std.proofs.lemmas.Grind.{common_steps}
+use Rattle.qw_top.proofs.TopLemmas.{query_stops}
 use Rattle.qw_top.proofs.top.inputs.read_query.Goals as goal
 
-pub returns-in-Err-Refused-clause-stops : goal.returns-in-Err-Refused-clause-stops
-returns-in-Err-Refused-clause-stops g c =
+pub returns-clause-stops : goal.returns-clause-stops
+returns-clause-stops g c =
     let at : c.as_slice.result.now ≡ c.in_ok-text.text.items = grind (arith, common_steps) in
-    let none = c.in-Err-Refused.ensures.refused (ap Err c.in-Err-Refused.field-0-is) in
-    (refl, inr (c.in_ok-text.text.items, c.in_ok-text.ensures.whole, λ statement reads. none statement (rw at reads)))
+    query_stops _ _ _ c.in_ok-text.ensures.whole _ _ _ (rw at at c.in-Err.ensures.refused) c.query_stop.ensures.memory c.query_stop.ensures.refused

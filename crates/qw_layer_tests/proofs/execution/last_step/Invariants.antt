@@ -1,5 +1,0 @@
-use Rattle.std.proofs.Common.{◌-◌}
-use Rattle.qw_layer_tests.proofs.execution.last_step.Given as goal
-
-abbrev pub decreases-loop-steps : goal.decreases-loop-steps
-decreases-loop-steps l = 100000000 - l.steps

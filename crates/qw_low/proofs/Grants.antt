@@ -1,0 +1,162 @@
+-- A granted part: what stands before a growth stands after it, with the new part.
+use Rattle.std.proofs.Common.{◌≡◌, ℕ, zero, suc, ◌+◌, ◌*◌, ◌≤◌, ◌⊎◌, inl, inr, Bool, true, false, nat_le, List, [], ◌∷◌, ◌++◌, length, map, Option, Some, None, slice_get, refl, sym, ap, ◌∙◌, subst, ⊎_elim, arith, if◌then◌else◌}
+use Rattle.std.proofs.lemmas.Bool.{leb-true}
+use Rattle.std.proofs.lemmas.Option.{same_Some, none-some}
+use Rattle.std.proofs.lemmas.List.{length-map}
+use Rattle.qw_linear.specs.Memory.{page, most_pages, grown_by}
+use Rattle.qw_linear.proofs.GrowthFacts.{length-grown_by, number_at-grown_by, number_at-grown_by-new, AreOctets-grown_by}
+use Rattle.qw_map.specs.Areas.{Area, World}
+use Rattle.qw_map.proofs.RunRules.{with_granted, with_refused}
+use Rattle.qw_map.specs.Turns.{AreApart}
+use Rattle.qw_low.specs.State.{Part, Column, Own, Value, Number, Address, LowState, same_part, with_part, with_pages}
+use Rattle.qw_low.specs.Places.{area_of, Means, AreMeant, Fits, Holds, StandsFor}
+use Rattle.qw_low.proofs.CellLemmas.{same_part-is}
+
+-- a list with one more
+get-more : (xs : List Area) (k : ℕ) (a b : Area) → slice_get xs k ≡ Some b → slice_get (xs ++ a ∷ []) k ≡ Some b
+get-more [] k a b found = absurd (none-some b found)
+get-more (x ∷ xs) zero a b found = found
+get-more (x ∷ xs) (suc k) a b found = get-more xs k a b found
+
+pub get-last : {A : Type 0} (xs : List A) (a : A) → slice_get (xs ++ a ∷ []) (length xs) ≡ Some a
+get-last {A} [] a = refl
+get-last {A} (x ∷ xs) a = get-last xs a
+
+get-either : (xs : List Area) (k : ℕ) (a b : Area) → slice_get (xs ++ a ∷ []) k ≡ Some b → (slice_get xs k ≡ Some b) ⊎ ((k ≡ length xs) × (a ≡ b))
+get-either [] zero a b found = inr (refl, same_Some a b found)
+get-either [] (suc k) a b found = absurd (none-some b found)
+get-either (x ∷ xs) zero a b found = inl found
+get-either (x ∷ xs) (suc k) a b found = ⊎_elim inl (λ h. inr (ap suc h.0, h.1)) (get-either xs k a b found)
+
+map-more : (xs : List Area) (a : Area) → map (λ (x : Area). x.size) (xs ++ a ∷ []) ≡ map (λ (x : Area). x.size) xs ++ a.size ∷ []
+map-more [] a = refl
+map-more (x ∷ xs) a = ap (λ (sizes : List ℕ). x.size ∷ sizes) (map-more xs a)
+
+module _ (w : World) (s : LowState) (count start : ℕ) where
+  abbrev pub new : Area
+  new = record { start = start; size = count * page }
+
+  abbrev pub later : World
+  later = with_granted w start count
+
+  pub area-more : (p : Part) (a : Area) → area_of w p ≡ Some a → area_of later p ≡ Some a
+  area-more (Column k) a is = is
+  area-more (Own k) a is = get-more w.own k new a is
+
+  pub Means-more : (v : Value) (x : ℕ) → Means w v x → Means later v x
+  Means-more (Number n) x means = means
+  Means-more (Address p off) x means = (means.0, area-more p means.0 means.1, means.2, means.3)
+
+  pub AreMeant-more : (vs : List Value) (xs : List ℕ) → AreMeant w vs xs → AreMeant later vs xs
+  AreMeant-more [] [] are = tt
+  AreMeant-more (v ∷ vs) (x ∷ xs) are = (Means-more v x are.0, AreMeant-more vs xs are.1)
+  AreMeant-more [] (x ∷ xs) are = absurd are
+  AreMeant-more (v ∷ vs) [] are = absurd are
+
+  either_area : (p : Part) (a : Area) → area_of later p ≡ Some a → (area_of w p ≡ Some a) ⊎ ((p ≡ Own (length w.own)) × (new ≡ a))
+  either_area (Column k) a is = inl is
+  either_area (Own k) a is = ⊎_elim inl (λ h. inr (ap Own h.0, h.1)) (get-either w.own k new a is)
+
+  pub new-there : Fits w s → area_of later (Own (length s.own)) ≡ Some new
+  new-there fits = ap (λ (k : ℕ). area_of later (Own k)) (sym (sym (length-map w.own (λ (x : Area). x.size)) ∙ ap (λ (sizes : List ℕ). length sizes) fits.own)) ∙ get-last w.own new
+
+  module _ (m : List ℕ) (stands : StandsFor w s m) (start_is : start ≡ length m) (room : length m + count * page ≤ most_pages * page) where
+    many : length w.own ≡ length s.own
+    many = sym (length-map w.own (λ (x : Area). x.size)) ∙ ap (λ (sizes : List ℕ). length sizes) stands.fits.own
+
+    -- the new area is behind all others
+    behind : (p : Part) (a b : Area) → area_of w p ≡ Some a → new ≡ b → a.start + a.size ≤ b.start
+    behind p a b is same = let inside = stands.inside p a is in omega (arith, start_is, ap (λ (x : Area). x.start) same)
+
+    apart_now : (k : ℕ) (q : Part) (a b : Area) → area_of later (Own k) ≡ Some a → area_of later q ≡ Some b → (q ≡ Own k) ⊎ AreApart a b
+    apart_now k q a b first second = ⊎_elim
+        (λ old. ⊎_elim
+        (λ also. stands.fits.apart k q a b old also)
+        (λ last. inr (inl (behind (Own k) a b old last.1)))
+        (either_area q b second))
+        (λ last. ⊎_elim
+        (λ also. inr (inr (behind q b a also last.1)))
+        (λ both. inl (both.0 ∙ sym last.0))
+        (either_area q b second))
+        (either_area (Own k) a first)
+
+    longer : length (grown_by count m) ≡ length m + count * page
+    longer = length-grown_by count m
+
+    known_part : (p q : Bool) (u : Value) (c : Option Value) → (if p then (if q then Some (Number 0) else None) else c) ≡ Some u → ((p ≡ true) × (q ≡ true) × (u ≡ Number 0)) ⊎ ((p ≡ false) × (c ≡ Some u))
+    known_part true true u c is = inl (refl, refl, sym (same_Some (Number 0) u is))
+    known_part true false u c is = absurd (none-some u is)
+    known_part false q u c is = inr (refl, is)
+
+    cells_now : (q : Part) (a b : ℕ) (u : Value) → with_part s.cells (length s.own) (count * page) q a b ≡ Some u → Holds later (grown_by count m) q a b u
+    cells_now q a b u known = ⊎_elim
+        (λ here.
+        let part : q ≡ Own (length s.own) = same_part-is (length s.own) q here.0 in
+        let there : area_of later (Own (length s.own)) ≡ Some new = ap (λ (k : ℕ). area_of later (Own k)) (sym many) ∙ get-last w.own new in
+        let within = leb-true (a + b) (count * page) here.1 in
+        rw (part, here.2) (record { area = new; is = there; inside = within; means = number_at-grown_by-new count m (start + a) b (omega (arith, start_is)) }))
+        (λ old.
+        let r = stands.cells q a b u old.1 in
+        let inside : r.area.start + r.area.size ≤ length m = stands.inside q r.area r.is in
+        record {
+          area = r.area;
+          is = area-more q r.area r.is;
+          inside = r.inside;
+          means = subst (λ (n : ℕ). Means later u n) (sym (number_at-grown_by count m (r.area.start + a) b (omega (arith, r.inside)))) (Means-more u _ r.means);
+        })
+        (known_part (same_part (Own (length s.own)) q) (nat_le (a + b) (count * page)) u (s.cells q a b) known)
+
+    pub stands-more : StandsFor later (with_pages s count) (grown_by count m)
+    stands-more = record {
+      fits = record {
+        columns = stands.fits.columns;
+        own = map-more w.own new ∙ ap (λ (sizes : List ℕ). sizes ++ count * page ∷ []) stands.fits.own;
+        held = ap (λ (n : ℕ). n + count) stands.fits.held;
+        limit = stands.fits.limit;
+        refused = stands.fits.refused;
+        positive = λ p a is. ⊎_elim
+            (λ old. stands.fits.positive p a old)
+            (λ last. omega (arith, stands.some, start_is, ap (λ (x : Area). x.start) last.1))
+            (either_area p a is);
+        apart = apart_now;
+      };
+      some = omega (arith, longer, stands.some);
+      octets = AreOctets-grown_by count m stands.octets;
+      whole = omega (arith, longer, stands.whole);
+      room = omega (arith, longer);
+      inside = λ p a is. ⊎_elim
+          (λ old. let inside = stands.inside p a old in omega (arith, longer))
+          (λ last. omega (arith, longer, start_is, ap (λ (x : Area). x.start) last.1, ap (λ (x : Area). x.size) last.1))
+          (either_area p a is);
+      cells = cells_now;
+    }
+
+-- a request that is refused
+pub stands-refused : (w : World) (s : LowState) (count : ℕ) (m : List ℕ) → StandsFor w s m → StandsFor (with_refused w count) (record s { refused = Some count }) m
+stands-refused w s count m h = record {
+  fits = record { columns = h.fits.columns; own = h.fits.own; held = h.fits.held; limit = h.fits.limit; refused = refl; positive = λ p a is. h.fits.positive p a (back p a is); apart = same_apart };
+  some = h.some;
+  octets = h.octets;
+  whole = h.whole;
+  room = h.room;
+  inside = same_inside;
+  cells = λ p a b u known. let r = h.cells p a b u known in record { area = r.area; is = same_area p r.area r.is; inside = r.inside; means = same_means u _ r.means };
+}
+  where
+    same_area : (p : Part) (a : Area) → area_of w p ≡ Some a → area_of (with_refused w count) p ≡ Some a
+    same_area (Column k) a is = is
+    same_area (Own k) a is = is
+
+    back : (p : Part) (a : Area) → area_of (with_refused w count) p ≡ Some a → area_of w p ≡ Some a
+    back (Column k) a is = is
+    back (Own k) a is = is
+
+    same_means : (v : Value) (x : ℕ) → Means w v x → Means (with_refused w count) v x
+    same_means (Number n) x means = means
+    same_means (Address p off) x means = (means.0, same_area p means.0 means.1, means.2, means.3)
+
+    same_inside : (p : Part) (a : Area) → area_of (with_refused w count) p ≡ Some a → a.start + a.size ≤ length m
+    same_inside p a is = h.inside p a (back p a is)
+
+    same_apart : (k : ℕ) (q : Part) (a b : Area) → area_of (with_refused w count) (Own k) ≡ Some a → area_of (with_refused w count) q ≡ Some b → (q ≡ Own k) ⊎ AreApart a b
+    same_apart k q a b first second = h.fits.apart k q a b first (back q b second)

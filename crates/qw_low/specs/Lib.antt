@@ -1,0 +1,11 @@
+pub mod Syntax
+pub mod State
+pub mod Meaning
+pub mod Translation
+pub mod Places
+pub mod Typing
+pub mod Promise
+pub mod Size
+pub mod Steps
+pub mod Worked
+pub mod Inner

@@ -1,0 +1,146 @@
+//! Flat steps become a numbered body.
+
+ghost use Rattle.std.specs.Prelude.{◌≡◌, [], ◌∷◌, length, OnOk, IfOk};
+ghost use Rattle.qw_module.specs.Syntax.{done, IsNumbered};
+ghost use Rattle.qw_module.specs.Validity.{code_of_body, sequences_of};
+ghost use Rattle.qw_low.specs.Inner.Writing.{writing_of, adds, opens, finishes, all_written, written};
+ghost use Rattle.qw_low.specs.Steps.{steps_of};
+ghost use Rattle.qw_low.specs.Syntax.{Statement};
+ghost use Rattle.qw_low.specs.Translation.{statement_code};
+
+use crate::step::LowStep;
+use qw_module::instruction::{Const, Instr, Op};
+use qw_module::module::Body;
+use qw_types::NoMemory;
+use std::alloc::Global;
+
+/// What was opened in a sequence that waits.
+#[derive(Clone, Copy)]
+enum Opened {
+    If,
+    /// The other sequence of an `If`, whose first one has this number.
+    Else(usize),
+    Loop,
+}
+
+/// A sequence that waits for an inner one.
+#[derive(Drop)]
+struct Waiting {
+    sequence: Vec<Instr>,
+    opened: Opened,
+}
+
+/// The sequences that are finished, the one that is written, and those that wait for it, the innermost last.
+#[derive(Drop)]
+struct Writer {
+    finished: Vec<Vec<Instr>>,
+    current: Vec<Instr>,
+    waiting: Vec<Waiting>,
+}
+
+impl Writer {
+    fn add(&mut self, instruction: Instr) -> Result<(), NoMemory>
+        ensures { OnOk result (writing_of self.new ≡ adds (instruction ∷ []) (writing_of self.old)) }
+    {
+        self.current.push(instruction)?;
+        Ok(())
+    }
+
+    fn open(&mut self, alloc: Global, opened: Opened) -> Result<(), NoMemory>
+        ensures { OnOk result (writing_of self.new ≡ opens opened (writing_of self.old)) }
+    {
+        let sequence = std::mem::replace(&mut self.current, Vec::new(alloc));
+        self.waiting.push(Waiting { sequence, opened })?;
+        Ok(())
+    }
+
+    /// Finishes the current sequence, and gives its number.
+    fn finish(&mut self, alloc: Global) -> Result<usize, NoMemory>
+        ensures number { IfOk result (λ n. n ≡ length self.old.finished.items) }
+        ensures finished { OnOk result (writing_of self.new ≡ finishes (writing_of self.old)) }
+    {
+        let number = self.finished.len();
+        let sequence = std::mem::replace(&mut self.current, Vec::new(alloc));
+        self.finished.push(sequence)?;
+        Ok(number)
+    }
+
+    fn turn(&mut self, alloc: Global) -> Result<(), NoMemory>
+        ensures { OnOk result (writing_of self.new ≡ written LowStep.Else (writing_of self.old)) }
+    {
+        if let Some(outer) = self.waiting.pop() {
+            let first = self.finish(alloc)?;
+            self.waiting.push(Waiting {
+                sequence: outer.sequence,
+                opened: Opened::Else(first),
+            })?;
+        }
+        Ok(())
+    }
+
+    fn end(&mut self, alloc: Global) -> Result<(), NoMemory>
+        ensures { OnOk result (writing_of self.new ≡ written LowStep.End (writing_of self.old)) }
+    {
+        if let Some(outer) = self.waiting.pop() {
+            let number = self.finish(alloc)?;
+            let mut sequence = outer.sequence;
+            sequence.push(match outer.opened {
+                Opened::If => Instr::If {
+                    result: None,
+                    then_body: number,
+                    else_body: None,
+                },
+                Opened::Else(first) => Instr::If {
+                    result: None,
+                    then_body: first,
+                    else_body: Some(number),
+                },
+                Opened::Loop => Instr::Loop {
+                    result: None,
+                    body: number,
+                },
+            })?;
+            self.current = sequence;
+        }
+        Ok(())
+    }
+
+    fn write(&mut self, alloc: Global, step: LowStep) -> Result<(), NoMemory>
+        ensures { OnOk result (writing_of self.new ≡ written step (writing_of self.old)) }
+    {
+        match step {
+            LowStep::Op(op) => self.add(Instr::Op(op))?,
+            LowStep::If => self.open(alloc, Opened::If)?,
+            LowStep::Else => self.turn(alloc)?,
+            LowStep::Loop => self.open(alloc, Opened::Loop)?,
+            LowStep::Again => self.add(Instr::Br(1))?,
+            LowStep::End => self.end(alloc)?,
+            LowStep::Raise(code) => {
+                self.add(Instr::Op(Op::Const(Const::I32(code))))?;
+                self.add(Instr::Call(0))?;
+            }
+            LowStep::Exit => self.add(Instr::Return)?,
+        }
+        Ok(())
+    }
+}
+
+/// The body of these steps. Where they are those of a statement, it is the statement's code.
+pub fn body_of(alloc: Global, code: &[LowStep]) -> Result<Body, NoMemory>
+    ensures code { IfOk result (λ b. (s : Statement) → code.now ≡ steps_of s → code_of_body b ≡ statement_code s done) }
+    ensures numbered { IfOk result (λ b. (s : Statement) → code.now ≡ steps_of s → IsNumbered (sequences_of b)) }
+{
+    let mut writer = Writer {
+        finished: Vec::new(alloc),
+        current: Vec::new(alloc),
+        waiting: Vec::new(alloc),
+    };
+    for step in code {
+        writer.write(alloc, *step)?;
+    }
+    writer.finish(alloc)?;
+    Ok(Body {
+        sequences: writer.finished,
+        labels: Vec::new(alloc),
+    })
+}

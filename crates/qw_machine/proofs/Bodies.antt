@@ -1,0 +1,178 @@
+-- A body that is entered, in the label of the whole body: by the first call, and by a call within a function.
+use Rattle.std.proofs.Common.{◌≡◌, ℕ, zero, suc, ◌+◌, ◌-◌, ◌<◌, ◌≤◌, nat_lt, [], ◌∷◌, ◌++◌, length, take, drop, reverse, Some, slice_get, refl, sym, ap, subst, ◌∙◌, ⊎_elim, arith, append-nil}
+use Rattle.std.proofs.lemmas.Bool.{cases_eq}
+use Rattle.std.proofs.lemmas.List.{length-reverse}
+use Rattle.std.proofs.lemmas.Option.{slice_get_within, get_or_from_slice_get}
+use Rattle.qw_module.specs.declared.module.FuncType.{FuncType}
+use Rattle.qw_module.specs.declared.module.Function.{Function}
+use Rattle.qw_module.specs.declared.module.Module.{Module}
+use Rattle.qw_machine.specs.declared.room.Rooms.{Rooms}
+use Rattle.qw_module.specs.Numbers.{truth}
+use Rattle.qw_module.specs.Syntax.{Code, done, code_of, IsNumbered}
+use Rattle.qw_module.specs.Execution.{label, settled}
+use Rattle.qw_module.specs.Typing.{Signature, Scope, scope_of, Typed, typed-done}
+use Rattle.qw_module.specs.Soundness.{AreOf, AreGlobalsOf, IsClosureOf}
+use Rattle.qw_module.specs.Start.{closure_of, body_of}
+use Rattle.qw_module.specs.Validity.{outside_of, function_scope, IsValidType, IsValid}
+use Rattle.qw_module.proofs.Sound.{done_types}
+use Rattle.qw_machine.specs.Inner.Points.{code_at, instructions_at, Point, base_of, floor_of, contexts_of, store_with, state_at, in_body, has_result}
+use Rattle.qw_machine.specs.Inner.Rooms.{instructions_below, locals_of, needed_below, HasRoom}
+use Rattle.qw_machine.specs.Inner.Placed.{IsExecuted, AreAwaiting, IsPoint}
+use Rattle.qw_machine.proofs.Begins.{signature_is}
+use Rattle.qw_machine.proofs.Functions.{typed_function, body_is, numbered-of}
+use Rattle.qw_machine.proofs.ListFacts.{above-append, under-append}
+use Rattle.qw_machine.proofs.Points.{code_in-first, code_in-end, state_at-split}
+
+-- ---- a function of a valid module has at most one result
+few : (m : Module) (type : ℕ) (ty : FuncType) → IsValid m → slice_get m.types.items type ≡ Some ty → length ty.results.items ≤ 1
+few m type ty valid found =
+    let inside = slice_get_within m.types.items type ty found in
+    subst IsValidType (get_or_from_slice_get m.types.items type ty ty found) (valid.types type ty inside)
+
+pub few_results : (m : Module) (number : ℕ) (function : Function) → IsValid m → slice_get m.functions.items number ≡ Some function →
+    (closure_of m function).results ≤ 1
+few_results m number function valid found =
+    let typed = typed_function m number function valid found in
+    let same : (closure_of m function).results ≡ length typed.0.results.items =
+    ap (λ (s : Signature). length s.results) (signature_is m function.type_index typed.0 typed.1) in
+    omega (arith, same, few m function.type_index typed.0 valid typed.1)
+
+truth_positive : (n : ℕ) → n ≤ 1 → truth (nat_lt 0 n) ≡ n
+truth_positive zero h = refl
+truth_positive (suc zero) h = refl
+truth_positive (suc (suc n)) h = absurd (omega arith)
+
+pub leaves-are : (m : Module) (number : ℕ) (function : Function) → IsValid m → slice_get m.functions.items number ≡ Some function →
+    truth (has_result m function) ≡ (closure_of m function).results
+leaves-are m number function valid found = truth_positive (closure_of m function).results (few_results m number function valid found)
+
+-- where there is room for all that a function needs, there is room for its body in the label of the whole body
+pub body-room : (m : Module) (rooms : Rooms) (number below depth first_local : ℕ) → IsValid m → number < length m.functions.items →
+    below + (needed_below m (suc number)).operands ≤ rooms.operands →
+    suc depth + length (body_of m number).each + (needed_below m number).awaiting ≤ rooms.awaiting →
+    first_local + (needed_below m (suc number)).locals ≤ rooms.locals →
+    HasRoom m rooms number (length (body_of m number).each - 1) below (suc depth) first_local
+body-room m rooms number below depth first_local valid inside operands awaiting locals =
+    let some = (numbered-of m valid number inside).some in
+    let all : suc (length (body_of m number).each - 1) ≡ length (body_of m number).each = omega (arith, some) in
+    let instructions : instructions_below m number (suc (length (body_of m number).each - 1)) ≡ instructions_below m number (length (body_of m number).each) =
+    ap (instructions_below m number) all in
+    record {
+      own = inside;
+      numbered = omega (arith, some);
+      operands = omega (arith, instructions, operands);
+      awaiting = omega (arith, all, awaiting);
+      locals = omega (arith, locals);
+    }
+
+-- ---- an own function of a module that is executed, over operands and locals that are its own
+pub record IsBegun (m : Module) (rooms : Rooms) (q : Point) (number : ℕ) (function : Function) (signature : Signature) (closure : IsClosureOf (outside_of m) (closure_of m function) signature) : Type 0 where
+  pub first_in : q.first_local ≤ length q.locals
+  pub locals_are : AreOf (drop q.first_local q.locals) (signature.params ++ closure.declared)
+  pub all_locals : length (signature.params ++ closure.declared) ≡ locals_of m number
+  pub globals_are : AreGlobalsOf q.globals ((outside_of m).globals)
+  pub floor_is : q.floor ≡ floor_of q.awaiting
+  pub base_is : length q.operands ≡ base_of q.awaiting
+  pub room : HasRoom m rooms number (length (body_of m number).each - 1) (length q.operands) (suc (length q.awaiting)) q.first_local
+  pub awaiting : AreAwaiting m rooms number q.first_local (signature.params ++ closure.declared) (reverse signature.results) [] (reverse signature.results) q.awaiting q.operands
+      (take q.first_local q.locals)
+
+module _ (m : Module) (executed : IsExecuted m) (rooms : Rooms) (q : Point) (number : ℕ) (function : Function) (found : slice_get m.functions.items number ≡ Some function)
+    (signature : Signature) (closure : IsClosureOf (outside_of m) (closure_of m function) signature) where
+  abbrev last : ℕ
+  last = length (body_of m number).each - 1
+
+  abbrev end : ℕ
+  end = length (instructions_at m number last)
+
+  numbered : IsNumbered (body_of m number)
+  numbered = numbered-of m executed.valid number (slice_get_within m.functions.items number function found)
+
+  last_in : last < length (body_of m number).each
+  last_in = let some = numbered.some in omega arith
+
+  body_code : (closure_of m function).body ≡ code_at m number last 0
+  body_code = ap code_of (sym (body_is m number function found)) ∙ code_in-first (body_of m number) numbered last last_in
+
+  end_code : code_at m number last end ≡ done
+  end_code = code_in-end (body_of m number) last end refl
+
+  body_typed : Typed (function_scope (outside_of m) signature closure.declared) (code_at m number last 0) [] (reverse signature.results)
+  body_typed = subst (λ (code : Code). Typed (function_scope (outside_of m) signature closure.declared) code [] (reverse signature.results)) body_code closure.typed
+
+  results_few : length (reverse signature.results) ≤ 1
+  results_few = omega (arith, length-reverse signature.results, closure.results_are, few_results m number function executed.valid found)
+
+  -- a body that leaves a result has an instruction
+  results_fit : length (reverse signature.results) ≤ end
+  results_fit = ⊎_elim
+      (λ (e : end ≡ 0).
+      let empty : code_at m number last 0 ≡ done =
+      code_in-end (body_of m number) last 0 (sym e) in
+      let finished = subst (λ (code : Code). Typed (function_scope (outside_of m) signature closure.declared) code [] (reverse signature.results)) empty body_typed in
+      let none : [] ≡ reverse signature.results = done_types (function_scope (outside_of m) signature closure.declared) [] (reverse signature.results) finished in
+      omega (arith, ap length none))
+      (λ some. omega (arith, results_few))
+      (cases_eq end 0)
+
+  leaves_are : truth (has_result m function) ≡ (closure_of m function).results
+  leaves_are = leaves-are m number function executed.valid found
+
+  end_typed : Typed (scope_of (outside_of m) (signature.params ++ closure.declared) (reverse signature.results) [])
+      (code_at m number last end) (reverse signature.results ++ []) (reverse signature.results)
+  end_typed =
+      let scope : Scope = scope_of (outside_of m) (signature.params ++ closure.declared) (reverse signature.results) [] in
+      rw (end_code, append-nil (reverse signature.results)) (typed-done scope (reverse signature.results))
+
+  pub begun-point : IsBegun m rooms q number function signature closure → IsPoint m rooms (in_body m q number (has_result m function))
+  begun-point is = record {
+    own = [];
+    below = q.operands;
+    locals = signature.params ++ closure.declared;
+    results = reverse signature.results;
+    labels = reverse signature.results ∷ [];
+    before = [];
+    ends = reverse signature.results;
+    operands_are = refl;
+    below_are = refl;
+    own_are = tt;
+    first_in = is.first_in;
+    locals_are = is.locals_are;
+    all_locals = is.all_locals;
+    globals_are = is.globals_are;
+    floor_is = is.floor_is;
+    typed = body_typed;
+    index_in = omega arith;
+    fits = omega arith;
+    room = is.room;
+    awaiting = (
+      record {
+        own = [];
+        below = q.operands;
+        types = [];
+        taken = reverse signature.results;
+        outer = [];
+        next = reverse signature.results;
+        operands_are = refl;
+        below_are = is.base_is;
+        own_are = tt;
+        labels_are = refl;
+        takes_are = leaves_are ∙ closure.results_are ∙ sym (length-reverse signature.results);
+        target_typed = end_typed;
+        after_typed = end_typed;
+        target_in = omega arith;
+        after_in = omega arith;
+        target_fits = omega (arith, results_fit);
+        after_fits = omega (arith, results_fit);
+        room = record { own = is.room.own; numbered = is.room.numbered; operands = is.room.operands; awaiting = omega (arith, is.room.awaiting); locals = is.room.locals };
+      },
+      is.awaiting,
+    );
+  }
+
+  pub begun-state : length q.operands ≡ base_of q.awaiting → state_at m (in_body m q number (has_result m function))
+      ≡ settled (store_with m q.globals) (label done (closure_of m function).results [] done ∷ contexts_of m number q.awaiting q.operands (take q.first_local q.locals))
+      (closure_of m function).body [] (drop q.first_local q.locals)
+  begun-state base =
+      state_at-split m (in_body m q number (has_result m function)) [] q.operands refl refl
+      ∙ rw (above-append (base_of q.awaiting) [] q.operands base, under-append (base_of q.awaiting) [] q.operands base, end_code, leaves_are, ← body_code) refl

@@ -1,0 +1,159 @@
+-- A finished label or frame is left, as the configuration's is that this stands for.
+use Rattle.std.proofs.Common.{◌≡◌, ℕ, List, [], ◌∷◌, ◌++◌, length, take, drop, refl, sym, ap, subst, ◌∙◌, arith, length-append, append_assoc}
+use Rattle.qw_module.specs.declared.instruction.ValType.{ValType}
+use Rattle.qw_module.specs.declared.module.Module.{Module}
+use Rattle.qw_machine.specs.declared.activity.Entry.{Entry}
+use Rattle.qw_machine.specs.declared.activity.Frame.{Frame}
+use Rattle.qw_machine.specs.declared.activity.Awaiting.{Awaiting}
+use Rattle.qw_machine.specs.declared.activity.Awaiting.TheVariants.{Label, Call}
+use Rattle.qw_machine.specs.declared.room.Rooms.{Rooms}
+use Rattle.qw_module.specs.Syntax.{Code, done}
+use Rattle.qw_module.specs.Execution.{Returned, settled}
+use Rattle.qw_module.specs.Start.{body_of}
+use Rattle.qw_module.specs.Typing.{scope_of, Typed}
+use Rattle.qw_module.specs.Soundness.{AreOf}
+use Rattle.qw_module.specs.Validity.{outside_of}
+use Rattle.qw_machine.specs.Inner.Points.{Point, code_at, instructions_at, base_of, contexts_of, store_with, state_at, after_label, after_call}
+use Rattle.qw_machine.specs.Inner.Placed.{IsPoint}
+use Rattle.qw_module.proofs.Sound.{AreOf-append, AreOf-length, done_types}
+use Rattle.qw_machine.proofs.ListFacts.{above-append, under-append}
+use Rattle.qw_machine.proofs.Points.{code_in-end, state_at-split}
+
+-- at the end of its sequence a point has the operands that this leaves
+leaves : (m : Module) (rooms : Rooms) (p : Point) → p.index ≡ length (instructions_at m p.function p.sequence) → (is : IsPoint m rooms p) → AreOf is.own is.ends
+leaves m rooms p ended is =
+    let finished : Typed (scope_of (outside_of m) is.locals is.results is.labels) done is.before is.ends =
+    subst (λ (code : Code). Typed (scope_of (outside_of m) is.locals is.results is.labels) code is.before is.ends)
+    (code_in-end (body_of m p.function) p.sequence p.index ended) is.typed in
+    subst (λ (types : List ValType). AreOf is.own types) (done_types (scope_of (outside_of m) is.locals is.results is.labels) is.before is.ends finished) is.own_are
+
+-- ---- a label
+module _ (m : Module) (rooms : Rooms) (p : Point) (entry : Entry) (rest : List Awaiting) (ended : p.index ≡ length (instructions_at m p.function p.sequence))
+    (is : IsPoint m rooms (record p { awaiting = Label entry ∷ rest })) where
+  label_operands : p.operands ≡ (is.own ++ is.awaiting.0.own) ++ is.awaiting.0.below
+  label_operands =
+      let e = is.awaiting.0 in
+      is.operands_are ∙ ap (λ (xs : List ℕ). is.own ++ xs) e.operands_are ∙ sym (append_assoc is.own e.own e.below)
+
+  pub after_label-point : IsPoint m rooms (after_label p entry rest)
+  after_label-point =
+      let e = is.awaiting.0 in
+      let left = leaves m rooms (record p { awaiting = Label entry ∷ rest }) ended is in
+      record {
+        own = is.own ++ e.own;
+        below = e.below;
+        locals = is.locals;
+        results = is.results;
+        labels = e.outer;
+        before = is.ends ++ e.types;
+        ends = e.next;
+        operands_are = label_operands;
+        below_are = e.below_are;
+        own_are = AreOf-append is.own e.own is.ends e.types left e.own_are;
+        first_in = is.first_in;
+        locals_are = is.locals_are;
+        all_locals = is.all_locals;
+        globals_are = is.globals_are;
+        floor_is = is.floor_is;
+        typed = e.after_typed;
+        index_in = e.after_in;
+        fits = omega (arith, length-append is.own e.own, AreOf-length is.own is.ends left, e.after_fits);
+        room = e.room;
+        awaiting = is.awaiting.1;
+      }
+
+  pub after_label-state : state_at m (record p { awaiting = Label entry ∷ rest }) ≡ state_at m (after_label p entry rest)
+  after_label-state =
+      let e = is.awaiting.0 in
+      let inner : Point = record p { awaiting = Label entry ∷ rest } in
+      let before = state_at-split m inner is.own is.below is.operands_are is.below_are in
+      let after = state_at-split m (after_label p entry rest) (is.own ++ e.own) e.below label_operands e.below_are in
+      let locals : List ℕ = drop p.first_local p.locals in
+      let outer : List ℕ = take p.first_local p.locals in
+      let middle : settled (store_with m p.globals) (contexts_of m p.function (Label entry ∷ rest) is.below outer) (code_at m p.function p.sequence p.index) is.own locals
+      ≡ settled (store_with m p.globals) (contexts_of m p.function rest e.below outer) (code_at m p.function entry.sequence entry.after) (is.own ++ e.own) locals =
+      rw (
+        code_in-end (body_of m p.function) p.sequence p.index ended,
+        e.operands_are,
+        above-append (base_of rest) e.own e.below e.below_are,
+        under-append (base_of rest) e.own e.below e.below_are,
+      ) (refl {a = settled (store_with m p.globals) (contexts_of m p.function rest e.below outer) (code_at m p.function entry.sequence entry.after) (is.own ++ e.own) locals}) in
+      before ∙ middle ∙ sym after
+
+-- ---- a frame
+module _ (m : Module) (rooms : Rooms) (p : Point) (caller : Frame) (rest : List Awaiting) (ended : p.index ≡ length (instructions_at m p.function p.sequence))
+    (is : IsPoint m rooms (record p { awaiting = Call caller ∷ rest })) where
+  call_operands : p.operands ≡ (is.own ++ is.awaiting.2.own) ++ is.awaiting.2.below
+  call_operands =
+      let f = is.awaiting.2 in
+      is.operands_are ∙ ap (λ (xs : List ℕ). is.own ++ xs) f.operands_are ∙ sym (append_assoc is.own f.own f.below)
+
+  pub after_call-point : IsPoint m rooms (after_call p caller rest)
+  after_call-point =
+      let f = is.awaiting.2 in
+      let ends : is.ends ≡ is.results = is.awaiting.1 in
+      let left : AreOf is.own is.results = subst (λ (types : List ValType). AreOf is.own types) ends (leaves m rooms (record p { awaiting = Call caller ∷ rest }) ended is) in
+      record {
+        own = is.own ++ f.own;
+        below = f.below;
+        locals = f.locals;
+        results = f.outer_results;
+        labels = f.labels;
+        before = is.results ++ f.types;
+        ends = f.next;
+        operands_are = call_operands;
+        below_are = f.below_are;
+        own_are = AreOf-append is.own f.own is.results f.types left f.own_are;
+        first_in = f.first_in;
+        locals_are = f.locals_are;
+        all_locals = f.all_locals;
+        globals_are = is.globals_are;
+        floor_is = f.floor_is;
+        typed = f.after_typed;
+        index_in = f.after_in;
+        fits = omega (arith, length-append is.own f.own, AreOf-length is.own is.results left, f.after_fits);
+        room = f.room;
+        awaiting = is.awaiting.3;
+      }
+
+  pub after_call-state : state_at m (record p { awaiting = Call caller ∷ rest }) ≡ state_at m (after_call p caller rest)
+  after_call-state =
+      let f = is.awaiting.2 in
+      let inner : Point = record p { awaiting = Call caller ∷ rest } in
+      let before = state_at-split m inner is.own is.below is.operands_are is.below_are in
+      let after = state_at-split m (after_call p caller rest) (is.own ++ f.own) f.below call_operands f.below_are in
+      let outer : List ℕ = take p.first_local p.locals in
+      let middle : settled (store_with m p.globals) (contexts_of m p.function (Call caller ∷ rest) is.below outer) (code_at m p.function p.sequence p.index) is.own (drop p.first_local p.locals)
+      ≡ settled (store_with m p.globals) (contexts_of m caller.function rest f.below (take caller.first_local outer)) (code_at m caller.function caller.sequence caller.after) (is.own ++ f.own) (drop caller.first_local outer) =
+      rw (
+        code_in-end (body_of m p.function) p.sequence p.index ended,
+        f.operands_are,
+        above-append (base_of rest) f.own f.below f.below_are,
+        under-append (base_of rest) f.own f.below f.below_are,
+      ) (refl {a = settled (store_with m p.globals) (contexts_of m caller.function rest f.below (take caller.first_local outer)) (code_at m caller.function caller.sequence caller.after) (is.own ++ f.own) (drop caller.first_local outer)}) in
+      before ∙ middle ∙ sym after
+
+-- ---- what is popped is left
+pub left-label : (m : Module) (rooms : Rooms) (p : Point) (entry : Entry) (rest : List Awaiting) → p.index ≡ length (instructions_at m p.function p.sequence) →
+    p.awaiting ≡ Label entry ∷ rest → IsPoint m rooms p → IsPoint m rooms (after_label p entry rest) × (state_at m p ≡ state_at m (after_label p entry rest))
+left-label m rooms p entry rest ended popped is =
+    let inner : IsPoint m rooms (record p { awaiting = Label entry ∷ rest }) = subst (λ (awaiting : List Awaiting). IsPoint m rooms (record p { awaiting = awaiting })) popped is in (
+      after_label-point m rooms p entry rest ended inner,
+      ap (λ (awaiting : List Awaiting). state_at m (record p { awaiting = awaiting })) popped ∙ after_label-state m rooms p entry rest ended inner,
+    )
+
+pub left-call : (m : Module) (rooms : Rooms) (p : Point) (caller : Frame) (rest : List Awaiting) → p.index ≡ length (instructions_at m p.function p.sequence) →
+    p.awaiting ≡ Call caller ∷ rest → IsPoint m rooms p → IsPoint m rooms (after_call p caller rest) × (state_at m p ≡ state_at m (after_call p caller rest))
+left-call m rooms p caller rest ended popped is =
+    let inner : IsPoint m rooms (record p { awaiting = Call caller ∷ rest }) = subst (λ (awaiting : List Awaiting). IsPoint m rooms (record p { awaiting = awaiting })) popped is in (
+      after_call-point m rooms p caller rest ended inner,
+      ap (λ (awaiting : List Awaiting). state_at m (record p { awaiting = awaiting })) popped ∙ after_call-state m rooms p caller rest ended inner,
+    )
+
+-- where nothing is left, the state is the return
+none_await : (awaiting : List Awaiting) → length awaiting ≡ 0 → awaiting ≡ []
+none_await [] none = refl
+none_await (a ∷ awaiting) none = absurd (omega arith)
+
+pub left-last : (m : Module) (p : Point) → p.index ≡ length (instructions_at m p.function p.sequence) → length p.awaiting ≡ 0 → state_at m p ≡ Returned
+left-last m p ended none = rw (none_await p.awaiting none, code_in-end (body_of m p.function) p.sequence p.index ended) refl

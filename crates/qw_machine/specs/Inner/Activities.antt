@@ -1,0 +1,75 @@
+-- Mirrors `Activity::execute`, `leave_finished`, `step` and `run`: what the machine does at an instruction, and what its steps answer.
+use Rattle.std.specs.Prelude.{◌≡◌, ℕ, ◌+◌, ◌≤◌, nat_le, Bool, true, false, List, ◌∷◌, ◌++◌, length, take, drop, Some, slice_get, ◌-◌}
+use Rattle.std.specs.Bool.{MatchBool}
+use Rattle.qw_module.specs.declared.module.Module.{Module}
+use Rattle.qw_machine.specs.declared.activity.Entry.{Entry}
+use Rattle.qw_machine.specs.declared.activity.Frame.{Frame}
+use Rattle.qw_machine.specs.declared.activity.Awaiting.TheVariants.{Label, Call}
+use Rattle.qw_machine.specs.declared.stepped.Stepped.{Stepped}
+use Rattle.qw_machine.specs.declared.stepped.Run.{Run}
+use Rattle.qw_module.specs.Numbers.{truth}
+use Rattle.qw_module.specs.Execution.{Config, State, Running, Returned, Event}
+use Rattle.qw_module.specs.Step.{next}
+use Rattle.qw_machine.specs.Inner.Points.{Point, under, config_at, state_at, resumed}
+use Rattle.qw_machine.specs.declared.room.Rooms.{Rooms}
+use Rattle.qw_machine.specs.Inner.Placed.{IsPoint, IsRunning}
+use Rattle.qw_machine.specs.Inner.Ended.{run_end_of, is_over, state_after, WhileRunning}
+use Rattle.qw_machine.specs.Instance.{IsAnswer, Went, Runs}
+
+-- there is a label of this index, and on the operands below it what a branch takes
+abbrev pub CanJump : ℕ → Point → Type 0
+CanJump index p = (entry : Entry) × (slice_get p.awaiting index ≡ Some (Label entry)) × (entry.base + truth entry.takes ≤ length p.operands)
+
+-- a branch to the label of an index leads from a point to one
+pub record IsJump (depth : ℕ) (p q : Point) : Type 0 where
+  pub entry : Entry
+  pub awaiting : drop depth p.awaiting ≡ Label entry ∷ q.awaiting
+  pub point : q ≡ record p {
+    awaiting = q.awaiting;
+    sequence = entry.sequence;
+    index = entry.target;
+    operands = take (truth entry.takes) p.operands ++ under entry.base p.operands;
+  }
+
+-- there is a frame, and on the operands below it what it leaves
+pub record CanLeave (p : Point) : Type 0 where
+  pub caller : Frame
+  pub there : slice_get p.awaiting (length p.awaiting - p.floor) ≡ Some (Call caller)
+  pub floor_in : p.floor ≤ length p.awaiting
+  pub operands : caller.base + truth caller.leaves ≤ length p.operands
+
+-- a return leads from a point to one of the caller
+pub record IsReturn (p q : Point) : Type 0 where
+  pub caller : Frame
+  pub awaiting : drop (length p.awaiting - p.floor) p.awaiting ≡ Call caller ∷ q.awaiting
+  pub point : q ≡ resumed (record p { awaiting = q.awaiting; operands = take (truth caller.leaves) p.operands ++ under caller.base p.operands }) caller
+
+-- The step of a configuration, where so many pages may be had, leads to a state, and its event is answered as that of
+-- a step that goes on.
+pub record WentOn (spare : ℕ) (c : Config) (before : List ℕ) (state : State) (after : List ℕ) (answer : Stepped) : Type 0 where
+  pub event : Event
+  pub made : next (λ pages. nat_le pages spare) c before ≡ Some (record { event = event; state = state; memory = after })
+  pub answered : (running : Config) → IsAnswer answer before event (Running running)
+
+-- The instruction at a point was executed: it went on to the point q, what is finished not left yet, or it ended the run.
+abbrev pub IsDoneAt : Module → Rooms → (spare : ℕ) → (p : Point) → (memory : List ℕ) → Stepped → (q : Point) → (after : List ℕ) → Type 0
+IsDoneAt m rooms spare p memory answer q after =
+    MatchBool (is_over answer)
+    (Went spare (config_at m p) memory (state_after (run_end_of answer) (state_at m q)) after answer)
+    (IsPoint m rooms q × WentOn spare (config_at m p) memory (state_at m q) after answer)
+
+-- What is finished was left: the point q runs on, or `run` was left.
+abbrev pub IsLeft : Module → Rooms → (p : Point) → (runs : Bool) → (q : Point) → Type 0
+IsLeft m rooms p true q = IsRunning m rooms q × (state_at m p ≡ state_at m q)
+IsLeft m rooms p false q = state_at m p ≡ Returned
+
+-- A step from a point went to the point q, or ended the run, as its configuration does.
+pub record IsStepped (m : Module) (rooms : Rooms) (spare : ℕ) (p : Point) (memory : List ℕ) (answer : Stepped) (q : Point) (after : List ℕ) : Type 0 where
+  pub running : WhileRunning (run_end_of answer) (IsRunning m rooms q)
+  pub went : Went spare (config_at m p) memory (state_after (run_end_of answer) (state_at m q)) after answer
+
+-- Steps from a point, at most so many, went to the point q, or ended the run, as its configuration's do.
+pub record IsRun (m : Module) (rooms : Rooms) (spare most : ℕ) (p : Point) (memory : List ℕ) (run : Run) (q : Point) (after : List ℕ) : Type 0 where
+  pub running : WhileRunning (run_end_of run.last) (IsRunning m rooms q)
+  pub runs : Runs spare run.steps (config_at m p) memory (state_after (run_end_of run.last) (state_at m q)) after run.last
+  pub few : run.steps ≤ most

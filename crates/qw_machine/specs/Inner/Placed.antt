@@ -1,0 +1,103 @@
+-- What `Activity` keeps from step to step: what runs and what awaits is typed, and what it can need has room.
+use Rattle.std.specs.Prelude.{◌≡◌, ℕ, ◌+◌, ◌<◌, ◌≤◌, List, [], ◌∷◌, ◌++◌, length, take, drop, All}
+use Rattle.qw_module.specs.declared.instruction.ValType.{ValType}
+use Rattle.qw_module.specs.declared.module.Module.{Module}
+use Rattle.qw_machine.specs.declared.activity.Entry.{Entry}
+use Rattle.qw_machine.specs.declared.activity.Frame.{Frame}
+use Rattle.qw_machine.specs.declared.activity.Awaiting.{Awaiting}
+use Rattle.qw_machine.specs.declared.activity.Awaiting.TheVariants.{Label, Call}
+use Rattle.qw_module.specs.Numbers.{truth}
+use Rattle.qw_module.specs.Typing.{scope_of, Typed}
+use Rattle.qw_module.specs.Soundness.{AreOf, AreGlobalsOf}
+use Rattle.qw_module.specs.Validity.{imported_functions, outside_of, IsValid, IsOneI32, IsDescending}
+use Rattle.qw_machine.specs.Inner.Points.{Point, code_at, instructions_at, base_of, floor_of}
+use Rattle.qw_machine.specs.declared.room.Rooms.{Rooms}
+use Rattle.qw_machine.specs.Inner.Rooms.{locals_of, HasRoom}
+
+-- what is known of a module that is executed
+pub record IsExecuted (m : Module) : Type 0 where
+  pub valid : IsValid m
+  pub linked : All (IsOneI32 m) (imported_functions m)
+  pub descends : IsDescending m
+
+-- An entry awaits a sequence that leaves operands of the types `ends` on `operands`, in a function whose locals, results and labels
+-- have these types. Its own operands and what comes on them are at most its index.
+pub record IsEntry (m : Module) (rooms : Rooms) (function first_local : ℕ) (locals results : List ValType) (labels : List (List ValType)) (ends : List ValType) (entry : Entry) (rest : List Awaiting) (operands : List ℕ) : Type 0 where
+  pub own : List ℕ
+  pub below : List ℕ
+  pub types : List ValType
+  pub taken : List ValType
+  pub outer : List (List ValType)
+  pub next : List ValType
+  pub operands_are : operands ≡ own ++ below
+  pub below_are : length below ≡ base_of rest
+  pub own_are : AreOf own types
+  pub labels_are : labels ≡ taken ∷ outer
+  pub takes_are : truth entry.takes ≡ length taken
+  pub target_typed : Typed (scope_of (outside_of m) locals results outer) (code_at m function entry.sequence entry.target) (taken ++ types) next
+  pub after_typed : Typed (scope_of (outside_of m) locals results outer) (code_at m function entry.sequence entry.after) (ends ++ types) next
+  pub target_in : entry.target ≤ length (instructions_at m function entry.sequence)
+  pub after_in : entry.after ≤ length (instructions_at m function entry.sequence)
+  pub target_fits : length own + length taken ≤ entry.target
+  pub after_fits : length own + length ends ≤ entry.after
+  pub room : HasRoom m rooms function entry.sequence (length below) (length rest) first_local
+
+-- A frame awaits a function that leaves operands of the types `results` on `operands`. Its caller's locals are the last of `values`.
+pub record IsCaller (m : Module) (rooms : Rooms) (results : List ValType) (caller : Frame) (rest : List Awaiting) (operands values : List ℕ) : Type 0 where
+  pub own : List ℕ
+  pub below : List ℕ
+  pub types : List ValType
+  pub locals : List ValType
+  pub outer_results : List ValType
+  pub labels : List (List ValType)
+  pub next : List ValType
+  pub operands_are : operands ≡ own ++ below
+  pub below_are : length below ≡ base_of rest
+  pub own_are : AreOf own types
+  pub leaves_are : truth caller.leaves ≡ length results
+  pub first_in : caller.first_local ≤ length values
+  pub locals_are : AreOf (drop caller.first_local values) locals
+  pub all_locals : length locals ≡ locals_of m caller.function
+  pub floor_is : caller.floor ≡ floor_of rest
+  pub after_typed : Typed (scope_of (outside_of m) locals outer_results labels) (code_at m caller.function caller.sequence caller.after) (results ++ types) next
+  pub after_in : caller.after ≤ length (instructions_at m caller.function caller.sequence)
+  pub after_fits : length own + length results ≤ caller.after
+  pub room : HasRoom m rooms caller.function caller.sequence (length below) (length rest) caller.first_local
+
+-- Each of what awaits takes what those inside it leave; the outermost function's labels are all, and it leaves its results.
+abbrev pub AreAwaiting : Module → Rooms → (function first_local : ℕ) → (locals results : List ValType) → List (List ValType) → (ends : List ValType) → List Awaiting → (operands values : List ℕ) → Type 0
+AreAwaiting m rooms function first_local locals results labels ends [] operands values = (labels ≡ []) × (ends ≡ results)
+AreAwaiting m rooms function first_local locals results labels ends (Label entry ∷ rest) operands values =
+    (e : IsEntry m rooms function first_local locals results labels ends entry rest operands)
+    × AreAwaiting m rooms function first_local locals results e.outer e.next rest e.below values
+AreAwaiting m rooms function first_local locals results labels ends (Call caller ∷ rest) operands values =
+    (labels ≡ []) × (ends ≡ results) × (f : IsCaller m rooms results caller rest operands values)
+    × AreAwaiting m rooms caller.function caller.first_local f.locals f.outer_results f.labels f.next rest f.below (take caller.first_local values)
+
+-- A point is typed, and what it can need has room.
+pub record IsPoint (m : Module) (rooms : Rooms) (p : Point) : Type 0 where
+  pub own : List ℕ
+  pub below : List ℕ
+  pub locals : List ValType
+  pub results : List ValType
+  pub labels : List (List ValType)
+  pub before : List ValType
+  pub ends : List ValType
+  pub operands_are : p.operands ≡ own ++ below
+  pub below_are : length below ≡ base_of p.awaiting
+  pub own_are : AreOf own before
+  pub first_in : p.first_local ≤ length p.locals
+  pub locals_are : AreOf (drop p.first_local p.locals) locals
+  pub all_locals : length locals ≡ locals_of m p.function
+  pub globals_are : AreGlobalsOf p.globals ((outside_of m).globals)
+  pub floor_is : p.floor ≡ floor_of p.awaiting
+  pub typed : Typed (scope_of (outside_of m) locals results labels) (code_at m p.function p.sequence p.index) before ends
+  pub index_in : p.index ≤ length (instructions_at m p.function p.sequence)
+  pub fits : length own ≤ p.index
+  pub room : HasRoom m rooms p.function p.sequence (length below) (length p.awaiting) p.first_local
+  pub awaiting : AreAwaiting m rooms p.function p.first_local locals results labels ends p.awaiting below (take p.first_local p.locals)
+
+-- the point runs: it isn't at the end of its sequence
+pub record IsRunning (m : Module) (rooms : Rooms) (p : Point) : Type 0 where
+  pub point : IsPoint m rooms p
+  pub unfinished : p.index < length (instructions_at m p.function p.sequence)

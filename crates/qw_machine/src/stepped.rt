@@ -1,0 +1,78 @@
+//! What a step comes to, and how a run ends.
+
+ghost use Rattle.std.specs.Prelude.{◌≡◌};
+ghost use Rattle.qw_machine.specs.Inner.Ended.{run_end_of};
+
+use crate::operators::Operated;
+use qw_module::trap::Trap;
+
+/// What a step came to.
+#[derive(Clone, Copy, Debug, PartialEq, Eq)]
+pub enum Stepped {
+    Ran,
+    /// A request was granted: the memory's size before, and how much it grew, in pages.
+    Grew { at: u32, pages: u32 },
+    /// A request for so many pages was refused.
+    Refused { pages: u32 },
+    /// This step left `run`, whatever its instruction.
+    Returned,
+    /// `raise` was called with this code.
+    Raised(u32),
+    /// The instruction trapped, and nothing was written.
+    Trapped(Trap),
+}
+
+impl Stepped {
+    /// How the run has ended, if no step follows.
+    pub(crate) fn end(self) -> Option<RunEnd>
+        ensures { result ≡ run_end_of self }
+    {
+        match self {
+            Stepped::Ran | Stepped::Grew { .. } | Stepped::Refused { .. } => None,
+            Stepped::Returned => Some(RunEnd::Returned),
+            Stepped::Raised(code) => Some(RunEnd::Raised(code)),
+            Stepped::Trapped(why) => Some(RunEnd::Trapped(why)),
+        }
+    }
+}
+
+/// How many steps were made one after another, and what the last of them came to.
+#[derive(Clone, Copy, Debug, PartialEq, Eq)]
+pub struct Run {
+    pub steps: u64,
+    pub last: Stepped,
+}
+
+impl Run {
+    /// So many steps, after which the run goes on.
+    pub(crate) fn going(steps: u64) -> Self
+        ensures { result ≡ record { steps = steps; last = Stepped.Ran } }
+    {
+        Run {
+            steps,
+            last: Stepped::Ran,
+        }
+    }
+}
+
+/// How a run has ended.
+#[derive(Clone, Copy, Debug, PartialEq, Eq)]
+pub(crate) enum RunEnd {
+    Returned,
+    Raised(u32),
+    Trapped(Trap),
+}
+
+ghost use Rattle.qw_machine.specs.Inner.Ended.{answer_of};
+
+/// What an operator came to, as a step.
+pub(crate) fn operated(operated: Operated) -> Stepped
+    ensures { result ≡ answer_of operated }
+{
+    match operated {
+        Operated::Ran => Stepped::Ran,
+        Operated::Grew { at, pages } => Stepped::Grew { at, pages },
+        Operated::Refused { pages } => Stepped::Refused { pages },
+        Operated::Trapped(why) => Stepped::Trapped(why),
+    }
+}
