@@ -9,6 +9,7 @@ mod FuelLemmas
 pub mod Grants
 mod OpenOutcomes
 mod PageUse
+pub mod PromisedRuns
 pub mod Promises
 pub mod Standing
 pub mod StatementRuns
