@@ -129,7 +129,7 @@ end-begun seat last program number d begins told = end-by_state seat last (state
 module _ (width : ℕ) (rows : List (List Val)) (memory : Octets) (seat : Seat) (first : IsFirstMemory seat.query width rows memory.octets)
     (slim : width ≤ most_columns) (short : length rows ≤ most_rows) (typed : AllByRecursion (IsIntegerRow width) rows) (program : Module) (compiled : IsCompiled seat.query program)
     (narrow : AllByRecursion (λ column. column < width) (used seat.query)) (descriptor_is : seat.descriptor ≡ column_pages width (length rows) * page)
-    (many : seat.rows ≡ length rows) (steps : 1 ≤ seat.limits.steps) (some_pages : 1 ≤ seat.limits.pages) (pages : seat.limits.pages ≤ 61628)
+    (many : seat.rows ≡ length rows) (steps : 1 ≤ seat.limits.steps) (some_pages : 1 ≤ seat.limits.pages) (fits : column_pages width (length rows) + seat.limits.pages ≤ 65535)
     (nothing : seat.granted.items ≡ []) (one_page : seat.held ≡ 1) (unrefused : seat.refused ≡ None) (none : seat.ran ≡ 0)
     (made : seat.instance ≡ record { program = program; state = begun program compiled.shaped.0 seat.descriptor }) (end : IsEndOf seat (state_in seat) seat.ended) where
   abbrev starts : List ℕ
@@ -205,7 +205,7 @@ module _ (width : ℕ) (rows : List (List Val)) (memory : Octets) (seat : Seat) 
       starting = starting_first;
       narrow = narrow_first;
       descriptors = descriptor_first;
-      room = omega (arith, first.size, few, one_page, some_pages, pages);
+      room = omega (arith, first.size, one_page, some_pages, fits);
     };
     table = first.columns;
     size = first.size;

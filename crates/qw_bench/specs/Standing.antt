@@ -1,5 +1,5 @@
 -- What a host sees of a bench, and what it gives and is told.
-use Rattle.std.specs.Prelude.{ℕ, ◌+◌, ◌*◌, ◌≤◌, List, length, Option, Some, None, slice_get}
+use Rattle.std.specs.Prelude.{ℕ, ◌+◌, ◌*◌, ◌≤◌, List, [], ◌∷◌, length, Option, Some, None, slice_get}
 use Rattle.std.specs.Option.{option_and_then}
 use Rattle.qw_types.specs.declared.value.Val.{Val}
 use Rattle.qw_linear.specs.Memory.{page}
@@ -31,6 +31,20 @@ end_of None = None
 end_of (Some ended.Done) = Some Done
 end_of (Some (ended.Pages held asked limit)) = Some (Pages held asked limit)
 end_of (Some (ended.Steps limit)) = Some (Steps limit)
+
+-- how many pages the instances with these limits may hold together
+abbrev pub limit_pages : List Limits → ℕ
+limit_pages [] = 0
+limit_pages (one ∷ limits) = one.pages + limit_pages limits
+
+-- The pages that a bench needs over a table of so many columns and rows: those of the columns, and all that the instances with
+-- these limits may hold.
+abbrev pub total_pages : (width rows : ℕ) → List Limits → ℕ
+total_pages width rows limits = column_pages width rows + limit_pages limits
+
+-- how many of the 65,535 pages of a memory the columns of the widest and longest table leave
+abbrev pub spare_pages : ℕ
+spare_pages = 61628
 
 -- the first task on a bench over a table of so many columns and rows: its first page follows the pages of the columns
 abbrev pub first_task : (width rows : ℕ) → CompiledQuery → Limits → Task

@@ -1,15 +1,15 @@
 //! Instances of compiled statements that share one linear memory, and the turns that they are given.
 
-ghost use Rattle.std.specs.Prelude.{◌≡◌, ◌≢◌, List, not, is_some, ◌↔◌, ◌+◌, ◌-◌, ◌*◌, ◌<◌, ◌≤◌, ◌^◌, ℕ, [], ◌∷◌, ◌++◌, None, length, IfOk, IfSome, IsSome, slice_get};
+ghost use Rattle.std.specs.Prelude.{◌≡◌, ◌≢◌, List, not, is_some, ◌↔◌, ◌+◌, ◌-◌, ◌*◌, ◌<◌, ◌≤◌, ◌^◌, ℕ, [], ◌∷◌, ◌++◌, None, Err, length, IfErr, IfOk, IfSome, IsSome, slice_get};
 ghost use Rattle.std.specs.List.{list_any};
 ghost use Rattle.std.specs.Vec.{vec_capacity};
 ghost use Rattle.qw_csv.specs.Contents.{AreIntegerKinds};
-ghost use Rattle.qw_linear.specs.Memory.{page};
+ghost use Rattle.qw_linear.specs.Memory.{most_pages, page};
 
 mod start;
 
 use crate::bench::start::{first_instance, first_memory};
-use qw_columns::columns::{MAX_COLUMN_PAGES, pages_needed};
+use qw_columns::columns::pages_needed;
 use qw_csv::Loaded;
 use qw_linear::linear::{Linear, MAX_PAGES, PAGE};
 use qw_machine::machine::Instance;
@@ -19,11 +19,12 @@ use qw_types::NoMemory;
 use qw_valid::valid::ValidModule;
 use std::alloc::Global;
 use std::marker::Model;
+use thiserror::Error;
 
 /// How much an instance may use.
 #[derive(Clone, Copy, Debug, PartialEq, Eq)]
 pub struct Limits {
-    /// How many pages it may hold.
+    /// How many pages it may hold, from 1 to [`MAX_PAGES`].
     pub pages: u32,
     /// How many instructions it may run.
     pub steps: u64,
@@ -36,8 +37,25 @@ pub const DEFAULT_LIMITS: Limits = Limits {
     steps: 999_999_999_999_999_999,
 };
 
-/// The most pages that an instance may hold: all that the columns leave.
-pub const MAX_INSTANCE_PAGES: u32 = MAX_PAGES - MAX_COLUMN_PAGES;
+/// Why there is no bench.
+#[derive(Clone, Copy, Debug, PartialEq, Eq, Error)]
+pub enum BenchFault {
+    /// The pages of the columns and all that the instances may hold, which are more than [`MAX_PAGES`].
+    #[error("total pages {need}")]
+    TotalPages { need: u32 },
+    #[error("want of memory")]
+    NoMemory,
+}
+
+impl From<NoMemory> for BenchFault {
+    ghost use Rattle.qw_bench.specs.declared.bench.BenchFault.TheVariants.{NoMemory};
+
+    ghost from_gives = { λ _ fault. fault ≡ NoMemory };
+
+    fn from(_fault: NoMemory) -> Self {
+        BenchFault::NoMemory
+    }
+}
 
 /// How an instance ended.
 #[derive(Clone, Copy, Debug, PartialEq, Eq)]
@@ -249,7 +267,7 @@ impl Bench {
     ghost use Rattle.qw_map.specs.Turns.{EachInstance, Act, turn, acted, turns};
     ghost use Rattle.qw_bench.specs.Bench.{AreRounds, IsStart, round};
     ghost use Rattle.qw_bench.specs.Inner.Rounds.{steps_left};
-    ghost use Rattle.qw_bench.specs.Standing.{IsBench, end_of, first_task};
+    ghost use Rattle.qw_bench.specs.Standing.{IsBench, end_of, first_task, spare_pages, total_pages};
     ghost use Rattle.qw_bench.specs.Bench.{end_in, ran_in};
 
     /// A bench with one instance of the job over a table, which has the columns that the job's statement
@@ -258,11 +276,34 @@ impl Bench {
     ///
     /// # Errors
     ///
-    /// [`NoMemory`] where the bench does not fit memory.
-    pub fn new(alloc: Global, loaded: &Loaded, job: Job, limits: Limits) -> Result<Self, NoMemory>
+    /// `TotalPages` exactly where the pages of the columns and of the limit together are more than
+    /// [`MAX_PAGES`], so for no limit that the widest and longest table leaves room for; else `NoMemory`
+    /// where the bench does not fit memory. The job is dropped.
+    pub fn new(alloc: Global, loaded: &Loaded, job: Job, limits: Limits) -> Result<Self, BenchFault>
         requires integers { AreIntegerKinds loaded.now.columns }
         requires columns { AllByRecursion (λ column. column < length loaded.now.columns) (used job.statement) }
-        requires pages { (1 ≤ limits.pages) × (limits.pages ≤ MAX_INSTANCE_PAGES) }
+        requires pages { (1 ≤ limits.pages) × (limits.pages ≤ MAX_PAGES) }
+        requires steps { 1 ≤ limits.steps }
+        ensures total_pages { (need : ℕ) → (result ≡ Err (BenchFault.TotalPages need))
+            ↔ ((need ≡ total_pages (length loaded.now.columns) (length loaded.now.rows) (limits ∷ [])) × (most_pages < need)) }
+        ensures within { limits.pages ≤ spare_pages → IfErr result (λ fault. fault ≡ BenchFault.NoMemory) }
+        ensures tasks { IfOk result (λ bench. bench.tasks ≡ first_task (length loaded.now.columns) (length loaded.now.rows) job limits ∷ []) }
+        ensures start { IfOk result (λ bench. IsStart (length loaded.now.columns) loaded.now.rows bench.tasks bench.shared) }
+        ensures reserved { IfOk result (λ bench. bench.reserved ≡ total_pages (length loaded.now.columns) (length loaded.now.rows) (limits ∷ [])) }
+    {
+        let need = pages_needed(loaded) + limits.pages;
+        if need > MAX_PAGES {
+            return Err(BenchFault::TotalPages { need });
+        }
+        Ok(Bench::begin(alloc, loaded, job, limits)?)
+    }
+
+    /// The bench of an instance whose pages fit a memory beside the columns.
+    fn begin(alloc: Global, loaded: &Loaded, job: Job, limits: Limits) -> Result<Self, NoMemory>
+        requires integers { AreIntegerKinds loaded.now.columns }
+        requires columns { AllByRecursion (λ column. column < length loaded.now.columns) (used job.statement) }
+        requires pages { 1 ≤ limits.pages }
+        requires room { column_pages (length loaded.now.columns) (length loaded.now.rows) + limits.pages ≤ MAX_PAGES }
         requires steps { 1 ≤ limits.steps }
         ensures tasks { IfOk result (λ bench. bench.tasks ≡ first_task (length loaded.now.columns) (length loaded.now.rows) job limits ∷ []) }
         ensures start { IfOk result (λ bench. IsStart (length loaded.now.columns) loaded.now.rows bench.tasks bench.shared) }

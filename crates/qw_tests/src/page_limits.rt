@@ -1,7 +1,11 @@
-// Instances at their limit of pages: what fits the first page, and the row after that.
+// Instances at their limit of pages: what fits the first page, and the row after that; and limits that reach, with the pages of
+// the columns, those of a memory, and pass them.
 
-use crate::tables::{bench_of, file_of, wide};
-use qw_bench::bench::{Bench, Ended, Limits};
+ghost use Rattle.std.specs.Prelude.{◌≤◌};
+
+use crate::tables::{bench_of, bench_or_fault, file_of, narrow, sevens, wide};
+use qw_bench::bench::{Bench, BenchFault, Ended, Limits};
+use qw_linear::linear::MAX_PAGES;
 use qw_sink::results::received;
 use std::alloc::Global;
 use std::test::Fail;
@@ -44,5 +48,32 @@ fn a_page_has_room_for_2727_rows_of_one_cell(rt: HostRuntime) -> Result<(), Fail
             limit: 1,
         })
     );
+    Ok(())
+}
+
+// Why there is no bench whose instance may hold so many pages over so many rows of 7, if there is none.
+fn fault_of(alloc: Global, rows: usize, pages: u32) -> Result<Option<BenchFault>, Fail>
+    requires { (1 ≤ pages) × (pages ≤ MAX_PAGES) }
+{
+    let table = sevens(alloc, rows)?;
+    let limits = Limits {
+        pages,
+        steps: 1_000_000,
+    };
+    let made = bench_or_fault(alloc, &narrow(alloc)?, table.as_slice(), limits)?;
+    Ok(made.err())
+}
+
+// A column of 16,368 rows is all of its first page behind the 64 octets that belong to nobody. The next row begins a second one.
+#[test]
+fn total_pages_at_those_of_a_memory_and_past_them(rt: HostRuntime) -> Result<(), Fail> {
+    let alloc = rt.alloc();
+    assert_eq!(rt; fault_of(alloc, 16_368, 65_534)?, None);
+    let one_past = Some(BenchFault::TotalPages { need: 65_536 });
+    assert_eq!(rt; fault_of(alloc, 16_368, 65_535)?, one_past);
+    assert_eq!(rt; fault_of(alloc, 16_369, 65_533)?, None);
+    assert_eq!(rt; fault_of(alloc, 16_369, 65_534)?, one_past);
+    let two_past = Some(BenchFault::TotalPages { need: 65_537 });
+    assert_eq!(rt; fault_of(alloc, 16_369, 65_535)?, two_past);
     Ok(())
 }

@@ -4,11 +4,12 @@ ghost use Rattle.std.specs.Prelude.{◌≡◌, ◌≤◌, [], ◌∷◌, IfOk, t
 ghost use Rattle.qw_types.specs.declared.value.Ty.TheVariants.{Integer};
 ghost use Rattle.qw_csv.specs.Contents.{AreIntegerKinds, AreIntegers};
 
-use qw_bench::bench::{Bench, Job, Limits, MAX_INSTANCE_PAGES};
+use qw_bench::bench::{Bench, BenchFault, Job, Limits};
 use qw_csv::Loaded;
 use qw_csv::loading::{LoadFault, load};
 use qw_emit::emit::module_of;
 use qw_io::{MemoryShelf, NamedFile};
+use qw_linear::linear::MAX_PAGES;
 use qw_meaning::query::{Comparison, Query};
 use qw_types::{Column, Columns, Table, Text, Ty};
 use qw_valid::valid::validate;
@@ -122,7 +123,21 @@ pub fn loaded_integers(alloc: Global, table: &Table, file: &[u8]) -> Result<Load
 /// A bench of `SELECT A FROM T WHERE A > 5` over a table's file, before its first turn.
 pub fn bench_of(alloc: Global, table: &Table, file: &[u8], limits: Limits) -> Result<Bench, Fail>
     requires integers { AreIntegers table.now.columns }
-    requires pages { (1 ≤ limits.pages) × (limits.pages ≤ MAX_INSTANCE_PAGES) }
+    requires pages { (1 ≤ limits.pages) × (limits.pages ≤ MAX_PAGES) }
+    requires steps { 1 ≤ limits.steps }
+{
+    Ok(bench_or_fault(alloc, table, file, limits)??)
+}
+
+/// The same bench, or why there is none.
+pub fn bench_or_fault(
+    alloc: Global,
+    table: &Table,
+    file: &[u8],
+    limits: Limits,
+) -> Result<Result<Bench, BenchFault>, Fail>
+    requires integers { AreIntegers table.now.columns }
+    requires pages { (1 ≤ limits.pages) × (limits.pages ≤ MAX_PAGES) }
     requires steps { 1 ≤ limits.steps }
 {
     let loaded = loaded_integers(alloc, table, file)?;
@@ -132,5 +147,5 @@ pub fn bench_of(alloc: Global, table: &Table, file: &[u8], limits: Limits) -> Re
     let query = asking(alloc, Comparison::Greater, 5)?;
     let valid = validate(alloc, module_of(alloc, &query)?)?;
     let job = Job::new(query, valid);
-    Ok(Bench::new(alloc, &loaded, job, limits)?)
+    Ok(Bench::new(alloc, &loaded, job, limits))
 }

@@ -7,11 +7,10 @@ ghost use Rattle.qw_module.specs.Start.{begun};
 ghost use Rattle.qw_module.specs.Validity.{IsDescending, IsShaped};
 ghost use Rattle.qw_bench.specs.Inner.FirstMemory.{IsFirstMemory};
 
-use crate::bench::MAX_INSTANCE_PAGES;
 use crate::first_page::begin_page;
 use qw_columns::columns::{column_starts, pages_needed, place};
 use qw_csv::Loaded;
-use qw_linear::linear::{Linear, PAGE};
+use qw_linear::linear::{Linear, MAX_PAGES, PAGE};
 use qw_machine::machine::{Instance, InstanceFault};
 use qw_map::layout::used_columns;
 use qw_meaning::query::Query;
@@ -32,7 +31,8 @@ pub(super) fn first_memory(
     pages: u32,
 ) -> Result<Linear, NoMemory>
     requires integers { AreIntegerKinds loaded.now.columns }
-    requires pages { (1 ≤ pages) × (pages ≤ MAX_INSTANCE_PAGES) }
+    requires pages { 1 ≤ pages }
+    requires room { column_pages (length loaded.now.columns) (length loaded.now.rows) + pages ≤ MAX_PAGES }
     ensures first { IfOk result (λ memory. IsFirstMemory query.now (length loaded.now.columns) loaded.now.rows memory.octets) }
     ensures reserved { IfOk result (λ memory. memory.reserved ≡ column_pages (length loaded.now.columns) (length loaded.now.rows) + pages) }
 {

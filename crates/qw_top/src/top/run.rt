@@ -5,18 +5,21 @@ ghost use Rattle.std.specs.List.{AllByRecursion};
 ghost use Rattle.std.specs.String.{string_bytes};
 ghost use Rattle.qw_types.specs.declared.schema.Table.{Table};
 ghost use Rattle.qw_csv.specs.Contents.{AreIntegerKinds, column_type};
+ghost use Rattle.qw_bench.specs.Bench.{IsStart};
+ghost use Rattle.qw_bench.specs.Standing.{first_task};
 ghost use Rattle.qw_emit.specs.Compiled.{IsCompiled};
 ghost use Rattle.qw_map.specs.Layout.{used};
 ghost use Rattle.qw_top.specs.Delivered.{Asks, HasRun};
 ghost use Rattle.qw_top.specs.Inner.Stages.{HasAsked, Stops, failed_stop};
 ghost use Rattle.qw_top.specs.Inner.Shelves.{HasRead, told_by};
+ghost use Rattle.qw_top.specs.Limits.{default_limits};
 ghost use Rattle.qw_top.specs.Top.{IsOneTable};
 
 use super::QUANTUM;
 use super::inputs::{Prepared, prepare};
 use crate::stop::{Refusal, Stop};
 use crate::words::run_words;
-use qw_bench::bench::{Bench, DEFAULT_LIMITS, Job};
+use qw_bench::bench::{Bench, BenchFault, DEFAULT_LIMITS, Job};
 use qw_csv::Loaded;
 use qw_emit::emit::module_of;
 use qw_io::Shelf;
@@ -80,9 +83,24 @@ fn finished(alloc: Global, loaded: &Loaded, query: Query) -> Result<Bench, NoMem
     ensures { IfOk result (λ bench. HasRun (length loaded.now.columns) loaded.now.rows query bench) }
 {
     let job = compiled(alloc, query)?;
-    let mut bench = Bench::new(alloc, loaded, job, DEFAULT_LIMITS)?;
+    let mut bench = begun(alloc, loaded, job)?;
     bench.run_all(QUANTUM);
     Ok(bench)
+}
+
+/// The bench of a query over a loaded table, under the limits where none are given: they leave room for the
+/// columns of every table.
+fn begun(alloc: Global, loaded: &Loaded, job: Job) -> Result<Bench, NoMemory>
+    requires integers { AreIntegerKinds loaded.now.columns }
+    requires columns { AllByRecursion (λ column. column < length loaded.now.columns) (used job.statement) }
+    ensures tasks { IfOk result (λ bench. bench.tasks ≡ first_task (length loaded.now.columns) (length loaded.now.rows) job default_limits ∷ []) }
+    ensures start { IfOk result (λ bench. IsStart (length loaded.now.columns) loaded.now.rows bench.tasks bench.shared) }
+{
+    match Bench::new(alloc, loaded, job, DEFAULT_LIMITS) {
+        Ok(bench) => Ok(bench),
+        Err(BenchFault::NoMemory) => Err(NoMemory),
+        Err(BenchFault::TotalPages { .. }) => unreachable!(),
+    }
 }
 
 /// The statement with its module. A compiled module is valid, so it is refused for want of memory alone.

@@ -4,8 +4,8 @@ use Rattle.qw_top.specs.Limits.{default_limits}
 use Rattle.qw_top.proofs.RunLemmas.{HasRun-from}
 use Rattle.qw_top.proofs.top.run.finished.Goals as goal
 
-pub new-requires-clause-columns : goal.new-requires-clause-columns
-new-requires-clause-columns c = rw c.in_ok-job.ensures.query c.requires.columns
+pub begun-requires-clause-columns : goal.begun-requires-clause-columns
+begun-requires-clause-columns c = rw c.in_ok-job.ensures.query c.requires.columns
 
 pub returns : goal.returns
 returns c =

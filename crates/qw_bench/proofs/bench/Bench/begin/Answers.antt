@@ -11,8 +11,8 @@ use Rattle.qw_bench.specs.declared.bench.Seat.{Seat}
 use Rattle.qw_bench.specs.Bench.{CompiledQuery}
 use Rattle.qw_bench.specs.Inner.Seats.{IsEndOf, state_in}
 use Rattle.qw_bench.proofs.BenchStart.{bench, end-begun, start}
-use Rattle.qw_bench.proofs.bench.Bench.new.Goals as goal
-use Rattle.qw_bench.proofs.bench.Bench.new.Goals.{in-Returned, in_default}
+use Rattle.qw_bench.proofs.bench.Bench.begin.Goals as goal
+use Rattle.qw_bench.proofs.bench.Bench.begin.Goals.{in-Returned, in_default}
 
 -- the seat that is made
 abbrev seat : goal.In_ok-seats → Seat
@@ -57,11 +57,11 @@ pub invariant_of-result : goal.invariant_of-result
 invariant_of-result c =
     rw c.in_ok-seats.ensures.items
     (bench (length c.args.loaded.now.columns) c.args.loaded.now.rows c.in_ok-memory.memory (seat c) c.in_ok-memory.ensures.first c.len.ensures.limits.narrow c.len.ensures.limits.few (typed c) c.job.inside.valid c.job.invariant
-    (columns c) (descriptor c) c.len.ensures.rows c.requires.steps c.requires.pages.0 c.requires.pages.1 c.in_ok-granted.ensures.items refl refl refl (made c) (end c)
+    (columns c) (descriptor c) c.len.ensures.rows c.requires.steps c.requires.pages c.requires.room c.in_ok-granted.ensures.items refl refl refl (made c) (end c)
     c.in_ok-granted.ensures.capacity c.in_ok-memory.ensures.reserved)
 
 pub returns-clause-start : goal.returns-clause-start
 returns-clause-start c =
     rw c.in_ok-seats.ensures.items
     (start (length c.args.loaded.now.columns) c.args.loaded.now.rows c.in_ok-memory.memory (seat c) c.in_ok-memory.ensures.first c.len.ensures.limits.narrow c.len.ensures.limits.few (typed c) c.job.inside.valid c.job.invariant
-    (columns c) (descriptor c) c.len.ensures.rows c.requires.steps c.requires.pages.0 c.requires.pages.1 c.in_ok-granted.ensures.items refl refl refl (made c) (end c))
+    (columns c) (descriptor c) c.len.ensures.rows c.requires.steps c.requires.pages c.requires.room c.in_ok-granted.ensures.items refl refl refl (made c) (end c))

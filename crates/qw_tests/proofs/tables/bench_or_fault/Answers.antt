@@ -3,7 +3,7 @@ use Rattle.std.specs.List.{AllByRecursion}
 use Rattle.qw_map.specs.Layout.{used}
 use Rattle.qw_bench.specs.Bench.{CompiledQuery}
 use Rattle.qw_columns.proofs.ColumnLemmas.{used-first}
-use Rattle.qw_tests.proofs.tables.bench_of.Goals as goal
+use Rattle.qw_tests.proofs.tables.bench_or_fault.Goals as goal
 
 pub new-requires-clause-columns : goal.new-requires-clause-columns
 new-requires-clause-columns c =
