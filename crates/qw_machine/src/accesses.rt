@@ -51,39 +51,39 @@ fn write(memory: &mut Linear, kind: Store, at: u64, value: u64) -> Option<()>
 }
 
 /// Reads what a load reads. Answers whether that lies in the memory.
-pub(crate) fn load(kind: Load, arg: MemArg, operands: &mut Stack<u64>, memory: &Linear) -> bool
-    requires ready { CanOperate (Op.Load kind arg) [] operands.old.values [] }
+pub(crate) fn load(kind: &Load, arg: MemArg, operands: &mut Stack<u64>, memory: &Linear) -> bool
+    requires ready { CanOperate (Op.Load kind.now arg) [] operands.old.values [] }
     requires room { length operands.old.values < operands.old.room }
     ensures done { (globals locals : List ℕ) (spare : ℕ) →
-        IsDone (op_wants (Op.Load kind arg) globals operands.old.values locals) (record { operands = operands.old.values; globals = globals; locals = locals; memory = memory.now.octets }) spare (accessed result)
+        IsDone (op_wants (Op.Load kind.now arg) globals operands.old.values locals) (record { operands = operands.old.values; globals = globals; locals = locals; memory = memory.now.octets }) spare (accessed result)
         (record { operands = operands.new.values; globals = globals; locals = locals; memory = memory.now.octets }) }
     ensures room { operands.new.room ≡ operands.old.room }
 {
     let at = address_of(operands.pop(), arg);
-    let Some(number) = octets(memory, kind, at) else {
+    let Some(number) = octets(memory, *kind, at) else {
         return false;
     };
-    operands.push(loaded(kind, number));
+    operands.push(loaded(*kind, number));
     true
 }
 
 /// Writes what a store writes. Answers whether that lies in the memory.
 pub(crate) fn store(
-    kind: Store,
+    kind: &Store,
     arg: MemArg,
     operands: &mut Stack<u64>,
     memory: &mut Linear,
 ) -> bool
-    requires ready { CanOperate (Op.Store kind arg) [] operands.old.values [] }
+    requires ready { CanOperate (Op.Store kind.now arg) [] operands.old.values [] }
     ensures done { (globals locals : List ℕ) (spare : ℕ) →
-        IsDone (op_wants (Op.Store kind arg) globals operands.old.values locals) (record { operands = operands.old.values; globals = globals; locals = locals; memory = memory.old.octets }) spare (accessed result)
+        IsDone (op_wants (Op.Store kind.now arg) globals operands.old.values locals) (record { operands = operands.old.values; globals = globals; locals = locals; memory = memory.old.octets }) spare (accessed result)
         (record { operands = operands.new.values; globals = globals; locals = locals; memory = memory.new.octets }) }
     ensures room { operands.new.room ≡ operands.old.room }
     ensures reserved { memory.new.reserved ≡ memory.old.reserved }
 {
     let value = operands.pop();
     let at = address_of(operands.pop(), arg);
-    write(memory, kind, at, value).is_some()
+    write(memory, *kind, at, value).is_some()
 }
 
 /// Grows the memory by so many pages, which are reserved.

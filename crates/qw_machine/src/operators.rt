@@ -24,7 +24,8 @@ pub(crate) enum Operated {
 }
 
 /// Does an operator whose operands are there. A request is granted where it is for at most `spare` pages.
-// Its code stands in each place that executes operators, and each arm reads its own immediates alone.
+// Its code stands in each place that executes operators, and each arm reads its own immediates alone. The kind of an access is
+// read where it stands: a copy would take a place in memory that each operator clears.
 #[inline(always)]
 pub(crate) fn operate(
     op: &Op,
@@ -85,12 +86,12 @@ pub(crate) fn operate(
             let x = operands.pop();
             operands.push(convert(conversion, x));
         }
-        Op::Load(kind, arg) => {
+        Op::Load(ref kind, arg) => {
             if !load(kind, arg, operands, memory) {
                 return Operated::Trapped(Trap::OutOfBounds);
             }
         }
-        Op::Store(kind, arg) => {
+        Op::Store(ref kind, arg) => {
             if !store(kind, arg, operands, memory) {
                 return Operated::Trapped(Trap::OutOfBounds);
             }
