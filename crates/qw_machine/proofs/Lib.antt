@@ -6,6 +6,7 @@ mod Calls
 mod Controlled
 mod Descents
 mod Entering
+mod Followed
 mod Functions
 mod Imported
 mod Instances

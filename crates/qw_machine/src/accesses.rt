@@ -2,17 +2,16 @@
 
 ghost use Rattle.std.specs.Prelude.{◌≡◌, ℕ, List, [], ◌+◌, ◌*◌, ◌^◌, ◌<◌, ◌≤◌, length, IsSome, IfSome, OnSome, IfNone, ◌↔◌};
 ghost use Rattle.qw_module.specs.Numbers.{load_width, loaded_value, store_width};
-ghost use Rattle.qw_linear.specs.Memory.{page, number_at, with_number};
+ghost use Rattle.qw_linear.specs.Memory.{page, number_at, with_number, grown_by};
 ghost use Rattle.qw_module.specs.Step.{op_wants};
 ghost use Rattle.qw_module.specs.Execution.{effective};
-ghost use Rattle.qw_machine.specs.Inner.Operated.{CanOperate, IsDone};
+ghost use Rattle.qw_machine.specs.Inner.Operated.{CanOperate, IsDone, accessed};
 
 use crate::numbers::loaded;
-use crate::operators::{Operated, trapped};
+use crate::operators::Operated;
 use crate::stack::Stack;
 use qw_linear::linear::Linear;
 use qw_module::instruction::{Load, MemArg, Op, REFUSAL, Store, ValType};
-use qw_module::trap::Trap;
 
 /// Where an access begins.
 fn address_of(address: u64, arg: MemArg) -> u64
@@ -51,46 +50,55 @@ fn write(memory: &mut Linear, kind: Store, at: u64, value: u64) -> Option<()>
     }
 }
 
-pub(crate) fn load(kind: Load, arg: MemArg, operands: &mut Stack<u64>, memory: &Linear) -> Operated
-    requires ready { CanOperate (Op.Load kind arg) [] operands.old.values [] }
+/// Reads what a load reads. Answers whether that lies in the memory.
+pub(crate) fn load(kind: &Load, arg: MemArg, operands: &mut Stack<u64>, memory: &Linear) -> bool
+    requires ready { CanOperate (Op.Load kind.now arg) [] operands.old.values [] }
     requires room { length operands.old.values < operands.old.room }
     ensures done { (globals locals : List ℕ) (spare : ℕ) →
-        IsDone (op_wants (Op.Load kind arg) globals operands.old.values locals) (record { operands = operands.old.values; globals = globals; locals = locals; memory = memory.now.octets }) spare result
+        IsDone (op_wants (Op.Load kind.now arg) globals operands.old.values locals) (record { operands = operands.old.values; globals = globals; locals = locals; memory = memory.now.octets }) spare (accessed result)
         (record { operands = operands.new.values; globals = globals; locals = locals; memory = memory.now.octets }) }
     ensures room { operands.new.room ≡ operands.old.room }
 {
     let at = address_of(operands.pop(), arg);
-    let Some(number) = octets(memory, kind, at) else {
-        return trapped(Trap::OutOfBounds);
+    let Some(number) = octets(memory, *kind, at) else {
+        return false;
     };
-    operands.push(loaded(kind, number));
-    Operated::Ran
+    operands.push(loaded(*kind, number));
+    true
 }
 
+/// Writes what a store writes. Answers whether that lies in the memory.
 pub(crate) fn store(
-    kind: Store,
+    kind: &Store,
     arg: MemArg,
     operands: &mut Stack<u64>,
     memory: &mut Linear,
-) -> Operated
-    requires ready { CanOperate (Op.Store kind arg) [] operands.old.values [] }
+) -> bool
+    requires ready { CanOperate (Op.Store kind.now arg) [] operands.old.values [] }
     ensures done { (globals locals : List ℕ) (spare : ℕ) →
-        IsDone (op_wants (Op.Store kind arg) globals operands.old.values locals) (record { operands = operands.old.values; globals = globals; locals = locals; memory = memory.old.octets }) spare result
+        IsDone (op_wants (Op.Store kind.now arg) globals operands.old.values locals) (record { operands = operands.old.values; globals = globals; locals = locals; memory = memory.old.octets }) spare (accessed result)
         (record { operands = operands.new.values; globals = globals; locals = locals; memory = memory.new.octets }) }
     ensures room { operands.new.room ≡ operands.old.room }
     ensures reserved { memory.new.reserved ≡ memory.old.reserved }
 {
     let value = operands.pop();
     let at = address_of(operands.pop(), arg);
-    if write(memory, kind, at, value).is_none() {
-        return trapped(Trap::OutOfBounds);
-    }
-    Operated::Ran
+    write(memory, *kind, at, value).is_some()
+}
+
+/// Grows the memory by so many pages, which are reserved.
+// Requests are rare: their code stays out of the dispatch of the other operators.
+#[inline(never)]
+fn extend(memory: &mut Linear, pages: u32)
+    requires { length memory.old.octets + pages * page ≤ memory.old.reserved * page }
+    ensures { memory.new ≡ record { octets = grown_by pages memory.old.octets; reserved = memory.old.reserved } }
+{
+    memory.grow(pages).unwrap();
 }
 
 /// A request for pages (4.4.4, `memory.grow`).
-// Requests are rare: their code stays out of the dispatch of the other operators.
-#[inline(never)]
+// Its answer is built in the dispatch: returned by a call, it would take a place in memory that each operator writes.
+#[inline(always)]
 pub(crate) fn grow(operands: &mut Stack<u64>, memory: &mut Linear, spare: u32) -> Operated
     requires ready { CanOperate Op.MemoryGrow [] operands.old.values [] }
     requires room { length operands.old.values < operands.old.room }
@@ -107,7 +115,7 @@ pub(crate) fn grow(operands: &mut Stack<u64>, memory: &mut Linear, spare: u32) -
         return Operated::Refused { pages };
     }
     let at = memory.size();
-    memory.grow(pages).unwrap();
+    extend(memory, pages);
     operands.push(u64::from(at));
     Operated::Grew { at, pages }
 }

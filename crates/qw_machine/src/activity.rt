@@ -15,6 +15,7 @@ ghost use Rattle.qw_machine.specs.Inner.Operated.{CanOperate};
 ghost use Rattle.qw_machine.specs.Inner.Placed.{IsExecuted, IsPoint, IsRunning};
 ghost use Rattle.qw_machine.specs.Inner.Activities.{CanJump, CanLeave, IsDoneAt, IsJump, IsLeft, IsReturn, IsRun, IsStepped};
 
+use crate::following::following;
 use crate::numbers::value_of;
 use crate::operators::{Operated, operate};
 use crate::room::Rooms;
@@ -405,23 +406,18 @@ impl Activity {
             return Run::going(0);
         }
         let end = last_of(sequence.len() - 1, first, most);
-        let mut index = first;
-        while index < end {
-            let Instr::Op(op) = &sequence[index] else {
-                break;
-            };
-            let done = self.operator(op, memory, spare);
-            index += 1;
-            if !matches!(done, Operated::Ran) {
-                self.index = index;
-                return Run {
-                    steps: (index - first) as u64,
-                    last: operated(done),
-                };
-            }
-        }
-        self.index = index;
-        Run::going((index - first) as u64)
+        let run = following(
+            sequence,
+            first,
+            end,
+            &mut self.operands,
+            self.globals.as_mut_slice(),
+            &mut self.locals[self.first_local..],
+            memory,
+            spare,
+        );
+        self.index = first + run.steps as usize;
+        run
     }
 
     /// Steps one after another, at least one and at most so many: operators, and an instruction that may be any.

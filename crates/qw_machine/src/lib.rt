@@ -8,6 +8,7 @@
 mod accesses;
 mod activity;
 mod descending;
+mod following;
 pub mod laws;
 pub mod machine;
 mod numbers;

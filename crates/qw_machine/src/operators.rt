@@ -23,18 +23,9 @@ pub(crate) enum Operated {
     Trapped(Trap),
 }
 
-/// An operator that trapped.
-// Traps are rare: what they come to is built outside the dispatch, where it would cost each operator some writes.
-#[cold]
-#[inline(never)]
-pub(crate) fn trapped(why: Trap) -> Operated
-    ensures { result ≡ Operated.Trapped why }
-{
-    Operated::Trapped(why)
-}
-
 /// Does an operator whose operands are there. A request is granted where it is for at most `spare` pages.
-// Its code stands in each place that executes operators, and each arm reads its own immediates alone.
+// Its code stands in each place that executes operators, and each arm reads its own immediates alone. The kind of an access is
+// read where it stands: a copy would take a place in memory that each operator clears.
 #[inline(always)]
 pub(crate) fn operate(
     op: &Op,
@@ -79,7 +70,7 @@ pub(crate) fn operate(
             let x = operands.pop();
             match divide(ty, operator, x, y) {
                 Ok(value) => operands.push(value),
-                Err(why) => return trapped(why),
+                Err(why) => return Operated::Trapped(why),
             }
         }
         Op::Eqz(_) => {
@@ -95,8 +86,16 @@ pub(crate) fn operate(
             let x = operands.pop();
             operands.push(convert(conversion, x));
         }
-        Op::Load(kind, arg) => return load(kind, arg, operands, memory),
-        Op::Store(kind, arg) => return store(kind, arg, operands, memory),
+        Op::Load(ref kind, arg) => {
+            if !load(kind, arg, operands, memory) {
+                return Operated::Trapped(Trap::OutOfBounds);
+            }
+        }
+        Op::Store(ref kind, arg) => {
+            if !store(kind, arg, operands, memory) {
+                return Operated::Trapped(Trap::OutOfBounds);
+            }
+        }
         Op::MemorySize => operands.push(u64::from(memory.size())),
         Op::MemoryGrow => return grow(operands, memory, spare),
     }

@@ -1,6 +1,7 @@
 -- Mirrors `Activity::execute`, `leave_finished`, `step` and `run`: what the machine does at an instruction, and what its steps answer.
 use Rattle.std.specs.Prelude.{◌≡◌, ℕ, ◌+◌, ◌≤◌, nat_le, Bool, true, false, List, ◌∷◌, ◌++◌, length, take, drop, Some, slice_get, ◌-◌}
 use Rattle.std.specs.Bool.{MatchBool}
+use Rattle.qw_module.specs.declared.instruction.Instr.{Instr}
 use Rattle.qw_module.specs.declared.module.Module.{Module}
 use Rattle.qw_machine.specs.declared.activity.Entry.{Entry}
 use Rattle.qw_machine.specs.declared.activity.Frame.{Frame}
@@ -10,7 +11,7 @@ use Rattle.qw_machine.specs.declared.stepped.Run.{Run}
 use Rattle.qw_module.specs.Numbers.{truth}
 use Rattle.qw_module.specs.Execution.{Config, State, Running, Returned, Event}
 use Rattle.qw_module.specs.Step.{next}
-use Rattle.qw_machine.specs.Inner.Points.{Point, under, config_at, state_at, resumed}
+use Rattle.qw_machine.specs.Inner.Points.{Point, under, config_at, state_at, resumed, instructions_at, with_held}
 use Rattle.qw_machine.specs.declared.room.Rooms.{Rooms}
 use Rattle.qw_machine.specs.Inner.Placed.{IsPoint, IsRunning}
 use Rattle.qw_machine.specs.Inner.Ended.{run_end_of, is_over, state_after, WhileRunning}
@@ -73,3 +74,11 @@ pub record IsRun (m : Module) (rooms : Rooms) (spare most : ℕ) (p : Point) (me
   pub running : WhileRunning (run_end_of run.last) (IsRunning m rooms q)
   pub runs : Runs spare run.steps (config_at m p) memory (state_after (run_end_of run.last) (state_at m q)) after run.last
   pub few : run.steps ≤ most
+
+-- A point runs at an index of a sequence, with these operands, for which there is this room, these globals and these locals of the
+-- function that runs.
+pub record IsFollowed (m : Module) (rooms : Rooms) (sequence : List Instr) (p : Point) (index room : ℕ) (operands globals locals : List ℕ) : Type 0 where
+  pub instructions : instructions_at m p.function p.sequence ≡ sequence
+  pub first_in : p.first_local ≤ length p.locals
+  pub room_is : rooms.operands ≡ room
+  pub running : IsRunning m rooms (with_held p index operands globals locals)

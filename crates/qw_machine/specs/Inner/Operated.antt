@@ -1,5 +1,5 @@
 -- Mirrors `operate` of operators.rt: what it asks for, and what it does.
-use Rattle.std.specs.Prelude.{◌≡◌, ℕ, ◌+◌, ◌*◌, ◌<◌, ◌≤◌, ◌^◌, nat_le, List, length, slice_index}
+use Rattle.std.specs.Prelude.{◌≡◌, ℕ, ◌+◌, ◌*◌, ◌<◌, ◌≤◌, ◌^◌, nat_le, Bool, true, false, List, length, slice_index}
 use Rattle.std.specs.Bool.{MatchBool}
 use Rattle.qw_module.specs.declared.instruction.ValType.{ValType}
 use Rattle.qw_module.specs.declared.instruction.ValType.TheVariants.{I32}
@@ -77,3 +77,8 @@ IsDone (Requests pages make) before spare answer after =
     × (pages_of before.memory + pages ≤ most_pages))
     ((answer ≡ Refused pages) × (after ≡ record { operands = make refusal; globals = before.globals; locals = before.locals; memory = before.memory }))
 IsDone (Fails' why) before spare answer after = (answer ≡ Trapped why) × (after.memory ≡ before.memory)
+
+-- what an access came to, by whether it lies in the memory
+abbrev pub accessed : Bool → Operated
+accessed true = Ran
+accessed false = Trapped trap.OutOfBounds

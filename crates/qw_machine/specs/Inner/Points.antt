@@ -119,6 +119,11 @@ entered p inner takes target =
 abbrev pub at_index : Point → ℕ → Point
 at_index p index = record p { index = index }
 
+-- at an index of the same sequence, with these operands, globals and locals of the function that runs
+abbrev pub with_held : Point → (index : ℕ) → (operands globals locals : List ℕ) → Point
+with_held p index operands globals locals =
+    record p { index = index; operands = operands; locals = take p.first_local p.locals ++ locals; globals = globals }
+
 -- at the beginning of the body of a function of the module's own, in the label of the whole body (4.4.7, "Invocation")
 abbrev pub in_body : Module → Point → (function : ℕ) → (leaves : Bool) → Point
 in_body m p function leaves =

@@ -1,101 +1,79 @@
-use Rattle.std.proofs.Common.{◌≡◌, ◌<◌, ◌+◌, ◌-◌, length, Some, slice_get, refl, sym, ap, ◌∙◌, arith}
-use Rattle.std.proofs.lemmas.Bool.{false≢true}
-use Rattle.qw_module.specs.declared.instruction.Instr.TheVariants as i
-use Rattle.qw_machine.specs.Inner.Ended.{answer_of}
-use Rattle.qw_machine.specs.Inner.Points.{at_index, instructions_at, point_of}
+use Rattle.std.proofs.Common.{◌≡◌, ◌∙◌, refl, ap, ap₂, sym, subst, ℕ, List, ◌++◌, length, take, drop, ◌+◌, ◌-◌, arith, length-append}
+use Rattle.std.proofs.lemmas.List.{with_items_is, length-take-le, length-drop}
+use Rattle.qw_machine.specs.Inner.Activities.{IsRun}
+use Rattle.qw_machine.specs.Inner.Points.{Point, point_of, with_held}
 use Rattle.qw_machine.specs.Inner.Rooms.{rooms_of}
-use Rattle.qw_machine.proofs.Arrays.{instruction-read, length-read}
-use Rattle.qw_machine.proofs.Operated.{operator-ready}
-use Rattle.qw_machine.proofs.Runs.{run-none, run-operator, run-told, run-keeps-length}
+use Rattle.qw_machine.proofs.Arrays.{length-read}
+use Rattle.qw_machine.proofs.Followed.{followed-here, run-held}
+use Rattle.qw_machine.proofs.ListFacts.{take-end, append-none}
+use Rattle.qw_machine.proofs.Reading.{sequence-read}
+use Rattle.qw_machine.proofs.Runs.{run-none}
 use Rattle.qw_machine.proofs.activity.Activity.operators.Goals as goal
-use Rattle.qw_machine.proofs.activity.Activity.operators.Goals.{in-Ran, in_default-matches}
-
-pub loop-index-init : goal.loop-index-init
-loop-index-init c = (
-  refl,
-  omega arith,
-  run-none c.args.program.now (rooms_of c.args.self.now) c.args.spare c.args.most (point_of c.args.self.now) c.args.memory.now.octets
-      (c.args.self.now.index - c.args.self.now.index) (omega arith) c.requires.point,
-  refl,
-  refl,
-  refl,
-)
 
 pub returns-then-not-matches-clause-run : goal.returns-then-not-matches-clause-run
 returns-then-not-matches-clause-run c =
     rw c.going.ensures (run-none c.args.program.now (rooms_of c.args.self.now) c.args.spare c.args.most (point_of c.args.self.now) c.args.memory.now.octets 0 refl c.requires.point)
 
-pub operator-done-requires-clause-ready : goal.operator-done-requires-clause-ready
-operator-done-requires-clause-ready c =
-    let m = c.args.program.now in
-    let s = c.loop-index.self in
-    let is = c.loop-index.invariant in
+pub overflow_sub-sequence : goal.overflow_sub-sequence
+overflow_sub-sequence c =
     let at = c.requires.point.point.room in
-    let long = length-read m at.own c.index.ensures at.numbered c.index-2.ensures c.as_slice-sequence.ensures.value in
-    let within : c.loop-index.index < length (instructions_at m c.args.self.now.function c.args.self.now.sequence) =
-    omega (arith, long, c.loop-index-test.true, c.last_of-end.ensures.inside) in
-    let read = instruction-read m at.own c.index.ensures _ at.numbered c.index-2.ensures c.as_slice-sequence.ensures.value within c.in-Op-sequence.is in
-    let found : slice_get (instructions_at m s.function s.sequence) c.loop-index.index ≡ Some (i.Op c.in-Op-sequence.op) = rw (is.4, is.5) read in
-    operator-ready c.args.spare is.2.running.point found
+    omega (arith, c.requires.point.unfinished, length-read c.args.program.now at.own c.index.ensures at.numbered c.index-2.ensures c.as_slice-sequence.ensures.value)
 
-pub operator-done-requires-clause-pages : goal.operator-done-requires-clause-pages
-operator-done-requires-clause-pages c =
-    let is = c.loop-index.invariant in
-    rw (
-      is.3,
-      run-keeps-length c.args.program.now (rooms_of c.args.self.now) c.args.spare c.args.most (point_of c.args.self.now) c.args.memory.now.octets
-          (c.loop-index.index - c.args.self.now.index) (at_index (point_of c.loop-index.self) c.loop-index.index) c.loop-index.memory.octets is.2,
-    ) c.requires.pages
-
-pub returns-then-not-matches-2-clause-run : goal.returns-then-not-matches-2-clause-run
-returns-then-not-matches-2-clause-run c =
-    let m = c.args.program.now in
-    let s = c.loop-index.self in
-    let is = c.loop-index.invariant in
+pub last_of-end-requires : goal.last_of-end-requires
+last_of-end-requires c =
     let at = c.requires.point.point.room in
-    let long = length-read m at.own c.index.ensures at.numbered c.index-2.ensures c.as_slice-sequence.ensures.value in
-    let within : c.loop-index.index < length (instructions_at m c.args.self.now.function c.args.self.now.sequence) =
-    omega (arith, long, c.loop-index-test.true, c.last_of-end.ensures.inside) in
-    let read = instruction-read m at.own c.index.ensures _ at.numbered c.index-2.ensures c.as_slice-sequence.ensures.value within c.in-Op-sequence.is in
-    let found : slice_get (instructions_at m s.function s.sequence) c.loop-index.index ≡ Some (i.Op c.in-Op-sequence.op) = rw (is.4, is.5) read in
-    let inside : c.loop-index.index + 1 < length (instructions_at m c.operator-done.new.self.function c.operator-done.new.self.sequence) =
-    rw (c.operator-done.ensures.place.0 ∙ is.4, c.operator-done.ensures.place.1 ∙ is.5) (omega (arith, long, c.loop-index-test.true, c.last_of-end.ensures.inside)) in
-    rw c.operated.ensures (run-operator m (rooms_of c.args.self.now) c.args.spare c.args.most (point_of c.args.self.now) c.args.memory.now.octets
-    (c.loop-index.index - c.args.self.now.index) (c.loop-index.index + 1 - c.args.self.now.index)
-    (at_index (point_of s) c.loop-index.index) (at_index (point_of c.operator-done.new.self) (c.loop-index.index + 1))
-    c.loop-index.memory.octets c.operator-done.new.memory.octets (answer_of c.operator-done.result) is.2
-    (c.operator-done.ensures.done m (rooms_of c.args.self.now) c.loop-index.index is.2.running.point found) inside
-    (omega (arith, is.1)) (omega (arith, is.1, c.loop-index-test.true, c.last_of-end.ensures.few)))
+    omega (arith, c.requires.point.unfinished, length-read c.args.program.now at.own c.index.ensures at.numbered c.index-2.ensures c.as_slice-sequence.ensures.value)
 
-pub loop-index-preserved : goal.loop-index-preserved
-loop-index-preserved c =
-    let m = c.args.program.now in
-    let s = c.loop-index.self in
-    let is = c.loop-index.invariant in
+pub following-run-requires-clause-end : goal.following-run-requires-clause-end
+following-run-requires-clause-end c =
     let at = c.requires.point.point.room in
-    let long = length-read m at.own c.index.ensures at.numbered c.index-2.ensures c.as_slice-sequence.ensures.value in
-    let within : c.loop-index.index < length (instructions_at m c.args.self.now.function c.args.self.now.sequence) =
-    omega (arith, long, c.loop-index-test.true, c.last_of-end.ensures.inside) in
-    let read = instruction-read m at.own c.index.ensures _ at.numbered c.index-2.ensures c.as_slice-sequence.ensures.value within c.in-Op-sequence.is in
-    let found : slice_get (instructions_at m s.function s.sequence) c.loop-index.index ≡ Some (i.Op c.in-Op-sequence.op) = rw (is.4, is.5) read in
-    let inside : c.loop-index.index + 1 < length (instructions_at m c.operator-done.new.self.function c.operator-done.new.self.sequence) =
-    rw (c.operator-done.ensures.place.0 ∙ is.4, c.operator-done.ensures.place.1 ∙ is.5) (omega (arith, long, c.loop-index-test.true, c.last_of-end.ensures.inside)) in
-    let more = run-operator m (rooms_of c.args.self.now) c.args.spare c.args.most (point_of c.args.self.now) c.args.memory.now.octets
-    (c.loop-index.index - c.args.self.now.index) (c.loop-index.index + 1 - c.args.self.now.index)
-    (at_index (point_of s) c.loop-index.index) (at_index (point_of c.operator-done.new.self) (c.loop-index.index + 1))
-    c.loop-index.memory.octets c.operator-done.new.memory.octets (answer_of c.operator-done.result) is.2
-    (c.operator-done.ensures.done m (rooms_of c.args.self.now) c.loop-index.index is.2.running.point found) inside
-    (omega (arith, is.1)) (omega (arith, is.1, c.loop-index-test.true, c.last_of-end.ensures.few)) in
-    elim c.match-matches-2.branch [
-      | in-Ran w ↦ (
-        c.operator-done.ensures.rooms ∙ is.0,
-        omega (arith, is.1),
-        run-told m (rooms_of c.args.self.now) c.args.spare c.args.most (point_of c.args.self.now) c.args.memory.now.octets
-            (record { steps = c.loop-index.index + 1 - c.args.self.now.index; last = answer_of c.operator-done.result })
-            (at_index (point_of c.operator-done.new.self) (c.loop-index.index + 1)) c.operator-done.new.memory.octets (ap answer_of w.in-Ran.is) more,
-        c.operator-done.ensures.reserved ∙ is.3,
-        c.operator-done.ensures.place.0 ∙ is.4,
-        c.operator-done.ensures.place.1 ∙ is.5,
-      )
-      | in_default-matches w ↦ absurd (false≢true (sym w.matches-is ∙ c.if-not-matches-2.false))
-    ]
+    let long = length-read c.args.program.now at.own c.index.ensures at.numbered c.index-2.ensures c.as_slice-sequence.ensures.value in
+    omega (arith, c.requires.point.unfinished, long, c.last_of-end.ensures.inside)
+
+pub following-run-requires-clause-point : goal.following-run-requires-clause-point
+following-run-requires-clause-point c =
+    let m = c.args.program.now in
+    let p = point_of c.args.self.now in
+    let at = c.requires.point.point.room in
+    let values = ap (λ (xs : List ℕ). take (length xs - p.first_local) (drop p.first_local xs)) c.deref_mut.ensures.value ∙ take-end p.first_local p.locals in (
+      m,
+      rooms_of c.args.self.now,
+      p,
+      followed-here m (rooms_of c.args.self.now) p _ _ _ c.requires.point
+          (sequence-read m p.function p.sequence c.index.result.now c.index-2.result.now at.own at.numbered c.index.ensures c.index-2.ensures ∙ sym c.as_slice-sequence.ensures.value)
+          c.as_mut_slice.ensures.value values,
+    )
+
+pub returns-clause-run : goal.returns-clause-run
+returns-clause-run c =
+    let m = c.args.program.now in
+    let s = c.args.self.now in
+    let p = point_of s in
+    let at = c.requires.point.point.room in
+    let first = s.first_local in
+    let run = c.following-run in
+    let deref = c.deref_mut.result.now in
+    let values = ap (λ (xs : List ℕ). take (length xs - first) (drop first xs)) c.deref_mut.ensures.value ∙ take-end first p.locals in
+    let start = followed-here m (rooms_of s) p _ _ _ c.requires.point
+    (sequence-read m p.function p.sequence c.index.result.now c.index-2.result.now at.own at.numbered c.index.ensures c.index-2.ensures ∙ sym c.as_slice-sequence.ensures.value)
+    c.as_mut_slice.ensures.value values in
+    let after = ap (λ (ys : List ℕ). take first deref ++ ys) (append-none first deref run.new.locals)
+    ∙ ap (λ (xs : List ℕ). take first xs ++ run.new.locals) c.deref_mut.ensures.value in
+    let written = take first deref ++ (run.new.locals ++ drop (length deref - first) (drop first deref)) in
+    let long : length written ≡ s.locals.len = omega (
+      arith,
+      ap length after,
+      length-append (take first s.locals.items) run.new.locals,
+      length-take-le first s.locals.items c.requires.point.point.first_in,
+      run.auto.locals,
+      ap length values,
+      length-drop first s.locals.items,
+      s.locals.ok.0,
+    ) in
+    let as_many : length run.new.globals ≡ s.globals.len = run.auto.globals ∙ c.as_mut_slice.ensures.len in
+    let place : List ℕ → List ℕ → Point = λ xs ys. record p { index = p.index + run.result.steps; operands = run.new.operands.values; locals = xs; globals = ys } in
+    subst (λ (q : Point). IsRun m (rooms_of s) c.args.spare c.args.most p c.args.memory.now.octets run.result q run.new.memory.octets)
+    (sym (ap₂ place (with_items_is s.locals written long ∙ after) (with_items_is s.globals run.new.globals as_many)))
+    (run-held m (rooms_of s) p c.as_mut_slice.result.now (take (length deref - first) (drop first deref)) c.args.spare (c.last_of-end.result - p.index) c.args.most
+    c.args.memory.now.octets run.result (with_held p (p.index + run.result.steps) run.new.operands.values run.new.globals run.new.locals) run.new.memory.octets
+    c.as_mut_slice.ensures.value values (omega (arith, c.last_of-end.ensures.few)) (run.ensures.run m (rooms_of s) p start))
