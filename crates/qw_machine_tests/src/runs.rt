@@ -3,7 +3,8 @@
 use crate::bodies::Token;
 use crate::modules::{func_type, function};
 use qw_linear::linear::Linear;
-use qw_machine::machine::{Instance, Stepped};
+use qw_machine::machine::Instance;
+use qw_machine::stepped::Stepped;
 use qw_module::instruction::{Const, MemArg, Op, Store, ValType};
 use qw_module::module::{Export, ExportKind, Global as ModuleGlobal, Import, Limits, Module};
 use qw_module::trap::Trap;
