@@ -108,6 +108,13 @@ module _ (m : Module) (rooms : Rooms) (spare most : ℕ) (p : Point) (memory : L
       IsRun m rooms spare most p memory (record { steps = run.steps; last = Ran }) q after
   run-told run q after ran is = subst (λ (a : Stepped). IsRun m rooms spare most p memory (record { steps = run.steps; last = a }) q after) ran is
 
+  -- a run that goes on after one that does
+  pub run-on : (steps left next : ℕ) (q r : Point) (between after : List ℕ) (more : Run) (within : Rooms) → within ≡ rooms →
+      IsRun m rooms spare most p memory (record { steps = steps; last = Ran }) q between → IsRun m within spare left q between more r after →
+      next ≡ steps + more.steps → steps + left ≤ most → more.last ≡ Ran → IsRun m rooms spare most p memory (record { steps = next; last = Ran }) r after
+  run-on steps left next q r between after more within same first second counted fits ran =
+      run-told (record { steps = next; last = more.last }) r after ran (run-after steps left next q r between after more within same first second counted fits)
+
 -- at most so many steps are at most more
 pub run-within : (m : Module) (rooms : Rooms) (spare few most : ℕ) (p q : Point) (memory after : List ℕ) (run : Run) → few ≤ most →
     IsRun m rooms spare few p memory run q after → IsRun m rooms spare most p memory run q after

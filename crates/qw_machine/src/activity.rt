@@ -5,7 +5,7 @@ ghost use Rattle.qw_linear.specs.Memory.{page};
 ghost use Rattle.qw_module.specs.Numbers.{constant, truth};
 ghost use Rattle.qw_module.specs.Syntax.{labels_in};
 ghost use Rattle.qw_module.specs.Execution.{chosen};
-ghost use Rattle.qw_module.specs.Start.{closure_of};
+ghost use Rattle.qw_module.specs.Start.{body_of, closure_of};
 ghost use Rattle.qw_module.specs.Validity.{declared_types, imported_functions};
 ghost use Rattle.qw_machine.specs.Inner.Points.{at_index, called_at, entered, first_point, has_result, in_body, instructions_at, point_of, resumed, under};
 ghost use Rattle.qw_machine.specs.Inner.Ended.{answer_of};
@@ -265,10 +265,21 @@ impl Activity {
         )
     }
 
-    /// Executes the instruction at the index, and leaves nothing that is finished yet. `imported` is how many functions
-    /// the module imports.
+    /// The sequence that runs.
+    #[inline(always)]
+    fn instructions<'a>(&self, program: &'a Module) -> &'a [Instr]
+        requires function { self.now.function < length program.now.functions.items }
+        requires sequence { self.now.sequence < length (body_of program.now self.now.function).each }
+        ensures { result.now ≡ instructions_at program.now self.now.function self.now.sequence }
+    {
+        program.functions[self.function].body.sequences[self.sequence].as_slice()
+    }
+
+    /// Executes the instruction at the index of the sequence that runs, and leaves nothing that is finished yet. `imported` is how
+    /// many functions the module imports.
     fn execute(
         &mut self,
+        sequence: &[Instr],
         program: &Module,
         imported: usize,
         memory: &mut Linear,
@@ -276,6 +287,7 @@ impl Activity {
     ) -> Stepped
         requires executed { IsExecuted program.now }
         requires imported { imported ≡ length (imported_functions program.now) }
+        requires sequence { sequence.now ≡ instructions_at program.now self.old.function self.old.sequence }
         requires point { IsPoint program.now (rooms_of self.old) (point_of self.old) }
         requires unfinished { self.old.index < length (instructions_at program.now self.old.function self.old.sequence) }
         requires pages { length memory.old.octets + spare * page ≤ memory.old.reserved * page }
@@ -283,8 +295,6 @@ impl Activity {
         ensures rooms { rooms_of self.new ≡ rooms_of self.old }
         ensures reserved { memory.new.reserved ≡ memory.old.reserved }
     {
-        let body = &program.functions[self.function].body;
-        let sequence = body.sequences[self.sequence].as_slice();
         let after = self.index + 1;
         match sequence[self.index] {
             Instr::Op(op) => {
@@ -324,7 +334,8 @@ impl Activity {
                 default,
             } => {
                 let operand = self.operands.pop();
-                let index = choose(&body.labels, first, count, default, operand);
+                let labels = &program.functions[self.function].body.labels;
+                let index = choose(labels, first, count, default, operand);
                 self.branch(index as usize);
             }
             Instr::Return => {
@@ -381,7 +392,30 @@ impl Activity {
         ensures rooms { rooms_of self.new ≡ rooms_of self.old }
         ensures reserved { memory.new.reserved ≡ memory.old.reserved }
     {
-        let stepped = self.execute(program, imported, memory, spare);
+        let sequence = self.instructions(program);
+        self.step_in(sequence, program, imported, memory, spare)
+    }
+
+    /// The same in the sequence that runs.
+    fn step_in(
+        &mut self,
+        sequence: &[Instr],
+        program: &Module,
+        imported: usize,
+        memory: &mut Linear,
+        spare: u32,
+    ) -> Stepped
+        requires executed { IsExecuted program.now }
+        requires imported { imported ≡ length (imported_functions program.now) }
+        requires sequence { sequence.now ≡ instructions_at program.now self.old.function self.old.sequence }
+        requires point { IsPoint program.now (rooms_of self.old) (point_of self.old) }
+        requires unfinished { self.old.index < length (instructions_at program.now self.old.function self.old.sequence) }
+        requires pages { length memory.old.octets + spare * page ≤ memory.old.reserved * page }
+        ensures stepped { IsStepped program.now (rooms_of self.old) spare (point_of self.old) memory.old.octets result (point_of self.new) memory.new.octets }
+        ensures rooms { rooms_of self.new ≡ rooms_of self.old }
+        ensures reserved { memory.new.reserved ≡ memory.old.reserved }
+    {
+        let stepped = self.execute(sequence, program, imported, memory, spare);
         if stepped.end().is_some() {
             return stepped;
         }
@@ -393,14 +427,15 @@ impl Activity {
 
     /// Steps one after another, at most so many, as long as they are operators with a further instruction after them in their
     /// sequence, so that they finish nothing.
-    fn operators(&mut self, program: &Module, memory: &mut Linear, spare: u32, most: u64) -> Run
-        requires point { IsRunning program.now (rooms_of self.old) (point_of self.old) }
+    fn operators(&mut self, sequence: &[Instr], memory: &mut Linear, spare: u32, most: u64) -> Run
+        requires point { (m : Module) × IsRunning m (rooms_of self.old) (point_of self.old) × (sequence.now ≡ instructions_at m self.old.function self.old.sequence) }
         requires pages { length memory.old.octets + spare * page ≤ memory.old.reserved * page }
-        ensures run { IsRun program.now (rooms_of self.old) spare most (point_of self.old) memory.old.octets result (point_of self.new) memory.new.octets }
+        ensures run { (m : Module) → IsRunning m (rooms_of self.old) (point_of self.old) → sequence.now ≡ instructions_at m self.old.function self.old.sequence
+            → IsRun m (rooms_of self.old) spare most (point_of self.old) memory.old.octets result (point_of self.new) memory.new.octets }
+        ensures place { (self.new.function ≡ self.old.function) × (self.new.sequence ≡ self.old.sequence) }
         ensures rooms { rooms_of self.new ≡ rooms_of self.old }
         ensures reserved { memory.new.reserved ≡ memory.old.reserved }
     {
-        let sequence = program.functions[self.function].body.sequences[self.sequence].as_slice();
         let first = self.index;
         if !matches!(sequence[first], Instr::Op(_)) {
             return Run::going(0);
@@ -423,6 +458,7 @@ impl Activity {
     /// Steps one after another, at least one and at most so many: operators, and an instruction that may be any.
     fn stretch(
         &mut self,
+        sequence: &[Instr],
         program: &Module,
         imported: usize,
         memory: &mut Linear,
@@ -431,6 +467,7 @@ impl Activity {
     ) -> Run
         requires executed { IsExecuted program.now }
         requires imported { imported ≡ length (imported_functions program.now) }
+        requires sequence { sequence.now ≡ instructions_at program.now self.old.function self.old.sequence }
         requires point { IsRunning program.now (rooms_of self.old) (point_of self.old) }
         requires pages { length memory.old.octets + spare * page ≤ memory.old.reserved * page }
         requires some { 1 ≤ most }
@@ -439,11 +476,11 @@ impl Activity {
         ensures rooms { rooms_of self.new ≡ rooms_of self.old }
         ensures reserved { memory.new.reserved ≡ memory.old.reserved }
     {
-        let run = self.operators(program, memory, spare, most - 1);
+        let run = self.operators(sequence, memory, spare, most - 1);
         if !matches!(run.last, Stepped::Ran) {
             return run;
         }
-        let last = self.step(program, imported, memory, spare);
+        let last = self.step_in(sequence, program, imported, memory, spare);
         Run {
             steps: run.steps + 1,
             last,
@@ -468,9 +505,10 @@ impl Activity {
         ensures rooms { rooms_of self.new ≡ rooms_of self.old }
         ensures reserved { memory.new.reserved ≡ memory.old.reserved }
     {
+        let mut sequence = self.instructions(program);
         let mut steps = 0;
         while steps < most {
-            let run = self.stretch(program, imported, memory, spare, most - steps);
+            let run = self.stretch(sequence, program, imported, memory, spare, most - steps);
             steps += run.steps;
             if !matches!(run.last, Stepped::Ran) {
                 return Run {
@@ -478,6 +516,7 @@ impl Activity {
                     last: run.last,
                 };
             }
+            sequence = self.instructions(program);
         }
         Run::going(steps)
     }

@@ -1,4 +1,5 @@
--- Mirrors `Activity::execute`, `leave_finished`, `step` and `run`: what the machine does at an instruction, and what its steps answer.
+-- Mirrors `Activity::execute`, `leave_finished`, `step` and `run`, and `following`: what the machine does at an instruction, and what its
+-- steps answer.
 use Rattle.std.specs.Prelude.{◌≡◌, ℕ, ◌+◌, ◌≤◌, nat_le, Bool, true, false, List, ◌∷◌, ◌++◌, length, take, drop, Some, slice_get, ◌-◌}
 use Rattle.std.specs.Bool.{MatchBool}
 use Rattle.qw_module.specs.declared.instruction.Instr.{Instr}

@@ -3,60 +3,43 @@ use Rattle.std.proofs.lemmas.List.{with_items_is, length-take-le, length-drop}
 use Rattle.qw_machine.specs.Inner.Activities.{IsRun}
 use Rattle.qw_machine.specs.Inner.Points.{Point, point_of, with_held}
 use Rattle.qw_machine.specs.Inner.Rooms.{rooms_of}
-use Rattle.qw_machine.proofs.Arrays.{length-read}
 use Rattle.qw_machine.proofs.Followed.{followed-here, run-held}
 use Rattle.qw_machine.proofs.ListFacts.{take-end, append-none}
-use Rattle.qw_machine.proofs.Reading.{sequence-read}
 use Rattle.qw_machine.proofs.Runs.{run-none}
 use Rattle.qw_machine.proofs.activity.Activity.operators.Goals as goal
 
 pub returns-then-not-matches-clause-run : goal.returns-then-not-matches-clause-run
-returns-then-not-matches-clause-run c =
-    rw c.going.ensures (run-none c.args.program.now (rooms_of c.args.self.now) c.args.spare c.args.most (point_of c.args.self.now) c.args.memory.now.octets 0 refl c.requires.point)
+returns-then-not-matches-clause-run c = λ m running same.
+    rw c.going.ensures (run-none m (rooms_of c.args.self.now) c.args.spare c.args.most (point_of c.args.self.now) c.args.memory.now.octets 0 refl running)
 
 pub overflow_sub-sequence : goal.overflow_sub-sequence
-overflow_sub-sequence c =
-    let at = c.requires.point.point.room in
-    omega (arith, c.requires.point.unfinished, length-read c.args.program.now at.own c.index.ensures at.numbered c.index-2.ensures c.as_slice-sequence.ensures.value)
+overflow_sub-sequence c = omega (arith, c.requires.point.1.unfinished, ap length c.requires.point.2)
 
 pub last_of-end-requires : goal.last_of-end-requires
-last_of-end-requires c =
-    let at = c.requires.point.point.room in
-    omega (arith, c.requires.point.unfinished, length-read c.args.program.now at.own c.index.ensures at.numbered c.index-2.ensures c.as_slice-sequence.ensures.value)
+last_of-end-requires c = omega (arith, c.requires.point.1.unfinished, ap length c.requires.point.2)
 
 pub following-run-requires-clause-end : goal.following-run-requires-clause-end
-following-run-requires-clause-end c =
-    let at = c.requires.point.point.room in
-    let long = length-read c.args.program.now at.own c.index.ensures at.numbered c.index-2.ensures c.as_slice-sequence.ensures.value in
-    omega (arith, c.requires.point.unfinished, long, c.last_of-end.ensures.inside)
+following-run-requires-clause-end c = omega (arith, c.requires.point.1.unfinished, ap length c.requires.point.2, c.last_of-end.ensures.inside)
 
 pub following-run-requires-clause-point : goal.following-run-requires-clause-point
 following-run-requires-clause-point c =
-    let m = c.args.program.now in
     let p = point_of c.args.self.now in
-    let at = c.requires.point.point.room in
     let values = ap (λ (xs : List ℕ). take (length xs - p.first_local) (drop p.first_local xs)) c.deref_mut.ensures.value ∙ take-end p.first_local p.locals in (
-      m,
+      c.requires.point.0,
       rooms_of c.args.self.now,
       p,
-      followed-here m (rooms_of c.args.self.now) p _ _ _ c.requires.point
-          (sequence-read m p.function p.sequence c.index.result.now c.index-2.result.now at.own at.numbered c.index.ensures c.index-2.ensures ∙ sym c.as_slice-sequence.ensures.value)
-          c.as_mut_slice.ensures.value values,
+      followed-here c.requires.point.0 (rooms_of c.args.self.now) p _ _ _ c.requires.point.1 (sym c.requires.point.2) c.as_mut_slice.ensures.value values,
     )
 
 pub returns-clause-run : goal.returns-clause-run
-returns-clause-run c =
-    let m = c.args.program.now in
+returns-clause-run c = λ m running same.
     let s = c.args.self.now in
     let p = point_of s in
-    let at = c.requires.point.point.room in
     let first = s.first_local in
     let run = c.following-run in
     let deref = c.deref_mut.result.now in
     let values = ap (λ (xs : List ℕ). take (length xs - first) (drop first xs)) c.deref_mut.ensures.value ∙ take-end first p.locals in
-    let start = followed-here m (rooms_of s) p _ _ _ c.requires.point
-    (sequence-read m p.function p.sequence c.index.result.now c.index-2.result.now at.own at.numbered c.index.ensures c.index-2.ensures ∙ sym c.as_slice-sequence.ensures.value)
-    c.as_mut_slice.ensures.value values in
+    let start = followed-here m (rooms_of s) p _ _ _ running (sym same) c.as_mut_slice.ensures.value values in
     let after = ap (λ (ys : List ℕ). take first deref ++ ys) (append-none first deref run.new.locals)
     ∙ ap (λ (xs : List ℕ). take first xs ++ run.new.locals) c.deref_mut.ensures.value in
     let written = take first deref ++ (run.new.locals ++ drop (length deref - first) (drop first deref)) in
@@ -64,7 +47,7 @@ returns-clause-run c =
       arith,
       ap length after,
       length-append (take first s.locals.items) run.new.locals,
-      length-take-le first s.locals.items c.requires.point.point.first_in,
+      length-take-le first s.locals.items running.point.first_in,
       run.auto.locals,
       ap length values,
       length-drop first s.locals.items,

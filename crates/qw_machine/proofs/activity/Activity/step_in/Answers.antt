@@ -2,7 +2,7 @@ use Rattle.std.proofs.Common.{is_some, ◌∙◌, ap, sym}
 use Rattle.qw_machine.specs.Inner.Points.{point_of}
 use Rattle.qw_machine.specs.Inner.Rooms.{rooms_of}
 use Rattle.qw_machine.proofs.Steps.{stepped-over, stepped-left, stepped-returned}
-use Rattle.qw_machine.proofs.activity.Activity.step.Goals as goal
+use Rattle.qw_machine.proofs.activity.Activity.step_in.Goals as goal
 
 pub returns-then-is_some-clause-stepped : goal.returns-then-is_some-clause-stepped
 returns-then-is_some-clause-stepped c =
