@@ -6,16 +6,34 @@ use qw_top::status::Status;
 use qw_top::stop::{FileName, Refusal, Stop};
 use std::test::Fail;
 
+fn refused<'a>(refusal: Refusal, line: Option<String>) -> Stop<'a> {
+    Stop::Refused { refusal, line }
+}
+
 #[test]
 fn lines(rt: HostRuntime) -> Result<(), Fail> {
     let alloc = rt.alloc();
     let made = String::from_str(alloc, "d/t.csv")?;
-    let cases: [(Stop<'_>, &[u64], Status, &[u8]); 6] = [
+    let whole = String::from_str(alloc, "queries: too long\n")?;
+    let cut = String::from_str(alloc, "queries: too long\n")?;
+    let cases: [(Stop<'_>, &[u64], Status, &[u8]); 8] = [
         (
-            Stop::Refused(Refusal::Schema),
+            refused(Refusal::TableFile, None),
             &[0],
-            Status::SchemaRefused,
+            Status::TableFileRefused,
             b"",
+        ),
+        (
+            refused(Refusal::Queries, Some(whole)),
+            &[],
+            Status::QueriesRefused,
+            b"queries: too long\n",
+        ),
+        (
+            refused(Refusal::Queries, Some(cut)),
+            &[7],
+            Status::WriteFailed,
+            b"queries",
         ),
         (
             Stop::Unread(FileName::Given("s")),

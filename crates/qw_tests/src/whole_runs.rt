@@ -9,6 +9,7 @@ use std::alloc::{AllocError, Global};
 use std::test::Fail;
 
 mod file_limits;
+mod refused_texts;
 mod sizes;
 
 const SCHEMA: &[u8] = b"CREATE TABLE T (A INTEGER NOT NULL);";
@@ -27,7 +28,7 @@ const WIDE_SCHEMA: &[u8] =
 const WIDE_TABLE: &[u8] = b"A,B,C\n1,20,-300\n2,-10,400\n3,30,500\n";
 
 // A schema, a table, a query, the end of their run and its report.
-const RUNS: [(&[u8], &[u8], &[u8], Status, &[u8]); 27] = [
+const RUNS: [(&[u8], &[u8], &[u8], Status, &[u8]); 22] = [
     (SCHEMA, TABLE, QUERY, Status::Done, SEVEN),
     (
         b"create table t ( a integer not null )",
@@ -127,41 +128,6 @@ const RUNS: [(&[u8], &[u8], &[u8], Status, &[u8]); 27] = [
         b"SELECT B, A, B FROM T WHERE C = 400",
         Status::Done,
         b"QUERY 1 ROWS 1\nB,A,B\n-10,2,-10\n",
-    ),
-    (
-        SCHEMA,
-        TABLE,
-        b"SELECT A FROM T WHERE A > 1000000000000000000",
-        Status::QueriesRefused,
-        b"",
-    ),
-    (
-        SCHEMA,
-        TABLE,
-        b"SELECT A FROM T WHERE A > +5",
-        Status::QueriesRefused,
-        b"",
-    ),
-    (
-        SCHEMA,
-        TABLE,
-        b"SELECT A FROM T WHERE A > 5;;",
-        Status::QueriesRefused,
-        b"",
-    ),
-    (
-        SCHEMA,
-        TABLE,
-        b"SELECT B FROM T WHERE B > 5",
-        Status::QueriesRefused,
-        b"",
-    ),
-    (
-        SCHEMA,
-        TABLE,
-        b"SELECT A FROM U WHERE A > 5",
-        Status::QueriesRefused,
-        b"",
     ),
     (SCHEMA, b"A\nx\n", QUERY, Status::TableFileRefused, b""),
     (

@@ -1,7 +1,9 @@
 -- How the stages of a run compose into what it leaves.
 use Rattle.std.proofs.Common.{◌≡◌, ◌⊎◌, ℕ, zero, ◌≤◌, ◌<◌, List, [], ◌∷◌, Option, Some, None, inl, inr, refl, sym, subst, Result, Ok, Err, length, map, ap, ◌∙◌, arith}
 use Rattle.std.specs.List.{AllByRecursion}
+use Rattle.std.specs.Option.{option_map}
 use Rattle.std.specs.Prelude.{IfErr, IfSome, OnErr, OnOk}
+use Rattle.std.specs.String.{string_bytes}
 use Rattle.std.proofs.lemmas.List.{take_all, append-nil}
 use Rattle.qw_io.specs.Faults.{IsCounted}
 use Rattle.qw_io.specs.declared.fault.IoFault.{IoFault}
@@ -14,12 +16,11 @@ use Rattle.qw_emit.specs.Compiled.{page_bound}
 use Rattle.qw_top.specs.Limits.{default_limits}
 use Rattle.qw_top.specs.declared.status.Status.{Status}
 use Rattle.qw_top.specs.declared.status.Status.TheVariants.{Done, WordsRefused, SchemaRefused, TableFileRefused, QueriesRefused, ReadFailed, WriteFailed, PageLimitMet, NoMemory}
-use Rattle.qw_top.specs.declared.stop.Refusal.{Refusal}
 use Rattle.qw_top.specs.declared.stop.Refusal.TheVariants.{Words, Schema, TableFile, Queries}
 use Rattle.qw_top.specs.declared.stop.Stop.{Stop}
 use Rattle.qw_top.specs.declared.stop.Stop.TheVariants.{Refused, Unread, NoMemory as NoMemoryLeft}
 use Rattle.qw_top.specs.Delivered.{Asks, HasRun, IsLine, Leaves, LeavesBench, Notes, Reports, ShowsEnd, status_of}
-use Rattle.qw_top.specs.Inner.Noted.{NotesLine, NotesStop}
+use Rattle.qw_top.specs.Inner.Noted.{NotesLine, NotesRefusal, NotesStop}
 use Rattle.qw_map.specs.Layout.{used}
 use Rattle.std.proofs.lemmas.List.{length-map}
 use Rattle.qw_csv.specs.Contents.{AreIntegerKinds, Contents, column_type}
@@ -29,9 +30,9 @@ use Rattle.qw_top.specs.Inner.Sinks.{CountsWrite, write_fault_of}
 use Rattle.qw_top.specs.Output.{TookFront, with_text}
 use Rattle.qw_bench.specs.Bench.{end_in}
 use Rattle.qw_bench.specs.Standing.{Standing}
-use Rattle.qw_top.specs.Inner.Stages.{FilesStop, HasAsked, IsReport, Ran, Stops, Writes, failed_at}
+use Rattle.qw_top.specs.Inner.Stages.{FilesStop, HasAsked, IsRefusalLine, IsReport, Ran, Stops, Writes, failed_at}
 use Rattle.qw_top.specs.Inner.Shelves.{Counts, Told}
-use Rattle.qw_top.specs.Inner.Stop.{octets_of, refusal_status}
+use Rattle.qw_top.specs.Inner.Stop.{octets_of}
 use Rattle.qw_top.specs.Top.{AreNames, Explains, Files, FilesExplain, HasQuery, IsFault, IsNamed, IsSettled, Names, IsOneTable}
 use Rattle.qw_top.proofs.RunLemmas.{HasRun-pages, HasRun-shows}
 use Rattle.qw_top.proofs.TopLemmas.{AreNames-unique, Explains-unique, HasQuery-unique, ReadsQuery-columns, used_within}
@@ -102,9 +103,12 @@ enough_explained files words result why told names table rows statement is are a
 
 -- where the reading of the files stopped
 Stops-files : (files : Files) (words : List (List ℕ)) (names : Names) (stop : Stop) → AreNames words names → FilesStop files names stop → Stops files words stop
-Stops-files files words names (Refused refusal) are why = Explains-files files words names (refusal_status refusal) are why
+Stops-files files words names (Refused Words line) are why = absurd why.0
+Stops-files files words names (Refused Schema line) are why = (names, are, why)
+Stops-files files words names (Refused TableFile line) are why = (names, are, why)
+Stops-files files words names (Refused Queries line) are why = (names, are, why)
 Stops-files files words names (Unread file) are why = (names, are, why)
-Stops-files files words names NoMemoryLeft are why = (names, are)
+Stops-files files words names NoMemoryLeft are why = (names, are, why)
 
 pub IfErr-Stops : {T : Type 0} (files : Files) (words : List (List ℕ)) (names : Names) (result : Result T Stop) → AreNames words names →
     IfErr result (λ stop. FilesStop files names stop) → IfErr result (λ stop. Stops files words stop)
@@ -128,10 +132,24 @@ line_explained files words names line status result old new are why (inl (is, to
 line_explained files words names line status result old new are why (inr (inl is, front)) = subst (λ (s : Status). Explains files words s) (sym is) (names, are, tt)
 line_explained files words names line status result old new are why (inr (inr is, front)) = subst (λ (s : Status). Explains files words s) (sym is) (names, are, tt)
 
+-- and so is a refusal, whether a line was to be noted or none
+refusal_explained : (files : Files) (words : List (List ℕ)) (names : Names) (line : Option (List ℕ)) (status result : Status) (old new : Option (List ℕ)) → AreNames words names → FilesExplain files names status → NotesRefusal line status result old new → Explains files words result
+refusal_explained files words names None status result old new are why (is, same) = subst (λ (s : Status). Explains files words s) (sym is) (Explains-files files words names status are why)
+refusal_explained files words names (Some line) status result old new are why noted = line_explained files words names line status result old new are (Explains-files files words names status are why) noted
+
+-- a refusal without a line
+unnoted_refusal : (line : Option (List ℕ)) (status result : Status) (old new : Option (List ℕ)) → line ≡ None → NotesRefusal line status result old new → (result ≡ status) × (new ≡ old)
+unnoted_refusal None status result old new none noted = noted
+unnoted_refusal (Some line) status result old new none noted = cc
+
 pub stopped_explained : (files : Files) (words : List (List ℕ)) (stop : Stop) (result : Status) (old new : Option (List ℕ)) → Stops files words stop → NotesStop stop result old new → Explains files words result
-stopped_explained files words (Refused refusal) result old new why (is, same) = subst (λ (s : Status). Explains files words s) (sym is) why
+stopped_explained files words (Refused Words line) result old new (why, none) noted =
+    subst (λ (s : Status). Explains files words s) (sym (unnoted_refusal (option_map string_bytes line) WordsRefused result old new none noted).0) why
+stopped_explained files words (Refused Schema line) result old new (names, are, why) noted = refusal_explained files words names (option_map string_bytes line) SchemaRefused result old new are why.0 noted
+stopped_explained files words (Refused TableFile line) result old new (names, are, why) noted = refusal_explained files words names (option_map string_bytes line) TableFileRefused result old new are why.0 noted
+stopped_explained files words (Refused Queries line) result old new (names, are, why) noted = refusal_explained files words names (option_map string_bytes line) QueriesRefused result old new are why.0 noted
 stopped_explained files words (Unread file) result old new (names, are, why) noted = line_explained files words names (read_fault_line (octets_of file)) ReadFailed result old new are (names, are, tt) noted
-stopped_explained files words NoMemoryLeft result old new (names, are) noted = line_explained files words names want_of_memory_line NoMemory result old new are (names, are, tt) noted
+stopped_explained files words NoMemoryLeft result old new (names, are, _) noted = line_explained files words names want_of_memory_line NoMemory result old new are (names, are, tt) noted
 
 -- a line that was cut short, or one that memory is wanted
 cut_short : (files : Files) (words : List (List ℕ)) (fault_name : Option (List ℕ)) (line : List ℕ) (result : Status) (old new : Option (List ℕ)) → IsLine files words line → (result ≡ WriteFailed) ⊎ (result ≡ NoMemory) → TookFront old new line → Notes files words fault_name result old new
@@ -142,20 +160,31 @@ pub want_noted : (files : Files) (words : List (List ℕ)) (fault_name : Option 
 want_noted files words fault_name result old new (inl (is, took)) = cut_short files words fault_name want_of_memory_line result old new (inl refl) (inr is) (TookFront-whole old new want_of_memory_line took)
 want_noted files words fault_name result old new (inr (ends, front)) = cut_short files words fault_name want_of_memory_line result old new (inl refl) ends front
 
-refusal_noted : (files : Files) (words : List (List ℕ)) (fault_name : Option (List ℕ)) (refusal : Refusal) (old new : Option (List ℕ)) → new ≡ old → Notes files words fault_name (refusal_status refusal) old new
-refusal_noted files words fault_name Words old new same = same
-refusal_noted files words fault_name Schema old new same = same
-refusal_noted files words fault_name TableFile old new same = same
-refusal_noted files words fault_name Queries old new same = same
+-- the line on the queries file, whole or cut short
+queries_noted : (files : Files) (words : List (List ℕ)) (fault_name : Option (List ℕ)) (names : Names) (line : Option (List ℕ)) (result : Status) (old new : Option (List ℕ)) → AreNames words names → IsRefusalLine files names Queries line → NotesRefusal line QueriesRefused result old new → Notes files words fault_name result old new
+queries_noted files words fault_name names None result old new are told noted = absurd told
+queries_noted files words fault_name names (Some line) result old new are told (inl (is, took)) =
+    subst (λ (s : Status). Notes files words fault_name s old new) (sym is) (names, line, are, told, took)
+queries_noted files words fault_name names (Some line) result old new are told (inr (ends, front)) =
+    cut_short files words fault_name line result old new (inr (inr (names, are, told))) ends front
 
 pub stopped_noted : (files : Files) (words : List (List ℕ)) (before after : Told) (stop : Stop) (result : Status) (old new : Option (List ℕ)) → Stops files words stop → Counts (failed_at stop) before after →
     NotesStop stop result old new → Notes files words after.fault_name result old new
-stopped_noted files words before after (Refused refusal) result old new why counts (is, same) =
-    subst (λ (s : Status). Notes files words after.fault_name s old new) (sym is) (refusal_noted files words after.fault_name refusal old new same)
+stopped_noted files words before after (Refused Words line) result old new why counts noted =
+    let silent = unnoted_refusal (option_map string_bytes line) WordsRefused result old new why.1 noted in
+    subst (λ (s : Status). Notes files words after.fault_name s old new) (sym silent.0) silent.1
+stopped_noted files words before after (Refused Schema line) result old new (names, are, why) counts noted =
+    let silent = unnoted_refusal (option_map string_bytes line) SchemaRefused result old new why.1 noted in
+    subst (λ (s : Status). Notes files words after.fault_name s old new) (sym silent.0) silent.1
+stopped_noted files words before after (Refused TableFile line) result old new (names, are, why) counts noted =
+    let silent = unnoted_refusal (option_map string_bytes line) TableFileRefused result old new why.1 noted in
+    subst (λ (s : Status). Notes files words after.fault_name s old new) (sym silent.0) silent.1
+stopped_noted files words before after (Refused Queries line) result old new (names, are, why) counts noted =
+    queries_noted files words after.fault_name names (option_map string_bytes line) result old new are why.1 noted
 stopped_noted files words before after (Unread file) result old new named counts (inl (is, took)) =
     subst (λ (s : Status). Notes files words after.fault_name s old new) (sym is) (octets_of file, named, counts.1, took)
 stopped_noted files words before after (Unread file) result old new named counts (inr (ends, front)) =
-    cut_short files words after.fault_name (read_fault_line (octets_of file)) result old new (inr (octets_of file, named, refl)) ends front
+    cut_short files words after.fault_name (read_fault_line (octets_of file)) result old new (inr (inl (octets_of file, named, refl))) ends front
 stopped_noted files words before after NoMemoryLeft result old new are counts noted = want_noted files words after.fault_name result old new noted
 
 name_of_last : (files : Files) (words : List (List ℕ)) (fault_name : Option (List ℕ)) (name : List ℕ) → IsNamed files words name → IfSome fault_name (λ last. last ≡ name) → IfSome fault_name (λ last. IsNamed files words last)
@@ -165,13 +194,13 @@ name_of_last files words (Some last) name named is = subst (λ (n : List ℕ). I
 -- a fault that the shelf counted is at a file that the run may read
 pub fault_named : (files : Files) (words : List (List ℕ)) (before after : Told) (stop : Stop) → Stops files words stop → Counts (failed_at stop) before after →
     (after.faults ≡ before.faults → ⊥) → IfSome after.fault_name (λ name. IsNamed files words name)
-fault_named files words before after (Refused refusal) why counts more = absurd (more counts.0)
+fault_named files words before after (Refused refusal line) why counts more = absurd (more counts.0)
 fault_named files words before after (Unread file) named counts more = name_of_last files words after.fault_name (octets_of file) named counts.1
 fault_named files words before after NoMemoryLeft are counts more = absurd (more counts.0)
 
 -- where memory was wanted no fault was counted
 pub want_uncounted : (before after : Told) (stop : Stop) → stop ≡ NoMemoryLeft → Counts (failed_at stop) before after → after.faults ≡ before.faults
-want_uncounted before after (Refused refusal) is counts = counts.0
+want_uncounted before after (Refused refusal line) is counts = counts.0
 want_uncounted before after (Unread file) is counts = cc
 want_uncounted before after NoMemoryLeft is counts = counts.0
 

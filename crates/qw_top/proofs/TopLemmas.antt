@@ -1,6 +1,6 @@
 -- How the reading of the files goes on from stage to stage, and that told files settle one end.
 use Rattle.std.proofs.Common.{◌≡◌, ◌⊎◌, ℕ, zero, suc, Bool, ◌<◌, ◌≤◌, List, [], ◌∷◌, Option, Some, None, inl, inr, refl, sym, subst, length, ap, ◌∙◌, arith, map}
-use Rattle.std.specs.Prelude.{IsSomeAnd, slice_get, true, false, ◌==◌, ◌||◌, if◌then◌else◌, filter}
+use Rattle.std.specs.Prelude.{IsSomeAnd, codes, slice_get, true, false, ◌==◌, ◌||◌, if◌then◌else◌, filter}
 use Rattle.std.specs.Str.{bytes_eq}
 use Rattle.std.specs.List.{AllByRecursion, list_any, position_or_len, range_with_len}
 use Rattle.std.proofs.lemmas.Bool.{eqb-true}
@@ -20,6 +20,9 @@ use Rattle.qw_top.specs.declared.stop.Refusal.{Refusal}
 use Rattle.qw_top.specs.declared.stop.Refusal.TheVariants.{Schema, TableFile, Queries}
 use Rattle.qw_top.specs.declared.stop.Stop.{Stop}
 use Rattle.qw_top.specs.declared.stop.Stop.TheVariants.{Refused, Unread, NoMemory}
+use Rattle.qw_top.specs.Causes.{query_cause}
+use Rattle.qw_top.specs.Delivered.{IsQueriesLine}
+use Rattle.qw_top.specs.Notes.{refusal_line}
 use Rattle.qw_top.specs.FileNames.{table_file_of}
 use Rattle.qw_parse.specs.declared.parse.SchemaFault.{SchemaFault}
 use Rattle.qw_parse.specs.declared.parse.SchemaFault.TheVariants as schema_faults
@@ -29,17 +32,19 @@ use Rattle.qw_parse.specs.Parse.{IsRefused, ReadsSchema}
 use Rattle.qw_parse.specs.Query.{IsQueryRefused, ReadsQuery, index_of, table_of}
 use Rattle.qw_csv.specs.Contents.{Contents, column_type}
 use Rattle.qw_csv.specs.Loading.{Loads}
-use Rattle.qw_top.specs.Inner.Stages.{FilesStop, StopsAs}
-use Rattle.qw_top.specs.Inner.Stop.{refusal_status}
+use Rattle.qw_top.specs.Inner.Stages.{FilesStop, IsRefusalLine, StopsAs, StopsFor}
+use Rattle.qw_top.specs.Inner.Stop.{line_for, refusal_status}
 use Rattle.qw_top.specs.Top.{AreNames, DeclaresNothing, Explains, Files, FilesExplain, HasQuery, HasRows, IsFault, IsFile, IsFileOf, IsNoQuery, IsNoSchema, IsNoTable, IsOneTable, IsSettled, IsTooLong, Names, QueryIs, SchemaIs, TableIs}
 use Rattle.qw_top.specs.Inner.Inputs.{AreColumnsOf}
 use Rattle.qw_csv.proofs.LoadingLaws.{same_loads, loads_or_fails}
-use Rattle.qw_parse.proofs.QueryLemmas.{ReadsQuery-unique, query_or_refused}
+use Rattle.qw_parse.proofs.QueryLemmas.{IsQueryRefused-unique, ReadsQuery-unique, query_or_refused}
 use Rattle.qw_parse.proofs.SchemaLemmas.{ReadsSchema-unique, reads_or_refused}
 
 -- a stage that stopped for a reason of its own, or at a file that a run may read, is explained
-pub StopsAs-explained : (files : Files) (names : Names) (refusal : Refusal) (reason : Type 0) (name : List ℕ) (stop : Stop) → (reason → FilesExplain files names (refusal_status refusal)) → IsFileOf files names name → StopsAs refusal reason name stop → FilesStop files names stop
-StopsAs-explained files names refusal reason name (Refused other) why named (is, holds) = subst (λ (r : Refusal). FilesExplain files names (refusal_status r)) (sym is) (why holds)
+pub StopsAs-explained : (files : Files) (names : Names) (refusal : Refusal) (reason : List ℕ → Type 0) (name : List ℕ) (stop : Stop) →
+    ((cause : List ℕ) → reason cause → FilesExplain files names (refusal_status refusal) × IsRefusalLine files names refusal (line_for refusal cause)) → IsFileOf files names name → StopsAs refusal reason name stop → FilesStop files names stop
+StopsAs-explained files names refusal reason name (Refused other line) why named (cause, holds, (is, told)) =
+    rw (is, told) (why cause holds)
 StopsAs-explained files names refusal reason name (Unread file) why named is = subst (λ (octets : List ℕ). IsFileOf files names octets) (sym is) named
 StopsAs-explained files names refusal reason name NoMemory why named stops = tt
 
@@ -50,12 +55,12 @@ only_table (table ∷ []) one = (table, refl)
 only_table (table ∷ next ∷ tables) one = absurd one
 
 -- where the table's stage stopped, after a schema that was accepted
-pub table_stops : (files now : Files) (names : Names) (schema : List Table) (stop : Stop) → now ≡ files → SchemaIs files names.schema schema → IsOneTable schema → ((table : Table) → schema ≡ table ∷ [] → StopsAs TableFile (IsNoTable now names.folder table) (table_file_of names.folder table.name) stop) → FilesStop files names stop
+pub table_stops : (files now : Files) (names : Names) (schema : List Table) (stop : Stop) → now ≡ files → SchemaIs files names.schema schema → IsOneTable schema → ((table : Table) → schema ≡ table ∷ [] → StopsAs TableFile (λ cause. IsNoTable now names.folder table) (table_file_of names.folder table.name) stop) → FilesStop files names stop
 table_stops files now names schema stop same declared one stops =
     let t = only_table schema one in
     let is : SchemaIs files names.schema (t.0 ∷ []) = subst (λ (s : List Table). SchemaIs files names.schema s) t.1 declared in
-    StopsAs-explained files names TableFile (IsNoTable now names.folder t.0) (table_file_of names.folder t.0.name) stop
-    (λ none. (t.0, is, subst (λ (f : Files). IsNoTable f names.folder t.0) same none))
+    StopsAs-explained files names TableFile (λ cause. IsNoTable now names.folder t.0) (table_file_of names.folder t.0.name) stop
+    (λ cause none. ((t.0, is, subst (λ (f : Files). IsNoTable f names.folder t.0) same none), refl))
     (inr (inl (t.0, is, refl)))
     (stops t.0 t.1)
 
@@ -79,7 +84,11 @@ pub queries_stop : (files now : Files) (names : Names) (schema : List Table) (co
     ((table : Table) × (schema ≡ table ∷ []) × (contents.columns ≡ map column_type table.columns) × HasRows files names table contents.rows) → StopsAs Queries (IsNoQuery now names.queries schema) names.queries stop → FilesStop files names stop
 queries_stop files now names schema contents stop same (table, is, wide, held) stops =
     StopsAs-explained files names Queries (IsNoQuery now names.queries schema) names.queries stop
-    (λ none. (table, contents.rows, held, subst (λ (s : List Table). IsNoQuery files names.queries s) is (subst (λ (f : Files). IsNoQuery f names.queries schema) same none)))
+    (λ cause none.
+    let here = subst (λ (s : List Table). IsNoQuery files names.queries s cause) is (subst (λ (f : Files). IsNoQuery f names.queries schema cause) same none) in (
+      (table, contents.rows, cause, held, here),
+      record { table = table; rows = contents.rows; accepted = held; cause = cause; refused = here; line_is = refl },
+    ))
     (inr (inr (table, contents.rows, held, refl)))
     stops
 
@@ -226,9 +235,9 @@ QueryIs-unique told name schema a b h k =
     let e = IsFile-unique told name most_text_octets h.text k.text h.file k.file in
     ReadsQuery-unique schema k.text a b (subst (λ (t : List ℕ). ReadsQuery schema t a) e h.reads) k.reads
 
-pub QueryIs-refused : (told : List ℕ → Option (List ℕ)) (name : List ℕ) (schema : List Table) (statement : Statement) → QueryIs (Some told) name schema statement → IsNoQuery (Some told) name schema → ⊥
-QueryIs-refused told name schema statement h (inl long) = IsFile-short told name most_text_octets h.text h.file long
-QueryIs-refused told name schema statement h (inr (text, fault, file, refused)) =
+pub QueryIs-refused : (told : List ℕ → Option (List ℕ)) (name : List ℕ) (schema : List Table) (statement : Statement) (cause : List ℕ) → QueryIs (Some told) name schema statement → IsNoQuery (Some told) name schema cause → ⊥
+QueryIs-refused told name schema statement cause h (inl (long, is)) = IsFile-short told name most_text_octets h.text h.file long
+QueryIs-refused told name schema statement cause h (inr (text, fault, file, refused, is)) =
     let e = IsFile-unique told name most_text_octets h.text text h.file file in
     query_or_refused schema text statement fault (subst (λ (t : List ℕ). ReadsQuery schema t statement) e h.reads) refused
 
@@ -241,10 +250,26 @@ rows_refused told names table other rows h k none =
     let e = one_declared told names.schema table other h.declared k in
     TableIs-refused told names.folder other rows (subst (λ (t : Table). TableIs (Some told) names.folder t rows) e h.loaded) none
 
-query_refused : (told : List ℕ → Option (List ℕ)) (names : Names) (table other : Table) (rows : List (List Val)) (statement : Statement) → HasQuery (Some told) names table rows statement → SchemaIs (Some told) names.schema (other ∷ []) → IsNoQuery (Some told) names.queries (other ∷ []) → ⊥
-query_refused told names table other rows statement h k none =
+query_refused : (told : List ℕ → Option (List ℕ)) (names : Names) (table other : Table) (rows : List (List Val)) (statement : Statement) (cause : List ℕ) → HasQuery (Some told) names table rows statement → SchemaIs (Some told) names.schema (other ∷ []) → IsNoQuery (Some told) names.queries (other ∷ []) cause → ⊥
+query_refused told names table other rows statement cause h k none =
     let e = one_declared told names.schema table other h.before.declared k in
-    QueryIs-refused told names.queries (other ∷ []) statement (subst (λ (t : Table). QueryIs (Some told) names.queries (t ∷ []) statement) e h.asked) none
+    QueryIs-refused told names.queries (other ∷ []) statement cause (subst (λ (t : Table). QueryIs (Some told) names.queries (t ∷ []) statement) e h.asked) none
+
+-- a queries file is refused for one cause, which has one line
+IsNoQuery-unique : (told : List ℕ → Option (List ℕ)) (name : List ℕ) (schema : List Table) (cause other : List ℕ) → IsNoQuery (Some told) name schema cause → IsNoQuery (Some told) name schema other → cause ≡ other
+IsNoQuery-unique told name schema cause other (inl (long, is)) (inl (long', is')) = is ∙ sym is'
+IsNoQuery-unique told name schema cause other (inl (long, is)) (inr (text, fault, file, refused, is')) = absurd (IsFile-short told name most_text_octets text file long)
+IsNoQuery-unique told name schema cause other (inr (text, fault, file, refused, is)) (inl (long, is')) = absurd (IsFile-short told name most_text_octets text file long)
+IsNoQuery-unique told name schema cause other (inr (text, fault, file, refused, is)) (inr (text', fault', file', refused', is')) =
+    let e = IsFile-unique told name most_text_octets text text' file file' in
+    let f = IsQueryRefused-unique schema text' fault fault' (subst (λ (t : List ℕ). IsQueryRefused schema t fault) e refused) refused' in
+    is ∙ ap query_cause f ∙ sym is'
+
+pub IsQueriesLine-unique : (told : List ℕ → Option (List ℕ)) (names : Names) (line other : List ℕ) → IsQueriesLine (Some told) names line → IsQueriesLine (Some told) names other → line ≡ other
+IsQueriesLine-unique told names line other h k =
+    let e = one_declared told names.schema h.table k.table h.accepted.declared k.accepted.declared in
+    let here = subst (λ (t : Table). IsNoQuery (Some told) names.queries (t ∷ []) h.cause) e h.refused in
+    h.line_is ∙ ap (λ cause. refusal_line (codes "queries") cause) (IsNoQuery-unique told names.queries (k.table ∷ []) h.cause k.cause here k.refused) ∙ sym k.line_is
 
 -- told files hold one table, one list of rows and one statement at most
 pub HasQuery-unique : (told : List ℕ → Option (List ℕ)) (names : Names) (table other_table : Table) (rows other_rows : List (List Val)) (statement other_statement : Statement) → HasQuery (Some told) names table rows statement → HasQuery (Some told) names other_table other_rows other_statement → (table ≡ other_table) × (rows ≡ other_rows) × (statement ≡ other_statement)
@@ -261,7 +286,7 @@ from_schema told names PageLimitMet h k s = absurd (SchemaIs-refused told names.
 from_schema told names WordsRefused h k s = absurd k
 from_schema told names SchemaRefused h k s = refl
 from_schema told names TableFileRefused h k s = absurd (SchemaIs-refused told names.schema (k.0 ∷ []) k.1 h)
-from_schema told names QueriesRefused h k s = absurd (SchemaIs-refused told names.schema (k.0 ∷ []) k.2.declared h)
+from_schema told names QueriesRefused h k s = absurd (SchemaIs-refused told names.schema (k.0 ∷ []) k.3.declared h)
 from_schema told names ReadFailed h k s = absurd (s tt)
 from_schema told names WriteFailed h k s = absurd (s tt)
 from_schema told names NoMemoryLeft h k s = absurd (s tt)
@@ -272,28 +297,28 @@ from_table told names table PageLimitMet h none k s = absurd (rows_refused told 
 from_table told names table WordsRefused h none k s = absurd k
 from_table told names table SchemaRefused h none k s = absurd (SchemaIs-refused told names.schema (table ∷ []) h k)
 from_table told names table TableFileRefused h none k s = refl
-from_table told names table QueriesRefused h none k s = absurd (rows_refused told names k.0 table k.1 k.2 h none)
+from_table told names table QueriesRefused h none k s = absurd (rows_refused told names k.0 table k.1 k.3 h none)
 from_table told names table ReadFailed h none k s = absurd (s tt)
 from_table told names table WriteFailed h none k s = absurd (s tt)
 from_table told names table NoMemoryLeft h none k s = absurd (s tt)
 
-from_queries : (told : List ℕ → Option (List ℕ)) (names : Names) (table : Table) (rows : List (List Val)) (other : Status) → HasRows (Some told) names table rows → IsNoQuery (Some told) names.queries (table ∷ []) → FilesExplain (Some told) names other → (IsFault other → ⊥) → QueriesRefused ≡ other
-from_queries told names table rows Done h none k s = absurd (query_refused told names k.0 table k.1 k.2 k.3 h.declared none)
-from_queries told names table rows PageLimitMet h none k s = absurd (query_refused told names k.0 table k.1 k.2 k.3 h.declared none)
-from_queries told names table rows WordsRefused h none k s = absurd k
-from_queries told names table rows SchemaRefused h none k s = absurd (SchemaIs-refused told names.schema (table ∷ []) h.declared k)
-from_queries told names table rows TableFileRefused h none k s = absurd (rows_refused told names table k.0 rows h k.1 k.2)
-from_queries told names table rows QueriesRefused h none k s = refl
-from_queries told names table rows ReadFailed h none k s = absurd (s tt)
-from_queries told names table rows WriteFailed h none k s = absurd (s tt)
-from_queries told names table rows NoMemoryLeft h none k s = absurd (s tt)
+from_queries : (told : List ℕ → Option (List ℕ)) (names : Names) (table : Table) (rows : List (List Val)) (cause : List ℕ) (other : Status) → HasRows (Some told) names table rows → IsNoQuery (Some told) names.queries (table ∷ []) cause → FilesExplain (Some told) names other → (IsFault other → ⊥) → QueriesRefused ≡ other
+from_queries told names table rows cause Done h none k s = absurd (query_refused told names k.0 table k.1 k.2 cause k.3 h.declared none)
+from_queries told names table rows cause PageLimitMet h none k s = absurd (query_refused told names k.0 table k.1 k.2 cause k.3 h.declared none)
+from_queries told names table rows cause WordsRefused h none k s = absurd k
+from_queries told names table rows cause SchemaRefused h none k s = absurd (SchemaIs-refused told names.schema (table ∷ []) h.declared k)
+from_queries told names table rows cause TableFileRefused h none k s = absurd (rows_refused told names table k.0 rows h k.1 k.2)
+from_queries told names table rows cause QueriesRefused h none k s = refl
+from_queries told names table rows cause ReadFailed h none k s = absurd (s tt)
+from_queries told names table rows cause WriteFailed h none k s = absurd (s tt)
+from_queries told names table rows cause NoMemoryLeft h none k s = absurd (s tt)
 
 -- told files settle one end at most
 pub FilesExplain-unique : (told : List ℕ → Option (List ℕ)) (names : Names) (status other : Status) → FilesExplain (Some told) names status → FilesExplain (Some told) names other → IsSettled status → (IsFault other → ⊥) → status ≡ other
 FilesExplain-unique told names WordsRefused other h k s t = absurd h
 FilesExplain-unique told names SchemaRefused other h k s t = from_schema told names other h k t
 FilesExplain-unique told names TableFileRefused other h k s t = from_table told names h.0 other h.1 h.2 k t
-FilesExplain-unique told names QueriesRefused other h k s t = from_queries told names h.0 h.1 other h.2 h.3 k t
+FilesExplain-unique told names QueriesRefused other h k s t = from_queries told names h.0 h.1 h.2 other h.3 h.4 k t
 FilesExplain-unique told names _ other h k s t = absurd s
 
 abbrev named : (schema folder queries : List ℕ) → Names
@@ -342,13 +367,6 @@ declares_nothing text fault refused schema reads taken = reads_or_refused text s
 pub declares_others : (text : List ℕ) (tables : List Table) → ReadsSchema text tables → (IsOneTable tables → ⊥) → DeclaresNothing text
 declares_others text tables reads others schema declared taken = others (subst IsOneTable (ReadsSchema-unique text schema tables declared reads) taken)
 
--- how a stage stops at a fault of a text: for want of memory, or by its refusal
-fault_stops : {F : Type 0} (refusal : Refusal) (reason : Type 0) (name : List ℕ) (memory fault : F) (stop : Stop) → (fault ≡ memory) ⊎ (fault ≡ memory → ⊥) → (fault ≡ memory) ⊎ reason → (fault ≡ memory → stop ≡ NoMemory) →
-    ((fault ≡ memory → ⊥) → stop ≡ Refused refusal) → StopsAs refusal reason name stop
-fault_stops refusal reason name memory fault stop (inl is) why wanted refused = rw (wanted is) tt
-fault_stops refusal reason name memory fault stop (inr other) (inl is) wanted refused = absurd (other is)
-fault_stops refusal reason name memory fault stop (inr other) (inr holds) wanted refused = rw (refused other) (refl, holds)
-
 schema_or_memory : (fault : SchemaFault) → (fault ≡ schema_faults.NoMemory) ⊎ (fault ≡ schema_faults.NoMemory → ⊥)
 schema_or_memory schema_faults.NoMemory = inl refl
 schema_or_memory schema_faults.NotUtf8 = inr (λ same. cc)
@@ -359,30 +377,26 @@ schema_or_memory (schema_faults.TooMany k what limit) = inr (λ same. cc)
 schema_or_memory (schema_faults.Duplicate k) = inr (λ same. cc)
 schema_or_memory (schema_faults.BadSize k) = inr (λ same. cc)
 
-query_or_memory : (fault : QueryFault) → (fault ≡ query_faults.NoMemory) ⊎ (fault ≡ query_faults.NoMemory → ⊥)
-query_or_memory query_faults.NoMemory = inl refl
-query_or_memory query_faults.NotUtf8 = inr (λ same. cc)
-query_or_memory (query_faults.NotToken at) = inr (λ same. cc)
-query_or_memory (query_faults.NotGrammar k) = inr (λ same. cc)
-query_or_memory (query_faults.TooDeep k) = inr (λ same. cc)
-query_or_memory (query_faults.TooMany k what limit) = inr (λ same. cc)
-query_or_memory (query_faults.Mistyped k kind named) = inr (λ same. cc)
+-- a stop for a cause that is one of a stage's reasons
+pub StopsFor-stage : (refusal : Refusal) (reason : List ℕ → Type 0) (name cause : List ℕ) (stop : Stop) → reason cause → StopsFor refusal cause stop → StopsAs refusal reason name stop
+StopsFor-stage refusal reason name cause (Refused other line) holds stops = (cause, holds, stops)
+StopsFor-stage refusal reason name cause (Unread file) holds stops = absurd stops
+StopsFor-stage refusal reason name cause NoMemory holds stops = tt
 
 module _ (files : Files) (name text : List ℕ) (file : IsFile files name most_text_octets text) where
   -- how a run stops at a schema that is none
   pub schema_stops : (fault : SchemaFault) (stop : Stop) → (fault ≡ schema_faults.NoMemory) ⊎ IsRefused text fault → (fault ≡ schema_faults.NoMemory → stop ≡ NoMemory) →
-      ((fault ≡ schema_faults.NoMemory → ⊥) → stop ≡ Refused Schema) → StopsAs Schema (IsNoSchema files name) name stop
-  schema_stops fault stop why memory refused = fault_stops Schema (IsNoSchema files name) name schema_faults.NoMemory fault stop (schema_or_memory fault) (no_schema why) memory refused
-    where
-      no_schema : (fault ≡ schema_faults.NoMemory) ⊎ IsRefused text fault → (fault ≡ schema_faults.NoMemory) ⊎ IsNoSchema files name
-      no_schema (inl is) = inl is
-      no_schema (inr holds) = inr (inr (text, file, declares_nothing text fault holds))
+      ((fault ≡ schema_faults.NoMemory → ⊥) → stop ≡ Refused Schema None) → StopsAs Schema (λ cause. IsNoSchema files name) name stop
+  schema_stops fault stop (inl is) memory refused = rw (memory is) tt
+  schema_stops fault stop (inr holds) memory refused =
+      elim (schema_or_memory fault) [
+        | inl is ↦ rw (memory is) tt
+        | inr other ↦ rw (refused other) ([], inr (text, file, declares_nothing text fault holds), (refl, refl))
+      ]
 
   -- how it stops at a text that is no query
   pub query_stops : (schema : List Table) (fault : QueryFault) (stop : Stop) → (fault ≡ query_faults.NoMemory) ⊎ IsQueryRefused schema text fault → (fault ≡ query_faults.NoMemory → stop ≡ NoMemory) →
-      ((fault ≡ query_faults.NoMemory → ⊥) → stop ≡ Refused Queries) → StopsAs Queries (IsNoQuery files name schema) name stop
-  query_stops schema fault stop why memory refused = fault_stops Queries (IsNoQuery files name schema) name query_faults.NoMemory fault stop (query_or_memory fault) (no_query why) memory refused
-    where
-      no_query : (fault ≡ query_faults.NoMemory) ⊎ IsQueryRefused schema text fault → (fault ≡ query_faults.NoMemory) ⊎ IsNoQuery files name schema
-      no_query (inl is) = inl is
-      no_query (inr holds) = inr (inr (text, fault, file, holds))
+      StopsFor Queries (query_cause fault) stop → StopsAs Queries (IsNoQuery files name schema) name stop
+  query_stops schema fault stop (inl is) memory stops = rw (memory is) tt
+  query_stops schema fault stop (inr holds) memory stops =
+      StopsFor-stage Queries (IsNoQuery files name schema) name (query_cause fault) stop (inr (text, fault, file, holds, refl)) stops

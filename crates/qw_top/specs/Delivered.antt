@@ -1,5 +1,5 @@
 -- What a run leaves: the bench that it turned to the end, what it wrote of the report, and what it noted.
-use Rattle.std.specs.Prelude.{◌≡◌, ◌⊎◌, ℕ, List, [], ◌∷◌, length, Option, Some, None, IfSome}
+use Rattle.std.specs.Prelude.{◌≡◌, ◌⊎◌, ℕ, List, [], ◌∷◌, length, codes, Option, Some, None, IfSome}
 use Rattle.qw_types.specs.declared.schema.Table.{Table}
 use Rattle.qw_types.specs.declared.value.Val.{Val}
 use Rattle.qw_module.specs.declared.module.Module.{Module}
@@ -11,11 +11,11 @@ use Rattle.qw_top.specs.Limits.{default_limits, quantum}
 use Rattle.qw_top.specs.declared.status.Status.{Status}
 use Rattle.qw_top.specs.declared.status.Status.TheVariants.{Done, WordsRefused, SchemaRefused, TableFileRefused, QueriesRefused, ReadFailed, WriteFailed, PageLimitMet, NoMemory}
 use Rattle.qw_bench.specs.Bench.{AreRounds, IsStart, end_in}
-use Rattle.qw_top.specs.Notes.{read_fault_line, want_of_memory_line}
+use Rattle.qw_top.specs.Notes.{read_fault_line, refusal_line, want_of_memory_line}
 use Rattle.qw_top.specs.Output.{TookFront, with_text}
 use Rattle.qw_bench.specs.Standing.{Standing, first_task, rows_in}
 use Rattle.qw_sink.specs.Sink.{report_of_rows, report_of_pages}
-use Rattle.qw_top.specs.Top.{AreNames, Files, HasQuery, Names, IsNamed, header_of}
+use Rattle.qw_top.specs.Top.{AreNames, Files, HasQuery, HasRows, IsNoQuery, Names, IsNamed, header_of}
 
 -- The words name files that declare this one table, hold these rows and ask for this statement.
 pub record Asks (files : Files) (words : List (List ℕ)) (table : Table) (rows : List (List Val)) (statement : Statement) : Type 0 where
@@ -84,16 +84,29 @@ Leaves files words TableFileRefused kept old new = LeavesNothing kept old new
 Leaves files words QueriesRefused kept old new = LeavesNothing kept old new
 Leaves files words ReadFailed kept old new = LeavesNothing kept old new
 
+-- the line on the queries file of these names, which is refused after all files before it were accepted
+pub record IsQueriesLine (files : Files) (names : Names) (line : List ℕ) : Type 0 where
+  pub table : Table
+  pub rows : List (List Val)
+  pub accepted : HasRows files names table rows
+  pub cause : List ℕ
+  pub refused : IsNoQuery files names.queries (table ∷ []) cause
+  pub line_is : line ≡ refusal_line (codes "queries") cause
+
 -- a line that a run may note
 abbrev pub IsLine : Files → (words : List (List ℕ)) → List ℕ → Type 0
-IsLine files words line = (line ≡ want_of_memory_line) ⊎ ((name : List ℕ) × IsNamed files words name × (line ≡ read_fault_line name))
+IsLine files words line = (line ≡ want_of_memory_line)
+    ⊎ ((name : List ℕ) × IsNamed files words name × (line ≡ read_fault_line name))
+    ⊎ ((names : Names) × AreNames words names × IsQueriesLine files names line)
 
 -- What a run notes, by its status: at ReadFailed the line of a name that a run may read, which is the name of the last fault
--- that the shelf counted, where it tells that; at NoMemory and WriteFailed a front of a line that a run may note; and else
--- nothing.
+-- that the shelf counted, where it tells that; at QueriesRefused the line on the queries file; at NoMemory and WriteFailed a
+-- front of a line that a run may note; and else nothing.
 abbrev pub Notes : Files → (words : List (List ℕ)) → (fault_name : Option (List ℕ)) → Status → (old new : Option (List ℕ)) → Type 0
 Notes files words fault_name ReadFailed old new =
     (name : List ℕ) × IsNamed files words name × IfSome fault_name (λ last. last ≡ name) × (new ≡ with_text old (read_fault_line name))
+Notes files words fault_name QueriesRefused old new =
+    (names : Names) × (line : List ℕ) × AreNames words names × IsQueriesLine files names line × (new ≡ with_text old line)
 Notes files words fault_name NoMemory old new = (line : List ℕ) × IsLine files words line × TookFront old new line
 Notes files words fault_name WriteFailed old new = (line : List ℕ) × IsLine files words line × TookFront old new line
 Notes files words fault_name _ old new = new ≡ old

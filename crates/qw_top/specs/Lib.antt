@@ -1,3 +1,4 @@
+pub mod Causes
 pub mod Delivered
 pub mod FileNames
 pub mod Inner

@@ -8,3 +8,7 @@ read_fault_line name = codes "read fault: " ++ name ++ codes "\n"
 -- there was no memory left
 abbrev pub want_of_memory_line : List ℕ
 want_of_memory_line = codes "want of memory\n"
+
+-- a file, which this word tells, is refused for this cause
+abbrev pub refusal_line : (file cause : List ℕ) → List ℕ
+refusal_line file cause = file ++ codes ": " ++ cause ++ codes "\n"

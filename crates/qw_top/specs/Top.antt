@@ -13,6 +13,7 @@ use Rattle.qw_meaning.specs.Statement.{Statement}
 use Rattle.qw_sink.specs.declared.sink.Head.{Head}
 use Rattle.qw_top.specs.declared.status.Status.{Status}
 use Rattle.qw_top.specs.declared.status.Status.TheVariants.{Done, WordsRefused, SchemaRefused, TableFileRefused, QueriesRefused, ReadFailed, WriteFailed, PageLimitMet, NoMemory}
+use Rattle.qw_top.specs.Causes.{query_cause, too_long}
 use Rattle.qw_top.specs.FileNames.{table_file_of}
 use Rattle.qw_emit.specs.Compiled.{page_bound}
 use Rattle.qw_csv.specs.Contents.{AreIntegers}
@@ -75,10 +76,10 @@ pub record QueryIs (files : Files) (name : List ℕ) (schema : List Table) (stat
   pub file : IsFile files name most_text_octets text
   pub reads : ReadsQuery schema text statement
 
--- the queries file of this name is refused: it is too long, or its text is no query over the schema, for this cause
-abbrev pub IsNoQuery : Files → List ℕ → List Table → Type 0
-IsNoQuery files name schema = IsTooLong files name most_text_octets
-    ⊎ ((text : List ℕ) × (fault : QueryFault) × IsFile files name most_text_octets text × IsQueryRefused schema text fault)
+-- the queries file of this name is refused for this cause: it is too long, or its text is no query over the schema
+abbrev pub IsNoQuery : Files → List ℕ → List Table → (cause : List ℕ) → Type 0
+IsNoQuery files name schema cause = (IsTooLong files name most_text_octets × (cause ≡ too_long))
+    ⊎ ((text : List ℕ) × (fault : QueryFault) × IsFile files name most_text_octets text × IsQueryRefused schema text fault × (cause ≡ query_cause fault))
 
 -- what the words of `run` name: the schema file, the folder of the table files, the queries file
 pub record Names : Type 0 where
@@ -118,7 +119,7 @@ FilesExplain files names Done = (table : Table) × (rows : List (List Val)) × (
 FilesExplain files names WordsRefused = ⊥
 FilesExplain files names SchemaRefused = IsNoSchema files names.schema
 FilesExplain files names TableFileRefused = (table : Table) × SchemaIs files names.schema (table ∷ []) × IsNoTable files names.folder table
-FilesExplain files names QueriesRefused = (table : Table) × (rows : List (List Val)) × HasRows files names table rows × IsNoQuery files names.queries (table ∷ [])
+FilesExplain files names QueriesRefused = (table : Table) × (rows : List (List Val)) × (cause : List ℕ) × HasRows files names table rows × IsNoQuery files names.queries (table ∷ []) cause
 FilesExplain files names PageLimitMet = (table : Table) × (rows : List (List Val)) × (statement : Statement)
     × HasQuery files names table rows statement × (default_limits.pages < page_bound statement rows)
 FilesExplain files names ReadFailed = Unit {0}

@@ -7,6 +7,7 @@
 //! - [`files`]: a whole file, within its limit.
 //! - [`output`]: a text written whole.
 //! - [`notes`]: the lines on what went wrong.
+//! - `causes`: the lines on the causes for which a file is refused.
 //! - [`stop`] and [`status`]: how a run ends.
 //! - [`top`]: the whole run.
 //!
@@ -15,6 +16,7 @@
 //! of the loaded rows and four in the linear memory, the pages of the instance, the result rows, and the report.
 #![tactic(auto)]
 
+mod causes;
 pub mod files;
 pub mod notes;
 pub mod output;

@@ -1,7 +1,7 @@
 //! Refusals, unread files and want of memory, as a run stops at them.
 
-ghost use Rattle.std.specs.Prelude.{◌≡◌};
-ghost use Rattle.qw_top.specs.Inner.Stop.{octets_of, refusal_status};
+ghost use Rattle.std.specs.Prelude.{◌≡◌, option_map};
+ghost use Rattle.qw_top.specs.Inner.Stop.{noted_as, octets_of, refusal_status};
 
 use crate::status::Status;
 use qw_types::NoMemory;
@@ -31,6 +31,16 @@ impl Refusal {
             Refusal::Queries => Status::QueriesRefused,
         }
     }
+
+    /// The word that tells the file in the line on its refusal; there is none where no line is noted.
+    pub fn noted_as(self) -> Option<&'static str>
+        ensures { option_map (λ word. word.now) result ≡ noted_as self }
+    {
+        match self {
+            Refusal::Queries => Some("queries"),
+            Refusal::Words | Refusal::Schema | Refusal::TableFile => None,
+        }
+    }
 }
 
 /// The name of a file.
@@ -58,7 +68,11 @@ impl FileName<'_> {
 #[derive(Debug, Drop)]
 pub enum Stop<'a> {
     /// The words or a file were refused.
-    Refused(Refusal),
+    Refused {
+        refusal: Refusal,
+        /// The line on the cause, where it is noted.
+        line: Option<String>,
+    },
     /// The file of this name could not be read.
     Unread(FileName<'a>),
     /// There was no memory left.

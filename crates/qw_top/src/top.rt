@@ -9,7 +9,7 @@ ghost use Rattle.qw_meaning.specs.Statement.{Statement};
 ghost use Rattle.qw_emit.specs.Compiled.{page_bound};
 ghost use Rattle.qw_top.specs.Limits.{default_limits};
 ghost use Rattle.qw_top.specs.declared.status.Status.{Status};
-ghost use Rattle.qw_top.specs.Delivered.{Leaves, LeavesBench, Notes};
+ghost use Rattle.qw_top.specs.Delivered.{IsQueriesLine, Leaves, LeavesBench, Notes};
 ghost use Rattle.qw_top.specs.Notes.{want_of_memory_line};
 ghost use Rattle.qw_top.specs.Output.{TookFront, with_text};
 ghost use Rattle.qw_top.specs.Top.{AreNames, Explains, HasQuery, IsFault, IsNamed, IsSettled, Names};
@@ -121,4 +121,10 @@ pub fn one_content()
         → HasQuery (Some told) names table rows statement
         → HasQuery (Some told) names other_table other_rows other_statement
         → (table ≡ other_table) × (rows ≡ other_rows) × (statement ≡ other_statement) }
+{}
+
+/// Told files give one line at most on a queries file that is refused.
+pub fn one_line()
+    ensures { (told : List ℕ → Option (List ℕ)) (names : Names) (line other : List ℕ)
+        → IsQueriesLine (Some told) names line → IsQueriesLine (Some told) names other → line ≡ other }
 {}

@@ -1,5 +1,6 @@
 // Files of exactly their greatest length, and of one octet more.
 
+use super::refused_texts::noted_on;
 use super::{QUERY, SCHEMA, SEVEN, TABLE, report_of, run};
 use crate::tables::{WORDS, shelf};
 use qw_io::{IoFault, MemoryShelf, MemorySink, Shelf};
@@ -17,17 +18,23 @@ fn padded(alloc: Global, text: &[u8], octets: usize) -> Result<Vec<u8>, AllocErr
 #[test]
 fn texts_of_the_greatest_length(rt: HostRuntime) -> Result<(), Fail> {
     let alloc = rt.alloc();
-    let cases = [
-        (1_048_576, Status::Done, Status::Done),
-        (1_048_577, Status::SchemaRefused, Status::QueriesRefused),
+    let cases: [(usize, Status, Status, &[u8]); 2] = [
+        (1_048_576, Status::Done, Status::Done, b""),
+        (
+            1_048_577,
+            Status::SchemaRefused,
+            Status::QueriesRefused,
+            b"queries: too long\n",
+        ),
     ];
-    for (octets, with_schema, with_query) in cases {
+    for (octets, with_schema, with_query, line) in cases {
         let schema = padded(alloc, SCHEMA, octets)?;
         let query = padded(alloc, QUERY, octets)?;
         let (status, _, _) = report_of(alloc, schema.as_slice(), TABLE, QUERY)?;
         assert_eq!(rt; status, with_schema);
-        let (status, _, _) = report_of(alloc, SCHEMA, TABLE, query.as_slice())?;
+        let (status, notes) = noted_on(alloc, SCHEMA, query.as_slice())?;
         assert_eq!(rt; status, with_query);
+        assert_eq!(rt; notes.bytes(), line);
     }
     Ok(())
 }

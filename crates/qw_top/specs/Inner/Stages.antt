@@ -1,25 +1,38 @@
 -- What the stages of a run hand on, and how they stop.
 use Rattle.std.specs.Prelude.{◌≡◌, ℕ, List, [], ◌∷◌, Option, Some, None, Result, Ok, Err, length}
+use Rattle.std.specs.Option.{option_map}
+use Rattle.std.specs.String.{string_bytes}
 use Rattle.qw_types.specs.declared.schema.Table.{Table}
 use Rattle.qw_types.specs.declared.value.Val.{Val}
 use Rattle.qw_meaning.specs.Statement.{Statement}
 use Rattle.qw_top.specs.declared.status.Status.{Status}
-use Rattle.qw_top.specs.declared.status.Status.TheVariants.{Done, PageLimitMet, WriteFailed, NoMemory as EndsInWant}
+use Rattle.qw_top.specs.declared.status.Status.TheVariants.{Done, WordsRefused, PageLimitMet, WriteFailed, NoMemory as EndsInWant}
 use Rattle.qw_top.specs.declared.stop.Refusal.{Refusal}
+use Rattle.qw_top.specs.declared.stop.Refusal.TheVariants.{Words, Queries}
 use Rattle.qw_top.specs.declared.stop.Stop.{Stop}
 use Rattle.qw_top.specs.declared.stop.Stop.TheVariants.{Refused, Unread, NoMemory}
-use Rattle.qw_top.specs.Delivered.{Asks, HasRun, ShowsEnd, status_of}
+use Rattle.qw_top.specs.Delivered.{Asks, HasRun, IsQueriesLine, ShowsEnd, status_of}
 use Rattle.qw_csv.specs.Contents.{AreIntegers}
 use Rattle.qw_top.specs.Output.{TookFront, with_text}
 use Rattle.qw_bench.specs.Standing.{Standing}
-use Rattle.qw_top.specs.Inner.Stop.{octets_of, refusal_status}
-use Rattle.qw_top.specs.Top.{AreNames, Explains, Files, FilesExplain, IsFileOf, IsNamed, Names}
+use Rattle.qw_top.specs.Inner.Stop.{line_for, octets_of, refusal_status}
+use Rattle.qw_top.specs.Top.{AreNames, Explains, Files, FilesExplain, IsFileOf, Names}
 use Rattle.qw_top.specs.Inner.Inputs.{AreColumnsOf}
 
--- why a stage that reads a file stopped: by its own refusal, for this reason; or as the file of this name couldn't be read; or
--- for want of memory
-abbrev pub StopsAs : Refusal → (reason : Type 0) → (name : List ℕ) → Stop → Type 0
-StopsAs refusal reason name (Refused other) = (other ≡ refusal) × reason
+-- a refusal, with the line on this cause
+abbrev pub IsRefusalFor : Refusal → (cause : List ℕ) → (other : Refusal) → (line : Option (List ℕ)) → Type 0
+IsRefusalFor refusal cause other line = (other ≡ refusal) × (line ≡ line_for refusal cause)
+
+-- a stop by a refusal for this cause, or for want of memory for its line
+abbrev pub StopsFor : Refusal → (cause : List ℕ) → Stop → Type 0
+StopsFor refusal cause (Refused other line) = IsRefusalFor refusal cause other (option_map string_bytes line)
+StopsFor refusal cause (Unread file) = ⊥
+StopsFor refusal cause NoMemory = Unit {0}
+
+-- why a stage that reads a file stopped: by its own refusal, for a cause of this kind; or as the file of this name couldn't be
+-- read; or for want of memory
+abbrev pub StopsAs : Refusal → (reason : List ℕ → Type 0) → (name : List ℕ) → Stop → Type 0
+StopsAs refusal reason name (Refused other line) = (cause : List ℕ) × reason cause × IsRefusalFor refusal cause other (option_map string_bytes line)
 StopsAs refusal reason name (Unread file) = octets_of file ≡ name
 StopsAs refusal reason name NoMemory = Unit {0}
 
@@ -33,17 +46,22 @@ abbrev pub failed_stop : {T : Type 0} → Result T Stop → Option (List ℕ)
 failed_stop (Ok _) = None
 failed_stop (Err stop) = failed_at stop
 
+-- this is the line on a file that is refused: that on the queries file, and of another one none
+abbrev pub IsRefusalLine : Files → Names → Refusal → (line : Option (List ℕ)) → Type 0
+IsRefusalLine files names Queries (Some line) = IsQueriesLine files names line
+IsRefusalLine files names Queries None = ⊥
+IsRefusalLine files names _ line = line ≡ None
+
 -- the files of these names explain a stop
 abbrev pub FilesStop : Files → Names → Stop → Type 0
-FilesStop files names (Refused refusal) = FilesExplain files names (refusal_status refusal)
+FilesStop files names (Refused refusal line) = FilesExplain files names (refusal_status refusal) × IsRefusalLine files names refusal (option_map string_bytes line)
 FilesStop files names (Unread file) = IsFileOf files names (octets_of file)
 FilesStop files names NoMemory = Unit {0}
 
 -- the words and the files explain a stop
 abbrev pub Stops : Files → List (List ℕ) → Stop → Type 0
-Stops files words (Refused refusal) = Explains files words (refusal_status refusal)
-Stops files words (Unread file) = IsNamed files words (octets_of file)
-Stops files words NoMemory = (names : Names) × AreNames words names
+Stops files words (Refused Words line) = Explains files words WordsRefused × (option_map string_bytes line ≡ None)
+Stops files words stop = (names : Names) × AreNames words names × FilesStop files names stop
 
 -- the schema has one table, and the bench has run a statement over its columns to the end
 pub record Ran (schema : List Table) (b : Standing) : Type 0 where

@@ -1,16 +1,18 @@
 //! From the words of a run to the contents of its files.
 
-ghost use Rattle.std.specs.Prelude.{◌≡◌, ◌≤◌, [], ◌∷◌, IfOk, IfErr, map};
+ghost use Rattle.std.specs.Prelude.{◌≡◌, ◌≤◌, [], ◌∷◌, None, IfOk, IfErr, map};
 ghost use Rattle.qw_types.specs.declared.schema.Table.{Table};
 ghost use Rattle.qw_csv.specs.Contents.{AreIntegers, column_type};
+ghost use Rattle.qw_top.specs.Causes.{query_cause, too_long};
 ghost use Rattle.qw_top.specs.FileNames.{table_file_of};
-ghost use Rattle.qw_top.specs.Inner.Stages.{FilesStop, StopsAs, failed_stop};
+ghost use Rattle.qw_top.specs.Inner.Stages.{FilesStop, StopsAs, StopsFor, failed_stop};
 ghost use Rattle.qw_top.specs.Inner.Shelves.{HasRead, told_by};
 ghost use Rattle.qw_top.specs.Inner.Stop.{octets_of};
 ghost use Rattle.qw_top.specs.Top.{HasQuery, IsFile, IsNoQuery, IsNoSchema, IsNoTable, IsOneTable, IsTooLong, QueryIs, SchemaIs, TableIs};
 ghost use Rattle.qw_top.specs.Inner.Inputs.{names_of};
 
 use super::taken::is_one_table;
+use crate::causes::{query_cause, refusal_line};
 use crate::files::{MAX_TABLE_FILE, MAX_TEXT_FILE, ReadFault, read_whole, table_file_name};
 use crate::stop::{FileName, Refusal, Stop};
 use crate::words::RunWords;
@@ -19,7 +21,7 @@ use qw_csv::loading::{LoadFault, load};
 use qw_io::Shelf;
 use qw_meaning::query::Query;
 use qw_parse::parse::{QueryFault, SchemaFault, query_of, schema_of};
-use qw_types::{Schema, Table};
+use qw_types::{NoMemory, Schema, Table};
 use std::alloc::Global;
 
 /// What the files of a run hold.
@@ -79,14 +81,14 @@ fn read_schema<'a, F: Shelf>(
     ensures accepted { IfOk result (λ schema. SchemaIs (F.files files.old) name.now schema) }
     ensures one_table { IfOk result (λ schema. IsOneTable schema) }
     ensures stops { IfErr result (λ stop.
-        StopsAs Refusal.Schema (IsNoSchema (F.files files.old) name.now) name.now stop) }
+        StopsAs Refusal.Schema (λ cause. IsNoSchema (F.files files.old) name.now) name.now stop) }
     ensures shelf { HasRead (failed_stop result) (told_by F.Shelf files.old) (told_by F.Shelf files.new) }
 {
     let name = FileName::Given(name);
     let text = read_file(alloc, files, name, MAX_TEXT_FILE, Refusal::Schema)?;
     match schema_of(alloc, text.as_slice()) {
         Ok(schema) if is_one_table(&schema) => Ok(schema),
-        Ok(_) => Err(Stop::Refused(Refusal::Schema)),
+        Ok(_) => Err(unnoted(Refusal::Schema)),
         Err(fault) => Err(schema_stop(fault)),
     }
 }
@@ -94,7 +96,7 @@ fn read_schema<'a, F: Shelf>(
 /// Why a run stops at a schema that is none.
 fn schema_stop<'a>(fault: SchemaFault) -> Stop<'a>
     ensures memory { fault ≡ SchemaFault.NoMemory → result ≡ Stop.NoMemory }
-    ensures refused { (fault ≡ SchemaFault.NoMemory → ⊥) → result ≡ Stop.Refused Refusal.Schema }
+    ensures refused { (fault ≡ SchemaFault.NoMemory → ⊥) → result ≡ Stop.Refused Refusal.Schema None }
 {
     match fault {
         SchemaFault::NoMemory => Stop::NoMemory,
@@ -104,7 +106,7 @@ fn schema_stop<'a>(fault: SchemaFault) -> Stop<'a>
         | SchemaFault::TooDeep { .. }
         | SchemaFault::TooMany { .. }
         | SchemaFault::Duplicate { .. }
-        | SchemaFault::BadSize { .. } => Stop::Refused(Refusal::Schema),
+        | SchemaFault::BadSize { .. } => unnoted(Refusal::Schema),
     }
 }
 
@@ -121,17 +123,18 @@ fn read_table<'a, F: Shelf>(
     ensures kinds { IfOk result (λ loaded. (table : Table) → schema.now ≡ table ∷ []
         → loaded.columns ≡ map column_type table.columns) }
     ensures stops { IfErr result (λ stop. (table : Table) → schema.now ≡ table ∷ []
-        → StopsAs Refusal.TableFile (IsNoTable (F.files files.old) folder.now table) (table_file_of folder.now table.name) stop) }
+        → StopsAs Refusal.TableFile (λ cause. IsNoTable (F.files files.old) folder.now table) (table_file_of folder.now table.name) stop) }
     ensures shelf { HasRead (failed_stop result) (told_by F.Shelf files.old) (told_by F.Shelf files.new) }
 {
     let table = one_table(schema);
     let name = table_file_name(alloc, folder, table.name.as_str()).map_err(|_| Stop::NoMemory)?;
     let name = FileName::Made(name);
     let bytes = read_file(alloc, files, name, MAX_TABLE_FILE, Refusal::TableFile)?;
-    load(alloc, table, bytes.as_slice()).map_err(|fault| match fault {
-        LoadFault::NoMemory => Stop::NoMemory,
-        _ => Stop::Refused(Refusal::TableFile),
-    })
+    match load(alloc, table, bytes.as_slice()) {
+        Ok(loaded) => Ok(loaded),
+        Err(LoadFault::NoMemory) => Err(Stop::NoMemory),
+        Err(_) => Err(unnoted(Refusal::TableFile)),
+    }
 }
 
 /// The query of a queries file.
@@ -150,42 +153,66 @@ fn read_query<'a, F: Shelf>(
     let text = read_file(alloc, files, name, MAX_TEXT_FILE, Refusal::Queries)?;
     match query_of(alloc, schema, text.as_slice()) {
         Ok(query) => Ok(query),
-        Err(fault) => Err(query_stop(&fault)),
+        Err(fault) => Err(query_stop(alloc, &fault)),
     }
 }
 
 /// Why a run stops at a text that is no query.
-fn query_stop<'a>(fault: &QueryFault) -> Stop<'a>
+fn query_stop<'a>(alloc: Global, fault: &QueryFault) -> Stop<'a>
     ensures memory { fault.now ≡ QueryFault.NoMemory → result ≡ Stop.NoMemory }
-    ensures refused { (fault.now ≡ QueryFault.NoMemory → ⊥) → result ≡ Stop.Refused Refusal.Queries }
+    ensures refused { StopsFor Refusal.Queries (query_cause fault.now) result }
 {
-    match fault {
-        QueryFault::NoMemory => Stop::NoMemory,
-        QueryFault::NotUtf8
-        | QueryFault::NotToken { .. }
-        | QueryFault::NotGrammar { .. }
-        | QueryFault::TooDeep { .. }
-        | QueryFault::TooMany { .. }
-        | QueryFault::Mistyped { .. } => Stop::Refused(Refusal::Queries),
+    if matches!(fault, QueryFault::NoMemory) {
+        return Stop::NoMemory;
+    }
+    match query_cause(alloc, fault) {
+        Ok(cause) => refused(alloc, Refusal::Queries, cause.as_str()),
+        Err(NoMemory) => Stop::NoMemory,
     }
 }
 
-/// A whole file within its limit. A longer one is refused with the refusal of its kind.
+/// Why a run stops at a refusal for this cause. Where there is no memory for its line, that is why.
+fn refused<'a>(alloc: Global, refusal: Refusal, cause: &str) -> Stop<'a>
+    ensures { StopsFor refusal cause.now result }
+{
+    let Some(file) = refusal.noted_as() else {
+        return unnoted(refusal);
+    };
+    match refusal_line(alloc, file, cause) {
+        Ok(line) => Stop::Refused {
+            refusal,
+            line: Some(line),
+        },
+        Err(NoMemory) => Stop::NoMemory,
+    }
+}
+
+/// Why a run stops at a refusal that isn't noted.
+fn unnoted<'a>(refusal: Refusal) -> Stop<'a>
+    ensures { result ≡ Stop.Refused refusal None }
+{
+    Stop::Refused {
+        refusal,
+        line: None,
+    }
+}
+
+/// A whole file within its limit. A longer one is refused.
 fn read_file<'a, F: Shelf>(
     alloc: Global,
     files: &mut F,
     name: FileName<'a>,
     limit: usize,
-    too_long: Refusal,
+    refusal: Refusal,
 ) -> Result<Vec<u8>, Stop<'a>>
     ensures whole { IfOk result (λ bytes. IsFile (F.files files.old) (octets_of name.entry) limit bytes.items) }
     ensures stops { IfErr result (λ stop.
-        StopsAs too_long (IsTooLong (F.files files.old) (octets_of name.entry) limit) (octets_of name.entry) stop) }
+        StopsAs refusal (λ cause. IsTooLong (F.files files.old) (octets_of name.entry) limit × (cause ≡ too_long)) (octets_of name.entry) stop) }
     ensures shelf { HasRead (failed_stop result) (told_by F.Shelf files.old) (told_by F.Shelf files.new) }
 {
     match read_whole(alloc, files, name.as_str(), limit) {
         Ok(bytes) => Ok(bytes),
-        Err(ReadFault::TooLong) => Err(Stop::Refused(too_long)),
+        Err(ReadFault::TooLong) => Err(refused(alloc, refusal, "too long")),
         Err(ReadFault::Failed) => Err(Stop::Unread(name)),
         Err(ReadFault::NoMemory) => Err(Stop::NoMemory),
     }

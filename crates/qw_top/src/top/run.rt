@@ -72,7 +72,11 @@ fn accept<'a, F: Shelf>(
     ensures stops { IfErr result (λ stop. Stops (F.files files.old) (map string_bytes words.now) stop) }
     ensures shelf { HasRead (failed_stop result) (told_by F.Shelf files.old) (told_by F.Shelf files.new) }
 {
-    let names = run_words(words).ok_or(Stop::Refused(Refusal::Words))?;
+    let refused = Stop::Refused {
+        refusal: Refusal::Words,
+        line: None,
+    };
+    let names = run_words(words).ok_or(refused)?;
     prepare(alloc, &names, files)
 }
 

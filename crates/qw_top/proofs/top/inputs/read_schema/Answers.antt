@@ -1,4 +1,4 @@
-use Rattle.std.proofs.Common.{◌≡◌, inr, refl, arith}
+use Rattle.std.proofs.Common.{◌≡◌, [], inr, refl, arith}
 use Rattle.std.proofs.lemmas.Grind.{common_steps}
 use Rattle.qw_top.proofs.TopLemmas.{declares_others, schema_stops}
 use Rattle.qw_top.proofs.top.inputs.read_schema.Goals as goal
@@ -7,7 +7,7 @@ pub returns-in-Ok-2-clause-stops : goal.returns-in-Ok-2-clause-stops
 returns-in-Ok-2-clause-stops g c =
     let at : c.as_slice.result.now ≡ c.in_ok-text.text.items = grind (arith, common_steps) in
     let reads = rw at at c.in-Ok.ensures.read in
-    (refl, inr (c.in_ok-text.text.items, c.in_ok-text.ensures.whole, declares_others _ _ reads (λ taken. let yes = c.is_one_table.ensures.1 taken in grind (arith, common_steps))))
+    rw c.unnoted.ensures ([], inr (c.in_ok-text.text.items, c.in_ok-text.ensures.whole, declares_others _ _ reads (λ taken. let yes = c.is_one_table.ensures.1 taken in grind (arith, common_steps))), (refl, refl))
 
 pub returns-clause-stops : goal.returns-clause-stops
 returns-clause-stops g c =
