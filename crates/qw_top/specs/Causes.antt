@@ -1,4 +1,4 @@
--- The words for each cause for which a text is refused.
+-- The words for each cause for which a queries file is refused.
 use Rattle.std.specs.Prelude.{ℕ, List, ◌++◌, codes}
 use Rattle.std.specs.Fmt.{decimal}
 use Rattle.qw_parse.specs.declared.parse.Count.{Count}
