@@ -11,6 +11,8 @@ mod linear_memory;
 #[cfg(test)]
 mod plain_rows;
 #[cfg(test)]
+mod query_texts;
+#[cfg(test)]
 mod texts;
 #[cfg(test)]
 mod tokens;
