@@ -1,5 +1,5 @@
 -- The memory as its users see it: areas, what an instance may touch of it, and what others may change.
-use Rattle.std.specs.Prelude.{◌≡◌, ℕ, ◌+◌, ◌-◌, ◌*◌, ◌<◌, ◌≤◌, nat_le, ◌&&◌, Bool, true, false, IsTrue, ◌⊎◌, List, [], ◌∷◌, ◌++◌, length, Option, Some, IsSome, slice_index}
+use Rattle.std.specs.Prelude.{◌≡◌, ℕ, zero, suc, ◌+◌, ◌-◌, ◌*◌, ◌<◌, ◌≤◌, nat_le, nat_lt, ◌&&◌, Bool, true, false, IsTrue, ◌⊎◌, List, [], ◌∷◌, ◌++◌, length, Option, Some, IsSome, slice_index}
 use Rattle.std.specs.List.{list_any, AllByRecursion}
 use Rattle.qw_linear.specs.Memory.{page, most_pages, AreOctets}
 use Rattle.qw_module.specs.Execution.{State, Running, Returned, Raised, Trapped, Event, Silent, Loads, Stores, Grows, Raises, Traps}
@@ -9,12 +9,17 @@ pub record Area : Type 0 where
   pub start : ℕ
   pub size : ℕ
 
--- whether an access to so many octets from an address on lies in an area, and in one of several
-abbrev pub lies_in : ℕ → ℕ → Area → Bool
-lies_in address width area = nat_le area.start address && nat_le (address + width) (area.start + area.size)
+-- whether the octet at an address lies in an area, and in one of several
+abbrev pub lies_in : ℕ → Area → Bool
+lies_in address area = nat_le area.start address && nat_lt address (area.start + area.size)
 
-abbrev pub lies_in_one : List Area → ℕ → ℕ → Bool
-lies_in_one areas address width = list_any (lies_in address width) areas
+abbrev pub lies_in_one : List Area → ℕ → Bool
+lies_in_one areas address = list_any (lies_in address) areas
+
+-- whether each of so many octets from an address on lies in one of some areas; they may lie in several
+abbrev pub are_covered : List Area → (address width : ℕ) → Bool
+are_covered areas address zero = true
+are_covered areas address (suc width) = lies_in_one areas address && are_covered areas (address + 1) width
 
 -- What an instance has: the areas of the columns that its layout maps, its own areas, the pages held,
 -- how many it may hold, and its last request that was refused.
@@ -39,12 +44,12 @@ pub record Others (w : World) (before after : List ℕ) : Type 0 where
   pub mapped_kept : AllByRecursion (SameIn before after) w.mapped
   pub own_kept : AllByRecursion (SameIn before after) w.own
 
--- What a step may do: load from the mapped columns and the own areas, store in the own areas, ask for pages, raise 1 or 2,
--- and 3 after a refused request. It never traps.
+-- What a step may do: load octets of the mapped columns and the own areas, store octets of the own areas, ask for pages, raise 1
+-- or 2, and 3 after a refused request. It never traps.
 abbrev pub IsFine : World → Event → Type 0
 IsFine w Silent = Unit {0}
-IsFine w (Loads address width) = IsTrue (lies_in_one (w.mapped ++ w.own) address width)
-IsFine w (Stores address width) = IsTrue (lies_in_one w.own address width)
+IsFine w (Loads address width) = IsTrue (are_covered (w.mapped ++ w.own) address width)
+IsFine w (Stores address width) = IsTrue (are_covered w.own address width)
 IsFine w (Grows pages granted) = Unit {0}
 IsFine w (Raises code) = (code ≡ 1) ⊎ (code ≡ 2) ⊎ ((code ≡ 3) × IsSome w.refused)
 IsFine w (Traps why) = ⊥
@@ -64,9 +69,9 @@ GoesOn Returned = ⊥
 GoesOn (Raised code) = ⊥
 GoesOn (Trapped why) = ⊥
 
--- A request asks for a page at least, and for no more than that with it so many are held; and the run goes on after it.
+-- A request asks for no more pages than that with them so many are held; and the run goes on after it.
 abbrev pub AsksWithin : (most : ℕ) → World → Event → State → Type 0
-AsksWithin most w (Grows pages granted) state = (1 ≤ pages) × (w.held + pages ≤ most) × GoesOn state
+AsksWithin most w (Grows pages granted) state = (w.held + pages ≤ most) × GoesOn state
 AsksWithin most w _ state = Unit {0}
 
 -- what the instance has after a step from a memory: a granted growth's pages are its own, the memory's next ones

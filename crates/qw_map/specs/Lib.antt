@@ -1,12 +1,13 @@
 pub mod Areas
+pub mod Behaving
 pub mod Columns
 pub mod Inner
 pub mod Layout
 pub mod Runs
 pub mod Turns
 pub use Rattle.qw_linear.specs.Memory
-pub use Rattle.qw_meaning.specs.Statement
 pub use Rattle.qw_module.specs.Execution
 pub use Rattle.qw_module.specs.Soundness
 pub use Rattle.qw_module.specs.Step
+pub use Rattle.qw_types.specs.Contents
 pub use Rattle.qw_types.specs.Limits

@@ -1,12 +1,50 @@
--- The words for each cause for which a text is refused.
-use Rattle.std.specs.Prelude.{ℕ, List, ◌++◌, codes}
+-- Why a run ends before it has a bench, and the line that says so.
+use Rattle.std.specs.Prelude.{ℕ, List, [], ◌++◌, codes, slice_get, Option, Some, None}
 use Rattle.std.specs.Fmt.{decimal}
+use Rattle.std.specs.Option.{option_map_or}
+use Rattle.qw_types.specs.declared.numeral.FieldFault.{FieldFault}
+use Rattle.qw_types.specs.declared.numeral.FieldFault.TheVariants.{NotNumber, TooLarge, TooFine, NotDate}
+use Rattle.qw_types.specs.declared.schema.Column.{Column}
+use Rattle.qw_types.specs.declared.schema.Table.{Table}
+use Rattle.qw_csv.specs.declared.cell.CellFault.{CellFault}
+use Rattle.qw_csv.specs.declared.cell.CellFault.TheVariants as cell
+use Rattle.qw_csv.specs.declared.loading.LoadFault.{LoadFault}
+use Rattle.qw_csv.specs.declared.loading.LoadFault.TheVariants as load
 use Rattle.qw_parse.specs.declared.parse.Count.{Count}
 use Rattle.qw_parse.specs.declared.parse.Count.TheVariants.{Statements, Tables, Columns, SelectItems}
 use Rattle.qw_parse.specs.declared.parse.QueryFault.{QueryFault}
-use Rattle.qw_parse.specs.declared.parse.QueryFault.TheVariants.{NotUtf8, NotToken, NotGrammar, TooDeep, TooMany, Mistyped, NoMemory}
+use Rattle.qw_parse.specs.declared.parse.QueryFault.TheVariants as query
+use Rattle.qw_parse.specs.declared.parse.SchemaFault.{SchemaFault}
+use Rattle.qw_parse.specs.declared.parse.SchemaFault.TheVariants as schema
 use Rattle.qw_parse.specs.declared.parse.TypeFault.{TypeFault}
 use Rattle.qw_parse.specs.declared.parse.TypeFault.TheVariants.{UnknownTable, UnknownColumn, LiteralTooLong, Clash}
+use Rattle.qw_top.specs.declared.status.Status.{Status}
+use Rattle.qw_top.specs.declared.status.Status.TheVariants.{WordsRefused, SchemaRefused, TableFileRefused, QueriesRefused, TotalPages}
+
+-- What the words and the files settle: no words of a command; a file that is longer than its limit; a text that is no schema, a
+-- table file that stands for no rows, a text that is no query over the schema, each with its fault; or more pages than a memory has.
+pub data Cause : Type 0 where
+  words_refused : Cause
+  schema_too_long : Cause
+  schema_refused : SchemaFault → Cause
+  table_too_long : Table → Cause
+  table_refused : Table → LoadFault → Cause
+  queries_too_long : Cause
+  queries_refused : QueryFault → Cause
+  total_pages : (need : ℕ) → Cause
+
+-- the status of a run that ends for it
+abbrev pub status_of_cause : Cause → Status
+status_of_cause words_refused = WordsRefused
+status_of_cause schema_too_long = SchemaRefused
+status_of_cause (schema_refused fault) = SchemaRefused
+status_of_cause (table_too_long table) = TableFileRefused
+status_of_cause (table_refused table fault) = TableFileRefused
+status_of_cause queries_too_long = QueriesRefused
+status_of_cause (queries_refused fault) = QueriesRefused
+status_of_cause (total_pages need) = TotalPages
+
+-- ---- the words
 
 -- a file is longer than its limit
 abbrev pub too_long : List ℕ
@@ -35,6 +73,17 @@ counted SelectItems = codes "select items"
 abbrev pub too_many : ℕ → Count → ℕ → List ℕ
 too_many k what limit = in_statement (codes "too many " ++ counted what) k ++ codes ", limit " ++ decimal limit
 
+-- why a text is no schema
+abbrev pub schema_cause : SchemaFault → List ℕ
+schema_cause schema.NotUtf8 = not_utf8
+schema_cause (schema.NotToken at) = not_token at
+schema_cause (schema.NotGrammar k) = in_statement (codes "not grammar") k
+schema_cause (schema.TooDeep k) = in_statement (codes "too deep") k
+schema_cause (schema.TooMany k what limit) = too_many k what limit
+schema_cause (schema.Duplicate k) = in_statement (codes "duplicate") k
+schema_cause (schema.BadSize k) = in_statement (codes "bad size") k
+schema_cause schema.NoMemory = codes "want of memory"
+
 -- what is wrong with a name or the literal
 abbrev pub kind_words : TypeFault → List ℕ
 kind_words UnknownTable = codes "unknown table"
@@ -44,10 +93,54 @@ kind_words Clash = codes "clash"
 
 -- why a text is no query
 abbrev pub query_cause : QueryFault → List ℕ
-query_cause NotUtf8 = not_utf8
-query_cause (NotToken at) = not_token at
-query_cause (NotGrammar k) = in_statement (codes "not grammar") k
-query_cause (TooDeep k) = in_statement (codes "too deep") k
-query_cause (TooMany k what limit) = too_many k what limit
-query_cause (Mistyped k kind name) = in_statement (kind_words kind ++ codes " " ++ name) k
-query_cause NoMemory = codes "want of memory"
+query_cause query.NotUtf8 = not_utf8
+query_cause (query.NotToken at) = not_token at
+query_cause (query.NotGrammar k) = in_statement (codes "not grammar") k
+query_cause (query.TooDeep k) = in_statement (codes "too deep") k
+query_cause (query.TooMany k what limit) = too_many k what limit
+query_cause (query.Mistyped k kind name) = in_statement (kind_words kind ++ codes " " ++ name) k
+query_cause query.NoMemory = codes "want of memory"
+
+-- why a field stands for no value of its column
+abbrev pub form_cause : FieldFault → List ℕ
+form_cause NotNumber = codes "not a number"
+form_cause TooLarge = codes "too large"
+form_cause TooFine = codes "too fine"
+form_cause NotDate = codes "not a date"
+
+abbrev pub cell_cause : CellFault → List ℕ
+cell_cause (cell.Form why) = form_cause why
+cell_cause cell.NullForbidden = codes "null forbidden"
+cell_cause cell.TextTooLong = codes "text too long"
+cell_cause cell.NotUtf8 = not_utf8
+
+-- the name of a column of a table, counted from 0
+abbrev pub column_name : Table → ℕ → List ℕ
+column_name table index = option_map_or (λ (column : Column). column.name) (slice_get table.columns index) []
+
+-- a table, and what is wrong in its record of this number
+abbrev pub in_record : Table → ℕ → List ℕ
+in_record table row = table.name ++ codes " record " ++ decimal row
+
+-- why a table file stands for no rows
+abbrev pub table_cause : Table → LoadFault → List ℕ
+table_cause table load.BadHeader = table.name ++ codes ": bad header"
+table_cause table (load.FieldCount row) = in_record table row ++ codes ": field count"
+table_cause table (load.Field row index why) = in_record table row ++ codes " column " ++ column_name table index ++ codes ": " ++ cell_cause why
+table_cause table load.TooManyRows = table.name ++ codes ": too many rows"
+table_cause table load.NoMemory = codes "want of memory"
+
+-- what is said of a cause: of words that are none nothing
+abbrev pub words_of_cause : Cause → Option (List ℕ)
+words_of_cause words_refused = None
+words_of_cause schema_too_long = Some (codes "schema: " ++ too_long)
+words_of_cause (schema_refused fault) = Some (codes "schema: " ++ schema_cause fault)
+words_of_cause (table_too_long table) = Some (table.name ++ codes ": " ++ too_long)
+words_of_cause (table_refused table fault) = Some (table_cause table fault)
+words_of_cause queries_too_long = Some (codes "queries: " ++ too_long)
+words_of_cause (queries_refused fault) = Some (codes "queries: " ++ query_cause fault)
+words_of_cause (total_pages need) = Some (codes "total pages " ++ decimal need)
+
+-- and the line on it
+abbrev pub line_of_cause : Cause → List ℕ
+line_of_cause cause = option_map_or (λ words. words ++ codes "\n") (words_of_cause cause) []

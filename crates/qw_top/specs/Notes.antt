@@ -1,4 +1,4 @@
--- The lines that say what went wrong.
+-- The lines that say what went wrong outside.
 use Rattle.std.specs.Prelude.{ℕ, List, ◌++◌, codes}
 
 -- a file of this name couldn't be read
@@ -8,7 +8,3 @@ read_fault_line name = codes "read fault: " ++ name ++ codes "\n"
 -- there was no memory left
 abbrev pub want_of_memory_line : List ℕ
 want_of_memory_line = codes "want of memory\n"
-
--- a file, which this word tells, is refused for this cause
-abbrev pub refusal_line : (file cause : List ℕ) → List ℕ
-refusal_line file cause = file ++ codes ": " ++ cause ++ codes "\n"

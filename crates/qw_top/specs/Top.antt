@@ -1,27 +1,33 @@
 -- What the files of a run hold, and which ends of a run the words and the files explain.
 use Rattle.std.specs.List.{filter_map}
-use Rattle.std.specs.Option.{option_map}
-use Rattle.std.specs.Prelude.{◌≡◌, ◌⊎◌, ℕ, ◌<◌, ◌≤◌, List, [], ◌∷◌, Option, length, slice_get}
+use Rattle.std.specs.Option.{option_map, option_map_or}
+use Rattle.std.specs.Prelude.{◌≡◌, ◌⊎◌, ℕ, ◌<◌, ◌≤◌, List, [], ◌∷◌, ◌++◌, Option, Some, length, map, slice_get, Contains}
 use Rattle.qw_io.specs.Files.{OfFile}
+use Rattle.qw_types.specs.Contents.{Contents, column_type}
 use Rattle.qw_types.specs.Kind.{type_kind}
 use Rattle.qw_types.specs.declared.schema.Column.{Column}
 use Rattle.qw_types.specs.declared.schema.Table.{Table}
-use Rattle.qw_types.specs.declared.value.Val.{Val}
-use Rattle.qw_top.specs.Limits.{most_table_octets, most_text_octets, default_limits}
-use Rattle.qw_csv.specs.declared.loading.LoadFault.{LoadFault}
-use Rattle.qw_meaning.specs.Statement.{Statement}
-use Rattle.qw_sink.specs.declared.sink.Head.{Head}
-use Rattle.qw_top.specs.declared.status.Status.{Status}
-use Rattle.qw_top.specs.declared.status.Status.TheVariants.{Done, WordsRefused, SchemaRefused, TableFileRefused, QueriesRefused, ReadFailed, WriteFailed, PageLimitMet, NoMemory}
-use Rattle.qw_top.specs.Causes.{query_cause, too_long}
-use Rattle.qw_top.specs.FileNames.{table_file_of}
-use Rattle.qw_emit.specs.Compiled.{page_bound}
-use Rattle.qw_csv.specs.Contents.{AreIntegers}
+use Rattle.qw_types.specs.declared.value.Ty.{Ty}
+use Rattle.qw_linear.specs.Memory.{most_pages}
 use Rattle.qw_csv.specs.Loading.{IsFirstFault, Loads}
-use Rattle.qw_parse.specs.declared.parse.QueryFault.{QueryFault}
-use Rattle.qw_parse.specs.Parse.{ReadsSchema}
+use Rattle.qw_meaning.specs.Select.{Specification}
+use Rattle.qw_meaning.specs.Simple.{simple}
+use Rattle.qw_meaning.specs.Statement.{Statement}
+use Rattle.qw_parse.specs.Parse.{IsRefused, ReadsSchema}
 use Rattle.qw_parse.specs.Query.{IsQueryRefused, ReadsQuery}
+use Rattle.qw_emit.specs.Compiled.{page_bound}
+use Rattle.qw_bench.specs.Bench.{rows_in_tables}
+use Rattle.qw_bench.specs.Standing.{total_pages as pages_in_all}
+use Rattle.qw_bench.specs.declared.bench.Limits.{Limits}
+use Rattle.qw_sink.specs.declared.sink.Head.{Head}
+use Rattle.qw_top.specs.Causes.{Cause, words_refused, schema_too_long, schema_refused, table_too_long, table_refused, queries_too_long, queries_refused, total_pages, status_of_cause}
+use Rattle.qw_top.specs.FileNames.{table_file_of}
+use Rattle.qw_top.specs.Limits.{most_table_octets, most_text_octets}
 use Rattle.qw_top.specs.Words.{IsRun}
+use Rattle.qw_top.specs.declared.status.Status.{Status}
+use Rattle.qw_top.specs.declared.status.Status.TheVariants.{Done, WordsRefused, SchemaRefused, TableFileRefused, QueriesRefused, ReadFailed, WriteFailed, Raised, PageLimitMet, StepLimitMet, TotalPages, NoMemory}
+
+-- ---- what files hold
 
 -- The octets of each file by its name, where they are told. What is said of files below holds of the told
 -- ones; of files that aren't told it says only that some octets would do.
@@ -37,49 +43,58 @@ pub record IsFile (files : Files) (name : List ℕ) (limit : ℕ) (bytes : List 
 abbrev pub IsTooLong : Files → List ℕ → ℕ → Type 0
 IsTooLong files name limit = OfFile files name (λ file. limit < length file)
 
--- A schema that a run takes: one table, whose columns are INTEGERs that are declared NOT NULL. Runs take no other yet.
-abbrev pub IsOneTable : List Table → Type 0
-IsOneTable [] = ⊥
-IsOneTable (table ∷ []) = AreIntegers table.columns
-IsOneTable (table ∷ next ∷ tables) = ⊥
-
--- the schema file of this name declares these tables, and a run takes them
+-- the schema file of this name declares these tables
 pub record SchemaIs (files : Files) (name : List ℕ) (schema : List Table) : Type 0 where
   pub text : List ℕ
   pub file : IsFile files name most_text_octets text
   pub reads : ReadsSchema text schema
-  pub taken : IsOneTable schema
-
--- a text that declares no tables that a run takes
-abbrev pub DeclaresNothing : List ℕ → Type 0
-DeclaresNothing text = (schema : List Table) → ReadsSchema text schema → IsOneTable schema → ⊥
-
--- the schema file of this name is refused: it is too long, or its text declares no tables that a run takes
-abbrev pub IsNoSchema : Files → List ℕ → Type 0
-IsNoSchema files name = IsTooLong files name most_text_octets
-    ⊎ ((text : List ℕ) × IsFile files name most_text_octets text × DeclaresNothing text)
 
 -- the file of a table in this folder stands for these rows
-pub record TableIs (files : Files) (folder : List ℕ) (table : Table) (rows : List (List Val)) : Type 0 where
+pub record TableIs (files : Files) (folder : List ℕ) (table : Table) (contents : Contents) : Type 0 where
   pub bytes : List ℕ
   pub file : IsFile files (table_file_of folder table.name) most_table_octets bytes
-  pub loads : Loads table bytes rows
+  pub loads : Loads table bytes contents.rows
+  pub columns : contents.columns ≡ map column_type table.columns
 
--- the file of a table in this folder is refused: it is too long, or it has a first fault
-abbrev pub IsNoTable : Files → List ℕ → Table → Type 0
-IsNoTable files folder table = IsTooLong files (table_file_of folder table.name) most_table_octets
-    ⊎ ((bytes : List ℕ) × (fault : LoadFault) × IsFile files (table_file_of folder table.name) most_table_octets bytes × IsFirstFault table bytes fault)
+-- so do the files of tables, one for one
+abbrev pub TablesAre : Files → (folder : List ℕ) → List Table → List Contents → Type 0
+TablesAre files folder [] [] = Unit {0}
+TablesAre files folder (table ∷ tables) (one ∷ contents) = TableIs files folder table one × TablesAre files folder tables contents
+TablesAre files folder _ _ = ⊥
 
--- the queries file of this name is this query over the schema
-pub record QueryIs (files : Files) (name : List ℕ) (schema : List Table) (statement : Statement) : Type 0 where
+-- A query of a script: its specification, and the header of its rows.
+pub record Asked : Type 0 where
+  pub specification : Specification
+  pub header : List Head
+
+-- what the header says of a column: its name, and the kind that its values are printed as
+abbrev pub head_of : Column → Head
+head_of column = record { name = column.name; kind = type_kind column.ty }
+
+-- the columns of a table of the schema, counted from 0
+abbrev pub columns_of : List Table → ℕ → List Column
+columns_of schema table = option_map_or (λ (t : Table). t.columns) (slice_get schema table) []
+
+-- the header of the rows that a statement gives: its columns, in its order
+abbrev pub header_of : List Table → Statement → List Head
+header_of schema statement = filter_map (λ column. option_map head_of (slice_get (columns_of schema statement.table) column)) statement.columns
+
+-- the query that a statement over the schema is
+abbrev pub asked_by : List Table → Statement → Asked
+asked_by schema statement = record {
+  specification = simple (map (λ (c : Column). c.ty) (columns_of schema statement.table)) statement;
+  header = header_of schema statement;
+}
+
+-- The text of a script asks for these queries over the schema, one for each statement; today it has one.
+abbrev pub ReadsScript : List Table → (text : List ℕ) → List Asked → Type 0
+ReadsScript schema text queries = (statement : Statement) × ReadsQuery schema text statement × (queries ≡ asked_by schema statement ∷ [])
+
+-- the queries file of this name asks for these queries over the schema
+pub record QueriesAre (files : Files) (name : List ℕ) (schema : List Table) (queries : List Asked) : Type 0 where
   pub text : List ℕ
   pub file : IsFile files name most_text_octets text
-  pub reads : ReadsQuery schema text statement
-
--- the queries file of this name is refused for this cause: it is too long, or its text is no query over the schema
-abbrev pub IsNoQuery : Files → List ℕ → List Table → (cause : List ℕ) → Type 0
-IsNoQuery files name schema cause = (IsTooLong files name most_text_octets × (cause ≡ too_long))
-    ⊎ ((text : List ℕ) × (fault : QueryFault) × IsFile files name most_text_octets text × IsQueryRefused schema text fault × (cause ≡ query_cause fault))
+  pub reads : ReadsScript schema text queries
 
 -- what the words of `run` name: the schema file, the folder of the table files, the queries file
 pub record Names : Type 0 where
@@ -91,58 +106,79 @@ pub record Names : Type 0 where
 abbrev pub AreNames : List (List ℕ) → Names → Type 0
 AreNames words names = IsRun words names.schema names.folder names.queries
 
--- the schema file declares this one table, and its file stands for these rows
-pub record HasRows (files : Files) (names : Names) (table : Table) (rows : List (List Val)) : Type 0 where
-  pub declared : SchemaIs files names.schema (table ∷ [])
-  pub loaded : TableIs files names.folder table rows
+-- the schema file declares these tables, and their files stand for these rows
+pub record HasTables (files : Files) (names : Names) (schema : List Table) (tables : List Contents) : Type 0 where
+  pub declared : SchemaIs files names.schema schema
+  pub loaded : TablesAre files names.folder schema tables
 
--- and the queries file is this query over that table
-pub record HasQuery (files : Files) (names : Names) (table : Table) (rows : List (List Val)) (statement : Statement) : Type 0 where
-  pub before : HasRows files names table rows
-  pub asked : QueryIs files names.queries (table ∷ []) statement
+-- and the queries file asks for these queries over them
+pub record HasQueries (files : Files) (names : Names) (schema : List Table) (tables : List Contents) (queries : List Asked) : Type 0 where
+  pub before : HasTables files names schema tables
+  pub asked : QueriesAre files names.queries schema queries
 
--- The name of a file that a run may read: that of the schema file; where this was accepted, that of the table's file; and where
--- both were accepted, that of the queries file.
+-- The schema file was accepted, and the files of the tables before this one were.
+pub record IsNextTable (files : Files) (names : Names) (table : Table) : Type 0 where
+  pub before : List Table
+  pub behind : List Table
+  pub declared : SchemaIs files names.schema (before ++ table ∷ behind)
+  pub contents : List Contents
+  pub loaded : TablesAre files names.folder before contents
+
+-- The name of a file that a run may read: that of the schema file; where this was accepted, those of the tables' files, each where
+-- those before it were accepted; and where all were, that of the queries file.
 abbrev pub IsFileOf : Files → Names → List ℕ → Type 0
 IsFileOf files names name = (name ≡ names.schema)
-    ⊎ ((table : Table) × SchemaIs files names.schema (table ∷ []) × (name ≡ table_file_of names.folder table.name))
-    ⊎ ((table : Table) × (rows : List (List Val)) × HasRows files names table rows × (name ≡ names.queries))
+    ⊎ ((table : Table) × IsNextTable files names table × (name ≡ table_file_of names.folder table.name))
+    ⊎ ((schema : List Table) × (tables : List Contents) × HasTables files names schema tables × (name ≡ names.queries))
 
 -- the same of the words that give the names
 abbrev pub IsNamed : Files → (words : List (List ℕ)) → List ℕ → Type 0
 IsNamed files words name = (names : Names) × AreNames words names × IsFileOf files names name
 
--- The files of these names explain how a run ended, once its words were read. A file is refused only where
--- all files before it were accepted.
-abbrev pub FilesExplain : Files → Names → Status → Type 0
-FilesExplain files names Done = (table : Table) × (rows : List (List Val)) × (statement : Statement) × HasQuery files names table rows statement
-FilesExplain files names WordsRefused = ⊥
-FilesExplain files names SchemaRefused = IsNoSchema files names.schema
-FilesExplain files names TableFileRefused = (table : Table) × SchemaIs files names.schema (table ∷ []) × IsNoTable files names.folder table
-FilesExplain files names QueriesRefused = (table : Table) × (rows : List (List Val)) × (cause : List ℕ) × HasRows files names table rows × IsNoQuery files names.queries (table ∷ []) cause
-FilesExplain files names PageLimitMet = (table : Table) × (rows : List (List Val)) × (statement : Statement)
-    × HasQuery files names table rows statement × (default_limits.pages < page_bound statement rows)
-FilesExplain files names ReadFailed = Unit {0}
-FilesExplain files names WriteFailed = Unit {0}
-FilesExplain files names NoMemory = Unit {0}
+-- ---- which cause they settle
 
--- The words and the files explain how a run ended: the words are no words of `run`, or they give names whose
--- files explain it. Words come first, so a fault comes only where they were read.
-abbrev pub Explains : Files → List (List ℕ) → Status → Type 0
-Explains files words WordsRefused = (names : Names) → AreNames words names → ⊥
-Explains files words status = (names : Names) × AreNames words names × FilesExplain files names status
+-- The files of these names settle the cause for which a run ends before it has a bench, with limits for the queries. A file is
+-- refused only where all files before it were accepted.
+abbrev pub FilesSettle : (limits : List Asked → List Limits) → Files → Names → Cause → Type 0
+FilesSettle limits files names words_refused = ⊥
+FilesSettle limits files names schema_too_long = IsTooLong files names.schema most_text_octets
+FilesSettle limits files names (schema_refused fault) = (text : List ℕ) × IsFile files names.schema most_text_octets text × IsRefused text fault
+FilesSettle limits files names (table_too_long table) =
+    IsNextTable files names table × IsTooLong files (table_file_of names.folder table.name) most_table_octets
+FilesSettle limits files names (table_refused table fault) = IsNextTable files names table
+    × ((bytes : List ℕ) × IsFile files (table_file_of names.folder table.name) most_table_octets bytes × IsFirstFault table bytes fault)
+FilesSettle limits files names queries_too_long = (schema : List Table) × (tables : List Contents)
+    × HasTables files names schema tables × IsTooLong files names.queries most_text_octets
+FilesSettle limits files names (queries_refused fault) = (schema : List Table) × (tables : List Contents) × (text : List ℕ)
+    × HasTables files names schema tables × IsFile files names.queries most_text_octets text × IsQueryRefused schema text fault
+FilesSettle limits files names (total_pages need) = (schema : List Table) × (tables : List Contents) × (queries : List Asked)
+    × HasQueries files names schema tables queries × (need ≡ pages_in_all tables (limits queries)) × (most_pages < need)
+
+-- The words and the files settle the cause: the words are none of `run`, or they give names whose files settle it. Words come
+-- first, so another cause comes only where they were read.
+abbrev pub Settles : (limits : List Asked → List Limits) → Files → List (List ℕ) → Cause → Type 0
+Settles limits files words words_refused = (names : Names) → AreNames words names → ⊥
+Settles limits files words cause = (names : Names) × AreNames words names × FilesSettle limits files names cause
+
+-- ---- which ends they explain
+
+-- the words and the files ask for these queries over these tables
+abbrev pub Asks : Files → List (List ℕ) → List Table → List Contents → List Asked → Type 0
+Asks files words schema tables queries = (names : Names) × AreNames words names × HasQueries files names schema tables queries
+
+-- they ask for queries of which one has the property
+abbrev pub AsksOne : Files → List (List ℕ) → (List Contents → Asked → Type 0) → Type 0
+AsksOne files words P = (schema : List Table) × (tables : List Contents) × (queries : List Asked) × (one : Asked)
+    × Asks files words schema tables queries × Contains queries one × P tables one
 
 -- a refusal, which the words and the files settle
-abbrev pub IsSettled : Status → Type 0
-IsSettled Done = ⊥
-IsSettled PageLimitMet = ⊥
-IsSettled WordsRefused = Unit {0}
-IsSettled SchemaRefused = Unit {0}
-IsSettled TableFileRefused = Unit {0}
-IsSettled QueriesRefused = Unit {0}
-IsSettled ReadFailed = ⊥
-IsSettled WriteFailed = ⊥
-IsSettled NoMemory = ⊥
+abbrev pub IsRefusal : Status → Type 0
+IsRefusal WordsRefused = Unit {0}
+IsRefusal SchemaRefused = Unit {0}
+IsRefusal TableFileRefused = Unit {0}
+IsRefusal QueriesRefused = Unit {0}
+IsRefusal TotalPages = Unit {0}
+IsRefusal _ = ⊥
 
 -- a fault of the outside, or want of memory
 abbrev pub IsFault : Status → Type 0
@@ -151,10 +187,15 @@ IsFault WriteFailed = Unit {0}
 IsFault NoMemory = Unit {0}
 IsFault _ = ⊥
 
--- what the header says of a column: its name, and the kind that its values are printed as
-abbrev pub head_of : Column → Head
-head_of column = record { name = column.name; kind = type_kind column.ty }
-
--- the header of the rows that a statement gives: its columns, in its order
-abbrev pub header_of : Table → Statement → List Head
-header_of table statement = filter_map (λ column. option_map head_of (slice_get table.columns column)) statement.columns
+-- The words and the files explain how a run ended, whose instances may hold so many pages: they settle a cause of a refusal; or
+-- they ask for queries, of which one needs more pages, where a limit of pages was met. A fault comes only where the words were
+-- read.
+abbrev pub Explains : (limits : List Asked → List Limits) → (pages : ℕ) → Files → List (List ℕ) → Status → Type 0
+Explains limits pages files words Done = (schema : List Table) × (tables : List Contents) × (queries : List Asked) × Asks files words schema tables queries
+Explains limits pages files words Raised = (schema : List Table) × (tables : List Contents) × (queries : List Asked) × Asks files words schema tables queries
+Explains limits pages files words StepLimitMet = (schema : List Table) × (tables : List Contents) × (queries : List Asked) × Asks files words schema tables queries
+Explains limits pages files words PageLimitMet = AsksOne files words (λ tables one. pages < page_bound one.specification (rows_in_tables tables))
+Explains limits pages files words ReadFailed = (names : Names) × AreNames words names
+Explains limits pages files words WriteFailed = (names : Names) × AreNames words names
+Explains limits pages files words NoMemory = (names : Names) × AreNames words names
+Explains limits pages files words status = (cause : Cause) × Settles limits files words cause × (status ≡ status_of_cause cause)
