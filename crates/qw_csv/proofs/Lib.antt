@@ -1,6 +1,6 @@
+pub mod ColumnLaws
 mod CsvReaderLemmas
 mod FileLemmas
-pub mod KindLaws
 pub mod LoadingLaws
 mod PushLemmas
 mod RecordLemmas

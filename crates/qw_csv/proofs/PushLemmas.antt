@@ -9,7 +9,7 @@ use Rattle.qw_types.specs.declared.value.Val.TheVariants.{Null}
 use Rattle.qw_types.specs.declared.value.Ty.{Ty}
 use Rattle.qw_types.specs.declared.value.Ty.TheVariants as ty
 use Rattle.qw_types.specs.Value.{IsOfTypeOrNull}
-use Rattle.qw_csv.specs.Contents.{column_type}
+use Rattle.qw_types.specs.Contents.{column_type}
 use Rattle.qw_csv.specs.Field.{IsEmptyFieldOf, IsFieldFault, IsFieldOf, IsTypedFieldOf}
 use Rattle.qw_csv.specs.Loading.{IsFirstFieldFault, IsRecordOf}
 use Rattle.qw_csv.specs.declared.cell.CellFault.{CellFault}
@@ -98,47 +98,47 @@ fails_first (suc k) len (d ∷ columns) (f ∷ fields) [] after more c why h lt 
 fails_first (suc k) len (d ∷ columns) (f ∷ fields) (b ∷ before) [] more c why h lt is fault = elim h [ ]
 fails_first (suc k) len (d ∷ columns) (f ∷ fields) (b ∷ before) (a ∷ after) [] c why h lt is fault = elim h [ ]
 
--- ---- kinds
+-- ---- values of columns
 
 empty_text : IsUtf8 [] × (length (chars []) ≡ 0)
 unfolding chars
 empty_text = (([], (refl, refl)), refl)
 
--- a field stands for a value of its column's kind
-typed_kind : (type : Ty) (never : Bool) (field : List ℕ) (v : Val) → IsTypedFieldOf type field v → IsOfTypeOrNull type never v
-typed_kind ty.Integer never field (val.Num n) h = h.range
-typed_kind (ty.Decimal p s) never field (val.Num n) h = h.range
-typed_kind ty.Date never field (val.Date n) h = record { year = _; month = _; day = _; there = h.there; packed_is = h.packed_is }
-typed_kind (ty.Varchar l) never field (val.Text t) h = h.1
-typed_kind ty.Integer never field Null h = elim h [ ]
-typed_kind ty.Integer never field (val.Date n) h = elim h [ ]
-typed_kind ty.Integer never field (val.Text t) h = elim h [ ]
-typed_kind (ty.Decimal p s) never field Null h = elim h [ ]
-typed_kind (ty.Decimal p s) never field (val.Date n) h = elim h [ ]
-typed_kind (ty.Decimal p s) never field (val.Text t) h = elim h [ ]
-typed_kind ty.Date never field Null h = elim h [ ]
-typed_kind ty.Date never field (val.Num n) h = elim h [ ]
-typed_kind ty.Date never field (val.Text t) h = elim h [ ]
-typed_kind (ty.Varchar l) never field Null h = elim h [ ]
-typed_kind (ty.Varchar l) never field (val.Num n) h = elim h [ ]
-typed_kind (ty.Varchar l) never field (val.Date n) h = elim h [ ]
+-- a field stands for a value of its column's type
+typed_of_type : (type : Ty) (never : Bool) (field : List ℕ) (v : Val) → IsTypedFieldOf type field v → IsOfTypeOrNull type never v
+typed_of_type ty.Integer never field (val.Num n) h = h.range
+typed_of_type (ty.Decimal p s) never field (val.Num n) h = h.range
+typed_of_type ty.Date never field (val.Date n) h = record { year = _; month = _; day = _; there = h.there; packed_is = h.packed_is }
+typed_of_type (ty.Varchar l) never field (val.Text t) h = h.1
+typed_of_type ty.Integer never field Null h = elim h [ ]
+typed_of_type ty.Integer never field (val.Date n) h = elim h [ ]
+typed_of_type ty.Integer never field (val.Text t) h = elim h [ ]
+typed_of_type (ty.Decimal p s) never field Null h = elim h [ ]
+typed_of_type (ty.Decimal p s) never field (val.Date n) h = elim h [ ]
+typed_of_type (ty.Decimal p s) never field (val.Text t) h = elim h [ ]
+typed_of_type ty.Date never field Null h = elim h [ ]
+typed_of_type ty.Date never field (val.Num n) h = elim h [ ]
+typed_of_type ty.Date never field (val.Text t) h = elim h [ ]
+typed_of_type (ty.Varchar l) never field Null h = elim h [ ]
+typed_of_type (ty.Varchar l) never field (val.Num n) h = elim h [ ]
+typed_of_type (ty.Varchar l) never field (val.Date n) h = elim h [ ]
 
-empty_kind : (type : Ty) (never : Bool) (v : Val) → IsEmptyFieldOf type never v → IsOfTypeOrNull type never v
-empty_kind type false val.Null h = refl
-empty_kind (ty.Varchar l) true (val.Text t) h = rw h (record { utf8 = empty_text.0; short = omega (arith, empty_text.1) })
-empty_kind type false (val.Num _) h = elim h [ ]
-empty_kind type false (val.Date _) h = elim h [ ]
-empty_kind type false (val.Text t) h = elim h [ ]
-empty_kind ty.Integer true v h = elim h [ ]
-empty_kind (ty.Decimal _ _) true v h = elim h [ ]
-empty_kind ty.Date true v h = elim h [ ]
-empty_kind (ty.Varchar l) true Null h = elim h [ ]
-empty_kind (ty.Varchar l) true (val.Num _) h = elim h [ ]
-empty_kind (ty.Varchar l) true (val.Date _) h = elim h [ ]
+empty_of_column : (type : Ty) (never : Bool) (v : Val) → IsEmptyFieldOf type never v → IsOfTypeOrNull type never v
+empty_of_column type false val.Null h = refl
+empty_of_column (ty.Varchar l) true (val.Text t) h = rw h (record { utf8 = empty_text.0; short = omega (arith, empty_text.1) })
+empty_of_column type false (val.Num _) h = elim h [ ]
+empty_of_column type false (val.Date _) h = elim h [ ]
+empty_of_column type false (val.Text t) h = elim h [ ]
+empty_of_column ty.Integer true v h = elim h [ ]
+empty_of_column (ty.Decimal _ _) true v h = elim h [ ]
+empty_of_column ty.Date true v h = elim h [ ]
+empty_of_column (ty.Varchar l) true Null h = elim h [ ]
+empty_of_column (ty.Varchar l) true (val.Num _) h = elim h [ ]
+empty_of_column (ty.Varchar l) true (val.Date _) h = elim h [ ]
 
-pub field_kind : (c : Column) (field : List ℕ) (v : Val) → IsFieldOf c field v → IsOfTypeOrNull c.ty c.not_null v
-field_kind c [] v h = empty_kind c.ty c.not_null v h
-field_kind c (o ∷ os) v h = typed_kind c.ty c.not_null (o ∷ os) v h
+pub field_of_column : (c : Column) (field : List ℕ) (v : Val) → IsFieldOf c field v → IsOfTypeOrNull c.ty c.not_null v
+field_of_column c [] v h = empty_of_column c.ty c.not_null v h
+field_of_column c (o ∷ os) v h = typed_of_type c.ty c.not_null (o ∷ os) v h
 
 -- one more column, without values
 pub none_more : (columns : List Column) (k : ℕ) (c : Column) (kept : List Values) (new : Values) → slice_get columns k ≡ Some c → AreAllKept 0 (map column_type (take k columns)) kept
@@ -149,10 +149,10 @@ none_more (d ∷ columns) zero c (v ∷ kept) new is all valid none = absurd all
 none_more (d ∷ columns) (suc k) c [] new is all valid none = absurd all
 none_more (d ∷ columns) (suc k) c (v ∷ kept) new is all valid none = (all.0, all.1, none_more columns k c kept new is all.2 valid none)
 
-pub kinds_more : (columns : List Column) (k : ℕ) (c : Column) → slice_get columns k ≡ Some c → map column_type (take (suc k) columns) ≡ map column_type (take k columns) ++ column_type c ∷ []
-kinds_more [] k c is = cc is
-kinds_more (d ∷ columns) zero c is = cc is
-kinds_more (d ∷ columns) (suc k) c is = cc (kinds_more columns k c is)
+pub types_more : (columns : List Column) (k : ℕ) (c : Column) → slice_get columns k ≡ Some c → map column_type (take (suc k) columns) ≡ map column_type (take k columns) ++ column_type c ∷ []
+types_more [] k c is = cc is
+types_more (d ∷ columns) zero c is = cc is
+types_more (d ∷ columns) (suc k) c is = cc (types_more columns k c is)
 
 -- ---- all columns
 

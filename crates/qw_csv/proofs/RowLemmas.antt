@@ -5,11 +5,11 @@ use Rattle.std.specs.List.{AllByRecursion, AllZip}
 use Rattle.std.specs.Option.{option_and_then}
 use Rattle.std.proofs.lemmas.Bool.{cases_lt}
 use Rattle.std.proofs.lemmas.Bool.Decides.{nat_tests}
-use Rattle.qw_types.specs.Value.{IsOfTypeOrNull, value_of}
+use Rattle.qw_types.specs.Value.{value_of}
 use Rattle.qw_types.specs.declared.value.Val.{Val}
 use Rattle.qw_types.specs.declared.value.Val.TheVariants.{Null}
-use Rattle.qw_csv.specs.Contents.{AreLoaded, IsOfColumnType}
-use Rattle.qw_csv.specs.declared.storage.ColumnType.{ColumnType}
+use Rattle.qw_types.specs.Contents.{AreLoaded, IsOfColumnType}
+use Rattle.qw_types.specs.declared.schema.ColumnType.{ColumnType}
 use Rattle.qw_csv.specs.declared.storage.Values.{Values}
 use Rattle.qw_csv.specs.Inner.Rows.{AreAllKept, AreStored, row_in, rows_in}
 use Rattle.qw_csv.specs.Inner.Storage.{AreKept, values_in}
@@ -77,48 +77,48 @@ found count columns row column kept value lt there is =
     index_is (w ∷ values) zero v e = cc e
     index_is (w ∷ values) (suc i) v e = index_is values i v e
 
--- a column is kept by its kind
-pub record Column (count : ℕ) (kind : ColumnType) (columns : List Values) (column : ℕ) : Type 0 where
+-- a column is kept by its type
+pub record Column (count : ℕ) (type : ColumnType) (columns : List Values) (column : ℕ) : Type 0 where
   pub kept : Values
   pub there : slice_get columns column ≡ Some kept
-  pub valid : AreKept kind kept
+  pub valid : AreKept type kept
   pub long : length (values_in kept) ≡ count
 
-pub column_there : (count : ℕ) (kinds : List ColumnType) (columns : List Values) (column : ℕ) (kind : ColumnType) → AreAllKept count kinds columns → slice_get kinds column ≡ Some kind → Column count kind columns column
-column_there count [] [] column kind all is = cc is
-column_there count [] (k ∷ columns) column kind all is = absurd all
-column_there count (k ∷ kinds) [] column kind all is = absurd all
-column_there count (k ∷ kinds) (kept ∷ columns) zero kind all is = let e : k ≡ kind = cc is in record { kept = kept; there = refl; valid = subst (λ (x : ColumnType). AreKept x kept) e all.0; long = all.1 }
-column_there count (k ∷ kinds) (kept ∷ columns) (suc column) kind all is =
-    let h = column_there count kinds columns column kind all.2 is in record { kept = h.kept; there = h.there; valid = h.valid; long = h.long }
+pub column_there : (count : ℕ) (types : List ColumnType) (columns : List Values) (column : ℕ) (type : ColumnType) → AreAllKept count types columns → slice_get types column ≡ Some type → Column count type columns column
+column_there count [] [] column type all is = cc is
+column_there count [] (k ∷ columns) column type all is = absurd all
+column_there count (k ∷ types) [] column type all is = absurd all
+column_there count (k ∷ types) (kept ∷ columns) zero type all is = let e : k ≡ type = cc is in record { kept = kept; there = refl; valid = subst (λ (x : ColumnType). AreKept x kept) e all.0; long = all.1 }
+column_there count (k ∷ types) (kept ∷ columns) (suc column) type all is =
+    let h = column_there count types columns column type all.2 is in record { kept = h.kept; there = h.there; valid = h.valid; long = h.long }
 
-pub same_width : (count : ℕ) (kinds : List ColumnType) (columns : List Values) → AreAllKept count kinds columns → length columns ≡ length kinds
+pub same_width : (count : ℕ) (types : List ColumnType) (columns : List Values) → AreAllKept count types columns → length columns ≡ length types
 same_width count [] [] all = refl
 same_width count [] (k ∷ columns) all = absurd all
-same_width count (k ∷ kinds) [] all = absurd all
-same_width count (k ∷ kinds) (kept ∷ columns) all = ap (λ (n : ℕ). suc n) (same_width count kinds columns all.2)
+same_width count (k ∷ types) [] all = absurd all
+same_width count (k ∷ types) (kept ∷ columns) all = ap (λ (n : ℕ). suc n) (same_width count types columns all.2)
 
 -- ---- what the rows are
 
-typed_row : (count row : ℕ) (kinds : List ColumnType) (columns : List Values) → row < count → AreAllKept count kinds columns → AllZip IsOfColumnType kinds (row_in row columns)
+typed_row : (count row : ℕ) (types : List ColumnType) (columns : List Values) → row < count → AreAllKept count types columns → AllZip IsOfColumnType types (row_in row columns)
 typed_row count row [] [] lt all = tt
 typed_row count row [] (k ∷ columns) lt all = absurd all
-typed_row count row (k ∷ kinds) [] lt all = absurd all
-typed_row count row (k ∷ kinds) (kept ∷ columns) lt (valid, long, rest) =
-    (all_at (IsOfColumnType k) (values_in kept) row valid.typed (omega (arith, lt, long)), typed_row count row kinds columns lt rest)
+typed_row count row (k ∷ types) [] lt all = absurd all
+typed_row count row (k ∷ types) (kept ∷ columns) lt (valid, long, rest) =
+    (all_at (IsOfColumnType k) (values_in kept) row valid.typed (omega (arith, lt, long)), typed_row count row types columns lt rest)
 
-typed_rows : (count some : ℕ) (kinds : List ColumnType) (columns : List Values) → some ≤ count → AreAllKept count kinds columns → AllByRecursion (AllZip IsOfColumnType kinds) (rows_in some columns)
+typed_rows : (count some : ℕ) (types : List ColumnType) (columns : List Values) → some ≤ count → AreAllKept count types columns → AllByRecursion (AllZip IsOfColumnType types) (rows_in some columns)
 unfolding rows_in
-typed_rows count zero kinds columns le all = tt
-typed_rows count (suc some) kinds columns le all =
-    all_push (AllZip IsOfColumnType kinds) (rows_in some columns) (row_in some columns) (typed_rows count some kinds columns (omega arith) all) (typed_row count some kinds columns (omega arith) all)
+typed_rows count zero types columns le all = tt
+typed_rows count (suc some) types columns le all =
+    all_push (AllZip IsOfColumnType types) (rows_in some columns) (row_in some columns) (typed_rows count some types columns (omega arith) all) (typed_row count some types columns (omega arith) all)
 
-pub stored_loaded : (count : ℕ) (kinds : List ColumnType) (columns : List Values) → AreStored count kinds columns → AreLoaded (record { columns = kinds; rows = rows_in count columns })
-stored_loaded count kinds columns h = record {
+pub stored_loaded : (count : ℕ) (types : List ColumnType) (columns : List Values) → AreStored count types columns → AreLoaded (record { columns = types; rows = rows_in count columns })
+stored_loaded count types columns h = record {
   some = h.some;
   narrow = h.narrow;
   few = rw (length-rows_in count columns) h.few;
-  typed = typed_rows count count kinds columns (omega arith) h.kept;
+  typed = typed_rows count count types columns (omega arith) h.kept;
 }
 
 pub no_rows : (count : ℕ) (columns : List Values) → (IsTrue (nat_eq count 0) → rows_in count columns ≡ []) × (rows_in count columns ≡ [] → IsTrue (nat_eq count 0))
@@ -132,11 +132,11 @@ no_rows (suc count) columns = (λ h. absurd (more h), λ h. absurd (none_of h))
     none_of : rows_in count columns ++ row_in count columns ∷ [] ≡ [] → ⊥
     none_of h = let e : length (rows_in count columns ++ row_in count columns ∷ []) ≡ 0 = ap length h in omega (arith, e, length-append (rows_in count columns) (row_in count columns ∷ []))
 
--- a column that is found is kept by some kind
-pub column_found : (count : ℕ) (kinds : List ColumnType) (columns : List Values) (column : ℕ) (kept : Values) → AreAllKept count kinds columns → slice_get columns column ≡ Some kept
-    → ((kind : ColumnType) × AreKept kind kept) × (length (values_in kept) ≡ count)
+-- a column that is found is kept by some type
+pub column_found : (count : ℕ) (types : List ColumnType) (columns : List Values) (column : ℕ) (kept : Values) → AreAllKept count types columns → slice_get columns column ≡ Some kept
+    → ((type : ColumnType) × AreKept type kept) × (length (values_in kept) ≡ count)
 column_found count [] [] column kept all is = cc is
 column_found count [] (k ∷ columns) column kept all is = absurd all
-column_found count (k ∷ kinds) [] column kept all is = absurd all
-column_found count (k ∷ kinds) (v ∷ columns) zero kept all is = let e : v ≡ kept = cc is in rw (← e) ((k, all.0), all.1)
-column_found count (k ∷ kinds) (v ∷ columns) (suc column) kept all is = column_found count kinds columns column kept all.2 is
+column_found count (k ∷ types) [] column kept all is = absurd all
+column_found count (k ∷ types) (v ∷ columns) zero kept all is = let e : v ≡ kept = cc is in rw (← e) ((k, all.0), all.1)
+column_found count (k ∷ types) (v ∷ columns) (suc column) kept all is = column_found count types columns column kept all.2 is

@@ -13,9 +13,9 @@ use Rattle.qw_types.specs.declared.value.Ty.TheVariants as ty
 use Rattle.qw_csv.specs.declared.storage.Cells.{Cells}
 use Rattle.qw_csv.specs.declared.storage.Cells.TheVariants as cells
 use Rattle.qw_csv.specs.declared.storage.Texts.{Texts}
-use Rattle.qw_csv.specs.declared.storage.ColumnType.{ColumnType}
+use Rattle.qw_types.specs.declared.schema.ColumnType.{ColumnType}
 use Rattle.qw_csv.specs.declared.storage.Values.{Values}
-use Rattle.qw_csv.specs.Contents.{integer_kind}
+use Rattle.qw_csv.specs.Contents.{integer_column}
 use Rattle.qw_csv.specs.Inner.Storage.{AreCellsOf, AreEnds, AreKept, is_null, placed, plain_values, texts_from, values_in, with_nulls}
 
 -- octets behind a slice play no part in it
@@ -71,34 +71,34 @@ pub all_push : {X : Type 0} (P : X → Type 0) (xs : List X) (x : X) → AllByRe
 all_push P [] x all h = (h, tt)
 all_push P (y ∷ xs) x all h = (all.0, all_push P xs x all.1 h)
 
--- a value of the kind behind those of a column that may be null
-pub kept_with_null : (kind : ColumnType) (before after : Values) (value : Val) → kind.not_null ≡ false → AreKept kind before → IsOfTypeOrNull kind.ty kind.not_null value
-    → AreCellsOf kind.ty after.cells → plain_values after.cells ≡ plain_values before.cells ++ placed kind.ty value ∷ []
+-- a value of the type behind those of a column that may be null
+pub kept_with_null : (type : ColumnType) (before after : Values) (value : Val) → type.not_null ≡ false → AreKept type before → IsOfTypeOrNull type.ty type.not_null value
+    → AreCellsOf type.ty after.cells → plain_values after.cells ≡ plain_values before.cells ++ placed type.ty value ∷ []
     → after.nulls.items ≡ before.nulls.items ++ is_null value ∷ []
-    → AreKept kind after × (values_in after ≡ values_in before ++ value ∷ [])
-kept_with_null kind before after value nullable kept of form cells flags =
+    → AreKept type after × (values_in after ≡ values_in before ++ value ∷ [])
+kept_with_null type before after value nullable kept of form cells flags =
     let many : length before.nulls.items ≡ length (plain_values before.cells) = rw nullable at kept.flags in
-    let pushed : values_in after ≡ values_in before ++ value ∷ [] = rw (cells, flags, nulls_push (plain_values before.cells) before.nulls.items (placed kind.ty value) (is_null value) many, back kind.ty value) refl in (
+    let pushed : values_in after ≡ values_in before ++ value ∷ [] = rw (cells, flags, nulls_push (plain_values before.cells) before.nulls.items (placed type.ty value) (is_null value) many, back type.ty value) refl in (
       record {
         form = form;
-        flags = rw (nullable, cells, flags, length-append before.nulls.items (is_null value ∷ []), length-append (plain_values before.cells) (placed kind.ty value ∷ [])) (ap (λ (n : ℕ). n + 1) many);
-        typed = rw pushed (all_push (IsOfTypeOrNull kind.ty kind.not_null) (values_in before) value kept.typed of);
+        flags = rw (nullable, cells, flags, length-append before.nulls.items (is_null value ∷ []), length-append (plain_values before.cells) (placed type.ty value ∷ [])) (ap (λ (n : ℕ). n + 1) many);
+        typed = rw pushed (all_push (IsOfTypeOrNull type.ty type.not_null) (values_in before) value kept.typed of);
       },
       pushed,
     )
 
 -- and behind those of one that may not
-pub kept_not_null : (kind : ColumnType) (before after : Values) (value : Val) → kind.not_null ≡ true → AreKept kind before → IsOfTypeOrNull kind.ty kind.not_null value
-    → AreCellsOf kind.ty after.cells → plain_values after.cells ≡ plain_values before.cells ++ placed kind.ty value ∷ []
+pub kept_not_null : (type : ColumnType) (before after : Values) (value : Val) → type.not_null ≡ true → AreKept type before → IsOfTypeOrNull type.ty type.not_null value
+    → AreCellsOf type.ty after.cells → plain_values after.cells ≡ plain_values before.cells ++ placed type.ty value ∷ []
     → after.nulls.items ≡ before.nulls.items
-    → AreKept kind after × (values_in after ≡ values_in before ++ value ∷ [])
-kept_not_null kind before after value never kept of form cells flags =
+    → AreKept type after × (values_in after ≡ values_in before ++ value ∷ [])
+kept_not_null type before after value never kept of form cells flags =
     let none : before.nulls.items ≡ [] = rw never at kept.flags in
-    let pushed : values_in after ≡ values_in before ++ value ∷ [] = rw (cells, flags, none, no_nulls (plain_values before.cells ++ placed kind.ty value ∷ []), no_nulls (plain_values before.cells), back_not_null kind.ty kind.not_null value never of) refl in (
+    let pushed : values_in after ≡ values_in before ++ value ∷ [] = rw (cells, flags, none, no_nulls (plain_values before.cells ++ placed type.ty value ∷ []), no_nulls (plain_values before.cells), back_not_null type.ty type.not_null value never of) refl in (
       record {
         form = form;
         flags = rw (never, flags) none;
-        typed = rw pushed (all_push (IsOfTypeOrNull kind.ty kind.not_null) (values_in before) value kept.typed of);
+        typed = rw pushed (all_push (IsOfTypeOrNull type.ty type.not_null) (values_in before) value kept.typed of);
       },
       pushed,
     )
@@ -141,7 +141,7 @@ module _ (type : Ty) (not_null : Bool) (before : Cells) (value : Val) (form : Ar
       of_type (ty.Varchar n) f o = there n not_null o
 
 -- the values of an INTEGER NOT NULL column
-pub integer_values : (kept : Values) (numbers : Vec ℤ Global) → AreKept integer_kind kept → kept.cells ≡ cells.Integers numbers → values_in kept ≡ map val.Num numbers.items
+pub integer_values : (kept : Values) (numbers : Vec ℤ Global) → AreKept integer_column kept → kept.cells ≡ cells.Integers numbers → values_in kept ≡ map val.Num numbers.items
 integer_values kept numbers h is = rw (is, h.flags) (no_nulls (map val.Num numbers.items))
 
 pub integer_at : (numbers : List ℤ) (row : ℕ) (number : ℤ) → slice_get numbers row ≡ Some number → slice_get (map val.Num numbers) row ≡ Some (val.Num number)

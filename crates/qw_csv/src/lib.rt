@@ -3,14 +3,13 @@
 //! - [`loading::load`]: the rows that the octets stand for, or the first fault of the file.
 //! - [`loaded::Loaded`]: rows in memory, their values by row and column.
 //! - [`cell::Cell`]: a value, its text lent; [`cell::CellFault`]: why a field stands for none.
-//! - [`storage::ColumnType`]: a column's type, and whether it may be null.
 #![tactic(auto)]
 
 pub mod cell;
 pub mod loaded;
 pub mod loading;
-pub mod storage;
+mod storage;
 
 pub use cell::{Cell, CellFault};
 pub use loaded::Loaded;
-pub use storage::ColumnType;
+pub use qw_types::ColumnType;

@@ -7,61 +7,63 @@ ghost use Rattle.qw_types.specs.Schema.{AreColumns};
 ghost use Rattle.qw_types.specs.Value.{value_of};
 ghost use Rattle.qw_types.specs.declared.schema.Column.{Column};
 ghost use Rattle.qw_types.specs.declared.value.Val.TheVariants.{Num};
-ghost use Rattle.qw_csv.specs.Contents.{AreLoaded, Contents, column_type, integer_kind};
+ghost use Rattle.qw_types.specs.Contents.{AreLoaded, Contents, column_type};
+ghost use Rattle.qw_csv.specs.Contents.{integer_column};
 ghost use Rattle.qw_csv.specs.Field.{val_of};
 ghost use Rattle.qw_csv.specs.Inner.Rows.{AreStored, rows_in};
 
 use crate::cell::Cell;
-use crate::storage::{ColumnType, Values};
+use crate::storage::Values;
+use qw_types::ColumnType;
 use std::marker::Model;
 
 /// The rows of a table. Contracts see the types of its columns, and the rows as lists of values.
 #[derive(Debug, Drop)]
 pub struct Loaded {
-    kinds: Vec<ColumnType>,
+    columns: Vec<ColumnType>,
     /// For each column its values.
-    columns: Vec<Values>,
+    values: Vec<Values>,
     len: usize,
 }
 
 impl Model for Loaded {
-    ghost use Rattle.qw_csv.specs.Contents.{Contents};
+    ghost use Rattle.qw_types.specs.Contents.{Contents};
     ghost use Rattle.qw_csv.specs.Field.{val_of};
     ghost use Rattle.qw_csv.specs.Inner.Rows.{AreStored, rows_in};
 
     ghost Value = { Contents };
 
-    ghost view = { λ a. record { columns = a.kinds.items; rows = rows_in a.len a.columns.items } };
+    ghost view = { λ a. record { columns = a.columns.items; rows = rows_in a.len a.values.items } };
 
-    ghost invariant = { λ a. AreStored a.len a.kinds.items a.columns.items };
+    ghost invariant = { λ a. AreStored a.len a.columns.items a.values.items };
 }
 
 impl Loaded {
     /// Rows that are kept in these values, column by column.
-    pub(crate) fn new(kinds: Vec<ColumnType>, columns: Vec<Values>, len: usize) -> Self
-        requires { AreStored len kinds.items columns.items }
-        ensures columns { result.columns ≡ kinds.items }
-        ensures rows { result.rows ≡ rows_in len columns.items }
+    pub(crate) fn new(columns: Vec<ColumnType>, values: Vec<Values>, len: usize) -> Self
+        requires { AreStored len columns.items values.items }
+        ensures columns { result.columns ≡ columns.items }
+        ensures rows { result.rows ≡ rows_in len values.items }
     {
         Loaded {
-            kinds,
             columns,
+            values,
             len,
         }
     }
 
     /// The types of the columns, and which may be null.
-    pub fn kinds(&self) -> &[ColumnType]
+    pub fn columns(&self) -> &[ColumnType]
         ensures { result.now ≡ self.now.columns }
     {
-        self.kinds.as_slice()
+        self.columns.as_slice()
     }
 
     /// How many columns the table has.
     pub fn width(&self) -> usize
         ensures { result ≡ length self.now.columns }
     {
-        self.kinds.len()
+        self.columns.len()
     }
 
     /// How many rows the table has.
@@ -85,16 +87,16 @@ impl Loaded {
         requires column { column < length self.now.columns }
         ensures { value_of self.now.rows row column ≡ Some (val_of result) }
     {
-        self.columns[column].get(row)
+        self.values[column].get(row)
     }
 
     /// The value of an INTEGER NOT NULL column in a row, both counted from 0.
     pub fn value(&self, row: usize, column: usize) -> i32
         requires row { row < length self.now.rows }
-        requires column { slice_get self.now.columns column ≡ Some integer_kind }
+        requires column { slice_get self.now.columns column ≡ Some integer_column }
         ensures { value_of self.now.rows row column ≡ Some (Num result) }
     {
-        self.columns[column].integer(row)
+        self.values[column].integer(row)
     }
 }
 

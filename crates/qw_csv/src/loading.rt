@@ -13,7 +13,7 @@ ghost use Rattle.qw_types.specs.declared.schema.Column.{Column};
 ghost use Rattle.qw_types.specs.declared.schema.Table.{Table};
 ghost use Rattle.qw_types.specs.declared.value.Val.{Val};
 ghost use Rattle.qw_csv.specs.declared.loading.LoadFault.{LoadFault};
-ghost use Rattle.qw_csv.specs.Contents.{column_type};
+ghost use Rattle.qw_types.specs.Contents.{column_type};
 ghost use Rattle.qw_csv.specs.Loading.{IsFirstFault, IsHeader, IsRecordFault, IsRecordOf, Loads};
 ghost use Rattle.qw_csv.specs.Inner.Loading.{HasRead};
 ghost use Rattle.qw_csv.specs.Inner.Rows.{AreAllKept, rows_in};
@@ -89,7 +89,7 @@ impl<T: Drop> From<AllocFailed<T>> for LoadFault {
 /// The first fault from the start of the file. Want of memory may come instead of any answer.
 pub fn load(alloc: Global, table: &Table, bytes: &[u8]) -> Result<Loaded, LoadFault>
     ensures rows { IfOk result (λ loaded. Loads table.now bytes.now loaded.rows) }
-    ensures kinds { IfOk result (λ loaded. loaded.columns ≡ map column_type table.now.columns) }
+    ensures columns { IfOk result (λ loaded. loaded.columns ≡ map column_type table.now.columns) }
     ensures fault { IfErr result (λ e. e ≢ LoadFault.NoMemory → IsFirstFault table.now bytes.now e) }
 {
     let mut reader = reader_of(alloc, bytes);
@@ -128,7 +128,7 @@ fn reader_of<'a>(alloc: Global, bytes: &'a [u8]) -> Reader<&'a [u8]>
 fn load_from(alloc: Global, table: &Table, reader: &mut Reader<&[u8]>) -> Result<Loaded, LoadFault>
     ensures rows { IfOk result (λ loaded. (bytes : List ℕ) → HasRead reader.old (strip_bom bytes) []
         → Loads table.now bytes loaded.rows) }
-    ensures kinds { IfOk result (λ loaded. loaded.columns ≡ map column_type table.now.columns) }
+    ensures columns { IfOk result (λ loaded. loaded.columns ≡ map column_type table.now.columns) }
     ensures fault { IfErr result (λ e. (bytes : List ℕ) → HasRead reader.old (strip_bom bytes) []
         → e ≢ LoadFault.NoMemory → IsFirstFault table.now bytes e) }
 {
@@ -149,7 +149,7 @@ fn rows_after_header(
     ensures rows { IfOk result (λ loaded. (bytes : List ℕ) (header : List (List ℕ))
         → HasRead reader.old (strip_bom bytes) (header ∷ []) → IsHeader table.now.columns header
         → Loads table.now bytes loaded.rows) }
-    ensures kinds { IfOk result (λ loaded. loaded.columns ≡ map column_type table.now.columns) }
+    ensures columns { IfOk result (λ loaded. loaded.columns ≡ map column_type table.now.columns) }
     ensures fault { IfErr result (λ e. (bytes : List ℕ) (header : List (List ℕ))
         → HasRead reader.old (strip_bom bytes) (header ∷ []) → IsHeader table.now.columns header
         → e ≢ LoadFault.NoMemory → IsFirstFault table.now bytes e) }
@@ -190,14 +190,14 @@ fn loaded(
     requires few { len ≤ MAX_ROWS }
     requires kept { AreAllKept len (map column_type columns.now) values.items }
     ensures rows { IfOk result (λ loaded. loaded.rows ≡ rows_in len values.items) }
-    ensures kinds { IfOk result (λ loaded. loaded.columns ≡ map column_type columns.now) }
+    ensures columns { IfOk result (λ loaded. loaded.columns ≡ map column_type columns.now) }
     ensures memory { IfErr result (λ e. e ≡ LoadFault.NoMemory) }
 {
-    let mut kinds = Vec::with_capacity(alloc, columns.len())?;
+    let mut types = Vec::with_capacity(alloc, columns.len())?;
     for column in columns {
-        kinds.push(column_type(column))?;
+        types.push(column_type(column))?;
     }
-    Ok(Loaded::new(kinds, values, len))
+    Ok(Loaded::new(types, values, len))
 }
 
 /// Reads the next record, if there is one, of any number of fields. So an error tells that there was no memory, or that the

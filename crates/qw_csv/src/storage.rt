@@ -8,21 +8,15 @@ ghost use Rattle.qw_types.specs.declared.value.Ty.TheVariants as ty;
 ghost use Rattle.qw_types.specs.declared.value.Ty.TheVariants.{Decimal, Integer, Varchar};
 ghost use Rattle.qw_types.specs.declared.value.Val.TheVariants as val;
 ghost use Rattle.qw_types.specs.declared.value.Val.TheVariants.{Num};
-ghost use Rattle.qw_csv.specs.Contents.{integer_kind, column_type};
-ghost use Rattle.qw_csv.specs.declared.storage.ColumnType.{ColumnType};
+ghost use Rattle.qw_types.specs.Contents.{column_type};
+ghost use Rattle.qw_csv.specs.Contents.{integer_column};
+ghost use Rattle.qw_types.specs.declared.schema.ColumnType.{ColumnType};
 ghost use Rattle.qw_csv.specs.Field.{val_of};
 ghost use Rattle.qw_csv.specs.Inner.Storage.{AreCellsOf, AreEnds, AreKept, is_null, placed, plain_values, texts_from, values_in};
 
 use crate::cell::Cell;
-use qw_types::{Column, NoMemory, Ty};
+use qw_types::{Column, ColumnType, NoMemory, Ty};
 use std::alloc::Global;
-
-/// What a column is but for its name: its values are of this type, or null where they may be (ISO/IEC 9075:1992, 11.4).
-#[derive(Clone, Copy, Debug, PartialEq, Eq)]
-pub struct ColumnType {
-    pub ty: Ty,
-    pub not_null: bool,
-}
 
 /// A column without its name.
 pub(crate) fn column_type(column: &Column) -> ColumnType
@@ -117,11 +111,11 @@ impl Cells {
     }
 
     /// Puts a value of the column behind the others; 0 or the empty text for null.
-    fn push(&mut self, kind: ColumnType, cell: Cell<'_>) -> Result<(), NoMemory>
-        requires form { AreCellsOf kind.ty self.old }
-        requires typed { IsOfTypeOrNull kind.ty kind.not_null (val_of cell) }
-        ensures form { OnOk result (AreCellsOf kind.ty self.new) }
-        ensures pushed { OnOk result (plain_values self.new ≡ plain_values self.old ++ placed kind.ty (val_of cell.entry) ∷ []) }
+    fn push(&mut self, column: ColumnType, cell: Cell<'_>) -> Result<(), NoMemory>
+        requires form { AreCellsOf column.ty self.old }
+        requires typed { IsOfTypeOrNull column.ty column.not_null (val_of cell) }
+        ensures form { OnOk result (AreCellsOf column.ty self.new) }
+        ensures pushed { OnOk result (plain_values self.new ≡ plain_values self.old ++ placed column.ty (val_of cell.entry) ∷ []) }
     {
         match self {
             Cells::Integers(numbers) => numbers.push(integer_in(cell))?,
@@ -152,7 +146,7 @@ impl Cells {
 impl Values {
     /// The value of a row.
     pub(crate) fn get(&self, row: usize) -> Cell<'_>
-        requires kept { (kind : ColumnType) × AreKept kind self.now }
+        requires kept { (column : ColumnType) × AreKept column self.now }
         requires row { row < length (values_in self.now) }
         ensures { slice_get (values_in self.now) row ≡ Some (val_of result) }
     {
@@ -165,25 +159,25 @@ impl Values {
 
 impl Values {
     /// No values.
-    pub(crate) fn new(alloc: Global, kind: ColumnType) -> Self
-        ensures kept { AreKept kind result }
+    pub(crate) fn new(alloc: Global, column: ColumnType) -> Self
+        ensures kept { AreKept column result }
         ensures none { values_in result ≡ [] }
     {
         Values {
-            cells: Cells::new(alloc, kind.ty),
+            cells: Cells::new(alloc, column.ty),
             nulls: Vec::new(alloc),
         }
     }
 
     /// Puts a value of the column behind the others.
-    pub(crate) fn push(&mut self, kind: ColumnType, cell: Cell<'_>) -> Result<(), NoMemory>
-        requires kept { AreKept kind self.old }
-        requires typed { IsOfTypeOrNull kind.ty kind.not_null (val_of cell) }
-        ensures kept { OnOk result (AreKept kind self.new) }
+    pub(crate) fn push(&mut self, column: ColumnType, cell: Cell<'_>) -> Result<(), NoMemory>
+        requires kept { AreKept column self.old }
+        requires typed { IsOfTypeOrNull column.ty column.not_null (val_of cell) }
+        ensures kept { OnOk result (AreKept column self.new) }
         ensures pushed { OnOk result (values_in self.new ≡ values_in self.old ++ val_of cell.entry ∷ []) }
     {
-        self.cells.push(kind, cell)?;
-        if !kind.not_null {
+        self.cells.push(column, cell)?;
+        if !column.not_null {
             self.nulls.push(is_null(cell))?;
         }
         Ok(())
@@ -193,7 +187,7 @@ impl Values {
 impl Values {
     /// The value of a row of an INTEGER NOT NULL column.
     pub(crate) fn integer(&self, row: usize) -> i32
-        requires kept { AreKept integer_kind self.now }
+        requires kept { AreKept integer_column self.now }
         requires row { row < length (values_in self.now) }
         ensures { slice_get (values_in self.now) row ≡ Some (Num result) }
     {

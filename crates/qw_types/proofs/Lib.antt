@@ -6,5 +6,6 @@ pub mod KindLemmas
 pub mod NumberTextLaws
 mod NumberTextLemmas
 mod NumeralLemmas
+pub mod TextLaws
 mod TextOrderLemmas
 mod ValueLemmas

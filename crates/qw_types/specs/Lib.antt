@@ -1,5 +1,6 @@
 pub mod Arithmetic
 pub mod Calendar
+pub mod Contents
 pub mod DateText
 pub mod Digits
 pub mod Inner

@@ -1,5 +1,5 @@
 -- Which values a type and a column have.
-use Rattle.std.specs.Prelude.{◌≡◌, ℕ, pos, negsuc, ℤ, ◌≤◌, ◌≤ℤ◌, ◌<◌, ◌^◌, Bool, false, unsigned_abs, length, List, Option, slice_get, IsUtf8, chars}
+use Rattle.std.specs.Prelude.{◌≡◌, ℕ, pos, negsuc, ℤ, ◌≤◌, ◌≤ℤ◌, ◌<◌, ◌+◌, ◌^◌, Bool, false, unsigned_abs, length, List, [], ◌∷◌, Option, slice_get, IsUtf8, chars}
 use Rattle.std.specs.Option.{option_and_then}
 use Rattle.qw_types.specs.Calendar.{IsDate, packed}
 use Rattle.qw_types.specs.declared.schema.Column.{Column}
@@ -62,6 +62,14 @@ IsNumeric ty.Integer = Unit {0}
 IsNumeric (ty.Decimal precision scale) = Unit {0}
 IsNumeric ty.Date = ⊥
 IsNumeric (ty.Varchar limit) = ⊥
+
+-- the octets of the texts among values, all together
+abbrev pub text_octets : List Val → ℕ
+text_octets [] = 0
+text_octets (val.Null ∷ values) = text_octets values
+text_octets (val.Num number ∷ values) = text_octets values
+text_octets (val.Date number ∷ values) = text_octets values
+text_octets (val.Text octets ∷ values) = length octets + text_octets values
 
 -- the value of a column in a row, both counted from 0
 abbrev pub value_of : List (List Val) → ℕ → ℕ → Option Val

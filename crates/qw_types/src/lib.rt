@@ -38,7 +38,7 @@ pub use kind::Kind;
 pub use memory::NoMemory;
 pub use numeral::FieldFault;
 pub use row::Row;
-pub use schema::{Column, Columns, Schema, Table};
+pub use schema::{Column, ColumnType, Columns, Schema, Table};
 pub use text::Text;
 pub use truth::Truth;
 pub use value::{Ty, Val};

@@ -25,6 +25,13 @@ pub struct Column {
     pub not_null: bool,
 }
 
+/// What a column is but for its name: its values are of this type, or null where they may be (ISO/IEC 9075:1992, 11.4).
+#[derive(Clone, Copy, Debug, PartialEq, Eq)]
+pub struct ColumnType {
+    pub ty: Ty,
+    pub not_null: bool,
+}
+
 /// A table as it is declared (ISO/IEC 9075:1992, 11.3 "table definition").
 #[derive(Debug, Drop)]
 pub struct Table {

@@ -1,14 +1,18 @@
-//! What holds of truth and of exact arithmetic, and worked cases whose values were found by hand. No function here
+//! What holds of truth, of exact arithmetic and of the lengths of texts, and worked cases whose values were found by hand. No function here
 //! computes anything.
 
-ghost use Rattle.std.specs.Prelude.{◌≡◌, ℕ, ℤ, pos, neg_ℤ, max, int_div, Ok, Err};
+ghost use Rattle.std.specs.Prelude.{◌≡◌, ◌≤◌, ◌*◌, ℕ, ℤ, Bool, List, length, pos, neg_ℤ, max, int_div, Ok, Err};
+ghost use Rattle.std.specs.List.{AllByRecursion};
 ghost use Rattle.std.specs.Ordering.{int_cmp};
 ghost use Rattle.std.specs.declared.cmp.Ordering.TheVariants.{Less, Equal, Greater};
 ghost use Rattle.qw_types.specs.Arithmetic.{bring, difference_of, order_of, product_of, quotient_of, sum_of};
 ghost use Rattle.qw_types.specs.Truth.{conjunction, disjunction, negation};
+ghost use Rattle.qw_types.specs.Value.{IsOfTypeOrNull, IsTextOf, text_octets};
 ghost use Rattle.qw_types.specs.declared.code.Code.TheVariants.{DivZero, OutOfRange};
 ghost use Rattle.qw_types.specs.declared.truth.Truth.{Truth};
 ghost use Rattle.qw_types.specs.declared.truth.Truth.TheVariants.{True, False, Unknown};
+ghost use Rattle.qw_types.specs.declared.value.Ty.TheVariants.{Varchar};
+ghost use Rattle.qw_types.specs.declared.value.Val.{Val};
 
 /// AND and OR in value don't mind the order of their operands (ISO/IEC 9075:1992, 8.12, tables 13 and 14).
 pub fn truth_commutes()
@@ -45,6 +49,14 @@ pub fn comparison_by_bringing()
 /// A zero divisor raises "division by zero" whatever the dividend, also one that can't be brought.
 pub fn zero_divisor_raises()
     ensures { (a : ℤ) (sa sb : ℕ) → quotient_of a sa (pos 0) sb ≡ Err DivZero }
+{}
+
+/// A text has at most four octets for each character that it may have, and the texts of a VARCHAR column, of a length that it may
+/// have, at most 4,000 a row (ISO/IEC 10646, annex D "UTF-8").
+pub fn texts_are_short()
+    ensures one { (limit : ℕ) (octets : List ℕ) → IsTextOf limit octets → length octets ≤ 4 * limit }
+    ensures column { (limit : ℕ) (not_null : Bool) (values : List Val) → limit ≤ 1000 → AllByRecursion (IsOfTypeOrNull (Varchar limit) not_null) values
+        → text_octets values ≤ 4000 * length values }
 {}
 
 /// Sums: at the edge of 18 digits, at scales 0 and 18, and at unlike scales.

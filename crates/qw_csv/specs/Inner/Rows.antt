@@ -3,7 +3,7 @@ use Rattle.std.specs.Prelude.{◌≡◌, ◌≤◌, ℕ, zero, suc, List, [], �
 use Rattle.qw_types.specs.Limits.{most_columns, most_rows}
 use Rattle.qw_types.specs.declared.value.Val.{Val}
 use Rattle.qw_types.specs.declared.value.Val.TheVariants.{Null}
-use Rattle.qw_csv.specs.declared.storage.ColumnType.{ColumnType}
+use Rattle.qw_types.specs.declared.schema.ColumnType.{ColumnType}
 use Rattle.qw_csv.specs.declared.storage.Values.{Values}
 use Rattle.qw_csv.specs.Inner.Storage.{AreKept, values_in}
 
@@ -16,14 +16,14 @@ unfoldable pub rows_in : ℕ → List Values → List (List Val)
 rows_in zero columns = []
 rows_in (suc count) columns = rows_in count columns ++ row_in count columns ∷ []
 
--- each column is kept by its kind, and has so many values
+-- each column is kept by its type, and has so many values
 abbrev pub AreAllKept : ℕ → List ColumnType → List Values → Type 0
 AreAllKept count [] [] = Unit {0}
-AreAllKept count (kind ∷ kinds) (kept ∷ columns) = AreKept kind kept × (length (values_in kept) ≡ count) × AreAllKept count kinds columns
+AreAllKept count (type ∷ types) (kept ∷ columns) = AreKept type kept × (length (values_in kept) ≡ count) × AreAllKept count types columns
 AreAllKept count _ _ = ⊥
 
-pub record AreStored (count : ℕ) (kinds : List ColumnType) (columns : List Values) : Type 0 where
-  pub some : 1 ≤ length kinds
-  pub narrow : length kinds ≤ most_columns
+pub record AreStored (count : ℕ) (types : List ColumnType) (columns : List Values) : Type 0 where
+  pub some : 1 ≤ length types
+  pub narrow : length types ≤ most_columns
   pub few : count ≤ most_rows
-  pub kept : AreAllKept count kinds columns
+  pub kept : AreAllKept count types columns

@@ -5,10 +5,10 @@ use Rattle.qw_types.specs.declared.value.Ty.{Ty}
 use Rattle.qw_types.specs.declared.value.Ty.TheVariants as ty
 use Rattle.qw_types.specs.declared.value.Val.{Val}
 use Rattle.qw_types.specs.declared.value.Val.TheVariants as val
-use Rattle.qw_csv.specs.Contents.{IsOfColumnType}
+use Rattle.qw_types.specs.Contents.{IsOfColumnType}
 use Rattle.qw_csv.specs.declared.storage.Cells.{Cells}
 use Rattle.qw_csv.specs.declared.storage.Cells.TheVariants as cells
-use Rattle.qw_csv.specs.declared.storage.ColumnType.{ColumnType}
+use Rattle.qw_types.specs.declared.schema.ColumnType.{ColumnType}
 use Rattle.qw_csv.specs.declared.storage.Values.{Values}
 
 -- texts of which the first starts here
@@ -68,8 +68,8 @@ AreFlags false count flags = length flags ≡ count
 abbrev pub values_in : Values → List Val
 values_in kept = with_nulls (plain_values kept.cells) kept.nulls.items
 
--- what is kept is a column's of the kind
-pub record AreKept (kind : ColumnType) (kept : Values) : Type 0 where
-  pub form : AreCellsOf kind.ty kept.cells
-  pub flags : AreFlags kind.not_null (length (plain_values kept.cells)) kept.nulls.items
-  pub typed : AllByRecursion (IsOfColumnType kind) (values_in kept)
+-- what is kept is a column's of the type
+pub record AreKept (type : ColumnType) (kept : Values) : Type 0 where
+  pub form : AreCellsOf type.ty kept.cells
+  pub flags : AreFlags type.not_null (length (plain_values kept.cells)) kept.nulls.items
+  pub typed : AllByRecursion (IsOfColumnType type) (values_in kept)

@@ -1,4 +1,4 @@
-use Rattle.qw_csv.proofs.KindLaws.{loaded_of_kinds}
+use Rattle.qw_csv.proofs.ColumnLaws.{loaded_of_kinds}
 use Rattle.qw_csv.proofs.loaded.rows_are_of_their_kinds.Goals as goal
 
 pub returns : goal.returns

@@ -1,5 +1,5 @@
 use Rattle.std.proofs.Common.{map, take}
-use Rattle.qw_csv.specs.Contents.{column_type}
+use Rattle.qw_types.specs.Contents.{column_type}
 use Rattle.qw_csv.specs.Inner.Rows.{AreAllKept}
 use Rattle.qw_csv.proofs.loading.no_values.Given as goal
 

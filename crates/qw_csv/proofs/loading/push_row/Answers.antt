@@ -1,7 +1,7 @@
 use Rattle.std.proofs.Common.{◌≡◌, ◌++◌, ◌∷◌, [], ◌∙◌, add-one, arith, length, refl, sym}
 use Rattle.csv.specs.Records.{fields_of}
 use Rattle.qw_csv.specs.Field.{val_of}
-use Rattle.qw_csv.proofs.PushLemmas.{fails_first, field_kind, kept_more, next_there, pushed_more, record_of, rows_more}
+use Rattle.qw_csv.proofs.PushLemmas.{fails_first, field_of_column, kept_more, next_there, pushed_more, record_of, rows_more}
 use Rattle.qw_csv.proofs.StorageLemmas.{get_below, get_is}
 use Rattle.qw_csv.proofs.loading.push_row.Goals as goal
 
@@ -23,7 +23,7 @@ push-requires-clause-kept c =
 
 pub push-requires-clause-typed : goal.push-requires-clause-typed
 push-requires-clause-typed c =
-    rw c.column_type.ensures (field_kind c.index-columns-index.result c.field.result.now (val_of c.in-Ok.cell) c.in-Ok.ensures)
+    rw c.column_type.ensures (field_of_column c.index-columns-index.result c.field.result.now (val_of c.in-Ok.cell) c.in-Ok.ensures)
 
 pub returns-in-Err-clause-fault : goal.returns-in-Err-clause-fault
 returns-in-Err-clause-fault c _ =

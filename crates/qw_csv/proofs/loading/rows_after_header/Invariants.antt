@@ -1,6 +1,6 @@
 use Rattle.std.proofs.Common.{List, ℕ, ◌∷◌, [], map}
 use Rattle.csv.specs.Reading.{strip_bom}
-use Rattle.qw_csv.specs.Contents.{column_type}
+use Rattle.qw_types.specs.Contents.{column_type}
 use Rattle.qw_csv.specs.Loading.{AreRecordsOf}
 use Rattle.qw_csv.specs.Inner.Loading.{HasRead}
 use Rattle.qw_csv.specs.Inner.Rows.{AreAllKept, rows_in}

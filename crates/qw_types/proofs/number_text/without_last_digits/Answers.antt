@@ -1,4 +1,4 @@
-use Rattle.std.proofs.Common.{rules, ◌<◌, ◌^◌, arith}
+use Rattle.std.proofs.Common.{rules, arith}
 use Rattle.qw_types.proofs.NumberTextLemmas.{none_left, power_positive}
 use Rattle.qw_types.proofs.number_text.without_last_digits.Goals as goal
 

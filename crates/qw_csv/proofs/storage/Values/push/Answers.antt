@@ -13,18 +13,18 @@ not_false false e = sym e
 
 pub returns-in_ok-push-2-clause-kept : goal.returns-in_ok-push-2-clause-kept
 returns-in_ok-push-2-clause-kept c =
-    (kept_with_null c.args.kind c.args.self.now _ (val_of c.args.cell) (not_true _ c.if-not-kind.true) c.requires.kept c.requires.typed c.in_ok-push.ensures.form c.in_ok-push.ensures.pushed
+    (kept_with_null c.args.column c.args.self.now _ (val_of c.args.cell) (not_true _ c.if-not-column.true) c.requires.kept c.requires.typed c.in_ok-push.ensures.form c.in_ok-push.ensures.pushed
     (rw c.is_null.ensures at c.in_ok-push-2.ensures.items)).0
 
 pub returns-in_ok-push-2-clause-pushed : goal.returns-in_ok-push-2-clause-pushed
 returns-in_ok-push-2-clause-pushed c =
-    (kept_with_null c.args.kind c.args.self.now (record { cells = c.push.new.self; nulls = c.push-then-not-kind.new.self }) (val_of c.args.cell) (not_true _ c.if-not-kind.true) c.requires.kept c.requires.typed c.in_ok-push.ensures.form c.in_ok-push.ensures.pushed
+    (kept_with_null c.args.column c.args.self.now (record { cells = c.push.new.self; nulls = c.push-then-not-column.new.self }) (val_of c.args.cell) (not_true _ c.if-not-column.true) c.requires.kept c.requires.typed c.in_ok-push.ensures.form c.in_ok-push.ensures.pushed
     (rw c.is_null.ensures at c.in_ok-push-2.ensures.items)).1
 
-pub returns-else-not-kind-clause-kept : goal.returns-else-not-kind-clause-kept
-returns-else-not-kind-clause-kept c =
-    (kept_not_null c.args.kind c.args.self.now _ (val_of c.args.cell) (not_false _ c.if-not-kind.false) c.requires.kept c.requires.typed c.in_ok-push.ensures.form c.in_ok-push.ensures.pushed refl).0
+pub returns-else-not-column-clause-kept : goal.returns-else-not-column-clause-kept
+returns-else-not-column-clause-kept c =
+    (kept_not_null c.args.column c.args.self.now _ (val_of c.args.cell) (not_false _ c.if-not-column.false) c.requires.kept c.requires.typed c.in_ok-push.ensures.form c.in_ok-push.ensures.pushed refl).0
 
-pub returns-else-not-kind-clause-pushed : goal.returns-else-not-kind-clause-pushed
-returns-else-not-kind-clause-pushed c =
-    (kept_not_null c.args.kind c.args.self.now (record { cells = c.push.new.self; nulls = c.args.self.now.nulls }) (val_of c.args.cell) (not_false _ c.if-not-kind.false) c.requires.kept c.requires.typed c.in_ok-push.ensures.form c.in_ok-push.ensures.pushed refl).1
+pub returns-else-not-column-clause-pushed : goal.returns-else-not-column-clause-pushed
+returns-else-not-column-clause-pushed c =
+    (kept_not_null c.args.column c.args.self.now (record { cells = c.push.new.self; nulls = c.args.self.now.nulls }) (val_of c.args.cell) (not_false _ c.if-not-column.false) c.requires.kept c.requires.typed c.in_ok-push.ensures.form c.in_ok-push.ensures.pushed refl).1

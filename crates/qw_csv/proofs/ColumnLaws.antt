@@ -10,39 +10,40 @@ use Rattle.qw_types.specs.declared.value.Ty.TheVariants.{Integer}
 use Rattle.qw_types.specs.declared.value.Val.{Val}
 use Rattle.qw_types.specs.declared.value.Val.TheVariants as val
 use Rattle.qw_types.proofs.KindLemmas.{column_of_kind}
-use Rattle.qw_csv.specs.Contents.{AreIntegerKinds, AreIntegers, AreLoaded, Contents, IsIntegerRow, IsOfColumnType, column_type, integer_kind}
-use Rattle.qw_csv.specs.declared.storage.ColumnType.{ColumnType}
+use Rattle.qw_types.specs.Contents.{AreLoaded, Contents, IsOfColumnType, column_type}
+use Rattle.qw_csv.specs.Contents.{AreIntegerColumns, AreIntegers, IsIntegerRow, integer_column}
+use Rattle.qw_types.specs.declared.schema.ColumnType.{ColumnType}
 
 -- each of them
-pub kind_there : (kinds : List ColumnType) (column : ℕ) → AreIntegerKinds kinds → column < length kinds → slice_get kinds column ≡ Some integer_kind
-kind_there [] column are lt = absurd (omega arith)
-kind_there (kind ∷ kinds) zero are lt = cc are.0
-kind_there (kind ∷ kinds) (suc column) are lt = kind_there kinds column are.1 (omega arith)
+pub column_there : (columns : List ColumnType) (index : ℕ) → AreIntegerColumns columns → index < length columns → slice_get columns index ≡ Some integer_column
+column_there [] index are lt = absurd (omega arith)
+column_there (column ∷ columns) zero are lt = cc are.0
+column_there (column ∷ columns) (suc index) are lt = column_there columns index are.1 (omega arith)
 
 -- of the columns of a table
-pub integer_kinds : (columns : List Column) → AreIntegers columns → AreIntegerKinds (map column_type columns)
-integer_kinds [] are = tt
-integer_kinds (column ∷ columns) are = (rw (are.0.0, are.0.1) refl, integer_kinds columns are.1)
+pub integer_columns : (columns : List Column) → AreIntegers columns → AreIntegerColumns (map column_type columns)
+integer_columns [] are = tt
+integer_columns (column ∷ columns) are = (rw (are.0.0, are.0.1) refl, integer_columns columns are.1)
 
 -- a value of such a column is an INTEGER
-integer_value : (kind : ColumnType) (value : Val) → kind ≡ integer_kind → IsOfTypeOrNull kind.ty kind.not_null value → IsOfType Integer value
-integer_value kind val.Null is of = absurd (let h = rw is at of in cc h)
-integer_value kind (val.Num number) is of = rw is at of
-integer_value kind (val.Date number) is of = rw is at of
-integer_value kind (val.Text octets) is of = rw is at of
+integer_value : (column : ColumnType) (value : Val) → column ≡ integer_column → IsOfTypeOrNull column.ty column.not_null value → IsOfType Integer value
+integer_value column val.Null is of = absurd (let h = rw is at of in cc h)
+integer_value column (val.Num number) is of = rw is at of
+integer_value column (val.Date number) is of = rw is at of
+integer_value column (val.Text octets) is of = rw is at of
 
 -- and a row of them
-pub integer_row : (kinds : List ColumnType) (row : List Val) → AreIntegerKinds kinds → AllZip IsOfColumnType kinds row → IsIntegerRow (length kinds) row
+pub integer_row : (columns : List ColumnType) (row : List Val) → AreIntegerColumns columns → AllZip IsOfColumnType columns row → IsIntegerRow (length columns) row
 integer_row [] [] are of = (refl, tt)
 integer_row [] (value ∷ row) are of = absurd of
-integer_row (kind ∷ kinds) [] are of = absurd of
-integer_row (kind ∷ kinds) (value ∷ row) are of =
-    let rest = integer_row kinds row are.1 of.1 in
-    (cc rest.0, (integer_value kind value are.0 of.0, rest.1))
+integer_row (column ∷ columns) [] are of = absurd of
+integer_row (column ∷ columns) (value ∷ row) are of =
+    let rest = integer_row columns row are.1 of.1 in
+    (cc rest.0, (integer_value column value are.0 of.0, rest.1))
 
-pub integer_rows : (kinds : List ColumnType) (rows : List (List Val)) → AreIntegerKinds kinds → AllByRecursion (AllZip IsOfColumnType kinds) rows → AllByRecursion (IsIntegerRow (length kinds)) rows
-integer_rows kinds [] are of = tt
-integer_rows kinds (row ∷ rows) are of = (integer_row kinds row are of.0, integer_rows kinds rows are of.1)
+pub integer_rows : (columns : List ColumnType) (rows : List (List Val)) → AreIntegerColumns columns → AllByRecursion (AllZip IsOfColumnType columns) rows → AllByRecursion (IsIntegerRow (length columns)) rows
+integer_rows columns [] are of = tt
+integer_rows columns (row ∷ rows) are of = (integer_row columns row are of.0, integer_rows columns rows are of.1)
 
 -- a row that is loaded of columns is one of their kinds
 loaded_row : (columns : List Column) (row : List Val) → AllByRecursion (λ (c : Column). IsSized c.ty) columns → AllZip IsOfColumnType (map column_type columns) row
