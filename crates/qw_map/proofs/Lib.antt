@@ -11,3 +11,4 @@ pub mod Separate
 pub mod SharedCode
 pub mod TurnFacts
 pub mod TurnSteps
+mod WorkedColumns
