@@ -2,6 +2,7 @@ pub mod AccessLemmas
 pub mod AreaLemmas
 pub mod Chains
 pub mod ColumnLemmas
+pub mod LayoutLemmas
 mod NoTrap
 pub mod OpenRuns
 pub mod ResultLemmas
