@@ -9,7 +9,7 @@ use Rattle.qw_map.proofs.RunRules.{IsKept}
 use Rattle.qw_low.specs.State.{Part, Column, Own, Value, LowState, size_of}
 use Rattle.qw_low.specs.Places.{area_of, Means, AreMeant, Fits, StandsFor}
 
-all-at : (P : Area → Type 0) (areas : List Area) (k : ℕ) (a : Area) → AllByRecursion P areas → slice_get areas k ≡ Some a → P a
+pub all-at : (P : Area → Type 0) (areas : List Area) (k : ℕ) (a : Area) → AllByRecursion P areas → slice_get areas k ≡ Some a → P a
 all-at P [] k a all found = absurd (none-some a found)
 all-at P (b ∷ areas) zero a all found = subst P (same_Some b a found) all.0
 all-at P (b ∷ areas) (suc k) a all found = all-at P areas k a all.1 found
