@@ -7,7 +7,7 @@ use Rattle.qw_linear.specs.Memory.{page, with_number, grown_by}
 use Rattle.qw_linear.proofs.GrowthFacts.{length-grown_by, grown_by-below}
 use Rattle.qw_linear.proofs.MemoryFacts.{length-with_number, with_number-below, with_number-above}
 use Rattle.qw_module.specs.Step.{Want, Next}
-use Rattle.qw_map.specs.Areas.{Area, World, SameIn, lies_in, lies_in_one, IsFine, world_after}
+use Rattle.qw_map.specs.Areas.{Area, World, SameIn, lies_in, lies_in_one, IsFine, granted_area, world_after}
 use Rattle.qw_map.specs.Turns.{AreApart, AllApart, LiesWithin}
 use Rattle.qw_module.proofs.Outcomes.{Outcome, went, read, read_outside, put, put_outside, measured, was_granted, was_refused, raised, failed}
 
@@ -128,6 +128,10 @@ Gains-nothing octets more w refused same = record {
   asks_is = omega arith;
 }
 
+granted-behind : (m : List ℕ) (pages more : ℕ) → length m + pages * page ≤ more → AllByRecursion (LiesBehind (length m) more) (granted_area m pages)
+granted-behind m zero more within = tt
+granted-behind m (suc pages) more within = ((omega arith, omega (arith, within)), tt)
+
 pub outcome-gains : (w : World) (g : ℕ → Bool) (m : List ℕ) (want : Want) (t : Next) → Outcome g m want t →
     ((asked : ℕ) → g asked ≡ true → w.held + asked ≤ w.limit) → Gains (length m) (length t.memory) w (world_after w m t.event)
 outcome-gains w _ _ _ _ (went g m s) within = Gains-nothing (length m) (length m) w w.refused refl
@@ -144,9 +148,9 @@ outcome-gains w _ _ _ _ (was_granted g m pages make is room) within =
       longer = omega arith;
       mapped_is = refl;
       limit_is = refl;
-      gained = record { start = length m; size = pages * page } ∷ [];
+      gained = granted_area m pages;
       own_is = refl;
-      behind = ((omega arith, omega arith), tt);
+      behind = granted-behind m pages (length (grown_by pages m)) (omega (arith, longer));
       asks_is = omega arith;
     }
 outcome-gains w _ _ _ _ (was_refused g m pages make is) within = Gains-nothing (length m) (length m) w (Some pages) refl
