@@ -1,30 +1,17 @@
 -- The descriptor in a blank page.
-use Rattle.std.proofs.Common.{◌≡◌, ℕ, zero, suc, ◌+◌, ◌*◌, ◌%◌, ◌^◌, ◌<◌, ◌≤◌, ◌⊎◌, inl, inr, ⊎_elim, List, Some, length, get_or, refl, ap, ◌∙◌, subst, arith}
-use Rattle.std.specs.Prelude.{slice_get}
+use Rattle.std.proofs.Common.{◌≡◌, ℕ, zero, suc, ◌+◌, ◌*◌, ◌%◌, ◌^◌, ◌<◌, ◌≤◌, ◌⊎◌, inl, inr, ⊎_elim, List, ◌++◌, Some, length, take, drop, get_or, refl, sym, ap, ◌∙◌, subst, arith}
+use Rattle.std.specs.Prelude.{if◌then◌else◌, slice_get, slice_index, All}
 use Rattle.std.proofs.lemmas.Bool.{cases_lt}
-use Rattle.std.proofs.lemmas.Option.{slice_get-get_or, slice_get_within}
-use Rattle.qw_types.specs.Limits.{most_columns}
-use Rattle.qw_types.specs.declared.value.Val.{Val}
-use Rattle.qw_meaning.specs.Statement.{Statement}
+use Rattle.std.proofs.lemmas.List.{get_or-append-add, get_or-drop, get_or-take, get_or_append_left, length-take-le}
+use Rattle.std.proofs.lemmas.List.Elements.{All-append, All-drop, All-take}
+use Rattle.std.proofs.lemmas.Option.{get_or_from_slice_get, slice_get_within}
 use Rattle.qw_linear.specs.Memory.{AreOctets, grown_by, number_at, page, with_number, SameBelow}
-use Rattle.qw_linear.proofs.MemoryFacts.{AreOctets-with_number, length-with_number, number_at-apart, number_at-same, number_at-with_number, with_number-above, with_number-below}
-use Rattle.qw_linear.proofs.GrowthFacts.{AreOctets-grown_by, grown_by-above, grown_by-below, length-grown_by}
-use Rattle.qw_map.specs.Columns.{Holds, column_pages}
-use Rattle.qw_map.specs.Layout.{IsFresh, column_starts, entry_offset}
-use Rattle.qw_bench.specs.FirstPage.{IsBlank}
-use Rattle.qw_bench.specs.Inner.FirstMemory.{IsFirstMemory}
-use Rattle.qw_columns.proofs.ColumnLemmas.{Holds-kept}
-
--- zeros are the number 0
-number_at-zeros : (memory : List ℕ) (at width : ℕ) → ((k : ℕ) → k < width → get_or memory (at + k) 0 ≡ 0) → number_at memory at width ≡ 0
-unfolding number_at
-number_at-zeros memory at zero zeros = refl
-number_at-zeros memory at (suc width) zeros =
-    let first : at + 0 ≡ at = omega arith in
-    let here : get_or memory at 0 ≡ 0 = subst (λ (a : ℕ). get_or memory a 0 ≡ 0) first (zeros 0 (omega arith)) in
-    let rest = number_at-zeros memory (at + 1) width
-    (λ k below. let next : at + (k + 1) ≡ at + 1 + k = omega arith in subst (λ (a : ℕ). get_or memory a 0 ≡ 0) next (zeros (k + 1) (omega arith))) in
-    rw (here, rest) refl
+use Rattle.qw_linear.proofs.MemoryFacts.{length-with_number, number_at-apart, number_at-same, number_at-with_number, with_number-above, with_number-below}
+use Rattle.qw_linear.proofs.GrowthFacts.{grown_by-above}
+use Rattle.qw_map.specs.Layout.{HasEntry, IsFresh, Layout, descriptor_size, entry_offset, is_text}
+use Rattle.qw_map.specs.declared.layout.Placed.{Placed}
+use Rattle.qw_map.specs.declared.layout.Used.{Used}
+use Rattle.qw_bench.specs.FirstPage.{AreEntries, HasAddresses, IsBlank, SameOutside}
 
 -- ---- after a number of four octets was stored
 -- it is read back where it is below 2^32
@@ -47,141 +34,161 @@ number_apart memory after at number address is apart = rw is (number_at-apart me
 same_length : (memory after : List ℕ) (at number : ℕ) → after ≡ with_number memory at 4 number → length after ≡ length memory
 same_length memory after at number is = ap length is ∙ length-with_number memory at 4 number
 
-still : (memory after : List ℕ) (at number : ℕ) → after ≡ with_number memory at 4 number → AreOctets memory → AreOctets after
-still memory after at number is octets = rw is (AreOctets-with_number memory octets at 4 number)
+-- ---- one entry
+module _ (m0 m1 m2 m3 m4 : List ℕ) (at nulls octets : ℕ) (used : Used) (one : Placed)
+    (is1 : m1 ≡ with_number m0 at 4 one.values) (is2 : m2 ≡ with_number m1 (at + 4) 4 nulls)
+    (is3 : m3 ≡ with_number m2 (at + 8) 4 octets) (is4 : m4 ≡ with_number m3 (at + 12) 4 one.rows) where
+  pub entry-outside : SameOutside m0 m4 at 16
+  entry-outside k apart =
+      octet_apart m3 m4 (at + 12) one.rows k is4 (⊎_elim (λ h. inl (omega arith)) (λ h. inr (omega arith)) apart)
+      ∙ octet_apart m2 m3 (at + 8) octets k is3 (⊎_elim (λ h. inl (omega arith)) (λ h. inr (omega arith)) apart)
+      ∙ octet_apart m1 m2 (at + 4) nulls k is2 (⊎_elim (λ h. inl (omega arith)) (λ h. inr (omega arith)) apart)
+      ∙ octet_apart m0 m1 at one.values k is1 (⊎_elim (λ h. inl h) (λ h. inr (omega arith)) apart)
 
--- What is said of the first columns, where the descriptor is at an address: their values' addresses, and how many rows they have.
--- The other octets are as they were.
-pub record AreEntries (before after : List ℕ) (d : ℕ) (starts : List ℕ) (rows count : ℕ) : Type 0 where
-  pub values : (k start : ℕ) → k < count → slice_get starts k ≡ Some start → number_at after (d + entry_offset k) 4 ≡ start
-  pub rows_are : (k : ℕ) → k < count → number_at after (d + entry_offset k + 12) 4 ≡ rows
-  pub between : (k r : ℕ) → k < count → 4 ≤ r → r < 12 → get_or after (d + entry_offset k + r) 0 ≡ get_or before (d + entry_offset k + r) 0
-  pub outside : (address : ℕ) → (address < d + 64) ⊎ (d + entry_offset count ≤ address) → get_or after address 0 ≡ get_or before address 0
+  pub entry-written : at + 16 ≤ length m0 → HasAddresses one → nulls ≡ (if used.not_null then 0 else one.nulls) → nulls < 2 ^ 32 →
+      octets ≡ (if is_text used.ty then one.octets else 0) → octets < 2 ^ 32 → HasEntry m4 at used one
+  entry-written room small nulls_are few_nulls octets_are few_octets =
+      let l1 : length m1 ≡ length m0 = same_length m0 m1 at one.values is1 in
+      let l2 : length m2 ≡ length m1 = same_length m1 m2 (at + 4) nulls is2 in
+      let l3 : length m3 ≡ length m2 = same_length m2 m3 (at + 8) octets is3 in
+      let first : number_at m1 at 4 ≡ one.values = read_back m0 m1 at one.values is1 (omega arith) small.values in
+      let second : number_at m2 (at + 4) 4 ≡ nulls = read_back m1 m2 (at + 4) nulls is2 (omega arith) few_nulls in
+      let third : number_at m3 (at + 8) 4 ≡ octets = read_back m2 m3 (at + 8) octets is3 (omega arith) few_octets in
+      let fourth : number_at m4 (at + 12) 4 ≡ one.rows = read_back m3 m4 (at + 12) one.rows is4 (omega arith) small.rows_are in
+      record {
+        values = number_apart m3 m4 (at + 12) one.rows at is4 (inl (omega arith))
+            ∙ number_apart m2 m3 (at + 8) octets at is3 (inl (omega arith))
+            ∙ number_apart m1 m2 (at + 4) nulls at is2 (inl (omega arith))
+            ∙ first;
+        nulls = number_apart m3 m4 (at + 12) one.rows (at + 4) is4 (inl (omega arith))
+            ∙ number_apart m2 m3 (at + 8) octets (at + 4) is3 (inl (omega arith))
+            ∙ second ∙ nulls_are;
+        octets = number_apart m3 m4 (at + 12) one.rows (at + 8) is4 (inl (omega arith)) ∙ third ∙ octets_are;
+        rows_are = fourth;
+      }
 
-pub entries_none : (before : List ℕ) (d : ℕ) (starts : List ℕ) (rows : ℕ) → AreEntries before before d starts rows 0
-entries_none before d starts rows = record {
-  values = λ k start lt is. absurd (omega arith);
-  rows_are = λ k lt. absurd (omega arith);
-  between = λ k r lt low high. refl;
-  outside = λ address h. refl;
+-- an entry depends on its octets
+pub entry-same : (before after : List ℕ) (at : ℕ) (used : Used) (one : Placed) → ((k : ℕ) → at ≤ k → k < at + 16 → slice_index after k ≡ slice_index before k) →
+    HasEntry before at used one → HasEntry after at used one
+entry-same before after at used one same h = record {
+  values = number_at-same after before at 4 (λ k low high. same k low (omega arith)) ∙ h.values;
+  nulls = number_at-same after before (at + 4) 4 (λ k low high. same k (omega arith) (omega arith)) ∙ h.nulls;
+  octets = number_at-same after before (at + 8) 4 (λ k low high. same k (omega arith) (omega arith)) ∙ h.octets;
+  rows_are = number_at-same after before (at + 12) 4 (λ k low high. same k (omega arith) (omega arith)) ∙ h.rows_are;
 }
 
--- one more column
-module _ (before m0 m1 m2 : List ℕ) (d start rows count : ℕ) (starts : List ℕ)
-    (is1 : m1 ≡ with_number m0 (d + 16 * count + 64) 4 start) (is2 : m2 ≡ with_number m1 (d + 16 * count + 76) 4 rows) where
-  -- an octet of neither number
-  octet_kept : (address : ℕ) → (address < d + 16 * count + 64) ⊎ (d + 16 * count + 68 ≤ address) → (address < d + 16 * count + 76) ⊎ (d + 16 * count + 80 ≤ address)
-      → get_or m2 address 0 ≡ get_or m0 address 0
-  octet_kept address one two =
-      octet_apart m1 m2 (d + 16 * count + 76) rows address is2 (⊎_elim (λ h. inl h) (λ h. inr (omega arith)) two)
-      ∙ octet_apart m0 m1 (d + 16 * count + 64) start address is1 (⊎_elim (λ h. inl h) (λ h. inr (omega arith)) one)
+-- ---- the entries
+-- the entries of the first columns are written, and nothing else is changed
+pub record AreFirst (before after : List ℕ) (entries : ℕ) (columns : List Used) (placed : List Placed) (count : ℕ) : Type 0 where
+  pub each : (k : ℕ) (used : Used) (one : Placed) → k < count → slice_get columns k ≡ Some used → slice_get placed k ≡ Some one → HasEntry after (entries + 16 * k) used one
+  pub outside : SameOutside before after entries (16 * count)
 
-  earlier : (address : ℕ) → address < d + 16 * count + 64 → get_or m2 address 0 ≡ get_or m0 address 0
-  earlier address lt = octet_kept address (inl lt) (inl (omega arith))
+pub first-none : (before : List ℕ) (entries : ℕ) (columns : List Used) (placed : List Placed) → AreFirst before before entries columns placed 0
+first-none before entries columns placed = record {
+  each = λ k used one lt found there. absurd (omega arith);
+  outside = λ k apart. refl;
+}
 
-  pub entries_more : count < length starts → start ≡ get_or starts count 0 → start < 2 ^ 32 → rows < 2 ^ 32 → d + 16 * count + 80 ≤ length m0
-      → AreEntries before m0 d starts rows count → AreEntries before m2 d starts rows (count + 1)
-  entries_more there this small fits room h = record { values = values; rows_are = rows_are; between = between; outside = outside }
-    where
-      long : length m1 ≡ length m0
-      long = same_length m0 m1 (d + 16 * count + 64) start is1
+pub first-more : (before now after : List ℕ) (entries count : ℕ) (columns : List Used) (placed : List Placed) (u : Used) (p : Placed) →
+    u ≡ get_or columns count u → p ≡ get_or placed count p → HasEntry after (entries + 16 * count) u p → SameOutside now after (entries + 16 * count) 16 →
+    AreFirst before now entries columns placed count → AreFirst before after entries columns placed (count + 1)
+first-more before now after entries count columns placed u p u_is p_is entry outside h = record {
+  each = λ k used one lt found there. ⊎_elim
+      (λ (low : k < count).
+      entry-same now after (entries + 16 * k) used one (λ j a b. outside j (inl (omega arith))) (h.each k used one low found there))
+      (λ (high : count ≤ k).
+      let here : k ≡ count = omega arith in
+      let used_is : u ≡ used = u_is ∙ get_or_from_slice_get columns count used u (subst (λ (n : ℕ). slice_get columns n ≡ Some used) here found) in
+      let one_is : p ≡ one = p_is ∙ get_or_from_slice_get placed count one p (subst (λ (n : ℕ). slice_get placed n ≡ Some one) here there) in
+      rw (here, ← used_is, ← one_is) entry)
+      (cases_lt k count);
+  outside = λ k apart. outside k (⊎_elim (λ low. inl (omega arith)) (λ high. inr (omega arith)) apart)
+      ∙ h.outside k (⊎_elim (λ low. inl low) (λ high. inr (omega arith)) apart);
+}
 
-      values : (k s : ℕ) → k < count + 1 → slice_get starts k ≡ Some s → number_at m2 (d + entry_offset k) 4 ≡ s
-      values k s lt is = ⊎_elim
-          (λ (low : k < count). number_at-same m2 m0 (d + entry_offset k) 4 (λ address a b. earlier address (omega arith)) ∙ h.values k s low is)
-          (λ (high : count ≤ k).
-          let same : k ≡ count = omega arith in
-          let found = slice_get-get_or starts count 0 there in
-          let number : start ≡ s = cc (this, found, is, same) in
-          let at : d + entry_offset k ≡ d + 16 * count + 64 = omega arith in
-          rw at (number_apart m1 m2 (d + 16 * count + 76) rows (d + 16 * count + 64) is2 (inl (omega arith))
-          ∙ read_back m0 m1 (d + 16 * count + 64) start is1 (omega arith) small ∙ number))
-          (cases_lt k count)
+-- ---- octets that were copied
+module _ (before after octets : List ℕ) (at : ℕ) (inside : at + length octets ≤ length before) (is : after ≡ take at before ++ (octets ++ drop (at + length octets) before)) where
+  start_long : length (take at before) ≡ at
+  start_long = length-take-le at before (omega arith)
 
-      rows_are : (k : ℕ) → k < count + 1 → number_at m2 (d + entry_offset k + 12) 4 ≡ rows
-      rows_are k lt = ⊎_elim
-          (λ (low : k < count). number_at-same m2 m0 (d + entry_offset k + 12) 4 (λ address a b. earlier address (omega arith)) ∙ h.rows_are k low)
-          (λ (high : count ≤ k).
-          let at : d + entry_offset k + 12 ≡ d + 16 * count + 76 = omega arith in
-          rw at (read_back m1 m2 (d + 16 * count + 76) rows is2 (omega (arith, long)) fits))
-          (cases_lt k count)
+  pub copied-below : (k : ℕ) → k < at → get_or after k 0 ≡ get_or before k 0
+  copied-below k low = rw is
+      (get_or_append_left (take at before) (octets ++ drop (at + length octets) before) 0 k (omega (arith, start_long)) ∙ get_or-take at before k 0 low)
 
-      between : (k r : ℕ) → k < count + 1 → 4 ≤ r → r < 12 → get_or m2 (d + entry_offset k + r) 0 ≡ get_or before (d + entry_offset k + r) 0
-      between k r lt low high = ⊎_elim
-          (λ (less : k < count). earlier (d + entry_offset k + r) (omega arith) ∙ h.between k r less low high)
-          (λ (past : count ≤ k). octet_kept (d + entry_offset k + r) (inr (omega arith)) (inl (omega arith)) ∙ h.outside (d + entry_offset k + r) (inr (omega arith)))
-          (cases_lt k count)
+  pub copied-there : (k : ℕ) → k < length octets → get_or after (at + k) 0 ≡ get_or octets k 0
+  copied-there k low =
+      let place : at + k ≡ length (take at before) + k = omega (arith, start_long) in
+      rw (is, place) (get_or-append-add (take at before) (octets ++ drop (at + length octets) before) k 0
+      ∙ get_or_append_left octets (drop (at + length octets) before) 0 k low)
 
-      outside : (address : ℕ) → (address < d + 64) ⊎ (d + entry_offset (count + 1) ≤ address) → get_or m2 address 0 ≡ get_or before address 0
-      outside address (inl low) = earlier address (omega arith) ∙ h.outside address (inl low)
-      outside address (inr high) = octet_kept address (inr (omega arith)) (inr (omega arith)) ∙ h.outside address (inr (omega arith))
+  pub copied-above : (k : ℕ) → at + length octets ≤ k → get_or after k 0 ≡ get_or before k 0
+  copied-above k high =
+      let j : ℕ = k - (at + length octets) in
+      let place : k ≡ length (take at before) + (length octets + j) = omega (arith, start_long) in
+      let back : at + length octets + j ≡ k = omega arith in
+      let found : get_or (take at before ++ (octets ++ drop (at + length octets) before)) (length (take at before) + (length octets + j)) 0 ≡ get_or before (at + length octets + j) 0 =
+      get_or-append-add (take at before) (octets ++ drop (at + length octets) before) (length octets + j) 0
+      ∙ get_or-append-add octets (drop (at + length octets) before) j 0
+      ∙ get_or-drop (at + length octets) before j 0 in
+      rw is (ap (λ (n : ℕ). get_or (take at before ++ (octets ++ drop (at + length octets) before)) n 0) place ∙ found ∙ ap (λ (n : ℕ). get_or before n 0) back)
 
--- the whole descriptor
-module _ (d rows : ℕ) (starts memory m1 m2 m3 : List ℕ) (is1 : m1 ≡ with_number memory d 4 (d + entry_offset (length starts)))
-    (is2 : m2 ≡ with_number m1 (d + 4) 4 (d + page)) (entries : AreEntries m2 m3 d starts rows (length starts)) where
+  pub copied-octets : AreOctets before → AreOctets octets → AreOctets after
+  copied-octets are those = rw is
+      (All-append (λ (octet : ℕ). octet < 256) (take at before) (octets ++ drop (at + length octets) before)
+      (All-take (λ (octet : ℕ). octet < 256) at before are)
+      (All-append (λ (octet : ℕ). octet < 256) octets (drop (at + length octets) before) those (All-drop (λ (octet : ℕ). octet < 256) (at + length octets) before are)))
+
+-- ---- the whole descriptor
+module _ (d : ℕ) (layout : Layout) (placed : List Placed) (m0 m1 m2 m3 m4 : List ℕ) (is1 : m1 ≡ with_number m0 d 4 (d + descriptor_size layout))
+    (is2 : m2 ≡ with_number m1 (d + 4) 4 (d + page)) (entries : AreEntries m3 (d + 64) layout.columns placed)
+    (outside : SameOutside m2 m3 (d + 64) (16 * length layout.columns)) (long : length m3 ≡ length m0)
+    (texts : ℕ) (texts_is : texts ≡ d + 64 + 16 * length layout.columns)
+    (is4 : m4 ≡ take texts m3 ++ (layout.literals ++ drop (texts + length layout.literals) m3))
+    (small : descriptor_size layout ≤ page) (room : d + page ≤ length m0) where
+  abbrev texts_end : ℕ
+  texts_end = texts + length layout.literals
+
+  fits : texts_end ≤ length m3
+  fits = omega arith
+
   -- an octet of neither number of the head
-  head_kept : (address : ℕ) → (address < d) ⊎ (d + 8 ≤ address) → get_or m2 address 0 ≡ get_or memory address 0
+  head_kept : (address : ℕ) → (address < d) ⊎ (d + 8 ≤ address) → get_or m2 address 0 ≡ get_or m0 address 0
   head_kept address apart =
       octet_apart m1 m2 (d + 4) (d + page) address is2 (⊎_elim (λ h. inl (omega arith)) (λ h. inr (omega arith)) apart)
-      ∙ octet_apart memory m1 d (d + entry_offset (length starts)) address is1 (⊎_elim (λ h. inl h) (λ h. inr (omega arith)) apart)
+      ∙ octet_apart m0 m1 d (d + descriptor_size layout) address is1 (⊎_elim (λ h. inl h) (λ h. inr (omega arith)) apart)
 
-  same-below : SameBelow memory m3 d
-  same-below k lt = entries.outside k (inl (omega arith)) ∙ head_kept k (inl lt)
+  below_texts : (address : ℕ) → address < texts → get_or m4 address 0 ≡ get_or m3 address 0
+  below_texts address low = copied-below m3 m4 layout.literals texts fits is4 address low
 
-  module _ (few : length starts ≤ most_columns) (small : d + page < 2 ^ 32) (inside : d + page ≤ length memory) (blank : IsBlank memory d) where
-    long : length m1 ≡ length memory
-    long = same_length memory m1 d (d + entry_offset (length starts)) is1
+  below_entries : (address : ℕ) → address < d + 64 → get_or m4 address 0 ≡ get_or m2 address 0
+  below_entries address low = below_texts address (omega (arith, texts_is)) ∙ outside address (inl low)
 
-    blank_kept : (k : ℕ) → 8 ≤ k → k < page → get_or m2 (d + k) 0 ≡ 0
-    blank_kept k low high = head_kept (d + k) (inr (omega arith)) ∙ blank k high
+  pub begun-below : SameBelow m0 m4 d
+  begun-below address low = below_entries address (omega arith) ∙ head_kept address (inl low)
 
-    -- a number between those of a column
-    zero_between : (k r : ℕ) → k < length starts → 4 ≤ r → r + 4 ≤ 12 → number_at m3 (d + entry_offset k + r) 4 ≡ 0
-    zero_between k r lt low high = number_at-zeros m3 (d + entry_offset k + r) 4 (λ j below.
-        let sum : d + entry_offset k + r + j ≡ d + entry_offset k + (r + j) = omega arith in
-        let offset : d + entry_offset k + (r + j) ≡ d + (entry_offset k + (r + j)) = omega arith in
-        rw sum (entries.between k (r + j) lt (omega arith) (omega arith) ∙ rw offset (blank_kept (entry_offset k + (r + j)) (omega arith) (omega arith))))
-
-    fresh : IsFresh m3 d starts rows
-    fresh = record {
-      free = number_at-same m3 m2 d 4 (λ address a b. entries.outside address (inl (omega arith)))
-          ∙ number_apart m1 m2 (d + 4) (d + page) d is2 (inl (omega arith))
-          ∙ read_back memory m1 d (d + entry_offset (length starts)) is1 (omega arith) (omega arith);
-      page_end = number_at-same m3 m2 (d + 4) 4 (λ address a b. entries.outside address (inl (omega arith)))
-          ∙ read_back m1 m2 (d + 4) (d + page) is2 (omega (arith, long)) small;
-      no_results = λ k low high. entries.outside (d + k) (inl (omega arith)) ∙ blank_kept k low (omega arith);
-      values = λ k start is. entries.values k start (slice_get_within starts k start is) is;
-      nulls = λ k lt. zero_between k 4 lt (omega arith) (omega arith);
-      texts = λ k lt. zero_between k 8 lt (omega arith) (omega arith);
-      rows_are = λ k lt. entries.rows_are k lt;
-      zeros = λ k low high. entries.outside (d + k) (inr (omega arith)) ∙ blank_kept k (omega arith) high;
-    }
-
--- what the numbers of the head and the entries leave, as they are written
-pub written : (d rows n : ℕ) (starts memory m1 m2 m3 : List ℕ) → m1 ≡ with_number memory (d + 0) 4 (d + entry_offset (length starts)) →
-    m2 ≡ with_number m1 (d + 4) 4 (d + page) → n ≡ length starts → AreEntries m2 m3 d starts rows n →
-    SameBelow memory m3 d × (length starts ≤ most_columns → d + page < 2 ^ 32 → d + page ≤ length memory → IsBlank memory d → IsFresh m3 d starts rows)
-written d rows n starts memory m1 m2 m3 is1 is2 all entries =
-    let first : d + 0 ≡ d = omega arith in
-    let head = rw first at is1 in
-    let whole = rw all at entries in
-    (same-below d rows starts memory m1 m2 m3 head is2 whole, fresh d rows starts memory m1 m2 m3 head is2 whole)
-
--- ---- the memory of a table and one instance
+  pub begun-fresh : d + page < 2 ^ 32 → IsBlank m0 d → IsFresh m4 d layout placed
+  begun-fresh end blank =
+      let l1 : length m1 ≡ length m0 = same_length m0 m1 d (d + descriptor_size layout) is1 in
+      let free_is : number_at m1 d 4 ≡ d + descriptor_size layout = read_back m0 m1 d (d + descriptor_size layout) is1 (omega arith) (omega arith) in
+      let end_is : number_at m2 (d + 4) 4 ≡ d + page = read_back m1 m2 (d + 4) (d + page) is2 (omega (arith, l1)) end in
+      record {
+        free = number_at-same m4 m2 d 4 (λ k low high. below_entries k (omega arith)) ∙ number_apart m1 m2 (d + 4) (d + page) d is2 (inl (omega arith)) ∙ free_is;
+        page_end = number_at-same m4 m2 (d + 4) 4 (λ k low high. below_entries k (omega arith)) ∙ end_is;
+        no_results = λ k low high. below_entries (d + k) (omega arith) ∙ head_kept (d + k) (inr (omega arith)) ∙ blank k (omega arith);
+        entries = λ k used one found there.
+            let within : k < length layout.columns = slice_get_within layout.columns k used found in
+            let at : d + 64 + 16 * k ≡ d + entry_offset k = omega arith in
+            entry-same m3 m4 (d + entry_offset k) used one (λ j low high. below_texts j (omega (arith, texts_is)))
+            (subst (λ (a : ℕ). HasEntry m3 a used one) at (entries k used one found there));
+        literals = λ k octet found.
+            let within : k < length layout.literals = slice_get_within layout.literals k octet found in
+            let at : d + entry_offset (length layout.columns) + k ≡ texts + k = omega (arith, texts_is) in
+            rw at (copied-there m3 m4 layout.literals texts fits is4 k within ∙ get_or_from_slice_get layout.literals k octet 0 found);
+        zeros = λ k low high.
+            copied-above m3 m4 layout.literals texts fits is4 (d + k) (omega (arith, texts_is))
+            ∙ outside (d + k) (inr (omega arith)) ∙ head_kept (d + k) (inr (omega arith)) ∙ blank k high;
+      }
 
 -- a page that memory has grown by is zeros
-pub blank-grown : (pages : ℕ) (memory : List ℕ) → IsBlank (grown_by pages memory) (length memory)
-blank-grown pages memory k lt = grown_by-above pages memory (length memory + k) (omega arith)
-
--- the columns, one page more, and a descriptor on it
-pub first-memory : (statement : Statement) (width : ℕ) (rows : List (List Val)) (before after : List ℕ) → Holds width before rows → AreOctets before
-    → length before ≡ column_pages width (length rows) * page → SameBelow (grown_by 1 before) after (column_pages width (length rows) * page)
-    → length after ≡ length (grown_by 1 before) → (AreOctets (grown_by 1 before) → AreOctets after)
-    → IsFresh after (column_pages width (length rows) * page) (column_starts statement (length rows)) (length rows) → IsFirstMemory statement width rows after
-first-memory statement width rows before after holds are len same long still fresh = record {
-  octets = still (AreOctets-grown_by 1 before are);
-  size = omega (arith, length-grown_by 1 before);
-  columns = Holds-kept width before after rows (length before) (λ k lt. same k (omega arith) ∙ grown_by-below 1 before k lt)
-      (omega (arith, length-grown_by 1 before)) (omega arith) holds;
-  fresh = fresh;
-}
+pub blank-grown : (pages : ℕ) (memory : List ℕ) → 1 ≤ pages → IsBlank (grown_by pages memory) (length memory)
+blank-grown pages memory some k lt = grown_by-above pages memory (length memory + k) (omega arith)

@@ -3,7 +3,7 @@ pub mod AreaLemmas
 pub mod Chains
 pub mod ColumnLemmas
 pub mod LayoutLemmas
-mod NoTrap
+pub mod NoTrap
 pub mod OpenRuns
 pub mod ResultLemmas
 pub mod ResultRows
