@@ -1,3 +1,4 @@
+mod BehavingLemmas
 mod ColumnIndices
 mod Comparisons
 mod Nesting

@@ -1,5 +1,5 @@
 -- What a memory that is ready for a statement's module has: where the values of the used columns start, and what stands there.
-use Rattle.std.proofs.Common.{◌≡◌, ℕ, zero, suc, ◌+◌, ◌*◌, ◌/◌, ◌<◌, ◌≤◌, true, List, [], ◌∷◌, ◌++◌, length, map, get_or, Option, Some, None, refl, sym, ap, ◌∙◌, subst, arith, w32}
+use Rattle.std.proofs.Common.{◌≡◌, ℕ, zero, suc, ◌+◌, ◌*◌, ◌<◌, ◌≤◌, true, List, [], ◌∷◌, length, map, get_or, Some, refl, sym, ap, ◌∙◌, subst, arith, w32}
 use Rattle.std.specs.Prelude.{slice_get, slice_index, slice_index_or}
 use Rattle.std.specs.Int.{cast_signed}
 use Rattle.std.specs.List.{AllByRecursion}
@@ -15,7 +15,7 @@ use Rattle.qw_meaning.specs.Flow.{rows_of}
 use Rattle.qw_meaning.specs.Statement.{Statement}
 use Rattle.qw_map.specs.Areas.{Area, are_covered, lies_in_one}
 use Rattle.qw_map.specs.Columns.{areas_of, column_values, nulls_size, values_size}
-use Rattle.qw_map.specs.Layout.{HasEntry, IsReady, IsReadyColumn, column_areas, descriptor_size, entry_offset}
+use Rattle.qw_map.specs.Layout.{IsReady, IsReadyColumn, column_areas, descriptor_size, entry_offset}
 use Rattle.qw_map.specs.declared.layout.Placed.{Placed}
 use Rattle.qw_map.specs.declared.layout.Used.{Used}
 use Rattle.qw_map.proofs.AccessLemmas.{covered-after, covered-before, covered-first, lies-within}

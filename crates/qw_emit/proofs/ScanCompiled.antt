@@ -1,7 +1,7 @@
 -- The emitted module is the compiled form of its statement: every run over tables that are ready gives the statement's result.
-use Rattle.std.proofs.Common.{◌≡◌, ⊎_elim, true, ℕ, ◌+◌, ◌-◌, ◌*◌, ◌/◌, ◌<◌, ◌≤◌, List, [], ◌∷◌, length, map, replicate, Some, IsSome, refl, sym, ap, ◌∙◌, subst, arith, w64, SFits}
+use Rattle.std.proofs.Common.{◌≡◌, ⊎_elim, true, ℕ, ◌+◌, ◌-◌, ◌*◌, ◌/◌, ◌<◌, ◌≤◌, List, [], ◌∷◌, length, map, replicate, Some, IsSome, refl, sym, ap, subst, arith, w64, SFits}
 use Rattle.std.specs.Prelude.{◌==◌, slice_get, slice_index}
-use Rattle.std.specs.List.{AllByRecursion, Contains, range_with_len}
+use Rattle.std.specs.List.{AllByRecursion, range_with_len}
 use Rattle.std.proofs.lemmas.Bool.{eqb-true, or_cases}
 use Rattle.std.proofs.lemmas.List.{length-map, length-replicate}
 use Rattle.std.proofs.lemmas.Option.{none-some}
@@ -18,7 +18,7 @@ use Rattle.qw_meaning.specs.Expression.{column}
 use Rattle.qw_meaning.specs.Flow.{flow, rows_of}
 use Rattle.qw_meaning.specs.Meaning.{results}
 use Rattle.qw_meaning.specs.Outcome.{Outcome, Rows, outcome}
-use Rattle.qw_meaning.specs.Select.{Entry, Specification}
+use Rattle.qw_meaning.specs.Select.{Specification}
 use Rattle.qw_meaning.specs.Simple.{HasIntegers, HasSelected, simple}
 use Rattle.qw_meaning.specs.Statement.{Statement, IsStatement}
 use Rattle.qw_meaning.specs.Typing.{kind_of}
@@ -28,7 +28,6 @@ use Rattle.qw_map.specs.Layout.{IsReady, Layout, column_areas, entry_offset, fir
 use Rattle.qw_map.specs.Runs.{Moment, Behaves}
 use Rattle.qw_map.specs.Turns.{Done, End, Pages}
 use Rattle.qw_map.specs.declared.layout.Placed.{Placed}
-use Rattle.qw_map.specs.declared.layout.Used.{Used}
 use Rattle.qw_map.proofs.Chains.{Chain}
 use Rattle.qw_map.proofs.OpenRuns.{Within-now, Within-then, behaves_within}
 use Rattle.qw_emit.specs.Compiled.{AnswersAt, GoesWith, IsCompiled, IsUsedOf, end_at_state, Answers, page_bound, units}

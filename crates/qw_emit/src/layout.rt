@@ -56,11 +56,7 @@ fn integer_kind(_column: usize) -> Kind
 }
 
 /// INTEGER columns of a table.
-fn used_integers(
-    alloc: Global,
-    table: usize,
-    columns: &[usize],
-) -> Result<Vec<Used>, NoMemory>
+fn used_integers(alloc: Global, table: usize, columns: &[usize]) -> Result<Vec<Used>, NoMemory>
     ensures { IfOk result (λ used. used.items ≡ map (λ column. record { table = table; column = column; ty = ty.Integer; not_null = true }) columns.now) }
 {
     let used = columns
