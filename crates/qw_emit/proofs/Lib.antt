@@ -1,6 +1,6 @@
-mod BehavingLemmas
 mod ColumnIndices
 mod Comparisons
+pub mod CompiledLemmas
 mod Nesting
 mod OwnWeights
 mod Pieces

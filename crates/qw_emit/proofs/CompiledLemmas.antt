@@ -1,15 +1,27 @@
--- A compiled module behaves with its layout.
-use Rattle.std.proofs.Common.{◌≡◌, ℕ, Some, refl, sym, subst}
+-- A compiled module behaves with its layout, and the bounds of a statement's runs.
+use Rattle.std.proofs.Common.{◌≡◌, ℕ, ◌+◌, ◌-◌, ◌*◌, ◌/◌, List, length, Some, refl, sym, subst, arith}
 use Rattle.std.proofs.lemmas.Option.{none-some, same_Some}
+use Rattle.std.specs.List.{AllByRecursion}
+use Rattle.std.proofs.lemmas.List.{length-map}
+use Rattle.qw_types.specs.declared.value.Ty.{Ty}
+use Rattle.qw_types.specs.declared.value.Ty.TheVariants.{Integer}
+use Rattle.qw_types.specs.declared.value.Val.{Val}
+use Rattle.qw_linear.specs.Memory.{page}
 use Rattle.qw_module.specs.declared.module.Module.{Module}
 use Rattle.qw_module.specs.Execution.{State, Running, Returned, Raised, Trapped}
+use Rattle.qw_meaning.specs.Expression.{column}
+use Rattle.qw_meaning.specs.Flow.{rows_of}
+use Rattle.qw_meaning.specs.Meaning.{results}
 use Rattle.qw_meaning.specs.Outcome.{Outcome, outcome}
 use Rattle.qw_meaning.specs.Select.{Specification}
+use Rattle.qw_meaning.specs.Simple.{HasSelected, simple}
+use Rattle.qw_meaning.specs.Statement.{Statement}
+use Rattle.qw_meaning.proofs.SimpleLemmas.{simple-rows}
 use Rattle.qw_map.specs.Behaving.{BehavesWith, HasRows}
-use Rattle.qw_map.specs.Layout.{Layout}
+use Rattle.qw_map.specs.Layout.{Layout, row_size}
 use Rattle.qw_map.specs.Runs.{Behaves, Moment}
 use Rattle.qw_map.specs.Turns.{Done, End, Trap}
-use Rattle.qw_emit.specs.Compiled.{Answers, AnswersAt, IsCompiled, bound, end_at_state, page_bound}
+use Rattle.qw_emit.specs.Compiled.{Answers, AnswersAt, IsCompiled, bound, end_at_state, page_bound, units}
 
 -- a run that answers has left rows where it returns
 has-rows : (out : Outcome) (layout : Layout) (most pages descriptor : ℕ) (b : Moment) (state : State) (end : End) → end_at_state state b.world ≡ Some end →
@@ -45,3 +57,13 @@ compiled-behaves query layout m is = record {
             (λ b answers. has-rows out layout most pages descriptor b b.state answers.0 answers.1 answers.2) (is.behaves number descriptor limit placed tables memory shape ready),
       );
 }
+
+-- ---- the bounds of a statement's runs
+
+module _ (types : List Ty) (statement : Statement) (tables : List (List (List Val))) (all : AllByRecursion (HasSelected statement) (rows_of tables statement.table)) where
+  pub statement-units : units (simple types statement) tables ≡ length (rows_of tables statement.table) + length (results statement (rows_of tables statement.table))
+  statement-units = rw (simple-rows types statement tables all) (omega arith)
+
+  pub statement-pages : page_bound (simple types statement) tables
+      ≡ 2 + length (results statement (rows_of tables statement.table)) * row_size (length statement.columns) / (page - row_size (length statement.columns))
+  statement-pages = rw (simple-rows types statement tables all, length-map statement.columns (λ (place : ℕ). column place Integer)) refl
