@@ -79,7 +79,7 @@ fn integer_kinds(alloc: Global, columns: &[usize]) -> Result<Vec<Kind>, NoMemory
 ///
 /// # Errors
 ///
-/// [`NoMemory`] where the layout does not fit memory, and nowhere else.
+/// [`NoMemory`] where the layout does not fit memory.
 pub fn layout_of(alloc: Global, query: &Query) -> Result<Layout, NoMemory>
     ensures { IfOk result (λ made. made ≡ scan.layout_for query.now) }
 {

@@ -4,7 +4,7 @@
 ghost use Rattle.std.specs.Prelude.{◌≡◌, ◌≤◌, ℕ, pos, true, List, [], ◌∷◌, replicate, Some, None};
 ghost use Rattle.qw_types.specs.declared.code.Code.TheVariants.{DivZero, OutOfRange};
 ghost use Rattle.qw_types.specs.declared.kind.Kind.TheVariants as kind;
-ghost use Rattle.qw_types.specs.declared.value.Ty.TheVariants.{Integer};
+ghost use Rattle.qw_types.specs.declared.value.Ty.TheVariants.{Integer, Date};
 ghost use Rattle.qw_types.specs.declared.value.Val.{Val};
 ghost use Rattle.qw_types.specs.declared.value.Val.TheVariants.{Num};
 ghost use Rattle.qw_module.specs.declared.instruction.Instr.TheVariants as i;
@@ -26,7 +26,7 @@ ghost use Rattle.qw_map.specs.Layout.{Layout, rows_at};
 ghost use Rattle.qw_map.specs.Runs.{Moment};
 ghost use Rattle.qw_map.specs.Turns as turns;
 ghost use Rattle.qw_map.specs.Turns.{Done, Exception, Pages, Steps};
-ghost use Rattle.qw_emit.specs.Compiled.{units, module_weight, weight_of, bound, page_bound, raised_for, Answers, AnswersAt};
+ghost use Rattle.qw_emit.specs.Compiled.{units, module_weight, weight_of, bound, page_bound, raised_for, Answers, AnswersAt, GoesWith};
 ghost use Rattle.qw_emit.specs.ScanLayout.{layout_for};
 ghost use Rattle.qw_emit.specs.WorkedQueries.{above, three_rows};
 
@@ -46,6 +46,20 @@ pub fn layouts_of_statements()
       literals = [];
       cells = kind.Number 0 ∷ kind.Number 0 ∷ [];
     } }
+{}
+
+/// With `SELECT A FROM T WHERE A > 5`, T being table 0, goes a layout of its column A and one whole number, and one that uses no column;
+/// not one with a column of another table, of another type, or that T hasn't, nor one whose cells are a date, two numbers or a number of
+/// another scale.
+pub fn layouts_that_go_with_a_query()
+    ensures goes { GoesWith (above (0 ∷ []) (pos 5)) (record { columns = record { table = 0; column = 0; ty = Integer; not_null = true } ∷ []; literals = []; cells = kind.Number 0 ∷ [] }) }
+    ensures no_column { GoesWith (above (0 ∷ []) (pos 5)) (record { columns = []; literals = []; cells = kind.Number 0 ∷ [] }) }
+    ensures other_table { GoesWith (above (0 ∷ []) (pos 5)) (record { columns = record { table = 1; column = 0; ty = Integer; not_null = true } ∷ []; literals = []; cells = kind.Number 0 ∷ [] }) → ⊥ }
+    ensures other_type { GoesWith (above (0 ∷ []) (pos 5)) (record { columns = record { table = 0; column = 0; ty = Date; not_null = true } ∷ []; literals = []; cells = kind.Number 0 ∷ [] }) → ⊥ }
+    ensures past_the_table { GoesWith (above (0 ∷ []) (pos 5)) (record { columns = record { table = 0; column = 1; ty = Integer; not_null = true } ∷ []; literals = []; cells = kind.Number 0 ∷ [] }) → ⊥ }
+    ensures other_kind { GoesWith (above (0 ∷ []) (pos 5)) (record { columns = []; literals = []; cells = kind.Date ∷ [] }) → ⊥ }
+    ensures two_cells { GoesWith (above (0 ∷ []) (pos 5)) (record { columns = []; literals = []; cells = kind.Number 0 ∷ kind.Number 0 ∷ [] }) → ⊥ }
+    ensures other_scale { GoesWith (above (0 ∷ []) (pos 5)) (record { columns = []; literals = []; cells = kind.Number 2 ∷ [] }) → ⊥ }
 {}
 
 /// Three rows and the one that is kept are 4 units; where all three are kept there are 6, and of no rows none. Two tables of 2 and 3 rows
