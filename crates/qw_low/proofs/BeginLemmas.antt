@@ -1,5 +1,5 @@
 -- A memory that is ready for a run stands for the state in which the run begins.
-use Rattle.std.proofs.Common.{◌≡◌, ℕ, ℤ, pos, zero, suc, ◌+◌, ◌-◌, ◌*◌, ◌/◌, ◌%◌, ◌<◌, ◌≤◌, ◌⊎◌, ◌==◌, inl, inr, Bool, true, false, nat_le, nat_lt, List, [], ◌∷◌, length, take, drop, get_or, Option, Some, None, option_and_then, slice_get, refl, sym, ap, ◌∙◌, subst, ⊎_elim, arith, if◌then◌else◌, get_or-drop, get_or-take}
+use Rattle.std.proofs.Common.{◌≡◌, ℕ, ℤ, pos, zero, suc, ◌+◌, ◌-◌, ◌*◌, ◌/◌, ◌%◌, ◌<◌, ◌≤◌, ◌⊎◌, ◌==◌, inl, inr, Bool, true, false, nat_le, nat_lt, List, [], ◌∷◌, length, take, drop, get_or, Option, Some, None, slice_get, refl, sym, ap, ◌∙◌, subst, ⊎_elim, arith, if◌then◌else◌, get_or-drop, get_or-take}
 use Rattle.std.specs.Prelude.{slice_index}
 use Rattle.std.proofs.lemmas.Bool.{false≢true, le-leb, leb-true, ltb-false, eqb-true, le-ltb, ne_eqb}
 use Rattle.std.proofs.lemmas.List.{length-map, length-drop, length-take-le}
@@ -19,9 +19,11 @@ use Rattle.qw_map.specs.declared.layout.Placed.{Placed}
 use Rattle.qw_map.specs.declared.layout.Used.{Used}
 use Rattle.qw_map.proofs.ColumnLemmas.{text_octets-taken}
 use Rattle.qw_map.proofs.LayoutLemmas.{HasParts, area-parts, ready-between}
+use Rattle.qw_map.proofs.TurnFacts.{found-in}
 use Rattle.qw_low.specs.State.{Part, Column, Own, Value, Number, Address}
 use Rattle.qw_low.specs.Places.{area_of, Means, Holds, StandsFor}
 use Rattle.qw_low.specs.Begin.{entry_address, descriptor_address, address_or, descriptor_value, value_in, cell_in, cells_of, first_state, KnowsStored, KnowsValue, null_flag, KnowsNull, KnowsHead, KnowsEntry}
+use Rattle.qw_low.proofs.CellLemmas.{given-there}
 use Rattle.qw_low.proofs.Standing.{all-at}
 
 -- ---- plain facts
@@ -37,16 +39,6 @@ first-of false x y is = absurd (false≢true is)
 second-of : {T : Type 0} (b : Bool) (x y : T) → b ≡ false → (if b then x else y) ≡ y
 second-of false x y is = refl
 second-of true x y is = absurd (false≢true (sym is))
-
--- what an optional value gives is given by a value that is there
-given : {S T : Type 0} (f : S → Option T) (found : Option S) (v : T) → option_and_then f found ≡ Some v → (u : S) × (found ≡ Some u) × (f u ≡ Some v)
-given f None v is = absurd (none-some v is)
-given f (Some u) v is = (u, refl, is)
-
-found-in : {A : Type 0} (xs : List A) (k : ℕ) → k < length xs → (x : A) × (slice_get xs k ≡ Some x)
-found-in [] k inside = absurd (omega arith)
-found-in (x ∷ xs) zero inside = (x, refl)
-found-in (x ∷ xs) (suc k) inside = found-in xs k (omega arith)
 
 number-zero : (m : List ℕ) (at width : ℕ) → ((k : ℕ) → at ≤ k → k < at + width → slice_index m k ≡ 0) → number_at m at width ≡ 0
 unfolding number_at
@@ -215,7 +207,7 @@ module _ (layout : Layout) (placed : List Placed) (tables : List (List (List Val
       (λ none. absurd (none-some v none.1))
       (λ entry.
       let behind : 64 ≤ offset = ltb-false offset 64 entry.0 in
-      let found = given (λ (used : Used). entry_address ((offset - 64) / 16) used ((offset - 64) % 16)) (slice_get layout.columns ((offset - 64) / 16)) v entry.1 in
+      let found = given-there (λ (used : Used). entry_address ((offset - 64) / 16) used ((offset - 64) % 16)) (slice_get layout.columns ((offset - 64) / 16)) v entry.1 in
       let at : descriptor + entry_offset ((offset - 64) / 16) + (offset - 64) % 16 ≡ descriptor + offset = omega arith in
       subst (λ (i : ℕ). Means w v (number_at memory i 4)) at (address-means ((offset - 64) / 16) found.0 ((offset - 64) % 16) v found.1 found.2))
       (chosen (nat_lt offset 64) None _ v rest.1))
@@ -244,7 +236,7 @@ module _ (layout : Layout) (placed : List Placed) (tables : List (List (List Val
 
   cell-holds : (p : Part) (offset width : ℕ) (v : Value) → cells_of layout placed descriptor limit memory p offset width ≡ Some v → Holds w memory p offset width v
   cell-holds p offset width v known =
-      let there = given (cell_in layout memory p offset width) (area_of w p) v known in
+      let there = given-there (cell_in layout memory p offset width) (area_of w p) v known in
       ⊎_elim
       (λ within. record {
         area = there.0;
