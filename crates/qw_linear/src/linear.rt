@@ -164,6 +164,14 @@ impl Linear {
         Some(())
     }
 
+    /// So many octets from a place on, or `None` exactly where they don't all lie in the memory.
+    pub fn octets_at(&self, at: u64, size: u64) -> Option<&[u8]>
+        ensures inside { IsSome result ↔ (at + size ≤ length self.now.octets) }
+        ensures octets { IfSome result (λ octets. octets.now ≡ take size (drop at self.now.octets)) }
+    {
+        self.octets.get(at as usize..)?.get(..size as usize)
+    }
+
     /// The octets from a place on, or `None` exactly where they don't all lie in the memory.
     fn chunk<const N: usize>(&self, at: u64) -> Option<&[u8; N]>
         ensures inside { IsSome result ↔ (at + N ≤ length self.now.octets) }
