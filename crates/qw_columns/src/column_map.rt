@@ -1,6 +1,6 @@
 //! Where the columns of tables stand.
 
-ghost use Rattle.std.specs.Prelude.{◌≡◌, ◌≤◌, ◌<◌, ◌^◌, length, map, IfOk, IsSome, Some};
+ghost use Rattle.std.specs.Prelude.{◌≡◌, ◌≤◌, ◌<◌, ◌^◌, length, map, IfOk, IsSome, Some, slice_get};
 ghost use Rattle.qw_types.specs.Contents.{Contents};
 ghost use Rattle.qw_types.specs.Limits.{most_tables};
 ghost use Rattle.qw_map.specs.Columns as columns;
@@ -36,6 +36,14 @@ impl Model for ColumnMap {
 }
 
 impl ColumnMap {
+    /// Where the columns of a table stand, counted from 0.
+    pub fn table(&self, table: usize) -> &[Placed]
+        requires { table < length self.now.placed }
+        ensures { slice_get self.now.placed table ≡ Some result.now }
+    {
+        self.tables[table].placed.as_slice()
+    }
+
     /// Where a column of a table stands, both counted from 0.
     pub fn placed(&self, table: usize, column: usize) -> Placed
         requires { IsSome (at_indices self.now.placed table column) }

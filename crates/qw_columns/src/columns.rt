@@ -1,7 +1,8 @@
 //! The columns in the linear memory.
 
-ghost use Rattle.std.specs.Prelude.{◌≡◌, ◌≤◌, ◌<◌, ◌*◌, ◌↔◌, ℕ, Err, length, map, IfErr, IfOk};
-ghost use Rattle.qw_types.specs.Contents.{Contents};
+ghost use Rattle.std.specs.Prelude.{◌≡◌, ◌≤◌, ◌<◌, ◌*◌, ◌^◌, ◌↔◌, ℕ, Err, length, map, IfErr, IfOk};
+ghost use Rattle.std.specs.List.{AllByRecursion};
+ghost use Rattle.qw_types.specs.Contents.{AreLoaded, Contents};
 ghost use Rattle.qw_types.specs.Limits.{most_tables};
 ghost use Rattle.qw_linear.specs.Memory.{AreOctets, page};
 ghost use Rattle.qw_map.specs.Columns.{Holds, column_pages, map_of, tables_end, columns_start};
@@ -41,6 +42,7 @@ impl From<NoMemory> for PlaceFault {
 pub fn place(alloc: Global, loaded: &[Loaded], memory: &mut Linear) -> Result<ColumnMap, PlaceFault>
     requires tables { length loaded.now ≤ most_tables }
     requires empty { length memory.old.octets ≡ 0 }
+    ensures loaded { AllByRecursion AreLoaded loaded.now }
     ensures too_many { (need : ℕ) → (result ≡ Err (TooManyPages need)) ↔ ((need ≡ column_pages loaded.now) × (memory.old.reserved < need)) }
     ensures unchanged { IfErr result (λ e. memory.new ≡ memory.old) }
     ensures placed { IfOk result (λ m. m.placed ≡ map_of loaded.now) }
@@ -48,7 +50,7 @@ pub fn place(alloc: Global, loaded: &[Loaded], memory: &mut Linear) -> Result<Co
     ensures holds { IfOk result (λ m. Holds (map_of loaded.now) memory.new.octets loaded.now) }
     ensures octets { IfOk result (λ m. AreOctets memory.new.octets) }
     ensures len { IfOk result (λ m. length memory.new.octets ≡ column_pages loaded.now * page) }
-    ensures reserved { IfOk result (λ m. memory.new.reserved ≡ memory.old.reserved) }
+    ensures reservation { IfOk result (λ m. memory.new.reserved ≡ memory.old.reserved) }
 {
     let need = pages_needed(loaded);
     if u64::from(memory.reserved()) < need {
@@ -64,10 +66,11 @@ pub fn place(alloc: Global, loaded: &[Loaded], memory: &mut Linear) -> Result<Co
 fn write_tables(loaded: &[Loaded], map: &ColumnMap, memory: &mut Linear)
     requires placed { map.now.placed ≡ map_of loaded.now }
     requires room { tables_end columns_start loaded.now ≤ length memory.old.octets }
+    requires small { length memory.old.octets < 2 ^ 32 }
     ensures holds { Holds (map_of loaded.now) memory.new.octets loaded.now }
     ensures keeps { KeepsBelow memory.old memory.new columns_start }
 {
     for index in 0..loaded.len() {
-        write_table(&loaded[index], map, index, memory);
+        write_table(&loaded[index], map.table(index), memory);
     }
 }

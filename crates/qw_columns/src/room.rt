@@ -1,7 +1,8 @@
 //! How much of the memory columns take, and where their parts begin.
 
 ghost use Rattle.std.specs.Prelude.{◌≡◌, ◌≤◌, ◌<◌, ◌+◌, ◌*◌, ◌^◌, length, Some, slice_get};
-ghost use Rattle.qw_types.specs.Contents.{Contents};
+ghost use Rattle.std.specs.List.{AllByRecursion};
+ghost use Rattle.qw_types.specs.Contents.{AreLoaded, Contents};
 ghost use Rattle.qw_types.specs.Limits.{most_rows, most_tables};
 ghost use Rattle.qw_types.specs.Value.{text_octets};
 ghost use Rattle.qw_types.specs.declared.schema.ColumnType.{ColumnType};
@@ -21,13 +22,14 @@ const MAX_COLUMN_SIZE: u64 = 4_004_125_008;
 const MAX_TABLE_SIZE: u64 = 64 * MAX_COLUMN_SIZE;
 
 /// The most pages that the columns of tables take: 32 tables of 64 such columns.
-pub const MAX_COLUMN_PAGES: u64 = 125_129_212;
+pub const MAX_COLUMN_PAGES: u64 = 125_128_907;
 
 /// How many pages the columns of loaded tables take together. Nothing else stands on the last one.
 pub fn pages_needed(loaded: &[Loaded]) -> u64
     requires { length loaded.now ≤ most_tables }
     ensures pages { result ≡ columns.column_pages loaded.now }
     ensures limit { result ≤ MAX_COLUMN_PAGES }
+    ensures loaded { AllByRecursion AreLoaded loaded.now }
 {
     tables_end(loaded).div_ceil(PAGE as u64)
 }
@@ -37,6 +39,7 @@ fn tables_end(loaded: &[Loaded]) -> u64
     requires { length loaded.now ≤ most_tables }
     ensures end { result ≡ columns.tables_end columns.columns_start loaded.now }
     ensures limit { result ≤ 64 + MAX_TABLE_SIZE * length loaded.now }
+    ensures loaded { AllByRecursion AreLoaded loaded.now }
 {
     let mut end = COLUMNS_START as u64;
     for table in loaded {
@@ -50,6 +53,7 @@ pub(crate) fn columns_end(loaded: &Loaded, at: u64) -> u64
     requires { at ≤ 2 ^ 60 }
     ensures end { result ≡ columns.columns_end at loaded.now.columns 0 loaded.now.rows }
     ensures limit { result ≤ at + MAX_TABLE_SIZE }
+    ensures loaded { AreLoaded loaded.now }
 {
     let mut end = at;
     for column in 0..loaded.width() {

@@ -57,7 +57,8 @@ impl Linear {
 
     /// How many pages the memory may grow to.
     pub fn reserved(&self) -> u32
-        ensures { result ≡ self.now.reserved }
+        ensures reserved { result ≡ self.now.reserved }
+        ensures limit { result ≤ MAX_PAGES }
     {
         self.reserved
     }

@@ -8,6 +8,7 @@ use Rattle.qw_types.specs.declared.value.Val.{Val}
 use Rattle.qw_types.specs.declared.value.Val.TheVariants as val
 use Rattle.qw_linear.specs.Linear.{Octets}
 use Rattle.qw_linear.specs.Memory.{AreOctets, SameBelow, number_at}
+use Rattle.qw_map.specs.declared.layout.Placed.{Placed}
 
 -- a memory that was written to from an address on
 pub record KeepsBelow (before after : Octets) (at : ℕ) : Type 0 where
@@ -74,3 +75,11 @@ pub record HasTexts (memory : List ℕ) (at : ℕ) (values : List Val) (count : 
 -- so many octets of their null bits
 pub record HasNulls (memory : List ℕ) (at : ℕ) (values : List Val) (count : ℕ) : Type 0 where
   pub each : (group : ℕ) → group < count → number_at memory (at + group) 1 ≡ flags_from values (8 * group) 8
+
+-- the values of a column, or where its texts begin and the texts themselves
+abbrev pub HasValues : List ℕ → Ty → Placed → List Val → Type 0
+HasValues memory ty.Integer placed values = HasNumbers memory placed.values 4 values (length values)
+HasValues memory (ty.Decimal precision scale) placed values = HasNumbers memory placed.values 8 values (length values)
+HasValues memory ty.Date placed values = HasNumbers memory placed.values 4 values (length values)
+HasValues memory (ty.Varchar limit) placed values =
+    HasStarts memory placed.values values (length values + 1) × HasTexts memory placed.octets values (length values)
