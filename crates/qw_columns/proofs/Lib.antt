@@ -1,1 +1,5 @@
-pub mod ColumnLemmas
+mod ColumnFacts
+mod PlaceLemmas
+mod RoomLemmas
+mod TableFacts
+mod WriteLemmas
