@@ -83,7 +83,11 @@ fn digits_to_end(text: &[u8], scale: usize) -> Option<Digits>
     ensures few { IfSome result (λ d. d.count ≤ scale) }
     ensures below { IfSome result (λ d. d.number < 10 ^ d.count) }
 {
-    let digits = few_digits(text);
+    let none = Digits {
+        number: 0,
+        count: 0,
+    };
+    let digits = digits_from(text, none);
     if digits.count < text.len() || digits.count > scale {
         return None;
     }
@@ -112,7 +116,21 @@ fn few_digits(octets: &[u8]) -> Digits
     ensures few { result.count ≤ 18 }
     ensures below { result.number < 10 ^ result.count }
 {
-    let first = eight_digits(octets);
+    digits_from(octets, eight_digits(octets))
+}
+
+/// The digits at the start of a text, up to 18 of them, of which the first ones are known.
+fn digits_from(octets: &[u8], first: Digits) -> Digits
+    requires digits { list_all is_ascii_digit (take first.count octets.now) ≡ true }
+    requires number { first.number ≡ digits_value 10 (take first.count octets.now) }
+    requires within { first.count ≤ length octets.now }
+    requires few { first.count ≤ 18 }
+    ensures digits { list_all is_ascii_digit (take result.count octets.now) ≡ true }
+    ensures number { result.number ≡ digits_value 10 (take result.count octets.now) }
+    ensures within { result.count ≤ length octets.now }
+    ensures few { result.count ≤ 18 }
+    ensures below { result.number < 10 ^ result.count }
+{
     let mut number = first.number;
     let end = octets.len().min(18);
     for count in first.count..end {
@@ -142,8 +160,8 @@ fn eight_digits(octets: &[u8]) -> Digits
     ensures few { result.count ≤ 8 }
 {
     match octets.first_chunk::<8>() {
-        Some(eight) if are_digits(*eight) => Digits {
-            number: number_of(*eight),
+        Some(eight) if are_digits(eight) => Digits {
+            number: number_of(eight),
             count: 8,
         },
         _ => Digits {
@@ -154,23 +172,23 @@ fn eight_digits(octets: &[u8]) -> Digits
 }
 
 /// Whether eight octets are digits. Each is asked, whatever the others are, so that all can be asked at once.
-fn are_digits(octets: [u8; 8]) -> bool
-    requires { length octets ≡ 8 }
-    ensures { result ≡ list_all is_ascii_digit octets }
+fn are_digits(octets: &[u8; 8]) -> bool
+    requires { length octets.now ≡ 8 }
+    ensures { result ≡ list_all is_ascii_digit octets.now }
 {
-    let [a, b, c, d, e, f, g, h] = octets;
+    let [a, b, c, d, e, f, g, h] = *octets;
     let first = a.is_ascii_digit() & b.is_ascii_digit() & c.is_ascii_digit() & d.is_ascii_digit();
     let last = e.is_ascii_digit() & f.is_ascii_digit() & g.is_ascii_digit() & h.is_ascii_digit();
     first & last
 }
 
 /// What eight digits count to. The octets count for the digits, and what each is above its digit is taken away at once, at the end.
-fn number_of(octets: [u8; 8]) -> u64
-    requires eight { length octets ≡ 8 }
-    requires digits { list_all is_ascii_digit octets ≡ true }
-    ensures { result ≡ digits_value 10 octets }
+fn number_of(octets: &[u8; 8]) -> u64
+    requires eight { length octets.now ≡ 8 }
+    requires digits { list_all is_ascii_digit octets.now ≡ true }
+    ensures { result ≡ digits_value 10 octets.now }
 {
-    let [a, b, c, d, e, f, g, h] = octets;
+    let [a, b, c, d, e, f, g, h] = *octets;
     let four = behind(behind(behind(u64::from(a), b), c), d);
     let all = behind(behind(behind(behind(four, e), f), g), h);
     all - 48 * 11_111_111

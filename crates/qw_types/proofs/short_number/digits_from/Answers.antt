@@ -1,6 +1,6 @@
 use Rattle.std.proofs.Common.{◌≡◌, ◌∙◌, sym, arith}
 use Rattle.qw_types.proofs.ShortNumberLemmas.{below, digit_more, room}
-use Rattle.qw_types.proofs.short_number.few_digits.Goals as goal
+use Rattle.qw_types.proofs.short_number.digits_from.Goals as goal
 
 pub returns-then-not-is_ascii_digit-clause-below : goal.returns-then-not-is_ascii_digit-clause-below
 returns-then-not-is_ascii_digit-clause-below c =
