@@ -7,9 +7,10 @@ ghost use Rattle.std.specs.Char.{digit_value, is_ascii_digit};
 ghost use Rattle.std.specs.List.{list_all};
 ghost use Rattle.qw_types.specs.Inner.Numeral.{greatest};
 ghost use Rattle.qw_types.specs.Value.{IsNumeric, IsSized};
+ghost use Rattle.qw_types.specs.declared.value.Ty.TheVariants.{Integer};
 
 use crate::power::power_of_ten;
-use crate::short_number::short_number;
+use crate::short_number::{short_integer, short_number};
 use crate::value::Ty;
 use thiserror::Error;
 
@@ -78,7 +79,24 @@ pub fn read_number(bytes: &[u8], ty: &Ty) -> Result<i64, FieldFault>
     }
 }
 
-/// The same of a text in any form.
+/// The INTEGER that a text stands for; as [`read_number`] of that type.
+///
+/// # Errors
+///
+/// As those of [`read_number`].
+pub fn read_integer(bytes: &[u8]) -> Result<i32, FieldFault>
+    ensures { MatchResult result (IsNumberOf Integer bytes.now) (IsNumberFault Integer bytes.now) }
+{
+    if let Some(number) = short_integer(bytes) {
+        return Ok(number);
+    }
+    match read_any_number(bytes, &Ty::Integer) {
+        Ok(number) => Ok(number as i32),
+        Err(fault) => Err(fault),
+    }
+}
+
+/// The number of a type that a text in any form stands for.
 fn read_any_number(bytes: &[u8], ty: &Ty) -> Result<i64, FieldFault>
     requires numeric { IsNumeric ty.now }
     requires sized { IsSized ty.now }

@@ -8,6 +8,7 @@ ghost use Rattle.std.specs.List.{list_all};
 ghost use Rattle.std.specs.Str.Parse.{digits_value, starts_with_minus};
 ghost use Rattle.qw_types.specs.Numeral.{IsNumberOf, after_digits, after_fraction, fraction_at, leading_digits};
 ghost use Rattle.qw_types.specs.Value.{IsNumeric, IsSized};
+ghost use Rattle.qw_types.specs.declared.value.Ty.TheVariants.{Integer};
 
 use crate::numeral::{Digits, begins_with_minus, greatest, signed};
 use crate::power::power_of_ten;
@@ -25,6 +26,19 @@ pub(crate) fn short_number(bytes: &[u8], ty: &Ty) -> Option<i64>
         return None;
     }
     Some(signed(negative, magnitude))
+}
+
+/// The INTEGER that a text of digits shows, a minus sign before them or none. None where it has another form, or shows no INTEGER.
+pub(crate) fn short_integer(bytes: &[u8]) -> Option<i32>
+    ensures { IfSome result (IsNumberOf Integer bytes.now) }
+{
+    let text = without_minus(bytes);
+    let digits = few_digits(text);
+    let negative = begins_with_minus(bytes);
+    if digits.count == 0 || digits.count < text.len() || digits.number > greatest(&Ty::Integer, negative) {
+        return None;
+    }
+    Some(signed(negative, digits.number) as i32)
 }
 
 /// A text without the minus sign at its start, if it has one.
