@@ -86,6 +86,14 @@ pushed_more (suc k) len (d ∷ columns) (f ∷ fields) [] after more c kept new 
 pushed_more (suc k) len (d ∷ columns) (f ∷ fields) (b ∷ before) [] more c kept new value h lt is there long of valid pushed = elim h [ ]
 pushed_more (suc k) len (d ∷ columns) (f ∷ fields) (b ∷ before) (a ∷ after) [] c kept new value h lt is there long of valid pushed = elim h [ ]
 
+-- and the value of its field
+pub pushed_field : (k len : ℕ) (columns : List Column) (fields : List (List ℕ)) (before after : List Values) (more : List Val) (c : Column) (kept new : Values) (field : List ℕ)
+    → Pushed k len columns fields before after more → k < length fields → slice_get columns k ≡ Some c → slice_get after k ≡ Some kept → length (values_in kept) ≡ len
+    → field ≡ get_or fields k [] → ((value : Val) × IsFieldOf c field value × AreKept (column_type c) new × (values_in new ≡ values_in kept ++ value ∷ []))
+    → (all : List Val) × Pushed (suc k) len columns fields before (slice_set after k new) all
+pushed_field k len columns fields before after more c kept new field h lt is there long same (value, of, valid, put) =
+    (more ++ value ∷ [], pushed_more k len columns fields before after more c kept new value h lt is there long (rw same at of) valid put)
+
 -- the first field that is at fault, after some that stand for values
 pub fails_first : (k len : ℕ) (columns : List Column) (fields : List (List ℕ)) (before after : List Values) (more : List Val) (c : Column) (why : CellFault)
     → Pushed k len columns fields before after more → k < length fields → slice_get columns k ≡ Some c → IsFieldFault c (get_or fields k []) why → IsFirstFieldFault columns fields k why

@@ -1,12 +1,15 @@
 -- Values that are pushed behind those of a column.
-use Rattle.std.proofs.Common.{◌≡◌, ◌≤◌, ◌<◌, ◌+◌, ◌-◌, ◌∙◌, ℕ, zero, suc, Bool, true, false, List, [], ◌∷◌, ◌++◌, length, map, take, drop, refl, sym, ap, arith, take_all, length-append, ℤ, Vec, Global, Some, get_or}
+use Rattle.std.proofs.Common.{◌≡◌, ◌≤◌, ◌<◌, ◌+◌, ◌-◌, ◌∙◌, ℕ, zero, suc, Bool, true, false, List, [], ◌∷◌, ◌++◌, length, map, take, drop, refl, sym, ap, arith, take_all, length-append, ℤ, Vec, Global, Some, get_or, not}
 use Rattle.std.specs.Prelude.{if◌then◌else◌, slice_get}
 use Rattle.std.specs.List.{AllByRecursion}
 use Rattle.std.proofs.lemmas.Bool.{false≢true}
 use Rattle.std.proofs.lemmas.List.{take-append-le}
 use Rattle.qw_types.specs.declared.value.Val.{Val}
 use Rattle.qw_types.specs.declared.value.Val.TheVariants as val
-use Rattle.qw_types.specs.Value.{IsOfTypeOrNull}
+use Rattle.qw_types.specs.Numeral.{IsNumberOf}
+use Rattle.qw_types.specs.Value.{IsNumeric, IsOfTypeOrNull}
+use Rattle.qw_types.specs.declared.schema.Column.{Column}
+use Rattle.qw_csv.specs.Field.{IsFieldOf, IsTypedFieldOf}
 use Rattle.std.proofs.lemmas.List.{length-map, map-append}
 use Rattle.qw_types.specs.declared.value.Ty.{Ty}
 use Rattle.qw_types.specs.declared.value.Ty.TheVariants as ty
@@ -42,6 +45,14 @@ ends_push start total more [] h = (omega (arith, h), omega arith, refl)
 ends_push start total more (end ∷ ends) h = (h.0, omega (arith, h.1), ends_push end total more ends h.2)
 
 -- ---- nulls
+
+pub not_true : (b : Bool) → not b ≡ true → b ≡ false
+not_true true e = sym e
+not_true false e = refl
+
+pub not_false : (b : Bool) → not b ≡ false → b ≡ true
+not_false true e = refl
+not_false false e = sym e
 
 no_nulls : (values : List Val) → with_nulls values [] ≡ values
 no_nulls [] = refl
@@ -208,3 +219,55 @@ length-with_nulls (v ∷ values) (f ∷ flags) = ap (λ (n : ℕ). suc n) (lengt
 -- what indexing gave, as what stands in its place
 pub number_in_place : (make : ℤ → Val) (numbers : List ℤ) (row : ℕ) (n : ℤ) → row < length (map make numbers) → n ≡ get_or numbers row n → slice_get (map make numbers) row ≡ Some (make n)
 number_in_place make numbers row n lt is = get_map make numbers row n (get_is numbers row n (omega (arith, lt, length-map numbers make)) is)
+
+-- ---- numbers of fields
+
+-- a field that shows a number of a type isn't empty
+typed_number : (type : Ty) (field : List ℕ) (number : ℤ) → IsNumberOf type field number → IsTypedFieldOf type field (val.Num number)
+typed_number ty.Integer field number h = h
+typed_number (ty.Decimal precision scale) field number h = h
+typed_number ty.Date field number h = absurd h.range
+typed_number (ty.Varchar limit) field number h = absurd h.range
+
+pub number_field : (column : Column) (field : List ℕ) (number : ℤ) → IsNumberOf column.ty field number → IsFieldOf column field (val.Num number)
+number_field column [] number h = absurd (false≢true h.shows.form)
+number_field column (octet ∷ octets) number h = typed_number column.ty (octet ∷ octets) number h
+
+-- what a number is put behind
+pub record Put (type : Ty) (field : List ℕ) (before after : Cells) : Type 0 where
+  pub number : ℤ
+  pub of : IsNumberOf type field number
+  pub form : AreCellsOf type after
+  pub pushed : plain_values after ≡ plain_values before ++ val.Num number ∷ []
+
+pub integer_type : (type : Ty) (numbers : Vec ℤ Global) → AreCellsOf type (cells.Integers numbers) → type ≡ ty.Integer
+integer_type ty.Integer numbers form = refl
+integer_type (ty.Decimal precision scale) numbers form = absurd form
+integer_type ty.Date numbers form = absurd form
+integer_type (ty.Varchar limit) numbers form = absurd form
+
+pub decimal_numeric : (type : Ty) (before : Cells) (numbers : Vec ℤ Global) → AreCellsOf type before → before ≡ cells.Decimals numbers → IsNumeric type
+decimal_numeric type before numbers form is = of_type type (rw is at form)
+  where
+    of_type : (t : Ty) → AreCellsOf t (cells.Decimals numbers) → IsNumeric t
+    of_type ty.Integer f = absurd f
+    of_type (ty.Decimal precision scale) f = tt
+    of_type ty.Date f = absurd f
+    of_type (ty.Varchar limit) f = absurd f
+
+pub integer_put : (type : Ty) (field : List ℕ) (before : Cells) (numbers after : Vec ℤ Global) (number : ℤ) → AreCellsOf type before → before ≡ cells.Integers numbers
+    → IsNumberOf ty.Integer field number → after.items ≡ numbers.items ++ number ∷ [] → Put type field before (cells.Integers after)
+integer_put type field before numbers after number form is of pushed =
+    let same = integer_type type numbers (rw is at form) in
+    rw (same, is) (record { number = number; of = of; form = tt; pushed = rw (pushed, map-append val.Num numbers.items (number ∷ [])) refl })
+
+pub decimal_put : (type : Ty) (field : List ℕ) (before : Cells) (numbers after : Vec ℤ Global) (number : ℤ) → AreCellsOf type before → before ≡ cells.Decimals numbers
+    → IsNumberOf type field number → after.items ≡ numbers.items ++ number ∷ [] → Put type field before (cells.Decimals after)
+decimal_put type field before numbers after number form is of pushed =
+    rw is (record { number = number; of = of; form = of_type type (rw is at form); pushed = rw (pushed, map-append val.Num numbers.items (number ∷ [])) refl })
+  where
+    of_type : (t : Ty) → AreCellsOf t (cells.Decimals numbers) → AreCellsOf t (cells.Decimals after)
+    of_type ty.Integer f = absurd f
+    of_type (ty.Decimal precision scale) f = tt
+    of_type ty.Date f = absurd f
+    of_type (ty.Varchar limit) f = absurd f

@@ -18,7 +18,7 @@ ghost use Rattle.qw_csv.specs.Loading.{IsFirstFault, IsHeader, IsRecordFault, Is
 ghost use Rattle.qw_csv.specs.Inner.Loading.{HasRead};
 ghost use Rattle.qw_csv.specs.Inner.Rows.{AreAllKept, rows_in};
 
-use crate::cell::{CellFault, cell_of};
+use crate::cell::CellFault;
 use crate::loaded::Loaded;
 use crate::storage::{Values, column_type};
 use csv::{ByteRecord, Reader, ReaderBuilder};
@@ -269,11 +269,9 @@ fn push_row(
     }
     for index in 0..columns.len() {
         let column = &columns[index];
-        match cell_of(column, field(row, index)) {
-            Ok(cell) => {
-                let kept = &mut values[index];
-                kept.push(column_type(column), cell)?;
-            }
+        let kept = &mut values[index];
+        match kept.push_field(column, field(row, index))? {
+            Ok(()) => {}
             Err(fault) => {
                 return Err(LoadFault::Field {
                     row: len + 1,

@@ -1,20 +1,24 @@
 //! The values of one column, as they are kept: an INTEGER or a DATE takes four octets, a DECIMAL eight, a text its octets
 //! and eight more, and a column that may be null an octet a row beside.
 
-ghost use Rattle.std.specs.Prelude.{◌≡◌, ◌≤◌, ◌-◌, ◌++◌, ◌<◌, ℕ, suc, take, drop, Bool, true, ◌↔◌, IsTrue, [], ◌∷◌, length, Some, OnOk, slice_get};
-ghost use Rattle.qw_types.specs.Value.{IsOfTypeOrNull};
+ghost use Rattle.std.specs.Prelude.{◌≡◌, ◌≤◌, ◌-◌, ◌++◌, ◌<◌, ℕ, ℤ, suc, take, drop, Bool, true, ◌↔◌, IsTrue, [], ◌∷◌, length, Some, IfOk, MatchResult, OnOk, slice_get};
+ghost use Rattle.std.specs.Bool.{MatchBool};
+ghost use Rattle.qw_types.specs.Numeral.{IsNumberOf};
+ghost use Rattle.qw_types.specs.Value.{IsOfTypeOrNull, IsSized};
 ghost use Rattle.qw_types.specs.declared.value.Ty.{Ty};
 ghost use Rattle.qw_types.specs.declared.value.Ty.TheVariants as ty;
 ghost use Rattle.qw_types.specs.declared.value.Ty.TheVariants.{Decimal, Integer, Varchar};
+ghost use Rattle.qw_types.specs.declared.value.Val.{Val};
 ghost use Rattle.qw_types.specs.declared.value.Val.TheVariants as val;
 ghost use Rattle.qw_types.specs.declared.value.Val.TheVariants.{Num};
 ghost use Rattle.qw_types.specs.Contents.{column_type};
 ghost use Rattle.qw_csv.specs.Contents.{integer_column};
 ghost use Rattle.qw_types.specs.declared.schema.ColumnType.{ColumnType};
-ghost use Rattle.qw_csv.specs.Field.{val_of};
+ghost use Rattle.qw_csv.specs.Field.{IsFieldFault, IsFieldOf, val_of};
 ghost use Rattle.qw_csv.specs.Inner.Storage.{AreCellsOf, AreEnds, AreKept, is_null, placed, plain_values, texts_from, values_in};
 
-use crate::cell::Cell;
+use crate::cell::{Cell, CellFault, cell_of};
+use qw_types::numeral::{read_integer, read_number};
 use qw_types::{Column, ColumnType, NoMemory, Ty};
 use std::alloc::Global;
 
@@ -128,6 +132,31 @@ impl Cells {
 }
 
 impl Cells {
+    /// Puts the number that a field of the column shows behind the others. Where it shows none, or the column is none of numbers,
+    /// nothing is put, and the answer is false.
+    fn push_number(&mut self, column: &Column, field: &[u8]) -> Result<bool, NoMemory>
+        requires form { AreCellsOf column.now.ty self.old }
+        requires sized { IsSized column.now.ty }
+        ensures { IfOk result (λ put. MatchBool put
+            ((number : ℤ) × IsNumberOf column.now.ty field.now number × AreCellsOf column.now.ty self.new × (plain_values self.new ≡ plain_values self.old ++ Num number ∷ []))
+            (self.new ≡ self.old)) }
+    {
+        match self {
+            Cells::Integers(numbers) => match read_integer(field) {
+                Ok(number) => numbers.push(number)?,
+                Err(_) => return Ok(false),
+            },
+            Cells::Decimals(numbers) => match read_number(field, &column.ty) {
+                Ok(number) => numbers.push(number)?,
+                Err(_) => return Ok(false),
+            },
+            _ => return Ok(false),
+        }
+        Ok(true)
+    }
+}
+
+impl Cells {
     /// What stands in the place of a row's value.
     fn get(&self, row: usize) -> Cell<'_>
         requires form { (ty : Ty) × AreCellsOf ty self.now }
@@ -181,6 +210,48 @@ impl Values {
             self.nulls.push(is_null(cell))?;
         }
         Ok(())
+    }
+}
+
+impl Values {
+    /// Puts the number that a field of the column shows behind the others. Where it shows none, or the column is none of numbers,
+    /// nothing is put, and the answer is false.
+    fn push_number(&mut self, column: &Column, field: &[u8]) -> Result<bool, NoMemory>
+        requires kept { AreKept (column_type column.now) self.old }
+        requires sized { IsSized column.now.ty }
+        ensures { IfOk result (λ put. MatchBool put
+            ((value : Val) × IsFieldOf column.now field.now value × AreKept (column_type column.now) self.new × (values_in self.new ≡ values_in self.old ++ value ∷ []))
+            (self.new ≡ self.old)) }
+    {
+        if !self.cells.push_number(column, field)? {
+            return Ok(false);
+        }
+        if !column.not_null {
+            self.nulls.push(false)?;
+        }
+        Ok(true)
+    }
+}
+
+impl Values {
+    /// Puts the value that a field of the column stands for behind the others, or tells why it stands for none.
+    pub(crate) fn push_field(&mut self, column: &Column, field: &[u8]) -> Result<Result<(), CellFault>, NoMemory>
+        requires kept { AreKept (column_type column.now) self.old }
+        requires sized { IsSized column.now.ty }
+        ensures { IfOk result (λ put. MatchResult put
+            (λ _. (value : Val) × IsFieldOf column.now field.now value × AreKept (column_type column.now) self.new × (values_in self.new ≡ values_in self.old ++ value ∷ []))
+            (IsFieldFault column.now field.now)) }
+    {
+        if self.push_number(column, field)? {
+            return Ok(Ok(()));
+        }
+        match cell_of(column, field) {
+            Ok(cell) => {
+                self.push(column_type(column), cell)?;
+                Ok(Ok(()))
+            }
+            Err(fault) => Ok(Err(fault)),
+        }
     }
 }
 

@@ -6,6 +6,8 @@ pub mod KindLemmas
 pub mod NumberTextLaws
 mod NumberTextLemmas
 mod NumeralLemmas
+mod PowerLemmas
+mod ShortNumberLemmas
 pub mod TextLaws
 mod TextOrderLemmas
 mod ValueLemmas

@@ -7,7 +7,10 @@ ghost use Rattle.std.specs.Char.{digit_value, is_ascii_digit};
 ghost use Rattle.std.specs.List.{list_all};
 ghost use Rattle.qw_types.specs.Inner.Numeral.{greatest};
 ghost use Rattle.qw_types.specs.Value.{IsNumeric, IsSized};
+ghost use Rattle.qw_types.specs.declared.value.Ty.TheVariants.{Integer};
 
+use crate::power::power_of_ten;
+use crate::short_number::{short_integer, short_number};
 use crate::value::Ty;
 use thiserror::Error;
 
@@ -70,6 +73,35 @@ pub fn read_number(bytes: &[u8], ty: &Ty) -> Result<i64, FieldFault>
     requires sized { IsSized ty.now }
     ensures { MatchResult result (IsNumberOf ty.now bytes.now) (IsNumberFault ty.now bytes.now) }
 {
+    match short_number(bytes, ty) {
+        Some(number) => Ok(number),
+        None => read_any_number(bytes, ty),
+    }
+}
+
+/// The INTEGER that a text stands for; as [`read_number`] of that type.
+///
+/// # Errors
+///
+/// As those of [`read_number`].
+pub fn read_integer(bytes: &[u8]) -> Result<i32, FieldFault>
+    ensures { MatchResult result (IsNumberOf Integer bytes.now) (IsNumberFault Integer bytes.now) }
+{
+    if let Some(number) = short_integer(bytes) {
+        return Ok(number);
+    }
+    match read_any_number(bytes, &Ty::Integer) {
+        Ok(number) => Ok(number as i32),
+        Err(fault) => Err(fault),
+    }
+}
+
+/// The number of a type that a text in any form stands for.
+fn read_any_number(bytes: &[u8], ty: &Ty) -> Result<i64, FieldFault>
+    requires numeric { IsNumeric ty.now }
+    requires sized { IsSized ty.now }
+    ensures { MatchResult result (IsNumberOf ty.now bytes.now) (IsNumberFault ty.now bytes.now) }
+{
     let Some(numeral) = numeral_of(bytes, usize::from(ty.scale())) else {
         return Err(FieldFault::NotNumber);
     };
@@ -83,7 +115,7 @@ pub fn read_number(bytes: &[u8], ty: &Ty) -> Result<i64, FieldFault>
 }
 
 /// A number of a sign and a magnitude.
-fn signed(negative: bool, magnitude: u64) -> i64
+pub(crate) fn signed(negative: bool, magnitude: u64) -> i64
     requires { magnitude ≤ 1000000000000000000 }
     ensures { result ≡ signed negative magnitude }
 {
@@ -92,12 +124,12 @@ fn signed(negative: bool, magnitude: u64) -> i64
 }
 
 /// The greatest magnitude of a type's negative numbers, or of the others.
-fn greatest(ty: &Ty, negative: bool) -> u64
+pub(crate) fn greatest(ty: &Ty, negative: bool) -> u64
     requires { IsSized ty.now }
     ensures { result ≡ greatest ty.now negative }
 {
     match ty {
-        Ty::Decimal { precision, .. } => 10u64.pow(u32::from(*precision)) - 1,
+        Ty::Decimal { precision, .. } => power_of_ten(usize::from(*precision)) - 1,
         _ if negative => 2_147_483_648,
         _ => 2_147_483_647,
     }
@@ -151,7 +183,7 @@ pub(crate) fn are_spaces(octets: &[u8]) -> bool
 }
 
 /// Whether a text begins with a minus sign.
-fn begins_with_minus(text: &[u8]) -> bool
+pub(crate) fn begins_with_minus(text: &[u8]) -> bool
     ensures { result ≡ starts_with_minus text.now }
 {
     matches!(text, [b'-', ..])

@@ -1,7 +1,6 @@
 use Rattle.std.proofs.Common.{◌≡◌, ◌++◌, ◌∷◌, [], ◌∙◌, add-one, arith, length, refl, sym}
 use Rattle.csv.specs.Records.{fields_of}
-use Rattle.qw_csv.specs.Field.{val_of}
-use Rattle.qw_csv.proofs.PushLemmas.{fails_first, field_of_column, kept_more, next_there, pushed_more, record_of, rows_more}
+use Rattle.qw_csv.proofs.PushLemmas.{fails_first, kept_more, next_there, pushed_field, record_of, rows_more}
 use Rattle.qw_csv.proofs.StorageLemmas.{get_below, get_is}
 use Rattle.qw_csv.proofs.loading.push_row.Goals as goal
 
@@ -12,21 +11,18 @@ index_mut-kept-requires c =
     let next = next_there c.loop-index.index c.args.len c.args.columns.now (fields_of c.args.row.now) c.args.values.now.items c.loop-index.values.items more c.index-columns-index.result pushed there in
     omega (arith, get_below c.loop-index.values.items c.loop-index.index next.kept next.there)
 
-pub push-requires-clause-kept : goal.push-requires-clause-kept
-push-requires-clause-kept c =
+pub push_field-requires-clause-kept : goal.push_field-requires-clause-kept
+push_field-requires-clause-kept c =
     let (more, pushed) = c.loop-index.invariant in
     let there = get_is c.args.columns.now c.loop-index.index c.index-columns-index.result c.loop-index-test.true c.index-columns-index.is in
     let next = next_there c.loop-index.index c.args.len c.args.columns.now (fields_of c.args.row.now) c.args.values.now.items c.loop-index.values.items more c.index-columns-index.result pushed there in
     let below = get_below c.loop-index.values.items c.loop-index.index next.kept next.there in
     let same : next.kept ≡ c.index_mut-kept.result.now = cc (next.there, get_is c.loop-index.values.items c.loop-index.index c.index_mut-kept.result.now below c.index_mut-kept.ensures.value) in
-    rw c.column_type.ensures (rw same at next.valid)
-
-pub push-requires-clause-typed : goal.push-requires-clause-typed
-push-requires-clause-typed c =
-    rw c.column_type.ensures (field_of_column c.index-columns-index.result c.field.result.now (val_of c.in-Ok.cell) c.in-Ok.ensures)
+    rw same at next.valid
 
 pub returns-in-Err-clause-fault : goal.returns-in-Err-clause-fault
 returns-in-Err-clause-fault c _ =
+    let why = rw c.in-Err.is at c.in_ok-push_field.ensures in
     let (more, pushed) = c.loop-index.invariant in
     let there = get_is c.args.columns.now c.loop-index.index c.index-columns-index.result c.loop-index-test.true c.index-columns-index.is in
     let same = sym c.len.ensures ∙ c.if-len-columns.false in (
@@ -34,7 +30,7 @@ returns-in-Err-clause-fault c _ =
       refl,
       same,
       fails_first c.loop-index.index c.args.len c.args.columns.now (fields_of c.args.row.now) c.args.values.now.items c.loop-index.values.items more c.index-columns-index.result c.in-Err.fault
-          pushed (omega (arith, same, c.loop-index-test.true)) there (rw c.field.ensures at c.in-Err.ensures),
+          pushed (omega (arith, same, c.loop-index-test.true)) there (rw c.field.ensures at why),
     )
 
 pub loop-index-preserved : goal.loop-index-preserved
@@ -43,13 +39,12 @@ loop-index-preserved c =
     let there = get_is c.args.columns.now c.loop-index.index c.index-columns-index.result c.loop-index-test.true c.index-columns-index.is in
     let next = next_there c.loop-index.index c.args.len c.args.columns.now (fields_of c.args.row.now) c.args.values.now.items c.loop-index.values.items more c.index-columns-index.result pushed there in
     let below = get_below c.loop-index.values.items c.loop-index.index next.kept next.there in
-    let same : next.kept ≡ c.index_mut-kept.result.now = cc (next.there, get_is c.loop-index.values.items c.loop-index.index c.index_mut-kept.result.now below c.index_mut-kept.ensures.value) in
-    let count = sym c.len.ensures ∙ c.if-len-columns.false in (
-      more ++ val_of c.in-Ok.cell ∷ [],
-      rw add-one (pushed_more c.loop-index.index c.args.len c.args.columns.now (fields_of c.args.row.now) c.args.values.now.items c.loop-index.values.items more c.index-columns-index.result
-          next.kept c.push.new.self (val_of c.in-Ok.cell) pushed (omega (arith, count, c.loop-index-test.true)) there next.there next.long (rw c.field.ensures at c.in-Ok.ensures)
-          (rw c.column_type.ensures at c.in_ok-push-in-Ok.ensures.kept) (rw same c.in_ok-push-in-Ok.ensures.pushed)),
-    )
+    let found = get_is c.loop-index.values.items c.loop-index.index c.index_mut-kept.result.now below c.index_mut-kept.ensures.value in
+    let same : next.kept ≡ c.index_mut-kept.result.now = cc (next.there, found) in
+    let count = sym c.len.ensures ∙ c.if-len-columns.false in
+    rw add-one (pushed_field c.loop-index.index c.args.len c.args.columns.now (fields_of c.args.row.now) c.args.values.now.items c.loop-index.values.items more c.index-columns-index.result
+        c.index_mut-kept.result.now c.push_field.new.self c.field.result.now pushed (omega (arith, count, c.loop-index-test.true)) there found (rw same at next.long) c.field.ensures
+        (rw c.in-Ok.is at c.in_ok-push_field.ensures))
 
 pub returns-clause-pushed : goal.returns-clause-pushed
 returns-clause-pushed c =

@@ -1,15 +1,7 @@
-use Rattle.std.proofs.Common.{◌≡◌, Bool, true, false, not, refl, sym}
+use Rattle.std.proofs.Common.{refl}
 use Rattle.qw_csv.specs.Field.{val_of}
-use Rattle.qw_csv.proofs.StorageLemmas.{kept_not_null, kept_with_null}
+use Rattle.qw_csv.proofs.StorageLemmas.{kept_not_null, kept_with_null, not_false, not_true}
 use Rattle.qw_csv.proofs.storage.Values.push.Goals as goal
-
-not_true : (b : Bool) → not b ≡ true → b ≡ false
-not_true true e = sym e
-not_true false e = refl
-
-not_false : (b : Bool) → not b ≡ false → b ≡ true
-not_false true e = refl
-not_false false e = sym e
 
 pub returns-in_ok-push-2-clause-kept : goal.returns-in_ok-push-2-clause-kept
 returns-in_ok-push-2-clause-kept c =

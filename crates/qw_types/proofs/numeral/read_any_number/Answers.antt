@@ -3,7 +3,7 @@ use Rattle.std.specs.Prelude.{FitsSigned}
 use Rattle.std.proofs.lemmas.Int.{to_z-of_z}
 use Rattle.std.proofs.Common.{rules}
 use Rattle.qw_types.proofs.NumeralLemmas.{number_read}
-use Rattle.qw_types.proofs.numeral.read_number.Goals as goal
+use Rattle.qw_types.proofs.numeral.read_any_number.Goals as goal
 
 pub returns : goal.returns
 returns c =
