@@ -1,5 +1,5 @@
 -- What a run leaves: the bench that it turned to the end, what it wrote of the report, and what it noted.
-use Rattle.std.specs.Prelude.{◌≡◌, ◌⊎◌, ℕ, zero, suc, ◌<◌, Bool, true, false, ◌||◌, if◌then◌else◌, List, [], ◌∷◌, ◌++◌, length, map, replicate, Option, Some, None, IfSome, IsSome}
+use Rattle.std.specs.Prelude.{◌≡◌, ◌⊎◌, ℕ, zero, suc, ◌<◌, Bool, true, false, if◌then◌else◌, List, [], ◌∷◌, ◌++◌, length, Option, Some, None, IfSome, IsSome}
 use Rattle.std.specs.List.{AllZip, list_any}
 use Rattle.qw_types.specs.Contents.{Contents}
 use Rattle.qw_types.specs.declared.schema.Table.{Table}
@@ -14,13 +14,9 @@ use Rattle.qw_sink.specs.Sink.{report_of_rows, report_of_exception, report_of_pa
 use Rattle.qw_top.specs.Causes.{Cause, line_of_cause, status_of_cause}
 use Rattle.qw_top.specs.Notes.{read_fault_line, want_of_memory_line}
 use Rattle.qw_top.specs.Output.{TookFront, with_text}
-use Rattle.qw_top.specs.Top.{Asked, Asks, Files, IsNamed, Settles}
+use Rattle.qw_top.specs.Top.{Asked, Asks, Files, IsNamed, Settles, same_limits}
 use Rattle.qw_top.specs.declared.status.Status.{Status}
 use Rattle.qw_top.specs.declared.status.Status.TheVariants.{Done, WordsRefused, SchemaRefused, TableFileRefused, QueriesRefused, ReadFailed, WriteFailed, Raised, PageLimitMet, StepLimitMet, TotalPages, NoMemory}
-
--- the limits of queries, each the same
-abbrev pub same_limits : Limits → List Asked → List Limits
-same_limits one queries = map (λ (asked : Asked). one) queries
 
 -- a program is a query's compiled form
 abbrev pub IsProgramOf : Asked → Program → Type 0
@@ -28,10 +24,10 @@ IsProgramOf asked program = IsCompiled asked.specification program.layout progra
 
 -- A bench has run queries over tables to their ends, under limits, in turns of so many instructions: it has one task for each
 -- query in order, its compiled module; it stands where rounds of turns led from a start of these tasks; and all instances ended.
-pub record HasRun (limits : List Asked → List Limits) (quantum : ℕ) (tables : List Contents) (queries : List Asked) (b : Standing) : Type 0 where
+pub record HasRun (limits : Limits) (quantum : ℕ) (tables : List Contents) (queries : List Asked) (b : Standing) : Type 0 where
   pub programs : List Program
   pub compiled : AllZip IsProgramOf queries programs
-  pub tasks : AreTasksOf programs (limits queries) b.tasks
+  pub tasks : AreTasksOf programs (same_limits limits queries) b.tasks
   pub start : Shared
   pub began : IsStart tables b.tasks start
   pub given : List Act
@@ -82,7 +78,7 @@ status_of_ends ends =
 
 -- The words and the files ask for queries, this bench has run them, the report shows their ends, and this is the status of a run
 -- with those ends.
-pub record Reports (limits : List Asked → List Limits) (quantum : ℕ) (files : Files) (words : List (List ℕ)) (b : Standing) (report : List ℕ) (status : Status) : Type 0 where
+pub record Reports (limits : Limits) (quantum : ℕ) (files : Files) (words : List (List ℕ)) (b : Standing) (report : List ℕ) (status : Status) : Type 0 where
   pub schema : List Table
   pub tables : List Contents
   pub queries : List Asked
@@ -96,19 +92,19 @@ abbrev pub LeavesNothing : (kept : Option Standing) → (old new : Option (List 
 LeavesNothing kept old new = (kept ≡ None) × (new ≡ old)
 
 -- the bench is there, and its report, at this status, has the property
-abbrev pub LeavesBench : (limits : List Asked → List Limits) → (quantum : ℕ) → Files → (words : List (List ℕ)) → (kept : Option Standing) → (Status → List ℕ → Type 0) → Type 0
+abbrev pub LeavesBench : (limits : Limits) → (quantum : ℕ) → Files → (words : List (List ℕ)) → (kept : Option Standing) → (Status → List ℕ → Type 0) → Type 0
 LeavesBench limits quantum files words kept P =
     (b : Standing) × (report : List ℕ) × (status : Status) × (kept ≡ Some b) × Reports limits quantum files words b report status × P status report
 
 -- the bench is there, and its report, of this status, was written whole
-abbrev pub LeavesReport : (limits : List Asked → List Limits) → (quantum : ℕ) → Files → (words : List (List ℕ)) → Status → (kept : Option Standing) → (old new : Option (List ℕ)) → Type 0
+abbrev pub LeavesReport : (limits : Limits) → (quantum : ℕ) → Files → (words : List (List ℕ)) → Status → (kept : Option Standing) → (old new : Option (List ℕ)) → Type 0
 LeavesReport limits quantum files words result kept old new =
     LeavesBench limits quantum files words kept (λ status report. (status ≡ result) × (new ≡ with_text old report))
 
 -- What a run leaves, by its status: the bench that it kept, and what a sink had taken before of the report and has taken now.
 -- Memory may be wanted before there is a bench, or while the report is made and written; and a line on what went wrong may
 -- fail to be written.
-abbrev pub Leaves : (limits : List Asked → List Limits) → (quantum : ℕ) → Files → (words : List (List ℕ)) → Status → (kept : Option Standing) → (old new : Option (List ℕ)) → Type 0
+abbrev pub Leaves : (limits : Limits) → (quantum : ℕ) → Files → (words : List (List ℕ)) → Status → (kept : Option Standing) → (old new : Option (List ℕ)) → Type 0
 Leaves limits quantum files words Done kept old new = LeavesReport limits quantum files words Done kept old new
 Leaves limits quantum files words Raised kept old new = LeavesReport limits quantum files words Raised kept old new
 Leaves limits quantum files words PageLimitMet kept old new = LeavesReport limits quantum files words PageLimitMet kept old new
@@ -120,20 +116,20 @@ Leaves limits quantum files words NoMemory kept old new =
 Leaves limits quantum files words status kept old new = LeavesNothing kept old new
 
 -- a line that a run may note
-abbrev pub IsLine : (limits : List Asked → List Limits) → Files → (words : List (List ℕ)) → List ℕ → Type 0
+abbrev pub IsLine : (limits : Limits) → Files → (words : List (List ℕ)) → List ℕ → Type 0
 IsLine limits files words line = (line ≡ want_of_memory_line)
     ⊎ ((name : List ℕ) × IsNamed files words name × (line ≡ read_fault_line name))
     ⊎ ((cause : Cause) × Settles limits files words cause × (line ≡ line_of_cause cause))
 
 -- the line of the cause that the words and the files settle, and whose status this is
-abbrev pub NotesCause : (limits : List Asked → List Limits) → Files → (words : List (List ℕ)) → Status → (old new : Option (List ℕ)) → Type 0
+abbrev pub NotesCause : (limits : Limits) → Files → (words : List (List ℕ)) → Status → (old new : Option (List ℕ)) → Type 0
 NotesCause limits files words status old new =
     (cause : Cause) × Settles limits files words cause × (status ≡ status_of_cause cause) × (new ≡ with_text old (line_of_cause cause))
 
 -- What a run notes, by its status: at a refusal the line of its cause; at ReadFailed the line of a name that a run may read, which
 -- is the name of the last fault that the shelf counted, where it tells that; at NoMemory and WriteFailed a front of a line that
 -- a run may note; and where a report was written nothing.
-abbrev pub Notes : (limits : List Asked → List Limits) → Files → (words : List (List ℕ)) → (fault_name : Option (List ℕ)) → Status → (old new : Option (List ℕ)) → Type 0
+abbrev pub Notes : (limits : Limits) → Files → (words : List (List ℕ)) → (fault_name : Option (List ℕ)) → Status → (old new : Option (List ℕ)) → Type 0
 Notes limits files words fault_name ReadFailed old new =
     (name : List ℕ) × IsNamed files words name × IfSome fault_name (λ last. last ≡ name) × (new ≡ with_text old (read_fault_line name))
 Notes limits files words fault_name NoMemory old new = (line : List ℕ) × IsLine limits files words line × TookFront old new line

@@ -137,9 +137,13 @@ IsNamed files words name = (names : Names) × AreNames words names × IsFileOf f
 
 -- ---- which cause they settle
 
--- The files of these names settle the cause for which a run ends before it has a bench, with limits for the queries. A file is
+-- the limits of queries, each the same
+abbrev pub same_limits : Limits → List Asked → List Limits
+same_limits limits queries = map (λ (asked : Asked). limits) queries
+
+-- The files of these names settle the cause for which a run ends before it has a bench, under limits for each query. A file is
 -- refused only where all files before it were accepted.
-abbrev pub FilesSettle : (limits : List Asked → List Limits) → Files → Names → Cause → Type 0
+abbrev pub FilesSettle : (limits : Limits) → Files → Names → Cause → Type 0
 FilesSettle limits files names words_refused = ⊥
 FilesSettle limits files names schema_too_long = IsTooLong files names.schema most_text_octets
 FilesSettle limits files names (schema_refused fault) = (text : List ℕ) × IsFile files names.schema most_text_octets text × IsRefused text fault
@@ -152,11 +156,11 @@ FilesSettle limits files names queries_too_long = (schema : List Table) × (tabl
 FilesSettle limits files names (queries_refused fault) = (schema : List Table) × (tables : List Contents) × (text : List ℕ)
     × HasTables files names schema tables × IsFile files names.queries most_text_octets text × IsQueryRefused schema text fault
 FilesSettle limits files names (total_pages need) = (schema : List Table) × (tables : List Contents) × (queries : List Asked)
-    × HasQueries files names schema tables queries × (need ≡ pages_in_all tables (limits queries)) × (most_pages < need)
+    × HasQueries files names schema tables queries × (need ≡ pages_in_all tables (same_limits limits queries)) × (most_pages < need)
 
 -- The words and the files settle the cause: the words are none of `run`, or they give names whose files settle it. Words come
 -- first, so another cause comes only where they were read.
-abbrev pub Settles : (limits : List Asked → List Limits) → Files → List (List ℕ) → Cause → Type 0
+abbrev pub Settles : (limits : Limits) → Files → List (List ℕ) → Cause → Type 0
 Settles limits files words words_refused = (names : Names) → AreNames words names → ⊥
 Settles limits files words cause = (names : Names) × AreNames words names × FilesSettle limits files names cause
 
@@ -187,15 +191,15 @@ IsFault WriteFailed = Unit {0}
 IsFault NoMemory = Unit {0}
 IsFault _ = ⊥
 
--- The words and the files explain how a run ended, whose instances may hold so many pages: they settle a cause of a refusal; or
+-- The words and the files explain how a run under limits ended: they settle a cause of a refusal; or
 -- they ask for queries, of which one needs more pages, where a limit of pages was met. A fault comes only where the words were
 -- read.
-abbrev pub Explains : (limits : List Asked → List Limits) → (pages : ℕ) → Files → List (List ℕ) → Status → Type 0
-Explains limits pages files words Done = (schema : List Table) × (tables : List Contents) × (queries : List Asked) × Asks files words schema tables queries
-Explains limits pages files words Raised = (schema : List Table) × (tables : List Contents) × (queries : List Asked) × Asks files words schema tables queries
-Explains limits pages files words StepLimitMet = (schema : List Table) × (tables : List Contents) × (queries : List Asked) × Asks files words schema tables queries
-Explains limits pages files words PageLimitMet = AsksOne files words (λ tables one. pages < page_bound one.specification (rows_in_tables tables))
-Explains limits pages files words ReadFailed = (names : Names) × AreNames words names
-Explains limits pages files words WriteFailed = (names : Names) × AreNames words names
-Explains limits pages files words NoMemory = (names : Names) × AreNames words names
-Explains limits pages files words status = (cause : Cause) × Settles limits files words cause × (status ≡ status_of_cause cause)
+abbrev pub Explains : (limits : Limits) → Files → List (List ℕ) → Status → Type 0
+Explains limits files words Done = (schema : List Table) × (tables : List Contents) × (queries : List Asked) × Asks files words schema tables queries
+Explains limits files words Raised = (schema : List Table) × (tables : List Contents) × (queries : List Asked) × Asks files words schema tables queries
+Explains limits files words StepLimitMet = (schema : List Table) × (tables : List Contents) × (queries : List Asked) × Asks files words schema tables queries
+Explains limits files words PageLimitMet = AsksOne files words (λ tables one. limits.pages < page_bound one.specification (rows_in_tables tables))
+Explains limits files words ReadFailed = (names : Names) × AreNames words names
+Explains limits files words WriteFailed = (names : Names) × AreNames words names
+Explains limits files words NoMemory = (names : Names) × AreNames words names
+Explains limits files words status = (cause : Cause) × Settles limits files words cause × (status ≡ status_of_cause cause)
