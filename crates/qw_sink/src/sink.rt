@@ -2,14 +2,15 @@
 
 ghost use Rattle.std.specs.Prelude.{◌≡◌, ◌≤◌, ◌<◌, ◌-◌, ◌^◌, ◌++◌, ◌∷◌, [], List, ℕ, length, map, IfOk, OnOk};
 ghost use Rattle.std.specs.String.{string_bytes};
-ghost use Rattle.qw_sink.specs.Sink.{AreRowsOf, date_text, line_of, printed, report_of_pages, report_of_rows, text_of_rows, with_digit, with_two};
+ghost use Rattle.qw_sink.specs.Sink.{date_text, line_of, printed, printed_row, kind_scale, report_of_exception, report_of_pages, report_of_rows, report_of_steps, sqlstate, text_of_rows, with_digit, with_two};
 ghost use Rattle.qw_sink.specs.Inner.Sink.{HasBegun, HasWritten};
 
 use csv::{Writer, WriterBuilder};
-use qw_types::{Kind, NoMemory, Row, Text, Val};
+use qw_types::number_text::push_decimal;
+use qw_types::{Code, Kind, NoMemory, Row, Text, Val};
 use std::alloc::{AllocError, Global};
 
-/// A column of a result. Rows are printed where all columns are numbers of scale 0.
+/// A column of a result.
 #[derive(Debug, Drop)]
 pub struct Head {
     /// The name in the header.
@@ -25,7 +26,6 @@ pub fn report_text(
     header: &[Head],
     rows: &[Row],
 ) -> Result<Vec<u8>, NoMemory>
-    requires { AreRowsOf header.now rows.now }
     ensures { IfOk result (λ text. text.items ≡ report_of_rows number header.now rows.now) }
 {
     let count = rows.len();
@@ -48,9 +48,35 @@ pub fn pages_text(
     Ok(text.into_bytes())
 }
 
+/// A query's part of the report where it raised an exception: `QUERY k SQLSTATE c`.
+pub fn exception_text(alloc: Global, number: u32, code: Code) -> Result<Vec<u8>, NoMemory>
+    ensures { IfOk result (λ text. text.items ≡ report_of_exception number code) }
+{
+    let state = sqlstate(code);
+    let text = format!(in alloc; "QUERY {number} SQLSTATE {state}\n")?;
+    Ok(text.into_bytes())
+}
+
+/// The SQLSTATE of an exception (ISO/IEC 9075:1992, 22.1).
+fn sqlstate(code: Code) -> &'static str
+    ensures { result.now ≡ sqlstate code }
+{
+    match code {
+        Code::DivZero => "22012",
+        Code::OutOfRange => "22003",
+    }
+}
+
+/// A query's part of the report where it ran as many instructions as its limit says: `QUERY k STEPS limit`.
+pub fn steps_text(alloc: Global, number: u32, limit: u64) -> Result<Vec<u8>, NoMemory>
+    ensures { IfOk result (λ text. text.items ≡ report_of_steps number limit) }
+{
+    let text = format!(in alloc; "QUERY {number} STEPS {limit}\n")?;
+    Ok(text.into_bytes())
+}
+
 /// The rows under their header, a line each.
 pub fn rows_text(alloc: Global, header: &[Head], rows: &[Row]) -> Result<Vec<u8>, NoMemory>
-    requires { AreRowsOf header.now rows.now }
     ensures { IfOk result (λ text. text.items ≡ text_of_rows header.now rows.now) }
 {
     with_rows(alloc, Vec::new(alloc), header, rows)
@@ -86,7 +112,7 @@ fn write_rows(
     write_names(writer, header)?;
     let mut digits = String::new(alloc);
     for row in rows {
-        write_values(writer, &mut digits, row.values())?;
+        write_values(writer, &mut digits, header, row.values())?;
     }
     Ok(())
 }
@@ -102,32 +128,45 @@ fn write_names(writer: &mut Writer<Vec<u8>>, header: &[Head]) -> Result<(), NoMe
     end_line(writer)
 }
 
-/// Writes a line of the values of a row. Each value's text stands in `digits` for a while, so that a row takes no memory.
+/// Writes a line of the values of a row, each under its head. Each value's text stands in `digits` for a while, so that a row
+/// takes no memory.
 fn write_values(
     writer: &mut Writer<Vec<u8>>,
     digits: &mut String,
+    header: &[Head],
     values: &[Val],
 ) -> Result<(), NoMemory>
     ensures { OnOk result ((text : List ℕ) → HasWritten writer.old text
-        → HasWritten writer.new (text ++ line_of (map printed values.now))) }
+        → HasWritten writer.new (text ++ line_of (printed_row header.now values.now))) }
 {
-    for value in values {
-        print(digits, value)?;
+    for (head, value) in header.iter().zip(values) {
+        print(digits, head.kind, value)?;
         write_field(writer, digits.as_bytes())?;
     }
     end_line(writer)
 }
 
-/// Puts the text of a value in the place of what was there.
-fn print(text: &mut String, value: &Val) -> Result<(), AllocError>
-    ensures { OnOk result (string_bytes text.new ≡ printed value.now) }
+/// Puts the text of a value of a kind in the place of what was there.
+fn print(text: &mut String, kind: Kind, value: &Val) -> Result<(), NoMemory>
+    ensures { OnOk result (string_bytes text.new ≡ printed kind value.now) }
 {
     text.clear();
     match value {
-        Val::Null => Ok(()),
-        Val::Num(number) => write!(text, "{number}"),
-        Val::Date(day) => print_date(text, day.unsigned_abs()),
-        Val::Text(octets) => text.push_str(octets.as_str()),
+        Val::Null => {}
+        Val::Num(number) => push_decimal(text, *number, scale_of(kind))?,
+        Val::Date(day) => print_date(text, day.unsigned_abs())?,
+        Val::Text(octets) => text.push_str(octets.as_str())?,
+    }
+    Ok(())
+}
+
+/// The digits after the point of a kind's numbers.
+fn scale_of(kind: Kind) -> u8
+    ensures { result ≡ kind_scale kind }
+{
+    match kind {
+        Kind::Number(scale) => scale,
+        Kind::Date | Kind::Text => 0,
     }
 }
 

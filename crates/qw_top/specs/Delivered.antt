@@ -1,12 +1,13 @@
 -- What a run leaves: the bench that it turned to the end, what it wrote of the report, and what it noted.
-use Rattle.std.specs.Prelude.{◌≡◌, ◌⊎◌, ℕ, zero, suc, ◌<◌, Bool, true, false, if◌then◌else◌, List, [], ◌∷◌, ◌++◌, length, Option, Some, None, IfSome, IsSome}
+use Rattle.std.specs.Prelude.{◌≡◌, ◌⊎◌, ℕ, zero, suc, ◌<◌, Bool, true, false, if◌then◌else◌, List, [], ◌∷◌, ◌++◌, length, Contains, Option, Some, None, IfSome, IsSome}
 use Rattle.std.specs.List.{AllZip, list_any}
 use Rattle.qw_types.specs.Contents.{Contents}
+use Rattle.qw_types.specs.declared.code.Code.{Code}
 use Rattle.qw_types.specs.declared.schema.Table.{Table}
 use Rattle.qw_types.specs.declared.value.Val.{Val}
 use Rattle.qw_meaning.specs.Outcome.{Rows, Raises, outcome}
 use Rattle.qw_map.specs.Turns.{Act, End, Done as EndedDone, Exception, Pages, Steps, Trap, Shared, turns}
-use Rattle.qw_emit.specs.Compiled.{IsCompiled}
+use Rattle.qw_emit.specs.Compiled.{IsCompiled, raised_for}
 use Rattle.qw_bench.specs.Bench.{AreRounds, IsStart, Program, end_in, rows_in_tables}
 use Rattle.qw_bench.specs.Standing.{Standing, AreTasksOf, rows_in}
 use Rattle.qw_bench.specs.declared.bench.Limits.{Limits}
@@ -41,7 +42,8 @@ abbrev pub ShowsEnd : List Contents → Asked → Standing → ℕ → Option En
 ShowsEnd tables asked b k None block = ⊥
 ShowsEnd tables asked b k (Some EndedDone) block = (bag : List (List Val))
     × (outcome asked.specification (rows_in_tables tables) ≡ Rows bag) × (rows_in b k ≡ Some bag) × (block ≡ report_of_rows (suc k) asked.header bag)
-ShowsEnd tables asked b k (Some (Exception code)) block = block ≡ report_of_exception (suc k) code
+ShowsEnd tables asked b k (Some (Exception code)) block = (raised : List Code) × (one : Code)
+    × (outcome asked.specification (rows_in_tables tables) ≡ Raises raised) × Contains raised one × (code ≡ raised_for one) × (block ≡ report_of_exception (suc k) one)
 ShowsEnd tables asked b k (Some (Pages held asked_for limit)) block = block ≡ report_of_pages (suc k) held asked_for limit
 ShowsEnd tables asked b k (Some (Steps limit)) block = block ≡ report_of_steps (suc k) limit
 ShowsEnd tables asked b k (Some Trap) block = ⊥

@@ -1,4 +1,5 @@
 -- What restates code for proofs. No public clause rests on it.
+pub mod Causes
 pub mod Inputs
 pub mod Noted
 pub mod Shelves
