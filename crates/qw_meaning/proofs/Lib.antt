@@ -4,4 +4,5 @@ mod FlowLemmas
 mod OutcomeLemmas
 mod PlainLemmas
 pub mod SelectLemmas
+pub mod SimpleLemmas
 pub mod TypingLemmas

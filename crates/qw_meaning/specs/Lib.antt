@@ -7,6 +7,7 @@ pub mod Inner
 pub mod Meaning
 pub mod Outcome
 pub mod Select
+pub mod Simple
 pub mod Statement
 pub mod Tree
 pub mod Typing

@@ -52,18 +52,3 @@ selected statement row = filter_map (λ column. slice_get row column) statement.
 -- the rows of the result
 abbrev pub results : Statement → List (List Val) → List (List Val)
 results statement rows = map (selected statement) (filter (λ row. is_true (condition statement row)) rows)
-
--- The exceptions that a statement may raise: numeric value out of range, 22003, and division by zero, 22012 (22.1). Today's
--- statements raise none: these, and `Raises` below, are the places where exceptions go.
-pub data Exception : Type 0 where
-  OutOfRange : Exception
-  DivisionByZero : Exception
-
--- what a statement comes to: the bag of its rows, or, where any was raised, its exceptions
-pub data Outcome : Type 0 where
-  Rows : List (List Val) → Outcome
-  Raises : List Exception → Outcome
-
--- a comparison never raises (8.2)
-abbrev pub outcome : Statement → List (List Val) → Outcome
-outcome statement rows = Rows (results statement rows)

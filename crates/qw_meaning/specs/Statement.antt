@@ -1,11 +1,12 @@
 -- A typed statement over one table (ISO/IEC 9075:1992, 7.9 "query specification").
 use Rattle.std.specs.Prelude.{ℕ, ℤ, ◌<◌, ◌≤◌, List, length}
 use Rattle.std.specs.List.{AllByRecursion}
-use Rattle.qw_types.specs.Limits.{most_columns}
+use Rattle.qw_types.specs.Limits.{most_columns, most_tables}
 use Rattle.qw_meaning.specs.declared.query.Comparison.{Comparison}
 
--- SELECT columns FROM the table WHERE tested comparison literal; columns are counted from 0
+-- SELECT columns FROM table WHERE tested comparison literal; tables of the schema and columns of the table are counted from 0
 pub record Statement : Type 0 where
+  pub table : ℕ
   pub columns : List ℕ
   pub tested : ℕ
   pub comparison : Comparison
@@ -17,6 +18,7 @@ most_items = 64
 
 -- the limits of a statement
 pub record IsStatement (statement : Statement) : Type 0 where
+  pub table : statement.table < most_tables
   pub some : 1 ≤ length statement.columns
   pub few : length statement.columns ≤ most_items
   pub selected : AllByRecursion (λ column. column < most_columns) statement.columns

@@ -6,8 +6,8 @@
 //!   [`value::Value`]: such a value, which borrows its text.
 //! - [`evaluate`]: values, truth and exceptions at a row, without memory; [`conjuncts::pass`]: whether a row passes a WHERE.
 //! - [`typing_laws`], [`evaluation_laws`], [`outcome_laws`]: what holds of every expression, clause and outcome, and worked cases.
-//! - [`query::Query`] and [`plain::plain_rows`]: the scan that modules are made of today, and its meaning (`specs/Meaning`), with
-//!   [`worked_laws`].
+//! - [`query::Query`] and [`plain::plain_rows`]: the scan that modules are made of today, and its rows (`specs/Meaning`), with
+//!   [`worked_laws`]; [`simple_laws`]: the query specification that it is, and that this gives the same rows.
 #![tactic(auto)]
 
 pub mod conjuncts;
@@ -20,6 +20,7 @@ pub mod outcome_laws;
 pub mod plain;
 pub mod query;
 pub mod select;
+pub mod simple_laws;
 pub mod typing_laws;
 pub mod value;
 pub mod worked_laws;

@@ -3,7 +3,7 @@
 
 ghost use Rattle.std.specs.Prelude.{◌≡◌, ◌++◌, [], ◌∷◌, IfOk, OnOk, slice_get};
 ghost use Rattle.std.specs.List.{filter_map};
-ghost use Rattle.qw_meaning.specs.Meaning.{Rows, compares, condition, is_true, outcome, results, selected};
+ghost use Rattle.qw_meaning.specs.Meaning.{compares, condition, is_true, results, selected};
 
 use crate::query::{Comparison, Query};
 use crate::value::{lent, owned};
@@ -16,7 +16,7 @@ use std::alloc::Global;
 ///
 /// [`NoMemory`] where the rows do not fit memory, and nowhere else.
 pub fn plain_rows(alloc: Global, query: &Query, rows: &[Row]) -> Result<Vec<Row>, NoMemory>
-    ensures { IfOk result (λ bag. outcome query.now rows.now ≡ Rows bag.items) }
+    ensures { IfOk result (λ bag. bag.items ≡ results query.now rows.now) }
 {
     let mut bag = Vec::new(alloc);
     for row in rows {

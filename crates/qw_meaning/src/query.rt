@@ -18,9 +18,10 @@ pub enum Comparison {
 }
 
 /// A typed statement over one table of INTEGER columns: of the rows in which a column compares with a literal,
-/// it selects the values of columns. Columns are counted from 0, in the order of their table.
+/// it selects the values of columns. Tables are counted from 0 in the schema, columns in the order of their table.
 #[derive(Debug, Drop)]
 pub struct Query {
+    table: usize,
     columns: Vec<usize>,
     tested: usize,
     comparison: Comparison,
@@ -33,6 +34,7 @@ impl Model for Query {
     ghost Value = { Statement };
 
     ghost view = { λ q. record {
+      table = q.table;
       columns = q.columns.items;
       tested = q.tested;
       comparison = q.comparison;
@@ -40,6 +42,7 @@ impl Model for Query {
     } };
 
     ghost invariant = { λ q. IsStatement (record {
+      table = q.table;
       columns = q.columns.items;
       tested = q.tested;
       comparison = q.comparison;
@@ -48,17 +51,32 @@ impl Model for Query {
 }
 
 impl Query {
-    /// The statement that selects these columns where `tested` compares with the literal, at scale 0.
-    pub fn new(columns: Vec<usize>, tested: usize, comparison: Comparison, literal: i64) -> Self
-        requires { IsStatement (record { columns = columns.items; tested = tested; comparison = comparison; literal = literal }) }
-        ensures { result ≡ record { columns = columns.items; tested = tested; comparison = comparison; literal = literal } }
+    /// The statement that selects these columns of the table where `tested` compares with the literal, at scale 0.
+    pub fn new(
+        table: usize,
+        columns: Vec<usize>,
+        tested: usize,
+        comparison: Comparison,
+        literal: i64,
+    ) -> Self
+        requires { IsStatement (record { table = table; columns = columns.items; tested = tested; comparison = comparison; literal = literal }) }
+        ensures { result ≡ record { table = table; columns = columns.items; tested = tested; comparison = comparison; literal = literal } }
     {
         Query {
+            table,
             columns,
             tested,
             comparison,
             literal,
         }
+    }
+
+    /// The table of FROM, below 32.
+    pub fn table(&self) -> usize
+        ensures table { result ≡ self.now.table }
+        ensures limits { IsStatement self.now }
+    {
+        self.table
     }
 
     /// The columns that are selected, in order, from 1 to 64 of them.
