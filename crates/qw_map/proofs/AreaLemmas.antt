@@ -1,13 +1,14 @@
 -- Areas of a memory: which are apart, and which a step leaves as they were.
-use Rattle.std.proofs.Common.{◌≡◌, ℕ, ◌+◌, ◌-◌, ◌*◌, ◌≤◌, nat_le, Bool, true, IsTrue, List, [], ◌∷◌, ◌++◌, length, inl, inr, Option, Some, refl, sym, ◌∙◌, ⊎_elim, arith, append_assoc}
+use Rattle.std.proofs.Common.{◌≡◌, ℕ, zero, suc, ◌+◌, ◌-◌, ◌*◌, ◌<◌, ◌≤◌, Bool, true, false, List, [], ◌∷◌, ◌++◌, length, inl, inr, Option, Some, refl, sym, ◌∙◌, arith, append_assoc}
+use Rattle.std.specs.Prelude.{slice_index}
 use Rattle.std.specs.List.{AllByRecursion}
-use Rattle.std.proofs.lemmas.Bool.{cases_Bool, leb-true, false≢true, and_parts}
 use Rattle.std.proofs.lemmas.List.{append-nil}
 use Rattle.qw_linear.specs.Memory.{page, with_number, grown_by}
 use Rattle.qw_linear.proofs.GrowthFacts.{length-grown_by, grown_by-below}
-use Rattle.qw_linear.proofs.MemoryFacts.{length-with_number, with_number-below, with_number-above}
+use Rattle.qw_linear.proofs.MemoryFacts.{length-with_number}
 use Rattle.qw_module.specs.Step.{Want, Next}
-use Rattle.qw_map.specs.Areas.{Area, World, SameIn, lies_in, lies_in_one, IsFine, world_after}
+use Rattle.qw_map.proofs.AccessLemmas.{lies-ahead, lies-in-none, lies-apart, with_number-outside}
+use Rattle.qw_map.specs.Areas.{Area, World, SameIn, lies_in_one, are_covered, IsFine, granted_area, world_after}
 use Rattle.qw_map.specs.Turns.{AreApart, AllApart, LiesWithin}
 use Rattle.qw_module.proofs.Outcomes.{Outcome, went, read, read_outside, put, put_outside, measured, was_granted, was_refused, raised, failed}
 
@@ -39,25 +40,21 @@ pub all-then : (a b c : List ℕ) (areas : List Area) → AllByRecursion (SameIn
 all-then a b c [] one two = tt
 all-then a b c (area ∷ areas) (one, ones) (two, twos) = (λ k within. two k within ∙ one k within, all-then a b c areas ones twos)
 
--- a number put in one area leaves those apart from it
-SameIn-apart : (m : List ℕ) (address width value : ℕ) (own area : Area) → IsTrue (lies_in address width own) → AreApart own area →
-    SameIn m (with_number m address width value) area
-SameIn-apart m address width value own area inside apart k within =
-    let parts = and_parts (nat_le own.start address) (nat_le (address + width) (own.start + own.size)) inside in
-    let low : own.start ≤ address = leb-true own.start address parts.0 in
-    let high : address + width ≤ own.start + own.size = leb-true (address + width) (own.start + own.size) parts.1 in
-    ⊎_elim
-    (λ above. with_number-above m address width value (area.start + k) (omega arith))
-    (λ below. with_number-below m address width value (area.start + k) (omega arith))
-    apart
+-- a number put in own areas leaves those apart from them
+first-apart : (own : List Area) (area : Area) (areas : List Area) → AllApart own (area ∷ areas) → AllByRecursion (λ a. AreApart a area) own
+first-apart own area areas = all-weaker (λ a. AllByRecursion (AreApart a) (area ∷ areas)) (λ a. AreApart a area) (λ a h. h.0) own
 
-stored-apart : (m : List ℕ) (address width value : ℕ) (own areas : List Area) → IsTrue (lies_in_one own address width) → AllApart own areas →
+rest-apart : (own : List Area) (area : Area) (areas : List Area) → AllApart own (area ∷ areas) → AllApart own areas
+rest-apart own area areas = all-weaker (λ a. AllByRecursion (AreApart a) (area ∷ areas)) (λ a. AllByRecursion (AreApart a) areas) (λ a h. h.1) own
+
+stored-apart : (m : List ℕ) (address width value : ℕ) (own areas : List Area) → are_covered own address width ≡ true → AllApart own areas →
     AllByRecursion (SameIn m (with_number m address width value)) areas
-stored-apart m address width value [] areas inside apart = absurd (false≢true inside)
-stored-apart m address width value (first ∷ own) areas inside (here, rest) = ⊎_elim
-    (λ is. all-weaker (AreApart first) (SameIn m (with_number m address width value)) (λ area apart. SameIn-apart m address width value first area is apart) areas here)
-    (λ is_not. stored-apart m address width value own areas (rw is_not at inside) rest)
-    (cases_Bool (lies_in address width first))
+stored-apart m address width value own [] covered apart = tt
+stored-apart m address width value own (area ∷ areas) covered apart = (
+  (λ k within. with_number-outside m own address width value covered (area.start + k)
+      (lies-apart own area (first-apart own area areas apart) (area.start + k) (omega arith) (omega arith))),
+  stored-apart m address width value own areas covered (rest-apart own area areas apart),
+)
 
 -- a growth leaves those that lie in the memory before it
 pub SameIn-grown_by : (pages : ℕ) (m : List ℕ) (area : Area) → LiesWithin (length m) area → SameIn m (grown_by pages m) area
@@ -77,6 +74,20 @@ outcome-kept w _ _ _ _ (was_granted g m pages make is room) fine areas apart ins
 outcome-kept w _ _ _ _ (was_refused g m pages make is) fine areas apart inside = all-same m areas
 outcome-kept w _ _ _ _ (raised g m code) fine areas apart inside = all-same m areas
 outcome-kept w _ _ _ _ (failed g m why) fine areas apart inside = all-same m areas
+
+-- and so is an octet of the memory that lies in no own area
+pub outcome-octet : (w : World) (g : ℕ → Bool) (m : List ℕ) (want : Want) (t : Next) → Outcome g m want t → IsFine w t.event →
+    (address : ℕ) → address < length m → lies_in_one w.own address ≡ false → slice_index t.memory address ≡ slice_index m address
+outcome-octet w _ _ _ _ (went g m s) fine address within out = refl
+outcome-octet w _ _ _ _ (read g m at width make room) fine address within out = refl
+outcome-octet w _ _ _ _ (read_outside g m at width make outside) fine address within out = refl
+outcome-octet w _ _ _ _ (put g m at width value s room) fine address within out = with_number-outside m w.own at width value fine address out
+outcome-octet w _ _ _ _ (put_outside g m at width value s outside) fine address within out = refl
+outcome-octet w _ _ _ _ (measured g m make) fine address within out = refl
+outcome-octet w _ _ _ _ (was_granted g m pages make is room) fine address within out = grown_by-below pages m address within
+outcome-octet w _ _ _ _ (was_refused g m pages make is) fine address within out = refl
+outcome-octet w _ _ _ _ (raised g m code) fine address within out = refl
+outcome-octet w _ _ _ _ (failed g m why) fine address within out = refl
 
 -- ---- areas that a growth adds
 -- an area lies behind a memory of so many octets, in one of more
@@ -128,6 +139,10 @@ Gains-nothing octets more w refused same = record {
   asks_is = omega arith;
 }
 
+granted-behind : (octets pages more : ℕ) → octets + pages * page ≤ more → AllByRecursion (LiesBehind octets more) (granted_area octets pages)
+granted-behind octets zero more within = tt
+granted-behind octets (suc pages) more within = ((omega arith, omega (arith, within)), tt)
+
 pub outcome-gains : (w : World) (g : ℕ → Bool) (m : List ℕ) (want : Want) (t : Next) → Outcome g m want t →
     ((asked : ℕ) → g asked ≡ true → w.held + asked ≤ w.limit) → Gains (length m) (length t.memory) w (world_after w m t.event)
 outcome-gains w _ _ _ _ (went g m s) within = Gains-nothing (length m) (length m) w w.refused refl
@@ -144,9 +159,9 @@ outcome-gains w _ _ _ _ (was_granted g m pages make is room) within =
       longer = omega arith;
       mapped_is = refl;
       limit_is = refl;
-      gained = record { start = length m; size = pages * page } ∷ [];
+      gained = granted_area (length m) pages;
       own_is = refl;
-      behind = ((omega arith, omega arith), tt);
+      behind = granted-behind (length m) pages (length (grown_by pages m)) (omega (arith, longer));
       asks_is = omega arith;
     }
 outcome-gains w _ _ _ _ (was_refused g m pages make is) within = Gains-nothing (length m) (length m) w (Some pages) refl
@@ -162,3 +177,11 @@ inside-gains octets more w after gains inside =
     let added = all-weaker (LiesBehind octets more) (LiesWithin more) (λ area h. h.1) gains.gained gains.behind in
     rw (gains.mapped_is, gains.own_is, ← append_assoc w.mapped w.own gains.gained)
     (all-append (LiesWithin more) (w.mapped ++ w.own) gains.gained before added)
+
+-- an octet of the memory that lay in no own area lies in none of those that were added
+pub octet-gains : (octets more : ℕ) (w after : World) → Gains octets more w after → (address : ℕ) → address < octets → lies_in_one w.own address ≡ false →
+    lies_in_one after.own address ≡ false
+octet-gains octets more w after gains address within out =
+    let added : lies_in_one gains.gained address ≡ false = lies-ahead gains.gained octets
+    (all-weaker (LiesBehind octets more) (λ (area : Area). octets ≤ area.start) (λ area h. h.0) gains.gained gains.behind) address within in
+    rw gains.own_is (lies-in-none w.own gains.gained address out added)

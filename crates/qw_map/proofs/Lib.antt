@@ -1,6 +1,7 @@
 pub mod AccessLemmas
 pub mod AreaLemmas
 pub mod Chains
+pub mod ColumnLemmas
 mod NoTrap
 pub mod OpenRuns
 pub mod ResultLemmas

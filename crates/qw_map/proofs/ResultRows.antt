@@ -5,63 +5,53 @@ use Rattle.std.specs.Prelude.{◌==◌, if◌then◌else◌}
 use Rattle.std.proofs.lemmas.Bool.{cases_Bool, false≢true}
 use Rattle.std.proofs.lemmas.List.{append-nil}
 use Rattle.std.proofs.lemmas.Option.{same_Some, none-some}
-use Rattle.qw_types.specs.declared.value.Ty.{Ty}
+use Rattle.qw_types.specs.declared.kind.Kind.{Kind}
 use Rattle.qw_types.specs.declared.value.Val.{Val}
-use Rattle.qw_map.specs.Areas.{Area, lies_in_one}
+use Rattle.qw_map.specs.Areas.{Area, World, are_covered}
 use Rattle.qw_linear.specs.Memory.{number_at}
 use Rattle.qw_map.specs.Turns.{LiesWithin}
 use Rattle.qw_map.proofs.AreaLemmas.{all-weaker}
-use Rattle.qw_map.specs.Layout.{before, cell_at, cells_at, row_at, row_size, rows_at, rows_from}
-use Rattle.qw_map.proofs.AccessLemmas as emitted
+use Rattle.qw_map.specs.Layout.{Layout, before, cell_at, cells_at, descriptor_size, row_at, row_size, rows_at, rows_from}
+use Rattle.qw_map.proofs.AccessLemmas.{covered-within}
+use Rattle.qw_map.proofs.ResultLemmas.{AreParts, parts_of}
 
--- a value and others that are both there
-record AreParts {T : Type 0} (first : Option T) (rest : Option (List T)) (all : List T) : Type 0 where
-  one : T
-  others : List T
-  first_is : first ≡ Some one
-  rest_is : rest ≡ Some others
-  all_is : all ≡ one ∷ others
-
-parts_of : {T : Type 0} (first : Option T) (rest : Option (List T)) (all : List T) → before first rest ≡ Some all → AreParts first rest all
-parts_of None rest all h = absurd (none-some all h)
-parts_of (Some x) None all h = absurd (none-some all h)
-parts_of (Some x) (Some xs) all h = record { one = x; others = xs; first_is = refl; rest_is = refl; all_is = cc }
-
--- what lies in one of the areas lies in the memory that they lie in
-pub lies-within : (own : List Area) (octets at width : ℕ) → AllByRecursion (LiesWithin octets) own → IsTrue (lies_in_one own at width) → at + width ≤ octets
-lies-within own octets at width inside lies =
-    (emitted.lies-within own 0 octets (all-weaker (LiesWithin octets) (λ area. (0 ≤ area.start) × (area.start + area.size ≤ octets)) (λ area h. (omega arith, h)) own inside) at width lies).1
+-- an access of an octet or more that is covered by areas lies in the memory that they lie in
+pub covered-inside : (own : List Area) (octets at width : ℕ) → AllByRecursion (LiesWithin octets) own → 1 ≤ width → IsTrue (are_covered own at width) →
+    at + width ≤ octets
+covered-inside own octets at width inside some covered =
+    (covered-within own 0 octets (all-weaker (LiesWithin octets) (λ area. (0 ≤ area.start) × (area.start + area.size ≤ octets)) (λ area h. (omega arith, h)) own inside)
+    at width some covered).1
 
 -- ---- the cells of a row
 -- after k cells: those that are read, and those that are left
-pub record AreCells (memory : List ℕ) (types : List Ty) (cells k : ℕ) (values : List Val) : Type 0 where
+pub record AreCells (texts : List Area) (memory : List ℕ) (kinds : List Kind) (cells k : ℕ) (values : List Val) : Type 0 where
   pub rest : List Val
-  pub left : cells_at memory (cells + 16 * k) (drop k types) ≡ Some rest
-  pub all : cells_at memory cells types ≡ Some (values ++ rest)
+  pub left : cells_at texts memory (cells + 16 * k) (drop k kinds) ≡ Some rest
+  pub all : cells_at texts memory cells kinds ≡ Some (values ++ rest)
 
-pub cells-none : (memory : List ℕ) (types : List Ty) (cells : ℕ) → IsSome (cells_at memory cells types) → AreCells memory types cells 0 []
-cells-none memory types cells there = begin (cells_at memory cells types) refl there
+pub cells-none : (texts : List Area) (memory : List ℕ) (kinds : List Kind) (cells : ℕ) → IsSome (cells_at texts memory cells kinds) → AreCells texts memory kinds cells 0 []
+cells-none texts memory kinds cells there = begin (cells_at texts memory cells kinds) refl there
   where
-    begin : (o : Option (List Val)) → cells_at memory cells types ≡ o → IsSome o → AreCells memory types cells 0 []
+    begin : (o : Option (List Val)) → cells_at texts memory cells kinds ≡ o → IsSome o → AreCells texts memory kinds cells 0 []
     begin None is h = absurd (false≢true h)
     begin (Some values) is h = let first : cells + 16 * 0 ≡ cells = omega arith in record { rest = values; left = rw first is; all = is }
 
 -- the next cell, and those after it
-next-cell : (memory : List ℕ) (types : List Ty) (cells k : ℕ) (values : List Val) (d : Ty) → k < length types → (read : AreCells memory types cells k values) →
-    AreParts (cell_at memory (cells + 16 * k) (get_or types k d)) (cells_at memory (cells + 16 * (k + 1)) (drop (k + 1) types)) read.rest
-next-cell memory types cells k values d within read =
+next-cell : (texts : List Area) (memory : List ℕ) (kinds : List Kind) (cells k : ℕ) (values : List Val) (d : Kind) → k < length kinds → (read : AreCells texts memory kinds cells k values) →
+    AreParts (cell_at texts memory (cells + 16 * k) (get_or kinds k d)) (cells_at texts memory (cells + 16 * (k + 1)) (drop (k + 1) kinds)) read.rest
+next-cell texts memory kinds cells k values d within read =
     let behind : cells + 16 * k + 16 ≡ cells + 16 * (k + 1) = omega arith in
     let next : suc k ≡ k + 1 = omega arith in
-    let cut : drop k types ≡ get_or types k d ∷ drop (k + 1) types = rw next at (drop-cons types k d within) in
-    let all : before (cell_at memory (cells + 16 * k) (get_or types k d)) (cells_at memory (cells + 16 * k + 16) (drop (k + 1) types)) ≡ Some read.rest =
-    subst (λ (tys : List Ty). cells_at memory (cells + 16 * k) tys ≡ Some read.rest) cut read.left in
-    parts_of (cell_at memory (cells + 16 * k) (get_or types k d)) (cells_at memory (cells + 16 * (k + 1)) (drop (k + 1) types)) read.rest
-    (subst (λ (at : ℕ). before (cell_at memory (cells + 16 * k) (get_or types k d)) (cells_at memory at (drop (k + 1) types)) ≡ Some read.rest) behind all)
+    let cut : drop k kinds ≡ get_or kinds k d ∷ drop (k + 1) kinds = rw next at (drop-cons kinds k d within) in
+    let all : before (cell_at texts memory (cells + 16 * k) (get_or kinds k d)) (cells_at texts memory (cells + 16 * k + 16) (drop (k + 1) kinds)) ≡ Some read.rest =
+    subst (λ (ks : List Kind). cells_at texts memory (cells + 16 * k) ks ≡ Some read.rest) cut read.left in
+    parts_of (cell_at texts memory (cells + 16 * k) (get_or kinds k d)) (cells_at texts memory (cells + 16 * (k + 1)) (drop (k + 1) kinds)) read.rest
+    (subst (λ (at : ℕ). before (cell_at texts memory (cells + 16 * k) (get_or kinds k d)) (cells_at texts memory at (drop (k + 1) kinds)) ≡ Some read.rest) behind all)
 
-pub cells-more : (memory : List ℕ) (types : List Ty) (cells k : ℕ) (values : List Val) (value : Val) (d : Ty) → k < length types →
-    cell_at memory (cells + 16 * k) (get_or types k d) ≡ Some value → AreCells memory types cells k values → AreCells memory types cells (k + 1) (values ++ value ∷ [])
-cells-more memory types cells k values value d within is read =
-    let next = next-cell memory types cells k values d within read in
+pub cells-more : (texts : List Area) (memory : List ℕ) (kinds : List Kind) (cells k : ℕ) (values : List Val) (value : Val) (d : Kind) → k < length kinds →
+    cell_at texts memory (cells + 16 * k) (get_or kinds k d) ≡ Some value → AreCells texts memory kinds cells k values → AreCells texts memory kinds cells (k + 1) (values ++ value ∷ [])
+cells-more texts memory kinds cells k values value d within is read =
+    let next = next-cell texts memory kinds cells k values d within read in
     let same : next.one ≡ value = same_Some next.one value (sym next.first_is ∙ is) in
     let rest : read.rest ≡ value ∷ next.others = next.all_is ∙ ap (λ (v : Val). v ∷ next.others) same in
     record {
@@ -72,57 +62,57 @@ cells-more memory types cells k values value d within is read =
 
 -- ---- rows
 -- a row that is there lies in an own area, and has its cells
-pub record IsRow (types : List Ty) (own : List Area) (memory : List ℕ) (at : ℕ) (row : List Val) : Type 0 where
-  pub lies : IsTrue (lies_in_one own at (row_size (length types)))
-  pub cells : cells_at memory (at + 8) types ≡ Some row
+pub record IsRow (kinds : List Kind) (texts own : List Area) (memory : List ℕ) (at : ℕ) (row : List Val) : Type 0 where
+  pub covered : IsTrue (are_covered own at (row_size (length kinds)))
+  pub cells : cells_at texts memory (at + 8) kinds ≡ Some row
 
-pub row-there : (types : List Ty) (own : List Area) (memory : List ℕ) (at : ℕ) (row : List Val) → row_at types own memory at ≡ Some row → IsRow types own memory at row
-row-there types own memory at row there = ⊎_elim
-    (λ lies. record { lies = lies; cells = rw lies at there })
-    (λ lies_not. absurd (none-some row (rw lies_not at there)))
-    (cases_Bool (lies_in_one own at (row_size (length types))))
+pub row-there : (kinds : List Kind) (texts own : List Area) (memory : List ℕ) (at : ℕ) (row : List Val) → row_at kinds texts own memory at ≡ Some row → IsRow kinds texts own memory at row
+row-there kinds texts own memory at row there = ⊎_elim
+    (λ covered. record { covered = covered; cells = rw covered at there })
+    (λ outside. absurd (none-some row (rw outside at there)))
+    (cases_Bool (are_covered own at (row_size (length kinds))))
 
 -- after k of `count` rows: those that are read, and those that are left at an address
-pub record IsRead (types : List Ty) (own : List Area) (memory : List ℕ) (count first k at : ℕ) (rows : List (List Val)) : Type 0 where
+pub record IsRead (kinds : List Kind) (texts own : List Area) (memory : List ℕ) (count first k at : ℕ) (rows : List (List Val)) : Type 0 where
   pub rest : List (List Val)
-  pub left : rows_from types own memory (count - k) at ≡ Some rest
-  pub all : rows_from types own memory count first ≡ Some (rows ++ rest)
+  pub left : rows_from kinds texts own memory (count - k) at ≡ Some rest
+  pub all : rows_from kinds texts own memory count first ≡ Some (rows ++ rest)
 
-pub read-none : (types : List Ty) (own : List Area) (memory : List ℕ) (count first : ℕ) → IsSome (rows_from types own memory count first) →
-    IsRead types own memory count first 0 first []
-read-none types own memory count first there = begin (rows_from types own memory count first) refl there
+pub read-none : (kinds : List Kind) (texts own : List Area) (memory : List ℕ) (count first : ℕ) → IsSome (rows_from kinds texts own memory count first) →
+    IsRead kinds texts own memory count first 0 first []
+read-none kinds texts own memory count first there = begin (rows_from kinds texts own memory count first) refl there
   where
-    begin : (o : Option (List (List Val))) → rows_from types own memory count first ≡ o → IsSome o → IsRead types own memory count first 0 first []
+    begin : (o : Option (List (List Val))) → rows_from kinds texts own memory count first ≡ o → IsSome o → IsRead kinds texts own memory count first 0 first []
     begin None is h = absurd (false≢true h)
     begin (Some rows) is h = let whole : count - 0 ≡ count = omega arith in record { rest = rows; left = rw whole is; all = is }
 
 -- the next row, and the rows that its link leads to
-next-row : (types : List Ty) (own : List Area) (memory : List ℕ) (count first k at : ℕ) (rows : List (List Val)) → k < count →
-    (read : IsRead types own memory count first k at rows) →
-    AreParts (row_at types own memory at) (rows_from types own memory (count - (k + 1)) (number_at memory at 4)) read.rest
-next-row types own memory count first k at rows within read =
+next-row : (kinds : List Kind) (texts own : List Area) (memory : List ℕ) (count first k at : ℕ) (rows : List (List Val)) → k < count →
+    (read : IsRead kinds texts own memory count first k at rows) →
+    AreParts (row_at kinds texts own memory at) (rows_from kinds texts own memory (count - (k + 1)) (number_at memory at 4)) read.rest
+next-row kinds texts own memory count first k at rows within read =
     let one : count - k ≡ suc (count - (k + 1)) = omega arith in
-    parts_of (row_at types own memory at) (rows_from types own memory (count - (k + 1)) (number_at memory at 4)) read.rest
-    (subst (λ (n : ℕ). rows_from types own memory n at ≡ Some read.rest) one read.left)
+    parts_of (row_at kinds texts own memory at) (rows_from kinds texts own memory (count - (k + 1)) (number_at memory at 4)) read.rest
+    (subst (λ (n : ℕ). rows_from kinds texts own memory n at ≡ Some read.rest) one read.left)
 
-pub next-inside : (types : List Ty) (own : List Area) (memory : List ℕ) (count first k at : ℕ) (rows : List (List Val)) →
-    AllByRecursion (LiesWithin (length memory)) own → k < count → IsRead types own memory count first k at rows → at + row_size (length types) ≤ length memory
-next-inside types own memory count first k at rows inside within read =
-    let next = next-row types own memory count first k at rows within read in
-    lies-within own (length memory) at (row_size (length types)) inside (row-there types own memory at next.one next.first_is).lies
+pub next-inside : (kinds : List Kind) (texts own : List Area) (memory : List ℕ) (count first k at : ℕ) (rows : List (List Val)) →
+    AllByRecursion (LiesWithin (length memory)) own → k < count → IsRead kinds texts own memory count first k at rows → at + row_size (length kinds) ≤ length memory
+next-inside kinds texts own memory count first k at rows inside within read =
+    let next = next-row kinds texts own memory count first k at rows within read in
+    covered-inside own (length memory) at (row_size (length kinds)) inside (omega arith) (row-there kinds texts own memory at next.one next.first_is).covered
 
-pub next-there : (types : List Ty) (own : List Area) (memory : List ℕ) (count first k at : ℕ) (rows : List (List Val)) → k < count →
-    IsRead types own memory count first k at rows → IsSome (cells_at memory (at + 8) types)
-next-there types own memory count first k at rows within read =
-    let next = next-row types own memory count first k at rows within read in
-    rw (row-there types own memory at next.one next.first_is).cells refl
+pub next-there : (kinds : List Kind) (texts own : List Area) (memory : List ℕ) (count first k at : ℕ) (rows : List (List Val)) → k < count →
+    IsRead kinds texts own memory count first k at rows → IsSome (cells_at texts memory (at + 8) kinds)
+next-there kinds texts own memory count first k at rows within read =
+    let next = next-row kinds texts own memory count first k at rows within read in
+    rw (row-there kinds texts own memory at next.one next.first_is).cells refl
 
-pub read-more : (types : List Ty) (own : List Area) (memory : List ℕ) (count first k at next : ℕ) (rows : List (List Val)) (row : List Val) → k < count →
-    cells_at memory (at + 8) types ≡ Some row → next ≡ number_at memory at 4 →
-    IsRead types own memory count first k at rows → IsRead types own memory count first (k + 1) next (rows ++ row ∷ [])
-read-more types own memory count first k at next rows row within is link read =
-    let parts = next-row types own memory count first k at rows within read in
-    let same : parts.one ≡ row = same_Some parts.one row (sym (row-there types own memory at parts.one parts.first_is).cells ∙ is) in
+pub read-more : (kinds : List Kind) (texts own : List Area) (memory : List ℕ) (count first k at next : ℕ) (rows : List (List Val)) (row : List Val) → k < count →
+    cells_at texts memory (at + 8) kinds ≡ Some row → next ≡ number_at memory at 4 →
+    IsRead kinds texts own memory count first k at rows → IsRead kinds texts own memory count first (k + 1) next (rows ++ row ∷ [])
+read-more kinds texts own memory count first k at next rows row within is link read =
+    let parts = next-row kinds texts own memory count first k at rows within read in
+    let same : parts.one ≡ row = same_Some parts.one row (sym (row-there kinds texts own memory at parts.one parts.first_is).cells ∙ is) in
     let rest : read.rest ≡ row ∷ parts.others = parts.all_is ∙ ap (λ (r : List Val). r ∷ parts.others) same in
     record {
       rest = parts.others;
@@ -131,11 +121,11 @@ read-more types own memory count first k at next rows row within is link read =
     }
 
 -- all rows are read
-pub read-all : (types : List Ty) (own : List Area) (memory : List ℕ) (count first k at : ℕ) (rows : List (List Val)) → count ≤ k →
-    IsRead types own memory count first k at rows → rows_from types own memory count first ≡ Some rows
-read-all types own memory count first k at rows over read =
+pub read-all : (kinds : List Kind) (texts own : List Area) (memory : List ℕ) (count first k at : ℕ) (rows : List (List Val)) → count ≤ k →
+    IsRead kinds texts own memory count first k at rows → rows_from kinds texts own memory count first ≡ Some rows
+read-all kinds texts own memory count first k at rows over read =
     let none : count - k ≡ 0 = omega arith in
-    let empty : read.rest ≡ [] = last-link at read.rest (subst (λ (n : ℕ). rows_from types own memory n at ≡ Some read.rest) none read.left) in
+    let empty : read.rest ≡ [] = last-link at read.rest (subst (λ (n : ℕ). rows_from kinds texts own memory n at ≡ Some read.rest) none read.left) in
     read.all ∙ ap (λ (rs : List (List Val)). Some (rows ++ rs)) empty ∙ ap Some (append-nil rows)
   where
     last-link : (at : ℕ) (rest : List (List Val)) → (if at == 0 then Some [] else None) ≡ Some rest → rest ≡ []
@@ -144,15 +134,16 @@ read-all types own memory count first k at rows over read =
         (λ not. absurd (none-some rest (rw not at h)))
         (cases_Bool (at == 0))
 
--- the head of a descriptor with result rows
-pub head-inside : (types : List Ty) (own : List Area) (memory : List ℕ) (descriptor : ℕ) → IsSome (rows_at types own memory descriptor) →
-    IsTrue (lies_in_one own descriptor 24)
-head-inside types own memory descriptor there = ⊎_elim
-    (λ inside. inside)
+-- the descriptor of result rows lies in own areas
+pub descriptor-covered : (layout : Layout) (w : World) (memory : List ℕ) (descriptor : ℕ) → IsSome (rows_at layout w memory descriptor) →
+    IsTrue (are_covered w.own descriptor (descriptor_size layout))
+descriptor-covered layout w memory descriptor there = ⊎_elim
+    (λ covered. covered)
     (λ outside. absurd (false≢true (rw outside at there)))
-    (cases_Bool (lies_in_one own descriptor 24))
+    (cases_Bool (are_covered w.own descriptor (descriptor_size layout)))
 
 -- it lies in the memory that the own areas lie in
-pub head-within : (types : List Ty) (own : List Area) (memory : List ℕ) (descriptor : ℕ) → AllByRecursion (LiesWithin (length memory)) own →
-    IsSome (rows_at types own memory descriptor) → descriptor + 24 ≤ length memory
-head-within types own memory descriptor inside there = lies-within own (length memory) descriptor 24 inside (head-inside types own memory descriptor there)
+pub descriptor-within : (layout : Layout) (w : World) (memory : List ℕ) (descriptor : ℕ) → AllByRecursion (LiesWithin (length memory)) w.own →
+    IsSome (rows_at layout w memory descriptor) → descriptor + descriptor_size layout ≤ length memory
+descriptor-within layout w memory descriptor inside there =
+    covered-inside w.own (length memory) descriptor (descriptor_size layout) inside (omega arith) (descriptor-covered layout w memory descriptor there)

@@ -1,14 +1,13 @@
 -- Rules for code over any memory of which M holds, where M speaks only of what others keep.
-use Rattle.std.proofs.Common.{◌≡◌, ℕ, zero, suc, ◌+◌, ◌-◌, ◌*◌, ◌/◌, ◌<◌, ◌≤◌, true, nat_le, List, [], ◌∷◌, ◌++◌, length, get_or, Option, Some, None, refl, sym, subst, ⊎_elim, inr, arith}
+use Rattle.std.proofs.Common.{◌≡◌, ℕ, zero, suc, ◌+◌, ◌-◌, ◌*◌, ◌/◌, ◌<◌, ◌≤◌, true, nat_le, List, ◌++◌, length, Option, Some, None, refl, sym, subst, ⊎_elim, inr, arith}
 use Rattle.std.proofs.lemmas.Bool.{le-leb, leb-true, leb-false, and_from, and_left, cases_Bool}
 use Rattle.std.proofs.lemmas.Option.{none-some, same_Some}
 use Rattle.qw_module.specs.Execution.{Config, State, Running, Returned, Raised, Trapped, Raises, refusal}
 use Rattle.qw_linear.specs.Memory.{page, most_pages, number_at, with_number, grown_by, pages_of}
 use Rattle.qw_module.specs.Step.{Want, Stuck, Goes, Asks, Puts, Measures, AsksPages, Signals, Fails, wants}
-use Rattle.qw_map.specs.Areas.{Area, World, Others, SameIn, lies_in_one, IsFine, GoesOn, grants}
+use Rattle.qw_map.specs.Areas.{World, Others, are_covered, IsFine, GoesOn, granted_area, grants}
 use Rattle.qw_map.specs.Runs.{Moment}
 use Rattle.qw_map.specs.Inner.Steps.{Within}
-use Rattle.qw_linear.proofs.MemoryFacts.{number_at-moved}
 use Rattle.qw_map.proofs.OpenRuns.{Within-now, Within-more, room-granted}
 
 -- k more than n
@@ -26,7 +25,7 @@ pub record IsKept (w : World) (M : List ℕ → Type 0) : Type 0 where
 
 -- what the instance has once a growth is granted over a memory of so many octets, and once it is refused
 abbrev pub with_granted : World → (start asked : ℕ) → World
-with_granted w start asked = record w { own = w.own ++ record { start = start; size = asked * page } ∷ []; held = w.held + asked }
+with_granted w start asked = record w { own = w.own ++ granted_area start asked; held = w.held + asked }
 
 abbrev pub with_refused : World → ℕ → World
 with_refused w asked = record w { refused = Some asked }
@@ -99,7 +98,7 @@ module _ (pages : ℕ) (Q : Moment → Type 0) (w : World) where
 
   -- a load from an address, where M says what is there
   pub load : {M : List ℕ → Type 0} {n : ℕ} {c : Config} {address width : ℕ} {make : ℕ → State} → IsKept w M → (target value : ℕ) →
-      wants c ≡ Asks address width make → address ≡ target → lies_in_one (w.mapped ++ w.own) target width ≡ true →
+      wants c ≡ Asks address width make → address ≡ target → are_covered (w.mapped ++ w.own) target width ≡ true →
       ((memory : List ℕ) → M memory → (target + width ≤ length memory) × (number_at memory target width ≡ value)) →
       Reaches pages Q w M n (make value) → Reaches pages Q w M (suc n) (Running c)
   load {M} {n} {c} {address} {width} {make} kept target value wanted is inside there reaches = record {
@@ -111,7 +110,7 @@ module _ (pages : ℕ) (Q : Moment → Type 0) (w : World) where
 
   -- a store to an address, after which M' holds
   pub store : {M : List ℕ → Type 0} {n : ℕ} {c : Config} {address width value : ℕ} {s : State} → IsKept w M → (M' : List ℕ → Type 0) (target : ℕ) →
-      wants c ≡ Puts address width value s → address ≡ target → lies_in_one w.own target width ≡ true →
+      wants c ≡ Puts address width value s → address ≡ target → are_covered w.own target width ≡ true →
       ((memory : List ℕ) → M memory → (target + width ≤ length memory) × M' (with_number memory target width value)) →
       Reaches pages Q w M' n s → Reaches pages Q w M (suc n) (Running c)
   store {M} {n} {c} {address} {width} {value} {s} kept M' target wanted is inside there reaches = record {
@@ -123,13 +122,13 @@ module _ (pages : ℕ) (Q : Moment → Type 0) (w : World) where
   -- A request for pages, after which the run goes on. Where it is granted, the new area starts at the memory's end, of which only
   -- S is known, and M' holds of the grown memory; where it is refused, M still holds.
   pub grow : {M : List ℕ → Type 0} {n : ℕ} {c : Config} {asked : ℕ} {make : ℕ → State} → IsKept w M → (S : ℕ → Type 0) (M' : ℕ → List ℕ → Type 0) →
-      wants c ≡ AsksPages asked make → 1 ≤ asked → w.held + asked ≤ pages → ((found : ℕ) → GoesOn (make found)) →
+      wants c ≡ AsksPages asked make → w.held + asked ≤ pages → ((found : ℕ) → GoesOn (make found)) →
       ((memory : List ℕ) → M memory → length memory + asked * page ≤ most_pages * page →
       S (length memory) × M' (length memory) (grown_by asked memory)) →
       (w.held + asked ≤ w.limit → (start : ℕ) → S start → Reaches pages Q (with_granted w start asked) (M' start) n (make (start / page))) →
       (w.limit < w.held + asked → Reaches pages Q (with_refused w asked) M n (make refusal)) →
       Reaches pages Q w M (suc n) (Running c)
-  grow {M} {n} {c} {asked} {make} kept S M' wanted some within on there granted refused = record {
+  grow {M} {n} {c} {asked} {make} kept S M' wanted within on there granted refused = record {
     steps = λ memory h. inr (λ before others.
         let now = kept.keeps memory before others h in
         ⊎_elim
@@ -139,11 +138,11 @@ module _ (pages : ℕ) (Q : Moment → Type 0) (w : World) where
         let both = and_from (grants w asked) (nat_le (pages_of before + asked) most_pages) is room in
         let space : length before + (w.limit - w.held) * page ≤ most_pages * page = others.room in
         let grown = there before now (omega arith) in
-        rw (wanted, both) ((some, within, on (pages_of before)), (granted fits (length before) grown.0).steps (grown_by asked before) grown.1))
+        rw (wanted, both) ((within, on (pages_of before)), (granted fits (length before) grown.0).steps (grown_by asked before) grown.1))
         (λ is_not.
         let past : w.limit < w.held + asked = leb-false (w.held + asked) w.limit is_not in
         rw (wanted, and_left (grants w asked) (nat_le (pages_of before + asked) most_pages) is_not)
-        ((some, within, on refusal), (refused past).steps before now))
+        ((within, on refusal), (refused past).steps before now))
         (cases_Bool (grants w asked)));
   }
 
@@ -153,10 +152,3 @@ module _ (pages : ℕ) (Q : Moment → Type 0) (w : World) where
   raise {M} {n} {c} {code} kept wanted fine reaches = record {
     steps = λ memory h. inr (λ before others. rw wanted (fine, reaches.steps before (kept.keeps memory before others h)));
   }
-
--- a number in an area is kept where the area is
-pub number_at-kept : (before after : List ℕ) (area : Area) (at width : ℕ) → SameIn before after area →
-    area.start ≤ at → at + width ≤ area.start + area.size → number_at after at width ≡ number_at before at width
-number_at-kept before after area at width same low high = number_at-moved after before at at width
-    (λ k below. let same_address : area.start + (at + k - area.start) ≡ at + k = omega arith in
-    subst (λ (i : ℕ). get_or after i 0 ≡ get_or before i 0) same_address (same (at + k - area.start) (omega arith)))

@@ -1,15 +1,16 @@
 -- Instances that share a memory: a step of one is what others may do to the rest, so turns are open runs.
-use Rattle.std.proofs.Common.{◌≡◌, ◌≢◌, ℕ, zero, suc, ◌+◌, ◌-◌, ◌*◌, ◌<◌, ◌≤◌, List, [], ◌∷◌, ◌++◌, length, Some, slice_get, slice_set, ◌⊎◌, inl, inr, refl, sym, ap, ◌∙◌, subst, ⊎_elim, arith, length-set}
+use Rattle.std.proofs.Common.{◌≡◌, ◌≢◌, ℕ, zero, suc, ◌+◌, ◌-◌, ◌*◌, ◌<◌, ◌≤◌, false, List, [], ◌∷◌, ◌++◌, length, Some, slice_get, slice_set, ◌⊎◌, inl, inr, refl, sym, ap, ◌∙◌, subst, ⊎_elim, arith, length-set}
+use Rattle.std.specs.Prelude.{slice_index}
 use Rattle.std.specs.List.{AllByRecursion}
 use Rattle.std.proofs.lemmas.Bool.{leb-true}
 use Rattle.std.proofs.lemmas.Option.{same_Some, none-some, slice_get_within}
 use Rattle.qw_linear.specs.Memory.{page}
 use Rattle.qw_module.specs.Execution.{Config, State, Running, Event, pages_gained}
 use Rattle.qw_module.specs.Step.{wants, Next, next}
-use Rattle.qw_map.specs.Areas.{Area, World, SameIn, Others, IsFine, grants, world_after}
+use Rattle.qw_map.specs.Areas.{Area, World, SameIn, Others, lies_in_one, IsFine, grants, world_after}
 use Rattle.qw_map.specs.Runs.{Moment, moment_after, OpenStep, OpenRun, begins, goes_on, Behaves}
 use Rattle.qw_map.specs.Turns.{Instance, Shared, moved, Act, turns, EachInstance, EachAfter, AreApart, AllApart, LiesWithin, may_ask, AreSeparate, moment_of, StaysFine, AreSafe, LeadsTo}
-use Rattle.qw_map.proofs.AreaLemmas.{all-append, all-front, all-back, all-weaker, all-same, all-then, outcome-kept, all-behind-apart, all-apart-behind, Gains, outcome-gains, inside-gains}
+use Rattle.qw_map.proofs.AreaLemmas.{all-append, all-front, all-back, all-weaker, all-same, all-then, outcome-kept, outcome-octet, octet-gains, all-behind-apart, all-apart-behind, Gains, outcome-gains, inside-gains}
 use Rattle.qw_map.proofs.OpenRuns.{answered-rightly}
 use Rattle.qw_module.proofs.Outcomes.{outcome}
 use Rattle.qw_module.proofs.Sound.{octets_stay, length_grows}
@@ -243,6 +244,11 @@ module _ (s : Shared) (separate : AreSeparate s) (j : ℕ) (one : Instance) (c :
       AllByRecursion (SameIn s.common.memory t.memory) areas
   kept-step = outcome-kept one.world (grants one.world) s.common.memory (wants c) t (outcome (grants one.world) s.common.memory (wants c) t made)
 
+  -- and so is an octet of the memory that lies in none of its own areas
+  pub octet-step : IsFine one.world t.event → (address : ℕ) → address < length s.common.memory → lies_in_one one.world.own address ≡ false →
+      slice_index t.memory address ≡ slice_index s.common.memory address
+  octet-step = outcome-octet one.world (grants one.world) s.common.memory (wants c) t (outcome (grants one.world) s.common.memory (wants c) t made)
+
   -- which is what others may do to another instance
   pub others-step : IsFine one.world t.event → (k : ℕ) (i : Instance) → k ≢ j → slice_get s.instances k ≡ Some i → Others i.world s.common.memory t.memory
   others-step fine k i differ found =
@@ -396,3 +402,33 @@ pub behaves-turns : (s : Shared) (acts : List Act) → AreSafe s → (k : ℕ) (
 behaves-turns s acts safe k i later found found_later most pages P kept behaves =
     behaves-after (later.ran - i.ran) most pages P kept (moment_of i s.common.memory) (moment_of later (turns acts s).common.memory)
     (runs-turns s acts safe k i later found found_later).1 behaves
+
+-- ---- an octet in no own area
+-- it lies in none now, and is as it was
+record StaysAt (s now : Shared) (address : ℕ) : Type 0 where
+  safe : AreSafe now
+  within : address < length now.common.memory
+  outside : EachInstance (λ i. lies_in_one i.world.own address ≡ false) now
+  same : slice_index now.common.memory address ≡ slice_index s.common.memory address
+
+stays-step : (s : Shared) (address : ℕ) (now : Shared) (j : ℕ) (one : Instance) (c : Config) (t : Next) → slice_get now.instances j ≡ Some one →
+    one.state ≡ Running c → next (grants one.world) c now.common.memory ≡ Some t → StaysAt s now address → StaysAt s (after_step now j one t) address
+stays-step s address now j one c t there running made stays =
+    let fine : IsFine one.world t.event = fine-now now stays.safe j one c t there running made in
+    let gains = gains-put now stays.safe.separate j one c t there running made in
+    record {
+      safe = safe-step now j one c t there running made stays.safe;
+      within = let longer = gains.longer in omega (arith, longer, stays.within);
+      outside = each-step (λ k i. lies_in_one i.world.own address ≡ false) now j one t there
+          (octet-gains (length now.common.memory) (length t.memory) one.world (world_after one.world now.common.memory t.event) gains address stays.within
+          (stays.outside j one there))
+          (λ k i elsewhere found. stays.outside k i found);
+      same = octet-step now stays.safe.separate j one c t there running made fine address stays.within (stays.outside j one there) ∙ stays.same;
+    }
+
+pub others-turns : (s : Shared) (acts : List Act) (address : ℕ) → AreSafe s → address < length s.common.memory →
+    EachInstance (λ i. lies_in_one i.world.own address ≡ false) s →
+    slice_index (turns acts s).common.memory address ≡ slice_index s.common.memory address
+others-turns s acts address safe within outside = (turns-keep (λ (now : Shared). StaysAt s now address)
+    (λ now j one c t there unended running made stays. stays-step s address now j one c t there running made stays)
+    acts s (record { safe = safe; within = within; outside = outside; same = refl })).same

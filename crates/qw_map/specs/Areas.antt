@@ -74,9 +74,13 @@ abbrev pub AsksWithin : (most : ℕ) → World → Event → State → Type 0
 AsksWithin most w (Grows pages granted) state = (w.held + pages ≤ most) × GoesOn state
 AsksWithin most w _ state = Unit {0}
 
+-- the pages that a request was granted, from an address on, as an area; where it asked for none there is none
+abbrev pub granted_area : (start pages : ℕ) → List Area
+granted_area start zero = []
+granted_area start (suc pages) = record { start = start; size = suc pages * page } ∷ []
+
 -- what the instance has after a step from a memory: a granted growth's pages are its own, the memory's next ones
 abbrev pub world_after : World → List ℕ → Event → World
-world_after w memory (Grows pages true) =
-    record w { own = w.own ++ record { start = length memory; size = pages * page } ∷ []; held = w.held + pages }
+world_after w memory (Grows pages true) = record w { own = w.own ++ granted_area (length memory) pages; held = w.held + pages }
 world_after w memory (Grows pages false) = record w { refused = Some pages }
 world_after w memory _ = w

@@ -1,5 +1,5 @@
 -- When a module behaves: what its runs do over any memory that is ready for them, whatever shares the memory with them.
-use Rattle.std.specs.Prelude.{◌≡◌, ℕ, List, Some, None, IsSome, Contains}
+use Rattle.std.specs.Prelude.{ℕ, List, None, IsSome, Contains}
 use Rattle.qw_types.specs.declared.value.Val.{Val}
 use Rattle.qw_module.specs.declared.module.Import.TheVariants as import
 use Rattle.qw_module.specs.declared.module.Module.{Module}

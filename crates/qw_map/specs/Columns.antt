@@ -1,6 +1,6 @@
 -- How the columns of loaded tables stand in the linear memory (docs/FORMATS.md). Numbers are little endian; signed ones are in
 -- two's complement (WebAssembly Core Specification 1.0, 4.3.1 "Storage" and 4.3.2 "Sign Interpretation").
-use Rattle.std.specs.Prelude.{◌≡◌, zero, suc, ◌+◌, ◌-◌, ◌*◌, ◌/◌, ◌%◌, ◌^◌, ◌<◌, ◌≤◌, ◌==◌, ◌&&◌, not, Bool, true, false, if◌then◌else◌, ℕ, pos, List, [], ◌∷◌, Option, Some, length, map, take, drop, slice_get, slice_index_or}
+use Rattle.std.specs.Prelude.{◌≡◌, suc, ◌+◌, ◌-◌, ◌*◌, ◌/◌, ◌%◌, ◌^◌, ◌≤◌, ◌==◌, ◌&&◌, not, Bool, true, false, if◌then◌else◌, ℕ, pos, List, [], ◌∷◌, Some, length, map, take, drop, slice_get, slice_index_or}
 use Rattle.std.specs.Int.{cast_signed, w32, w64}
 use Rattle.std.specs.List.{AllByRecursion}
 use Rattle.qw_types.specs.Contents.{Contents}

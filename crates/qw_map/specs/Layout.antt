@@ -1,8 +1,9 @@
 -- What a module reads of the memory and what it leaves there, apart from any statement: the columns that it uses, its
 -- descriptor, and its result rows.
-use Rattle.std.specs.Prelude.{◌≡◌, ℕ, zero, suc, ◌+◌, ◌-◌, ◌*◌, ◌<◌, ◌≤◌, ◌==◌, ◌&&◌, nat_le, not, if◌then◌else◌, Bool, true, false, ℤ, pos, int_le, List, [], ◌∷◌, ◌++◌, length, take, drop, Option, Some, None, slice_get, slice_index, is_utf8}
+use Rattle.std.specs.Prelude.{◌≡◌, ℕ, zero, suc, ◌+◌, ◌-◌, ◌*◌, ◌<◌, ◌≤◌, ◌==◌, ◌&&◌, nat_le, if◌then◌else◌, Bool, true, false, ℤ, pos, int_le, List, [], ◌∷◌, ◌++◌, length, take, drop, Option, Some, None, slice_get, slice_index}
 use Rattle.std.specs.Int.{w64, cast_signed}
 use Rattle.std.specs.List.{AllByRecursion}
+use Rattle.std.specs.Str.{is_utf8}
 use Rattle.qw_types.specs.Arithmetic.{fits}
 use Rattle.qw_types.specs.Limits.{most_rows}
 use Rattle.qw_types.specs.Value.{IsOfTypeOrNull}
@@ -120,10 +121,11 @@ is_date_number d = int_le (pos 10101) d && int_le d (pos 99991231)
 abbrev pub if_so : {T : Type 0} → Bool → T → Option T
 if_so test value = if test then Some value else None
 
--- the octets of a text, so many from an address on, which lie in areas where texts may lie and are UTF-8
+-- the octets of a text, so many from an address on, which lie in the memory, in areas where texts may lie, and are UTF-8
 abbrev pub text_cell : List Area → List ℕ → (address size : ℕ) → Option Val
 text_cell texts memory address size =
-    if_so (are_covered texts address size && is_utf8 (take size (drop address memory))) (Text (take size (drop address memory)))
+    let octets = take size (drop address memory) in
+    if_so (nat_le (address + size) (length memory) && (are_covered texts address size && is_utf8 octets)) (Text octets)
 
 -- The value of a cell that isn't null: a signed number of 8 octets in its kind's range, or the address of a text and the number
 -- of its octets, of 4 octets each.
@@ -168,9 +170,9 @@ rows_from kinds texts own memory (suc count) at =
 abbrev pub text_areas : Layout → World → (descriptor : ℕ) → List Area
 text_areas layout w descriptor = record { start = descriptor; size = descriptor_size layout } ∷ w.mapped
 
--- The result rows of an instance: the descriptor, whose head lies in own areas, has the first one's address and their number.
+-- The result rows of an instance: the descriptor, which lies in own areas, has the first one's address and their number.
 abbrev pub rows_at : Layout → World → List ℕ → (descriptor : ℕ) → Option (List (List Val))
 rows_at layout w memory descriptor =
-    if are_covered w.own descriptor 24
+    if are_covered w.own descriptor (descriptor_size layout)
     then rows_from layout.cells (text_areas layout w descriptor) w.own memory (number_at memory (descriptor + 16) 8) (number_at memory (descriptor + 8) 4)
     else None

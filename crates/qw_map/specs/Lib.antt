@@ -3,6 +3,7 @@ pub mod Behaving
 pub mod Columns
 pub mod Inner
 pub mod Layout
+pub mod Region
 pub mod Runs
 pub mod Turns
 pub use Rattle.qw_linear.specs.Memory

@@ -1,6 +1,7 @@
 //! The linear memory as instances share it: areas, open runs, turns, and where columns, descriptors and result rows stand.
 //!
 //! - [`layout`]: where the columns begin, and where the parts of a descriptor and of a result row stand.
+//! - [`region`]: consecutive octets, compared as sets.
 //! - [`turn_laws`]: what holds of instances that share one memory, for every list of turns.
 //! - [`result_laws`]: result rows stay whatever others do.
 //! - [`worked_laws`]: cases with numbers.
@@ -11,6 +12,7 @@
 #![tactic(auto)]
 
 pub mod layout;
+pub mod region;
 pub mod result_laws;
 pub mod turn_laws;
 pub mod worked_laws;

@@ -1,12 +1,12 @@
 //! What holds of instances that share one memory, for every list of turns. No function here computes anything.
 
-ghost use Rattle.std.specs.Prelude.{◌≡◌, ◌≢◌, ℕ, ◌+◌, ◌-◌, ◌<◌, ◌≤◌, ◌⊎◌, List, Some, None, IsSome, length, slice_get};
+ghost use Rattle.std.specs.Prelude.{◌≡◌, ◌≢◌, ℕ, ◌+◌, ◌-◌, ◌<◌, ◌≤◌, ◌⊎◌, false, List, Some, None, IsSome, length, slice_get, slice_index};
 ghost use Rattle.std.specs.List.{AllByRecursion};
 ghost use Rattle.qw_module.specs.Execution.{Config, Running};
 ghost use Rattle.qw_linear.specs.Memory.{most_pages, pages_of, AreOctets};
 ghost use Rattle.qw_module.specs.Step.{Next, next};
 ghost use Rattle.qw_module.specs.Soundness.{IsTypedState};
-ghost use Rattle.qw_map.specs.Areas.{SameIn, IsFine, grants};
+ghost use Rattle.qw_map.specs.Areas.{SameIn, IsFine, grants, lies_in_one};
 ghost use Rattle.qw_map.specs.Runs.{Moment, OpenRun, Behaves};
 ghost use Rattle.qw_map.specs.Turns.{Instance, Common, Shared, Trap, steps_of, Act, turn, acted, turns, EachInstance, EachAfter, IsWhole, AreSafe, moment_of, LeadsTo};
 
@@ -90,4 +90,11 @@ pub fn columns_stay()
     ensures maps { (s : Shared) (acts : List Act) → AreSafe s →
         EachAfter (λ i later. (later.world.mapped ≡ i.world.mapped)
         × (later.world.limit ≡ i.world.limit) × (later.most_steps ≡ i.most_steps)) s (turns acts s) }
+{}
+
+/// In the same setting turns leave each octet of the memory that lies in no own area of any instance as it was.
+pub fn others_stay()
+    ensures { (s : Shared) (acts : List Act) (address : ℕ) → AreSafe s → address < length s.common.memory →
+        EachInstance (λ i. lies_in_one i.world.own address ≡ false) s →
+        slice_index (turns acts s).common.memory address ≡ slice_index s.common.memory address }
 {}
