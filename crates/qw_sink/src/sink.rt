@@ -9,6 +9,7 @@ use csv::{Writer, WriterBuilder};
 use qw_types::number_text::push_decimal;
 use qw_types::{Code, Kind, NoMemory, Row, Text, Val};
 use std::alloc::{AllocError, Global};
+use std::marker::Model;
 
 /// A column of a result.
 #[derive(Debug, Drop)]
@@ -19,42 +20,65 @@ pub struct Head {
     pub kind: Kind,
 }
 
-/// A query's part of the report: `QUERY k ROWS r`, and the rows under their header. Queries are numbered from 1.
-pub fn report_text(
+/// The heads of the columns of a result, in order. Contracts see it as a list.
+#[derive(Debug, Drop)]
+pub struct Header {
+    heads: Vec<Head>,
+}
+
+impl Model for Header {
+    ghost use Rattle.std.specs.Prelude.{List};
+    ghost use Rattle.qw_sink.specs.declared.sink.Head.{Head};
+
+    ghost Value = { List Head };
+
+    ghost view = { λ a. a.heads.items };
+}
+
+impl Header {
+    /// The header of these heads.
+    pub fn new(heads: Vec<Head>) -> Self
+        ensures { result ≡ heads.items }
+    {
+        Header { heads }
+    }
+
+    /// The heads, in order.
+    pub fn as_slice(&self) -> &[Head]
+        ensures { result.now ≡ self.now }
+    {
+        self.heads.as_slice()
+    }
+}
+
+/// A report with the part of a query of this number, from 1 on, that gave rows: `QUERY k ROWS r`, and the rows under their header.
+pub fn with_rows_of(
     alloc: Global,
-    number: u32,
+    report: Vec<u8>,
+    number: usize,
     header: &[Head],
     rows: &[Row],
 ) -> Result<Vec<u8>, NoMemory>
-    ensures { IfOk result (λ text. text.items ≡ report_of_rows number header.now rows.now) }
+    ensures { IfOk result (λ text. text.items ≡ report.items ++ report_of_rows number header.now rows.now) }
 {
     let count = rows.len();
     let headline = format!(in alloc; "QUERY {number} ROWS {count}\n")?;
-    with_rows(alloc, headline.into_bytes(), header, rows)
+    let report = with_line(report, headline.as_str())?;
+    with_rows(alloc, report, header, rows)
 }
 
-/// A query's part of the report where a request for pages was past its limit: `QUERY k PAGES held asked limit`.
-/// It held so many pages, and asked for so many more.
-pub fn pages_text(
+/// A report with the part of a query that raised an exception: `QUERY k SQLSTATE c`.
+pub fn with_exception(
     alloc: Global,
-    number: u32,
-    held: u32,
-    asked: u32,
-    limit: u32,
+    report: Vec<u8>,
+    number: usize,
+    code: Code,
 ) -> Result<Vec<u8>, NoMemory>
-    ensures { IfOk result (λ text. text.items ≡ report_of_pages number held asked limit) }
-{
-    let text = format!(in alloc; "QUERY {number} PAGES {held} {asked} {limit}\n")?;
-    Ok(text.into_bytes())
-}
-
-/// A query's part of the report where it raised an exception: `QUERY k SQLSTATE c`.
-pub fn exception_text(alloc: Global, number: u32, code: Code) -> Result<Vec<u8>, NoMemory>
-    ensures { IfOk result (λ text. text.items ≡ report_of_exception number code) }
+    ensures { IfOk result (λ text. text.items ≡ report.items ++ report_of_exception number code) }
 {
     let state = sqlstate(code);
-    let text = format!(in alloc; "QUERY {number} SQLSTATE {state}\n")?;
-    Ok(text.into_bytes())
+    let line = format!(in alloc; "QUERY {number} SQLSTATE {state}\n")?;
+    with_line(report, line.as_str())
 }
 
 /// The SQLSTATE of an exception (ISO/IEC 9075:1992, 22.1).
@@ -67,12 +91,41 @@ fn sqlstate(code: Code) -> &'static str
     }
 }
 
-/// A query's part of the report where it ran as many instructions as its limit says: `QUERY k STEPS limit`.
-pub fn steps_text(alloc: Global, number: u32, limit: u64) -> Result<Vec<u8>, NoMemory>
-    ensures { IfOk result (λ text. text.items ≡ report_of_steps number limit) }
+/// A report with the part of a query whose request for pages was past its limit: `QUERY k PAGES held asked limit`. It held so many
+/// pages, and asked for so many more.
+pub fn with_pages(
+    alloc: Global,
+    report: Vec<u8>,
+    number: usize,
+    held: u32,
+    asked: u32,
+    limit: u32,
+) -> Result<Vec<u8>, NoMemory>
+    ensures { IfOk result (λ text. text.items ≡ report.items ++ report_of_pages number held asked limit) }
 {
-    let text = format!(in alloc; "QUERY {number} STEPS {limit}\n")?;
-    Ok(text.into_bytes())
+    let line = format!(in alloc; "QUERY {number} PAGES {held} {asked} {limit}\n")?;
+    with_line(report, line.as_str())
+}
+
+/// A report with the part of a query that ran as many instructions as its limit says: `QUERY k STEPS limit`.
+pub fn with_steps(
+    alloc: Global,
+    report: Vec<u8>,
+    number: usize,
+    limit: u64,
+) -> Result<Vec<u8>, NoMemory>
+    ensures { IfOk result (λ text. text.items ≡ report.items ++ report_of_steps number limit) }
+{
+    let line = format!(in alloc; "QUERY {number} STEPS {limit}\n")?;
+    with_line(report, line.as_str())
+}
+
+/// A text, and after it a line.
+fn with_line(mut text: Vec<u8>, line: &str) -> Result<Vec<u8>, NoMemory>
+    ensures { IfOk result (λ whole. whole.items ≡ text.items ++ line.now) }
+{
+    text.extend_from_slice(line.as_bytes())?;
+    Ok(text)
 }
 
 /// The rows under their header, a line each.

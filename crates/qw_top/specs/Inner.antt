@@ -2,6 +2,7 @@
 pub mod Causes
 pub mod Inputs
 pub mod Noted
+pub mod Reports
 pub mod Shelves
 pub mod Sinks
 pub mod Stages
