@@ -1,8 +1,7 @@
 //! From the turned bench of a run to the written report.
 
-ghost use Rattle.std.specs.Prelude.{◌≡◌, ◌≢◌, ◌<◌, ◌++◌, ℕ, List, length, IfOk, IsSome, Some};
+ghost use Rattle.std.specs.Prelude.{◌≡◌, ◌≢◌, ◌<◌, ◌++◌, ℕ, List, length, IfOk, IsSome};
 ghost use Rattle.qw_io.specs.Faults.{IsCounted};
-ghost use Rattle.qw_map.specs.Turns.{Trap};
 ghost use Rattle.qw_bench.specs.Standing.{end_of};
 ghost use Rattle.qw_bench.specs.Bench.{end_in};
 ghost use Rattle.qw_top.specs.Delivered.{ShowsEnds, ends_below, status_of_ends};
@@ -57,7 +56,6 @@ fn report_of(alloc: Global, run: &Turned) -> Result<Report, NoMemory>
 fn blocks_of(alloc: Global, bench: &Bench, headers: &[Header]) -> Result<Vec<u8>, NoMemory>
     requires many { length headers.now ≡ length bench.now.shared.instances }
     requires ended { (k : ℕ) → k < length headers.now → IsSome (end_in bench.now.shared k) }
-    requires whole { (k : ℕ) → end_in bench.now.shared k ≡ Some Trap → ⊥ }
     ensures { IfOk result (λ text. AreBlocks headers.now bench.now 0 text.items) }
 {
     let mut text = Vec::new(alloc);
