@@ -1,5 +1,5 @@
 -- The indices of columns among those that a statement uses, and among the others of these.
-use Rattle.std.proofs.Common.{◌≡◌, ℕ, zero, suc, ◌+◌, ◌<◌, ◌≤◌, ◌≢◌, ⊎_elim, Bool, true, false, List, [], ◌∷◌, length, Option, Some, None, refl, sym, ap, ◌∙◌, arith, one-add}
+use Rattle.std.proofs.Common.{◌≡◌, ℕ, zero, suc, ◌+◌, ◌<◌, ◌≤◌, ◌≢◌, ⊎_elim, Bool, true, false, List, [], ◌∷◌, length, Option, Some, None, refl, sym, ap, ◌∙◌, subst, arith, one-add}
 use Rattle.std.specs.Prelude.{◌==◌, not, filter, slice_get}
 use Rattle.std.specs.List.{AllByRecursion, list_any, range_with_len}
 use Rattle.std.specs.Option.{option_map}
@@ -8,11 +8,19 @@ use Rattle.std.proofs.lemmas.Option.{none-some, same_Some, slice_get_within, sli
 use Rattle.qw_types.specs.Limits.{most_columns}
 use Rattle.qw_meaning.specs.Statement.{Statement, IsStatement}
 use Rattle.qw_emit.specs.Inner.Emit.{scan_of, index_in, other_columns}
-use Rattle.qw_map.specs.Layout.{is_used, used}
+use Rattle.qw_emit.specs.ScanLayout.{is_used, used}
 
 -- whether a number is in a list
 abbrev pub is_among : ℕ → List ℕ → Bool
 is_among c xs = list_any (λ y. y == c) xs
+
+-- what holds of all holds of one that is among them
+pub all-among : (P : ℕ → Type 0) (xs : List ℕ) → AllByRecursion P xs → (c : ℕ) → is_among c xs ≡ true → P c
+all-among P [] all c among = cc
+all-among P (x ∷ xs) all c among = ⊎_elim
+    (λ here. subst P (eqb-true x c here) all.0)
+    (λ further. all-among P xs all.1 c further)
+    (or_cases (x == c) (is_among c xs) among)
 
 any-filter : (p : ℕ → Bool) (c : ℕ) → p c ≡ true → (xs : List ℕ) → is_among c xs ≡ true → is_among c (filter p xs) ≡ true
 any-filter p c passes [] h = h

@@ -3,6 +3,7 @@ mod Comparisons
 mod Nesting
 mod OwnWeights
 mod Pieces
+mod Ready
 mod ScanBegun
 mod ScanCells
 mod ScanCompiled

@@ -5,12 +5,12 @@ use Rattle.std.specs.Int.{cast_signed}
 use Rattle.qw_types.specs.declared.value.Val.{Val}
 use Rattle.qw_linear.specs.Memory.{page, number_at}
 use Rattle.qw_module.specs.Syntax.{Code}
-use Rattle.qw_map.specs.Areas.{World, lies_in_one}
+use Rattle.qw_map.specs.Areas.{World, are_covered}
 use Rattle.qw_map.specs.Runs.{Moment}
 use Rattle.qw_map.proofs.RunRules.{Reaches, Reaches-more, IsKept, go, load, store}
 use Rattle.qw_emit.specs.Inner.Emit.{Scan, read_values, write_cells}
-use Rattle.qw_map.specs.Layout.{is_integer}
-use Rattle.qw_map.proofs.AccessLemmas.{lies-before}
+use Rattle.qw_types.specs.Arithmetic.{fits}
+use Rattle.qw_map.proofs.AccessLemmas.{covered-before, number-kept}
 use Rattle.qw_map.proofs.Chains.{onto}
 use Rattle.qw_emit.proofs.ScanMemory.{Setting, Lies, Keeps, Writing, Writing-cell, Writing-kept}
 use Rattle.qw_emit.proofs.ScanSteps.{locals_of, standing, in_loop, to_value, value_set, to_cell}
@@ -20,14 +20,14 @@ use Rattle.qw_emit.proofs.ScanTable.{Table, start_at, word_of, bits_of, distance
 module _ (s : Setting) (scan : Scan) (t : Table s scan) where
   -- a value of a used column lies in an area, and is there
   pub in_columns : (w : World) → w.mapped ≡ s.mapped → (row index : ℕ) → row < t.rows → index < length t.starts →
-      lies_in_one (w.mapped ++ w.own) (start_at t.starts index + 4 * row) 4 ≡ true
-  in_columns w is row index within there = rw is (lies-before s.mapped w.own (start_at t.starts index + 4 * row) 4 (t.inside index row there within))
+      are_covered (w.mapped ++ w.own) (start_at t.starts index + 4 * row) 4 ≡ true
+  in_columns w is row index within there = rw is (covered-before s.mapped w.own (start_at t.starts index + 4 * row) 4 (t.inside index row there within))
 
   pub column_there : (end : ℕ) (m : List ℕ) → s.descriptor + page ≤ end → Keeps s end m → (row index : ℕ) → row < t.rows → index < length t.starts →
       (start_at t.starts index + 4 * row + 4 ≤ length m) × (number_at m (start_at t.starts index + 4 * row) 4 ≡ word_of s scan t row index)
   unfolding word_of
   column_there end m first keeps row index within there =
-      (omega (arith, t.below index there, keeps.room), keeps.columns (start_at t.starts index + 4 * row) 4 (t.inside index row there within))
+      (omega (arith, t.below index there, keeps.room), number-kept s.table m s.mapped keeps.columns (start_at t.starts index + 4 * row) 4 (t.inside index row there within))
 
 module _ (pages : ℕ) (Q : Moment → Type 0) (s : Setting) (scan : Scan) (t : Table s scan) (w : World) (mapped_is : w.mapped ≡ s.mapped)
     (M : List ℕ → Type 0) (kept : IsKept w M) (end : ℕ) (first : s.descriptor + page ≤ end) (keeps : (m : List ℕ) → M m → Keeps s end m)
@@ -70,7 +70,7 @@ abbrev pub Holds : (locals cells bits : List ℕ) → Type 0
 Holds l [] [] = Unit {0}
 Holds l [] (x ∷ xs) = ⊥
 Holds l (cell ∷ cells) [] = ⊥
-Holds l (cell ∷ cells) (x ∷ xs) = (slice_get l cell ≡ Some x) × (x < 2 ^ 64) × (is_integer (cast_signed w64 x) ≡ true) × Holds l cells xs
+Holds l (cell ∷ cells) (x ∷ xs) = (slice_get l cell ≡ Some x) × (x < 2 ^ 64) × (fits (cast_signed w64 x) ≡ true) × Holds l cells xs
 
 module _ (pages : ℕ) (Q : Moment → Type 0) (s : Setting) (scan : Scan) (w : World) (mapped_is : w.mapped ≡ s.mapped)
     (row end : ℕ) (lies : Lies s w.own row end) (found : List (List Val)) (link : ℕ) (l : List ℕ) (row_is : slice_get l 3 ≡ Some row) (rest : Code) (more_steps stop : ℕ) (fits : stop ≤ end) where

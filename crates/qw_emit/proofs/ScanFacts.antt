@@ -9,7 +9,7 @@ use Rattle.qw_module.specs.Syntax.{Code}
 use Rattle.qw_module.specs.Start.{weight_with, weight}
 use Rattle.qw_meaning.specs.Statement.{Statement, IsStatement}
 use Rattle.qw_emit.specs.Inner.Emit.{Scan, index_in, other_columns, local_of, scan_of, scan_locals, other_locals, read_distances, read_values, write_cells, scan_code}
-use Rattle.qw_map.specs.Layout.{used}
+use Rattle.qw_emit.specs.ScanLayout.{used}
 use Rattle.qw_emit.proofs.ScanShapeLemmas.{length-other_columns}
 use Rattle.std.proofs.lemmas.Option.{slice_get_within}
 use Rattle.qw_emit.proofs.ColumnIndices.{is_among, index-there, columns-used, other-among}

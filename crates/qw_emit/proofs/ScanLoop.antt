@@ -12,16 +12,16 @@ use Rattle.qw_linear.proofs.MemoryFacts.{number_at-with_number}
 use Rattle.qw_module.specs.declared.instruction.ValType.TheVariants.{I64}
 use Rattle.qw_module.specs.Numbers.{relation}
 use Rattle.qw_module.specs.Execution.{State, Running, Returned, Raised, Trapped}
-use Rattle.qw_map.specs.Areas.{World, lies_in_one}
+use Rattle.qw_map.specs.Areas.{World, are_covered}
 use Rattle.qw_map.specs.Runs.{Moment}
 use Rattle.qw_map.proofs.RunRules.{Reaches, IsKept, reached, go, store}
 use Rattle.qw_emit.specs.Inner.Emit.{Scan, rejects}
-use Rattle.qw_map.specs.Layout.{rows_at, rows_from}
-use Rattle.qw_map.proofs.Chains.{onto, Chain-rows, value_of_bits}
+use Rattle.qw_map.specs.Layout.{descriptor_size, rows_at, rows_from, text_areas}
+use Rattle.qw_map.proofs.Chains.{onto, Chain-rows, numbers, value_of_bits}
 use Rattle.qw_emit.proofs.ScanMemory.{Setting, size_of, Lies, Scanned, Scanned-kept, Scanned-head}
 use Rattle.qw_emit.proofs.ScanSteps.{locals_of, size, running, in_call, links_last, at_loop, to_end, no_last, some_last, to_count}
 use Rattle.qw_emit.proofs.ScanLocals.{value_there}
-use Rattle.qw_emit.proofs.ScanTable.{Table, CellsOf, bits_of, Distances, Values, bits-below, bits-integer}
+use Rattle.qw_emit.proofs.ScanTable.{Table, CellsOf, bits_of, Distances, Values, bits-below, bits-fit}
 use Rattle.qw_emit.proofs.ScanCells.{Holds}
 
 -- ---- what the rows give
@@ -63,7 +63,7 @@ module _ (s : Setting) (scan : Scan) (t : Table s scan) where
       (λ is. let below : is.0 < length scan.others = slice_get_within scan.others is.0 index is.2 in
       rw is.1 (value_there d p e r l last (bits_of s scan t row scan.tested) n others is.0 (bits_of s scan t row index) (omega arith) (values.each is.0 index below is.2)))
       of.0 in
-      (there, bits-below s scan t row index, bits-integer s scan t row index, cells_hold d p e r l last n row others cells indices of.1 count values)
+      (there, bits-below s scan t row index, bits-fit s scan t row index, cells_hold d p e r l last n row others cells indices of.1 count values)
 
 -- what is put before the last of what was put before
 map-onto : {A B : Type 0} (f : A → B) (xs done : List A) (following : List B) →
@@ -87,7 +87,7 @@ fill-bound more gap row count size last results some filled past few =
 -- what a run ends with, over rows that give these result rows: they are chained, or 3 is raised after a refused request
 abbrev pub OverIn : (s : Setting) (pages : ℕ) (all : List (List Val)) (b : Moment) → State → Type 0
 OverIn s pages all b (Running c) = ⊥
-OverIn s pages all b Returned = (b.world.refused ≡ None) × (rows_at s.types b.world.own b.memory s.descriptor ≡ Some all)
+OverIn s pages all b Returned = (b.world.refused ≡ None) × (rows_at s.layout b.world b.memory s.descriptor ≡ Some all)
 OverIn s pages all b (Raised code) =
     (code ≡ 3) × ((asked : ℕ) × (b.world.refused ≡ Some asked) × (b.world.limit < b.world.held + asked) × (b.world.held + asked ≤ pages))
 OverIn s pages all b (Trapped why) = ⊥
@@ -104,7 +104,7 @@ pub record Going (s : Setting) (scan : Scan) (t : Table s scan) (w : World) (cou
   pub held_is : w.held ≡ suc full
   pub filled : full * (page - size_of s) + row ≤ count * size_of s + last
   pub lies : Lies s w.own row end
-  pub link_own : lies_in_one w.own link 4 ≡ true
+  pub link_own : are_covered w.own link 4 ≡ true
   pub end_is : end ≡ last + size_of s
   pub end_small : end < 2 ^ 32
   pub distances : Distances s scan t (length scan.others) others
@@ -148,10 +148,11 @@ module _ (pages : ℕ) (s : Setting) (scan : Scan) (t : Table s scan) (all : Lis
       (λ some. go pages Q w kept (some_last scan d e e row link last v n others (ne_eqb n 0 some)) (finish link))
       (cases_eq n 0)))
     where
-      read : (m : List ℕ) → Ended s w found link row end m → rows_at s.types w.own m s.descriptor ≡ Some all
+      read : (m : List ℕ) → Ended s w found link row end m → rows_at s.layout w m s.descriptor ≡ Some all
       read m h =
-          let head = going.lies.head s.descriptor 24 (omega arith) (omega arith) in
-          let last_link : rows_from s.types w.own m 0 (number_at m link 4) ≡ Some [] = rw (eq-eqb (number_at m link 4) 0 h.scanned.open_link) refl in
-          let rows = Chain-rows s.types s.descriptor w.own m found link row 0 [] h.scanned.chain last_link in
+          let head = going.lies.head s.descriptor (descriptor_size s.layout) (omega arith) (omega (arith, s.small)) in
+          let texts = text_areas s.layout w s.descriptor in
+          let last_link : rows_from (numbers s.cells) texts w.own m 0 (number_at m link 4) ≡ Some [] = rw (eq-eqb (number_at m link 4) 0 h.scanned.open_link) refl in
+          let rows = Chain-rows s.cells s.descriptor texts w.own m found link row 0 [] h.scanned.chain last_link in
           let number : length found + 0 ≡ length found = omega arith in
-          rw (head, h.count) (rw number at rows ∙ ap Some whole)
+          rw (head, s.cells_are, h.count) (rw number at rows ∙ ap Some whole)

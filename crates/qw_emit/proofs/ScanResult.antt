@@ -1,77 +1,38 @@
 -- The rows that the emitted code keeps are the statement's result.
-use Rattle.std.proofs.Common.{◌≡◌, ℕ, ℤ, zero, suc, inl, inr, ◌+◌, ◌*◌, ◌<◌, ◌≤◌, ⊎_elim, Bool, true, false, List, [], ◌∷◌, length, map, get_or, Some, refl, sym, ap, ap₂, ◌∙◌, subst, arith, add-zero, w64, SFits}
+use Rattle.std.proofs.Common.{◌≡◌, ℕ, ℤ, zero, suc, inl, inr, ◌+◌, ◌*◌, ◌<◌, ◌≤◌, ⊎_elim, Bool, true, false, List, [], ◌∷◌, length, map, Some, refl, sym, ap, ap₂, ◌∙◌, arith, add-zero, w64, SFits}
 use Rattle.std.specs.Prelude.{◌==◌, if◌then◌else◌, slice_get}
 use Rattle.std.specs.Int.{cast_signed}
 use Rattle.std.specs.List.{AllByRecursion, filter_map}
-use Rattle.std.proofs.lemmas.Bool.{cases_Bool, or_right, or_cases, eqb-true}
+use Rattle.std.proofs.lemmas.Bool.{cases_Bool, eqb-true}
 use Rattle.std.specs.Option.{option_map}
-use Rattle.std.proofs.lemmas.Option.{none-some, same_Some, slice_get-get_or, slice_get-map}
+use Rattle.std.proofs.lemmas.Option.{slice_get-map}
 use Rattle.qw_types.specs.declared.value.Val.{Val}
-use Rattle.qw_types.specs.declared.value.Val.TheVariants.{Null, Num, Date, Text}
+use Rattle.qw_types.specs.declared.value.Val.TheVariants.{Num}
 use Rattle.qw_linear.proofs.MemoryFacts.{number_at-below}
-use Rattle.qw_map.specs.Areas.{Area, lies_in_one}
+use Rattle.qw_map.specs.Areas.{Area}
 use Rattle.qw_meaning.specs.Statement.{Statement, IsStatement}
 use Rattle.qw_meaning.specs.Meaning.{True, False, condition, is_true, results, compares}
-use Rattle.qw_types.specs.Value.{value_of}
-use Rattle.qw_map.specs.Columns.{StandsAt, integer_at}
-use Rattle.qw_emit.specs.Compiled.{IsReady}
 use Rattle.qw_emit.specs.Inner.Emit.{scan_of, index_in, other_columns, local_of}
-use Rattle.qw_map.specs.Layout.{used, cell_types, column_areas}
-use Rattle.qw_map.proofs.AccessLemmas.{lies-first, lies-within}
-use Rattle.qw_map.proofs.Chains.{value_of_bits}
+use Rattle.qw_emit.specs.ScanLayout.{layout_for, used}
+use Rattle.qw_types.specs.declared.kind.Kind.TheVariants as kind
+use Rattle.qw_map.proofs.Chains.{numbers, value_of_bits}
+use Rattle.qw_emit.proofs.Ready.{Stands, size-of-descriptor}
+use Rattle.qw_emit.proofs.ScanShapeLemmas.{length-used}
 use Rattle.qw_emit.proofs.Comparisons.{test-compares}
-use Rattle.qw_emit.proofs.Pieces.{AllByRecursion-at}
 use Rattle.qw_emit.proofs.ColumnIndices.{is_among, index-there, index-below, tested-used, columns-used, others-below, other-among}
 use Rattle.qw_emit.proofs.ScanMemory.{Setting}
 use Rattle.qw_emit.proofs.ScanTable.{Table, CellsOf, word_of, bits_of, bits-number, bits-below}
 use Rattle.qw_emit.proofs.ScanLoop.{test_of, kept_rows}
-
--- a column's value lies in its area, and the areas lie before the descriptor
-pub column-inside : (starts : List ℕ) (rows index row : ℕ) → index < length starts → row < rows →
-    lies_in_one (column_areas starts rows) (get_or starts index 0 + 4 * row) 4 ≡ true
-column-inside [] rows index row there within = absurd (omega arith)
-column-inside (start ∷ starts) rows zero row there within =
-    lies-first (record { start = start; size = 4 * rows }) (column_areas starts rows) (start + 4 * row) 4 (omega arith) (omega arith)
-column-inside (start ∷ starts) rows (suc index) row there within =
-    or_right _ _ (column-inside starts rows index row (omega arith) within)
-
-pub columns-below : (starts : List ℕ) (rows d : ℕ) → AllByRecursion (λ start. start + 4 * rows ≤ d) starts →
-    AllByRecursion (λ (area : Area). (0 ≤ area.start) × (area.start + area.size ≤ d)) (column_areas starts rows)
-columns-below [] rows d below = tt
-columns-below (start ∷ starts) rows d below = ((omega arith, below.0), columns-below starts rows d below.1)
-
--- what holds of all holds of one that is among them
-all-among : (P : ℕ → Type 0) (xs : List ℕ) → AllByRecursion P xs → (c : ℕ) → is_among c xs ≡ true → P c
-all-among P [] all c among = cc
-all-among P (x ∷ xs) all c among = ⊎_elim
-    (λ here. subst P (eqb-true x c here) all.0)
-    (λ further. all-among P xs all.1 c further)
-    (or_cases (x == c) (is_among c xs) among)
-
-row-typed : (columns : List ℕ) (rows : List (List Val)) →
-    AllByRecursion (λ (row : List Val). AllByRecursion (λ column. column < length row) columns) rows →
-    (i : ℕ) (row : List Val) → slice_get rows i ≡ Some row → AllByRecursion (λ column. column < length row) columns
-row-typed columns [] typed i row there = absurd (none-some row there)
-row-typed columns (first ∷ rows) typed zero row there =
-    subst (λ (r : List Val). AllByRecursion (λ column. column < length r) columns) (same_Some first row there) typed.0
-row-typed columns (first ∷ rows) typed (suc i) row there = row-typed columns rows typed.1 i row there
-
-slice_get-some : (row : List Val) (column : ℕ) → column < length row → (v : Val) × (slice_get row column ≡ Some v)
-slice_get-some [] column below = absurd (omega arith)
-slice_get-some (v ∷ row) zero below = (v, refl)
-slice_get-some (v ∷ row) (suc column) below = slice_get-some row column (omega arith)
 
 -- a truth value made of a test
 decided : (b : Bool) → is_true (if b then True else False) ≡ b
 decided true = refl
 decided false = refl
 
--- a value that stands in memory is a number
-standing-number : (memory : List ℕ) (at : ℕ) (v : Val) → StandsAt memory at v → (n : ℤ) × (v ≡ Num n) × (integer_at memory at ≡ n)
-standing-number memory at Null stands = absurd stands
-standing-number memory at (Num n) stands = (n, refl, stands)
-standing-number memory at (Date d) stands = absurd stands
-standing-number memory at (Text octets) stands = absurd stands
+-- the kinds of the cells
+pub number-cells : (columns : List ℕ) → map (λ (column : ℕ). kind.Number 0) columns ≡ numbers (length columns)
+number-cells [] = refl
+number-cells (column ∷ columns) = ap (λ kinds. kind.Number 0 ∷ kinds) (number-cells columns)
 
 -- the cells are those of the selected columns
 pub cells-of : (statement : Statement) → IsStatement statement → (columns : List ℕ) → AllByRecursion (λ column. is_among column (used statement) ≡ true) columns →
@@ -92,14 +53,18 @@ cells-of statement is (column ∷ columns) all = (
   cells-of statement is columns all.1,
 )
 
-module _ (statement : Statement) (is : IsStatement statement) (rows : List (List Val)) (starts : List ℕ) (d : ℕ) (memory : List ℕ) (ready : IsReady statement rows starts d memory) where
+module _ (statement : Statement) (is : IsStatement statement) (rows : List (List Val)) (starts : List ℕ) (areas : List Area) (d : ℕ) (memory : List ℕ)
+    (stands : Stands statement rows starts areas d memory) where
   abbrev pub the_setting : Setting
   the_setting = record {
-    types = cell_types statement;
-    mapped = column_areas starts (length rows);
+    layout = layout_for statement;
+    cells = length statement.columns;
+    cells_are = number-cells statement.columns;
+    small = omega (arith, size-of-descriptor statement, length-used statement);
+    mapped = areas;
     descriptor = d;
     table = memory;
-    below = λ at width inside. (lies-within (column_areas starts (length rows)) 0 d (columns-below starts (length rows) d ready.below) at width inside).1;
+    below = stands.mapped_below;
   }
 
   abbrev pub the_table : Table the_setting (scan_of statement)
@@ -107,14 +72,14 @@ module _ (statement : Statement) (is : IsStatement statement) (rows : List (List
     starts = starts;
     rows = length rows;
     indices = map (index_in (used statement)) statement.columns;
-    small = omega (arith, ready.inside, ready.whole, ready.size);
-    tested = omega (arith, ready.many, index-below statement is statement.tested (tested-used statement is));
-    others = λ j index there. omega (arith, ready.many, others-below statement is j index there);
+    small = omega (arith, stands.room, stands.size);
+    tested = omega (arith, stands.many, index-below statement is statement.tested (tested-used statement is));
+    others = λ j index there. omega (arith, stands.many, others-below statement is j index there);
     cells = cells-of statement is statement.columns (columns-used statement is);
-    from = λ index there. AllByRecursion-at (λ start. 64 ≤ start) starts index 0 there ready.from;
-    below = λ index there. AllByRecursion-at (λ start. start + 4 * length rows ≤ d) starts index 0 there ready.below;
-    inside = λ index row there within. column-inside starts (length rows) index row there within;
-    words = λ at. number_at-below memory ready.octets at 4;
+    from = λ index there. stands.from index there;
+    below = λ index there. stands.below index there;
+    inside = λ index row there within. stands.inside index row there within;
+    words = λ at. number_at-below memory stands.octets at 4;
   }
 
   -- the 64 bits that the code makes of a used column's value in a row
@@ -127,15 +92,8 @@ module _ (statement : Statement) (is : IsStatement statement) (rows : List (List
   unfolding word_of
   column-value i row there column among =
       let index : ℕ = index_in (used statement) column in
-      let below : index < length starts = omega (arith, ready.many, index-below statement is column among) in
-      let wide : column < length row = all-among (λ c. c < length row) (used statement) (row-typed (used statement) rows ready.typed i row there) column among in
-      let start : slice_get starts index ≡ Some (get_or starts index 0) = slice_get-get_or starts index 0 below in
-      let found = slice_get-some row column wide in
-      let value : value_of rows i column ≡ Some found.0 = rw there found.1 in
-      let stands : StandsAt memory (get_or starts index 0 + 4 * i) found.0 =
-      (ready.columns index (get_or starts index 0) column start (index-there column (used statement) among)).each i found.0 value in
-      let number = standing-number memory (get_or starts index 0 + 4 * i) found.0 stands in
-      found.1 ∙ ap Some number.1 ∙ ap (λ (n : ℤ). Some (Num n)) (sym number.2 ∙ sym (bits-number the_setting (scan_of statement) the_table i index))
+      stands.values index column i row (index-there column (used statement) among) there
+      ∙ ap (λ (n : ℤ). Some (Num n)) (sym (bits-number the_setting (scan_of statement) the_table i index))
 
   -- the cells of a row are the values that are selected of it
   row-selected : (i : ℕ) (row : List Val) → slice_get rows i ≡ Some row → (columns : List ℕ) →

@@ -10,8 +10,8 @@ use Rattle.qw_map.specs.Areas.{World}
 use Rattle.qw_map.specs.Runs.{Moment}
 use Rattle.qw_map.proofs.RunRules.{more, Reaches, Reaches-more, Reaches-weaker, IsKept, with_granted, with_refused, reached, go, load, store, grow, raise}
 use Rattle.qw_emit.specs.Inner.Emit.{Scan, store_i32}
-use Rattle.qw_map.proofs.AccessLemmas.{lies-before}
-use Rattle.qw_map.proofs.Chains.{onto, length-onto, integers, length-integers, value_of_bits}
+use Rattle.qw_map.proofs.AccessLemmas.{covered-before}
+use Rattle.qw_map.proofs.Chains.{onto, length-onto, value_of_bits}
 use Rattle.qw_emit.proofs.ScanMemory.{Setting, size_of, Lies, Scanned, Writing, Scanned-linked, Scanned-kept, Writing-row, Writing-kept, with_page, Lies-grown, Scanned-grown}
 use Rattle.qw_emit.proofs.ScanSteps.{locals_of, size, running, in_loop, counts, writes, reads, tests, at_loop, to_load, passed_over, fits, requests, granted, refused, raises, counted}
 use Rattle.qw_emit.proofs.ScanTable.{Table, CellsOf, start_at, word_of, bits_of, Distances, Values-none}
@@ -28,10 +28,10 @@ length-indices scan [] (index ∷ indices) of = absurd of
 length-indices scan (cell ∷ cells) [] of = absurd of
 length-indices scan (cell ∷ cells) (index ∷ indices) of = ap suc (length-indices scan cells indices of.1)
 
-module _ (pages : ℕ) (s : Setting) (scan : Scan) (t : Table s scan) (all : List (List Val)) (types_are : s.types ≡ integers (length scan.cells))
+module _ (pages : ℕ) (s : Setting) (scan : Scan) (t : Table s scan) (all : List (List Val)) (cells_are : s.cells ≡ length scan.cells)
     (narrow : size_of s < page) (few : length all ≤ t.rows) (bound : 2 + length all * size_of s / (page - size_of s) ≤ pages) where
   pub size_same : size scan ≡ size_of s
-  size_same = rw (types_are, length-integers (length scan.cells)) refl
+  size_same = rw cells_are refl
 
   -- the loop from a row on does what it should
   abbrev pub LoopFrom : (row left : ℕ) → Type 0
@@ -71,7 +71,7 @@ module _ (pages : ℕ) (s : Setting) (scan : Scan) (t : Table s scan) (all : Lis
         (Reaches-weaker pages Q w (Writing s w.own found link row end (onto bits []) stop) (Scanned s w.own (map value_of_bits bits ∷ found) row stop end) next _
         (λ m h. subst (λ (made : List Val). Scanned s w.own (made ∷ found) row stop end m) row_there
         (Writing-row s w.own row end lies m found link stop (onto bits [])
-        (types_are ∙ ap integers (sym (length-onto bits [] ∙ (omega (arith, as_bits))))) refl fit h))
+        (cells_are ∙ sym (length-onto bits [] ∙ (omega (arith, as_bits)))) refl fit h))
         (following w (map value_of_bits bits ∷ found) p e row stop last end x (n + 1) others' (omega (arith, address_is)) end_is
         (record {
           mapped_is = going.mapped_is;
@@ -128,7 +128,7 @@ module _ (pages : ℕ) (s : Setting) (scan : Scan) (t : Table s scan) (all : Lis
         (go pages Q w kept (requests scan d e link n others p row last v x test over)
         (grow pages Q w kept (λ start. (end ≤ start) × (start + page ≤ most_pages * page) × ((k : ℕ) × (start ≡ k * page)))
         (λ start. Scanned s (with_page w.own start) found link start (start + page))
-        refl (omega arith) asks_within (λ found_pages. tt)
+        refl asks_within (λ found_pages. tt)
         (λ m h room. ((h.keeps.room, omega arith, (h.keeps.pages, h.keeps.whole)), Scanned-grown s w.own row end lies (length m) h.keeps.room m found link refl h))
         (λ granted_here start is.
         let w' : World = with_granted w start 1 in
@@ -146,7 +146,7 @@ module _ (pages : ℕ) (s : Setting) (scan : Scan) (t : Table s scan) (all : Lis
           held_is = omega (arith, going.held_is);
           filled = omega (arith, going.filled);
           lies = lies';
-          link_own = lies-before w.own _ link 4 going.link_own;
+          link_own = covered-before w.own _ link 4 going.link_own;
           end_is = omega arith;
           end_small = omega (arith, is.1);
           distances = going.distances;

@@ -10,7 +10,7 @@ use Rattle.qw_types.specs.Limits.{most_columns}
 use Rattle.qw_meaning.specs.Statement.{Statement, IsStatement}
 use Rattle.qw_meaning.specs.declared.query.Comparison.{Comparison}
 use Rattle.qw_emit.specs.Inner.Emit.{Scan, value_local, value_of_other, index_in, other_columns, local_of, scan_of}
-use Rattle.qw_map.specs.Layout.{used, is_used}
+use Rattle.qw_emit.specs.ScanLayout.{used, is_used}
 use Rattle.qw_emit.specs.Inner.ScanShape.{IsScanShape}
 
 -- the first index where a test passes, or the length where there is none

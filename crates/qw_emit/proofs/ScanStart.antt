@@ -4,13 +4,12 @@ use Rattle.std.specs.Prelude.{slice_get}
 use Rattle.qw_types.specs.declared.value.Val.{Val}
 use Rattle.qw_linear.specs.Memory.{page, number_at}
 use Rattle.qw_module.specs.Syntax.{Code}
-use Rattle.qw_map.specs.Areas.{Area, World, lies_in_one}
+use Rattle.qw_map.specs.Areas.{Area, World, are_covered}
 use Rattle.qw_map.specs.Runs.{Moment}
 use Rattle.qw_map.proofs.RunRules.{more, Reaches, Reaches-more, Reaches-weaker, IsKept, go, load}
 use Rattle.qw_emit.specs.Inner.Emit.{Scan, read_distances, scan_code}
 use Rattle.qw_map.specs.Layout.{entry_offset}
-use Rattle.qw_map.proofs.AccessLemmas.{lies-first, lies-after, number-kept}
-use Rattle.qw_map.proofs.Chains.{integers}
+use Rattle.qw_map.proofs.AccessLemmas.{covered-first, covered-after, kept-same, number-kept}
 use Rattle.qw_emit.proofs.ScanMemory.{Setting, size_of, Lies, Scanned, Scanned-kept}
 use Rattle.qw_emit.proofs.ScanSteps.{locals_of, running, standing, in_call, begins_rows, to_first, to_second, distance_set, to_values, to_rows, to_others, to_free, to_page_end, to_loop}
 use Rattle.qw_emit.proofs.ScanLocals.{distance_put, is_distance}
@@ -36,12 +35,12 @@ pub record Begun (s : Setting) (scan : Scan) (t : Table s scan) (own : List Area
 
 module _ (s : Setting) (scan : Scan) (t : Table s scan) (limit : ℕ) (fits : entry_offset (length t.starts) + size_of s ≤ page) where
   -- the first page is own
-  in_page : (at width : ℕ) → s.descriptor ≤ at → at + width ≤ s.descriptor + page → lies_in_one (begins_with s limit).own at width ≡ true
-  in_page at width low high = lies-first (record { start = s.descriptor; size = page }) [] at width low high
+  in_page : (at width : ℕ) → s.descriptor ≤ at → at + width ≤ s.descriptor + page → are_covered (begins_with s limit).own at width ≡ true
+  in_page at width low high = covered-first (record { start = s.descriptor; size = page }) [] at width low high
 
   page_loads : (at width : ℕ) → s.descriptor ≤ at → at + width ≤ s.descriptor + page →
-      lies_in_one (s.mapped ++ record { start = s.descriptor; size = page } ∷ []) at width ≡ true
-  page_loads at width low high = lies-after s.mapped (record { start = s.descriptor; size = page } ∷ []) at width (in_page at width low high)
+      are_covered (s.mapped ++ record { start = s.descriptor; size = page } ∷ []) at width ≡ true
+  page_loads at width low high = covered-after s.mapped (record { start = s.descriptor; size = page } ∷ []) at width (in_page at width low high)
 
   first_lies : Lies s (begins_with s limit).own (first_row s scan t) (s.descriptor + page)
   first_lies = record {
@@ -56,7 +55,7 @@ module _ (s : Setting) (scan : Scan) (t : Table s scan) (limit : ℕ) (fits : en
   Begun-kept = record {
     keeps = λ before after others h.
         let stays : (at width : ℕ) → s.descriptor ≤ at → at + width ≤ s.descriptor + page → number_at after at width ≡ number_at before at width = λ at width low high.
-        number-kept before after (begins_with s limit).own others.own_kept at width (in_page at width low high) in
+        number-kept before after (begins_with s limit).own (kept-same before after (begins_with s limit).own others.own_kept) at width (in_page at width low high) in
         record {
           scanned = (Scanned-kept s (begins_with s limit) refl (first_row s scan t) (s.descriptor + page) first_lies [] (s.descriptor + 8)).keeps before after others h.scanned;
           next_row = stays s.descriptor 4 (omega arith) (omega arith) ∙ h.next_row;
@@ -103,7 +102,7 @@ module _ (s : Setting) (scan : Scan) (t : Table s scan) (limit : ℕ) (fits : en
         (distance_put d p e 0 0 0 0 0 others j (distance s scan t index)))
         (distances_read ks (suc j) others' left' (omega (arith, count)) (Distances-more s scan t j index others here below distances) following))))))
 
-  module _ (pages : ℕ) (all : List (List Val)) (types_are : s.types ≡ integers (length scan.cells)) (narrow : size_of s < page)
+  module _ (pages : ℕ) (all : List (List Val)) (cells_are : s.cells ≡ length scan.cells) (narrow : size_of s < page)
       (few : length all ≤ t.rows) (bound : 2 + length all * size_of s / (page - size_of s) ≤ pages) (rows_give : kept_rows s scan t 0 t.rows ≡ all) where
     pub starts : (others : List ℕ) → length others ≡ 2 * length scan.others →
         Reaches pages (Over s pages all) (begins_with s limit) (Begun s scan t (begins_with s limit).own) (24 + 6 * length scan.others + budget s scan t 0 t.rows)
@@ -126,7 +125,7 @@ module _ (s : Setting) (scan : Scan) (t : Table s scan) (limit : ℕ) (fits : en
         let last_address : (p + t.rows * 4 % 2 ^ 32) % 2 ^ 32 ≡ e = omega (arith, t.small) in
         let first_link : (d + 8) % 2 ^ 32 ≡ d + 8 = omega (arith, t.small) in
         let last_row : (d + page + (2 ^ 32 - size_of s)) % 2 ^ 32 ≡ last = omega (arith, t.small) in
-        let same = size_same pages s scan t all types_are narrow few bound in
+        let same = size_same pages s scan t all cells_are narrow few bound in
         Reaches-more pages Q w (more 1 (suc (more 4 (suc (more 4 (6 * length scan.others + (more 1 (suc (more 2 (suc (more 8 end))))))))))) (24 + 6 * length scan.others + end) (omega arith)
         (go pages Q w Begun-kept (to_values scan d others)
         (load pages Q w Begun-kept (d + entry_offset scan.tested) start refl refl (page_loads (d + entry_offset scan.tested) 4 (omega arith) (omega arith))
@@ -146,7 +145,7 @@ module _ (s : Setting) (scan : Scan) (t : Table s scan) (limit : ℕ) (fits : en
         (λ m h. (omega (arith, h.scanned.keeps.room), h.page_end))
         (go pages Q w Begun-kept (to_loop scan d others' p e row (d + page) (d + 8) last (rw same last_row) first_link)
         (Reaches-weaker pages Q w M (Scanned s w.own [] (d + 8) row (d + page)) end _ (λ m h. h.scanned)
-        (loops pages s scan t all types_are narrow few bound t.rows 0 (omega arith) w [] p e (d + 8) row last (d + page) 0 0 others' (omega arith) refl
+        (loops pages s scan t all cells_are narrow few bound t.rows 0 (omega arith) w [] p e (d + 8) row last (d + page) 0 0 others' (omega arith) refl
         (record {
           mapped_is = refl;
           unrefused = refl;

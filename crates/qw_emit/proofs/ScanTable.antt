@@ -2,17 +2,17 @@
 use Rattle.std.proofs.Common.{◌≡◌, ◌≢◌, ℕ, ℤ, pos, negsuc, ⊎_elim, sym, subst, length-set, get_or-set_same, get_or-set_other, SFits, suc, ◌+◌, ◌-◌, ◌*◌, ◌%◌, ◌^◌, ◌<◌, ◌≤◌, ◌⊎◌, true, List, [], ◌∷◌, length, get_or, set, Some, refl, ◌∙◌, arith, w32, w64}
 use Rattle.std.specs.Prelude.{slice_get}
 use Rattle.std.specs.Int.{cast_signed}
-use Rattle.std.proofs.lemmas.Bool.{and_from, le-leb, cases_eq}
+use Rattle.std.proofs.lemmas.Bool.{lt-ltb, cases_eq}
 use Rattle.std.proofs.lemmas.Int.{ints, to_z-of_z}
 use Rattle.std.proofs.lemmas.Option.{same_Some}
 use Rattle.std.proofs.Math.Facts.{sfits_to_z, sfits_widen}
+use Rattle.qw_types.specs.Arithmetic.{fits}
 use Rattle.qw_linear.specs.Memory.{page, number_at}
 use Rattle.qw_module.specs.declared.instruction.Sign.TheVariants.{Signed}
 use Rattle.qw_module.specs.declared.instruction.ValType.TheVariants.{I64}
 use Rattle.qw_module.specs.Numbers.{extended}
-use Rattle.qw_map.specs.Areas.{lies_in_one}
+use Rattle.qw_map.specs.Areas.{are_covered}
 use Rattle.qw_emit.specs.Inner.Emit.{Scan, value_local, value_of_other}
-use Rattle.qw_map.specs.Layout.{is_integer}
 use Rattle.qw_emit.proofs.ScanMemory.{Setting}
 
 -- The cells of a result row, by the indices of their columns among those that are used: a cell's local holds the compared
@@ -42,16 +42,16 @@ pub record Table (s : Setting) (scan : Scan) : Type 0 where
   pub cells : CellsOf scan scan.cells indices
   pub from : (index : ℕ) → index < length starts → 64 ≤ start_at starts index
   pub below : (index : ℕ) → index < length starts → start_at starts index + 4 * rows ≤ s.descriptor
-  pub inside : (index row : ℕ) → index < length starts → row < rows → lies_in_one s.mapped (start_at starts index + 4 * row) 4 ≡ true
+  pub inside : (index row : ℕ) → index < length starts → row < rows → are_covered s.mapped (start_at starts index + 4 * row) 4 ≡ true
   pub words : (at : ℕ) → number_at s.table at 4 < 2 ^ 32
 
 -- what comes before, and isn't the last
 earlier : (i j : ℕ) → i < suc j → i ≢ j → i < j
 earlier i j below different = omega arith
 
-integer_fits : (n : ℤ) → SFits w32 n → is_integer n ≡ true
-integer_fits (pos n) fits = le-leb n 2147483647 (omega (arith, fits.sfits))
-integer_fits (negsuc n) fits = and_from _ _ (le-leb n 2147483647 (omega (arith, fits.sfits))) refl
+integer_fits : (n : ℤ) → SFits w32 n → fits n ≡ true
+integer_fits (pos n) narrow = lt-ltb n (10 ^ 18) (omega (arith, narrow.sfits))
+integer_fits (negsuc n) narrow = lt-ltb (suc n) (10 ^ 18) (omega (arith, narrow.sfits))
 
 extended-below : (word : ℕ) → word < 2 ^ 32 → extended w32 Signed I64 word < 2 ^ 64
 extended-below word small = omega (arith, ints)
@@ -134,8 +134,8 @@ module _ (s : Setting) (scan : Scan) (t : Table s scan) where
   unfolding bits_of
   bits-below row index = extended-below (word_of row index) (word-below row index)
 
-  pub bits-integer : (row index : ℕ) → is_integer (cast_signed w64 (bits_of row index)) ≡ true
-  bits-integer row index = rw (bits-number row index) (integer_fits (cast_signed w32 (word_of row index)) (narrow_fits (word_of row index) (word-below row index)))
+  pub bits-fit : (row index : ℕ) → fits (cast_signed w64 (bits_of row index)) ≡ true
+  bits-fit row index = rw (bits-number row index) (integer_fits (cast_signed w32 (word_of row index)) (narrow_fits (word_of row index) (word-below row index)))
 
   -- how a value's address is reached from that of the compared one
   pub distance-reaches : (row index p : ℕ) → row < t.rows → index < length t.starts → p ≡ start_at t.starts scan.tested + 4 * row →

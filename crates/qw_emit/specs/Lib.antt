@@ -1,5 +1,6 @@
 pub mod Compiled
 pub mod Inner
+pub mod ScanLayout
 pub use Rattle.qw_module.specs.Execution
 pub use Rattle.qw_module.specs.Start
 pub use Rattle.qw_module.specs.Syntax

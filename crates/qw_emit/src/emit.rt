@@ -1,9 +1,12 @@
-ghost use Rattle.std.specs.Prelude.{◌≡◌, ◌++◌, FitsSigned, IfOk, OnOk};
+ghost use Rattle.std.specs.Prelude.{◌≡◌, ◌++◌, FitsSigned, IfOk, List, OnOk};
 ghost use Rattle.std.specs.Int.{w64};
 ghost use Rattle.qw_module.specs.Validity.{code_of_body, declared_types};
+ghost use Rattle.qw_types.specs.declared.value.Ty.{Ty};
+ghost use Rattle.qw_meaning.specs.Simple.{HasIntegers, simple};
 ghost use Rattle.qw_meaning.specs.Statement.{IsStatement};
 ghost use Rattle.qw_emit.specs.Compiled.{IsCompiled};
 ghost use Rattle.qw_emit.specs.Inner.Emit as emit;
+ghost use Rattle.qw_emit.specs.ScanLayout.{layout_for};
 
 mod instructions;
 mod locals;
@@ -119,16 +122,16 @@ fn scan_module(alloc: Global, query: &Query) -> Result<Module, NoMemory>
     })
 }
 
-/// The module that runs the statement over its table, whose values are of four octets and not null. Its `run` takes the
-/// address of the descriptor, chains the result rows in the instance's pages, and writes in the descriptor where they
-/// begin, how many they are, and where the next object would stand. Where a row doesn't fit the rest of a page it asks for
-/// another, and raises 3 where that is refused.
+/// The module that runs the statement over its table, of which the columns that the statement uses are INTEGER NOT NULL; its
+/// layout is [`crate::layout::layout_of`]. Its `run` takes the address of the descriptor, chains the result rows in the
+/// instance's pages, and writes in the descriptor where they begin, how many they are, and where the next object would stand.
+/// Where a row doesn't fit the rest of a page it asks for another, and raises 3 where that is refused.
 ///
 /// # Errors
 ///
-/// [`NoMemory`] where the module does not fit memory.
+/// [`NoMemory`] where the module does not fit memory, and nowhere else.
 pub fn module_of(alloc: Global, query: &Query) -> Result<Module, NoMemory>
-    ensures { IfOk result (λ m. IsCompiled query.now m) }
+    ensures { IfOk result (λ m. (types : List Ty) → HasIntegers types query.now → IsCompiled (simple types query.now) (layout_for query.now) m) }
 {
     let module = scan_module(alloc, query)?;
     Ok(module)

@@ -5,4 +5,4 @@
 #![tactic(auto)]
 
 pub mod emit;
-pub mod worked_laws;
+pub mod layout;

@@ -27,7 +27,8 @@ use Rattle.qw_module.specs.Validity.{code_of_body, items_of, sequences_of, decla
 use Rattle.qw_meaning.specs.declared.query.Comparison.{Comparison}
 use Rattle.qw_meaning.specs.declared.query.Comparison.TheVariants.{Equal, NotEqual, Less, LessOrEqual, Greater, GreaterOrEqual}
 use Rattle.qw_meaning.specs.Statement.{Statement}
-use Rattle.qw_map.specs.Layout.{used, entry_offset, row_size}
+use Rattle.qw_map.specs.Layout.{entry_offset, row_size}
+use Rattle.qw_emit.specs.ScanLayout.{used}
 
 -- What the code of a statement depends on: the index of the compared column among those that are used, the indices of the
 -- others, for each cell of a result row the local that holds its value, the comparison and the literal.

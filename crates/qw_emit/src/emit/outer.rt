@@ -21,8 +21,9 @@ use super::locals::{
 };
 use super::scan_shape::ScanShape;
 use super::sequences::{ALL_ROWS, LAST_ROW, NO_ROW};
+use crate::layout::INTEGER_SIZE;
 use qw_map::layout::{
-    COUNT_OFFSET, ENTRY_ROWS_OFFSET, FIRST_ROW_OFFSET, FREE_OFFSET, INTEGER_SIZE, LAST_ROW_OFFSET,
+    COUNT_OFFSET, ENTRY_ROWS_OFFSET, FIRST_ROW_OFFSET, FREE_OFFSET, LAST_ROW_OFFSET,
     PAGE_END_OFFSET, entry_offset, row_size,
 };
 use qw_module::instruction::{Binary, Instr, Load, Relation, ValType};

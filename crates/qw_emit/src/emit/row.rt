@@ -25,8 +25,9 @@ use super::locals::{
 };
 use super::scan_shape::ScanShape;
 use super::sequences::{ASK, NOTHING, RAISE};
+use crate::layout::INTEGER_SIZE;
 use qw_linear::linear::PAGE;
-use qw_map::layout::{CELL_OFFSET, CELL_SIZE, INTEGER_SIZE, NEXT_OFFSET, row_size};
+use qw_map::layout::{CELL_OFFSET, CELL_SIZE, NEXT_OFFSET, row_size};
 use qw_meaning::query::Comparison;
 use qw_module::instruction::{Binary, Instr, Load, Op, REFUSAL, Relation, Sign, ValType};
 use qw_types::NoMemory;

@@ -8,7 +8,7 @@ ghost use Rattle.qw_meaning.specs.Statement.{IsStatement};
 ghost use Rattle.qw_emit.specs.Inner.Emit as emit;
 
 use super::locals::{VALUE, value_of_other};
-use qw_map::layout::used_columns;
+use crate::layout::used_columns;
 use qw_meaning::query::{Comparison, Query};
 use qw_types::NoMemory;
 use std::alloc::Global;
