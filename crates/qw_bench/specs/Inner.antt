@@ -1,5 +1,5 @@
 -- What restates code for proofs. No public clause rests on it.
-pub mod FirstMemory
+pub mod FirstSeats
 pub mod Rounds
 pub mod Seats
 pub mod StandingCode

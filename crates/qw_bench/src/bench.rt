@@ -1,21 +1,24 @@
-//! Instances of compiled statements that share one linear memory, and the turns that they are given.
+//! Instances of modules that share one linear memory, and the turns that they are given.
 
-ghost use Rattle.std.specs.Prelude.{◌≡◌, ◌≢◌, List, not, is_some, ◌↔◌, ◌+◌, ◌-◌, ◌*◌, ◌<◌, ◌≤◌, ◌^◌, ℕ, [], ◌∷◌, ◌++◌, None, Err, length, IfErr, IfOk, IfSome, IsSome, slice_get};
+ghost use Rattle.std.specs.Prelude.{◌≡◌, ◌≢◌, List, not, is_some, ◌↔◌, ◌+◌, ◌-◌, ◌*◌, ◌<◌, ◌≤◌, ◌^◌, ◌⊎◌, ℕ, [], ◌∷◌, ◌++◌, None, Err, length, map, IfErr, IfOk, IfSome, IsSome, slice_get};
 ghost use Rattle.std.specs.List.{list_any};
 ghost use Rattle.std.specs.Vec.{vec_capacity};
-ghost use Rattle.qw_csv.specs.Contents.{AreIntegerKinds};
 ghost use Rattle.qw_linear.specs.Memory.{most_pages, page};
+ghost use Rattle.std.specs.List.{AllByRecursion};
+ghost use Rattle.qw_bench.specs.Standing.{AreLimits, limit_pages};
 
 mod start;
 
-use crate::bench::start::{first_instance, first_memory};
-use qw_columns::columns::pages_needed;
+use crate::bench::start::{first_seats, place_all};
+use qw_columns::pages_needed;
 use qw_csv::Loaded;
-use qw_linear::linear::{Linear, MAX_PAGES, PAGE};
+use qw_linear::linear::{Linear, MAX_PAGES};
 use qw_machine::machine::Instance;
 use qw_machine::stepped::Stepped;
-use qw_meaning::query::Query;
+use qw_map::layout::{Layout, Placed};
+use qw_types::code::Code;
 use qw_types::NoMemory;
+use qw_types::schema::MAX_TABLES;
 use qw_valid::valid::ValidModule;
 use std::alloc::Global;
 use std::marker::Model;
@@ -30,6 +33,9 @@ pub struct Limits {
     pub steps: u64,
 }
 
+/// The most jobs of a bench.
+pub const MAX_JOBS: usize = 64;
+
 /// The limits where none are given. That of instructions is larger than the bound of any compiled module
 /// over `MAX_ROWS` rows, which is below 2^45.
 pub const DEFAULT_LIMITS: Limits = Limits {
@@ -42,7 +48,7 @@ pub const DEFAULT_LIMITS: Limits = Limits {
 pub enum BenchFault {
     /// The pages of the columns and all that the instances may hold, which are more than [`MAX_PAGES`].
     #[error("total pages {need}")]
-    TotalPages { need: u32 },
+    TotalPages { need: u64 },
     #[error("want of memory")]
     NoMemory,
 }
@@ -62,40 +68,42 @@ impl From<NoMemory> for BenchFault {
 pub enum Ended {
     /// Its `run` returned.
     Done,
+    /// It raised an exception of SQL.
+    Raised(Code),
     /// With so many pages held, it asked for so many more than its limit of pages lets it.
     Pages { held: u32, asked: u32, limit: u32 },
     /// It ran as many instructions as its limit says.
     Steps { limit: u64 },
 }
 
-/// A statement and the module that it was compiled to.
+/// A module and the layout that it behaves with.
 #[derive(Drop)]
 pub struct Job {
-    query: Query,
     valid: ValidModule,
+    layout: Layout,
 }
 
 impl Model for Job {
-    ghost use Rattle.qw_bench.specs.Bench.{CompiledQuery};
+    ghost use Rattle.qw_bench.specs.Bench.{Program};
 
-    ghost Value = { CompiledQuery };
+    ghost Value = { Program };
 
-    ghost use Rattle.qw_emit.specs.Compiled.{IsCompiled};
+    ghost use Rattle.qw_map.specs.Behaving.{BehavesWith};
 
-    ghost view = { λ job. record { statement = job.query; program = job.valid } };
+    ghost view = { λ job. record { layout = job.layout; module' = job.valid } };
 
-    ghost invariant = { λ job. IsCompiled job.query job.valid };
+    ghost invariant = { λ job. BehavesWith job.layout job.valid };
 }
 
 impl Job {
-    ghost use Rattle.qw_emit.specs.Compiled.{IsCompiled};
+    ghost use Rattle.qw_map.specs.Behaving.{BehavesWith};
 
-    /// The statement, with a module that is its compiled form.
-    pub fn new(query: Query, valid: ValidModule) -> Self
-        requires { IsCompiled query valid }
-        ensures { result ≡ record { statement = query; program = valid } }
+    /// The module, with a layout that it behaves with.
+    pub fn new(valid: ValidModule, layout: Layout) -> Self
+        requires { BehavesWith layout valid }
+        ensures { result ≡ record { layout = layout; module' = valid } }
     {
-        Job { query, valid }
+        Job { valid, layout }
     }
 }
 
@@ -109,10 +117,10 @@ struct Grant {
 /// An instance, with what it may use and how far it has come.
 #[derive(Drop)]
 struct Seat {
-    query: Query,
     instance: Instance,
-    /// How many rows the columns have that it reads.
-    rows: usize,
+    layout: Layout,
+    /// Where the columns of the layout stand.
+    placed: Vec<Placed>,
     /// The address of its descriptor, where its first page begins.
     descriptor: u64,
     limits: Limits,
@@ -129,7 +137,9 @@ struct Seat {
 
 impl Seat {
     ghost use Rattle.qw_map.specs.Turns.{IsWhole, steps_of};
-    ghost use Rattle.qw_bench.specs.Inner.Seats.{HasGrants, IsEndOf, IsTold, StaysSeated, common_of, counting, instance_of, state_in, task_of};
+    ghost use Rattle.qw_module.specs.Execution.{Raised};
+    ghost use Rattle.qw_bench.specs.Inner.Seats.{HasGrants, IsEndOf, IsRaised, IsTold, StaysSeated, area_of, common_of, counting, instance_of, state_in, task_of};
+    ghost use Rattle.qw_map.specs.Areas.{granted_area};
 
     /// Runs the instance until it ends or has run `quantum` instructions. Answers how many it ran.
     fn turn(&mut self, memory: &mut Linear, quantum: u64) -> u64
@@ -193,8 +203,8 @@ impl Seat {
                     self.ended = Some(Ended::Done);
                     return taken;
                 }
-                Stepped::Raised(_) => {
-                    self.ended = Some(self.past_limit());
+                Stepped::Raised(code) => {
+                    self.ended = Some(self.end_of_raise(code));
                     return taken;
                 }
                 Stepped::Trapped(_) => unreachable!(),
@@ -205,30 +215,48 @@ impl Seat {
 
     /// Notes that so many pages were granted, the last ones of the memory.
     fn note_grant(&mut self, memory: &Linear, pages: u32)
-        requires reserved { length self.old.granted.items < vec_capacity self.old.granted }
+        requires reserved { pages ≢ 0 → length self.old.granted.items < vec_capacity self.old.granted }
         requires fits { self.old.held + pages < 2 ^ 32 }
         requires there { pages * page ≤ length memory.now.octets }
         ensures seat { self.new ≡ record self.old { granted = self.new.granted; held = self.old.held + pages } }
-        ensures granted { (at : ℕ) × (length memory.now.octets ≡ (at + pages) * page)
-            × (self.new.granted.items ≡ self.old.granted.items ++ (record { at = at; pages = pages }) ∷ []) }
+        ensures granted { (before : List ℕ) → length before + pages * page ≡ length memory.now.octets →
+            map area_of self.new.granted.items ≡ map area_of self.old.granted.items ++ granted_area before pages }
+        ensures counted { length self.new.granted.items ≤ length self.old.granted.items + pages }
         ensures capacity { vec_capacity self.new.granted ≡ vec_capacity self.old.granted }
     {
+        if pages == 0 {
+            return;
+        }
         let at = memory.size() - pages;
         self.granted.push_reserved(Grant { at, pages });
         self.held += pages;
     }
 
-    /// The end at the last refused request, which was past the limit.
-    fn past_limit(&self) -> Ended
-        requires { IsSome self.now.refused }
-        ensures { IfSome self.now.refused (λ asked. result ≡ Ended.Pages self.now.held asked self.now.limits.pages) }
+    /// The end at a code that was raised: an exception, or the last refused request, which was past the limit.
+    fn end_of_raise(&self, code: u32) -> Ended
+        requires { IsRaised self.now.refused code }
+        ensures { IsEndOf self.now (Raised code) (Some result) }
     {
-        Ended::Pages {
-            held: self.held,
-            asked: self.refused.unwrap(),
-            limit: self.limits.pages,
+        match code {
+            1 => Ended::Raised(Code::DivZero),
+            2 => Ended::Raised(Code::OutOfRange),
+            _ => Ended::Pages {
+                held: self.held,
+                asked: self.refused.unwrap(),
+                limit: self.limits.pages,
+            },
         }
     }
+}
+
+/// How many pages instances with these limits may hold together.
+fn limit_pages(limits: &[Limits]) -> u64
+    requires few { length limits.now ≤ MAX_JOBS }
+    requires limits { AllByRecursion AreLimits limits.now }
+    ensures pages { result ≡ limit_pages limits.now }
+    ensures limit { result ≤ 4_194_240 }
+{
+    limits.iter().map(|one| u64::from(one.pages)).sum()
 }
 
 /// Whether the instance of one of the seats hasn't ended.
@@ -263,75 +291,66 @@ impl Model for Bench {
 impl Bench {
     ghost use Rattle.std.specs.List.{AllByRecursion};
     ghost use Rattle.qw_map.specs.Columns.{column_pages};
-    ghost use Rattle.qw_map.specs.Layout.{used};
     ghost use Rattle.qw_map.specs.Turns.{EachInstance, Act, turn, acted, turns};
-    ghost use Rattle.qw_bench.specs.Bench.{AreRounds, IsStart, round};
+    ghost use Rattle.qw_bench.specs.Bench.{AreRounds, IsColumnIn, IsStart, Program, round};
     ghost use Rattle.qw_bench.specs.Inner.Rounds.{steps_left};
-    ghost use Rattle.qw_bench.specs.Standing.{IsBench, end_of, first_task, spare_pages, total_pages};
+    ghost use Rattle.qw_bench.specs.Standing.{AreLimits, AreTasksOf, IsBench, end_of, total_pages};
     ghost use Rattle.qw_bench.specs.Bench.{end_in, ran_in};
 
-    /// A bench with one instance of the job over a table, which has the columns that the job's statement
-    /// uses. All columns of the table stand in its memory, in the first pages, and the instance's first
-    /// page is the one behind them.
+    /// A bench with an instance of each job, in order, over tables, which have the columns that the
+    /// jobs' layouts use. All columns of the tables stand in its memory, in the first pages, and the
+    /// instances' first pages are those behind them, in order.
     ///
     /// # Errors
     ///
-    /// `TotalPages` exactly where the pages of the columns and of the limit together are more than
-    /// [`MAX_PAGES`], so for no limit that the widest and longest table leaves room for; else `NoMemory`
-    /// where the bench does not fit memory. The job is dropped.
-    pub fn new(alloc: Global, loaded: &Loaded, job: Job, limits: Limits) -> Result<Self, BenchFault>
-        requires integers { AreIntegerKinds loaded.now.columns }
-        requires columns { AllByRecursion (λ column. column < length loaded.now.columns) (used job.statement) }
-        requires pages { (1 ≤ limits.pages) × (limits.pages ≤ MAX_PAGES) }
-        requires steps { 1 ≤ limits.steps }
+    /// `TotalPages` exactly where the pages of the columns and of all limits together are more than
+    /// [`MAX_PAGES`]; else `NoMemory` where the bench does not fit memory. The jobs are dropped.
+    pub fn new(
+        alloc: Global,
+        loaded: &[Loaded],
+        jobs: Vec<Job>,
+        limits: &[Limits],
+    ) -> Result<Self, BenchFault>
+        requires tables { length loaded.now ≤ MAX_TABLES }
+        requires jobs { length jobs.items ≤ MAX_JOBS }
+        requires many { length limits.now ≡ length jobs.items }
+        requires limits { AllByRecursion AreLimits limits.now }
+        requires columns { AllByRecursion (λ (program : Program). AllByRecursion (IsColumnIn loaded.now) program.layout.columns) jobs.items }
         ensures total_pages { (need : ℕ) → (result ≡ Err (BenchFault.TotalPages need))
-            ↔ ((need ≡ total_pages (length loaded.now.columns) (length loaded.now.rows) (limits ∷ [])) × (most_pages < need)) }
-        ensures within { limits.pages ≤ spare_pages → IfErr result (λ fault. fault ≡ BenchFault.NoMemory) }
-        ensures tasks { IfOk result (λ bench. bench.tasks ≡ first_task (length loaded.now.columns) (length loaded.now.rows) job limits ∷ []) }
-        ensures start { IfOk result (λ bench. IsStart (length loaded.now.columns) loaded.now.rows bench.tasks bench.shared) }
-        ensures reserved { IfOk result (λ bench. bench.reserved ≡ total_pages (length loaded.now.columns) (length loaded.now.rows) (limits ∷ [])) }
+            ↔ ((need ≡ total_pages loaded.now limits.now) × (most_pages < need)) }
+        ensures within { total_pages loaded.now limits.now ≤ most_pages → IfErr result (λ fault. fault ≡ BenchFault.NoMemory) }
+        ensures tasks { IfOk result (λ bench. AreTasksOf jobs.items limits.now bench.tasks) }
+        ensures start { IfOk result (λ bench. IsStart loaded.now bench.tasks bench.shared) }
+        ensures reserved { IfOk result (λ bench. bench.reserved ≡ total_pages loaded.now limits.now) }
     {
-        let need = pages_needed(loaded) + limits.pages;
-        if need > MAX_PAGES {
+        let need = pages_needed(loaded) + limit_pages(limits);
+        if need > u64::from(MAX_PAGES) {
             return Err(BenchFault::TotalPages { need });
         }
-        Ok(Bench::begin(alloc, loaded, job, limits)?)
+        Ok(Bench::begin(alloc, loaded, jobs, limits, need as u32)?)
     }
 
-    /// The bench of an instance whose pages fit a memory beside the columns.
-    fn begin(alloc: Global, loaded: &Loaded, job: Job, limits: Limits) -> Result<Self, NoMemory>
-        requires integers { AreIntegerKinds loaded.now.columns }
-        requires columns { AllByRecursion (λ column. column < length loaded.now.columns) (used job.statement) }
-        requires pages { 1 ≤ limits.pages }
-        requires room { column_pages (length loaded.now.columns) (length loaded.now.rows) + limits.pages ≤ MAX_PAGES }
-        requires steps { 1 ≤ limits.steps }
-        ensures tasks { IfOk result (λ bench. bench.tasks ≡ first_task (length loaded.now.columns) (length loaded.now.rows) job limits ∷ []) }
-        ensures start { IfOk result (λ bench. IsStart (length loaded.now.columns) loaded.now.rows bench.tasks bench.shared) }
-        ensures reserved { IfOk result (λ bench. bench.reserved ≡ column_pages (length loaded.now.columns) (length loaded.now.rows) + limits.pages) }
+    /// The bench of instances whose pages fit a memory beside the columns.
+    fn begin(
+        alloc: Global,
+        loaded: &[Loaded],
+        jobs: Vec<Job>,
+        limits: &[Limits],
+        pages: u32,
+    ) -> Result<Self, NoMemory>
+        requires tables { length loaded.now ≤ MAX_TABLES }
+        requires jobs { length jobs.items ≤ MAX_JOBS }
+        requires many { length limits.now ≡ length jobs.items }
+        requires limits { AllByRecursion AreLimits limits.now }
+        requires columns { AllByRecursion (λ (program : Program). AllByRecursion (IsColumnIn loaded.now) program.layout.columns) jobs.items }
+        requires pages { (pages ≡ total_pages loaded.now limits.now) × (pages ≤ MAX_PAGES) }
+        ensures tasks { IfOk result (λ bench. AreTasksOf jobs.items limits.now bench.tasks) }
+        ensures start { IfOk result (λ bench. IsStart loaded.now bench.tasks bench.shared) }
+        ensures reserved { IfOk result (λ bench. bench.reserved ≡ pages) }
     {
-        let Job { query, valid } = job;
-        let memory = first_memory(alloc, loaded, &query, limits.pages)?;
-        let descriptor = PAGE as u32 * pages_needed(loaded);
-        let instance = first_instance(alloc, valid, descriptor)?;
-        let ended = match instance.last() {
-            Stepped::Returned => Some(Ended::Done),
-            _ => None,
-        };
-        let granted = Vec::with_capacity(alloc, limits.pages as usize)?;
-        let seats = vec![in alloc;
-            Seat {
-                query,
-                instance,
-                rows: loaded.len(),
-                descriptor: u64::from(descriptor),
-                limits,
-                granted,
-                held: 1,
-                refused: None,
-                ran: 0,
-                ended,
-            },
-        ]?;
+        let mut memory = Linear::new(alloc, pages)?;
+        let map = place_all(alloc, loaded, &mut memory)?;
+        let seats = first_seats(alloc, jobs, limits, &map, &mut memory)?;
         Ok(Bench { memory, seats })
     }
 
@@ -428,12 +447,12 @@ impl Bench {
         self.seats[i].descriptor
     }
 
-    /// The statement that an instance executes.
-    pub fn query(&self, i: usize) -> &Query
+    /// What an instance reads and leaves.
+    pub fn layout(&self, i: usize) -> &Layout
         requires { i < length self.now.shared.instances }
-        ensures { IfSome (slice_get self.now.tasks i) (λ task. result.now ≡ task.statement) }
+        ensures { IfSome (slice_get self.now.tasks i) (λ task. result.now ≡ task.program.layout) }
     {
-        &self.seats[i].query
+        &self.seats[i].layout
     }
 
     /// The memory that the instances share.

@@ -1,5 +1,5 @@
 -- What the fields of `Bench` and of its seats stand for: mirrors `Seat::turn`, `Seat::run` and `Bench`.
-use Rattle.std.specs.Prelude.{◌≡◌, ℕ, ◌+◌, ◌*◌, ◌<◌, ◌≤◌, List, ◌∷◌, length, map, All, Option, Some, None}
+use Rattle.std.specs.Prelude.{◌≡◌, ℕ, ◌+◌, ◌*◌, ◌<◌, ◌≤◌, ◌⊎◌, List, ◌∷◌, length, map, All, Option, Some, None, IsSome}
 use Rattle.std.specs.Vec.{vec_capacity}
 use Rattle.qw_linear.specs.Memory.{page}
 use Rattle.qw_linear.specs.Linear.{Octets}
@@ -7,19 +7,20 @@ use Rattle.qw_module.specs.Execution.{Config, State, Running, Returned, Raised, 
 use Rattle.qw_map.specs.Areas.{Area, World, GoesOn, grants}
 use Rattle.qw_module.specs.Step.{Next, next}
 use Rattle.qw_map.specs.Turns.{Instance, Common, end_at, steps_of}
-use Rattle.qw_map.specs.Layout.{column_starts, column_areas}
+use Rattle.qw_map.specs.Layout.{column_areas}
+use Rattle.qw_emit.specs.Compiled.{raised_for}
 use Rattle.qw_bench.specs.declared.bench.Ended.{Ended}
 use Rattle.qw_bench.specs.declared.bench.Ended.TheVariants as ended
 use Rattle.qw_bench.specs.declared.bench.Grant.{Grant}
 use Rattle.qw_bench.specs.declared.bench.Seat.{Seat}
-use Rattle.qw_bench.specs.Bench.{Task}
+use Rattle.qw_bench.specs.Bench.{Program, Task}
 use Rattle.qw_bench.specs.Standing.{IsBench, Standing, end_of}
 
 -- what the instance of a seat is to do
 abbrev pub task_of : Seat → Task
 task_of seat = record {
-  statement = seat.query;
-  program = seat.instance.program;
+  program = record { layout = seat.layout; module' = seat.instance.program };
+  placed = seat.placed.items;
   descriptor = seat.descriptor;
   pages = seat.limits.pages;
   steps = seat.limits.steps;
@@ -36,7 +37,7 @@ area_of grant = record { start = grant.at * page; size = grant.pages * page }
 -- what the instance of a seat has
 abbrev pub world_of : Seat → World
 world_of seat = record {
-  mapped = column_areas (column_starts seat.query seat.rows) seat.rows;
+  mapped = column_areas seat.layout.columns seat.placed.items;
   own = record { start = seat.descriptor; size = page } ∷ map area_of seat.granted.items;
   held = seat.held;
   limit = seat.limits.pages;
@@ -67,6 +68,7 @@ counting seat more = record {
 abbrev pub IsEndOf : Seat → State → Option Ended → Type 0
 IsEndOf seat (Running c) None = Unit {0}
 IsEndOf seat Returned (Some ended.Done) = Unit {0}
+IsEndOf seat (Raised code) (Some (ended.Raised one)) = code ≡ raised_for one
 IsEndOf seat (Raised code) (Some (ended.Pages held asked limit)) =
     (code ≡ 3) × (seat.refused ≡ Some asked) × (held ≡ seat.held) × (limit ≡ seat.limits.pages)
 IsEndOf seat _ _ = ⊥
@@ -87,12 +89,15 @@ pub record HasGrants (seat : Seat) : Type 0 where
   pub held : seat.held ≤ seat.limits.pages
   pub room : seat.limits.pages ≤ vec_capacity seat.granted
 
--- a step that the bench can tell: it doesn't trap, a request isn't the last step and asks for a page at least, and 3 is
--- raised after a refused request alone
+-- a code that may be raised: 1 or 2, or 3 after a request that was refused
+abbrev pub IsRaised : (refused : Option ℕ) → (code : ℕ) → Type 0
+IsRaised refused code = (code ≡ 1) ⊎ (code ≡ 2) ⊎ ((code ≡ 3) × IsSome refused)
+
+-- a step that the bench can tell: it doesn't trap, a request isn't the last step, and a code may be raised
 abbrev pub CanBeTold : World → Event → State → Type 0
-CanBeTold w (Grows pages granted) state = (1 ≤ pages) × GoesOn state
+CanBeTold w (Grows pages granted) state = GoesOn state
 CanBeTold w event (Trapped why) = ⊥
-CanBeTold w event (Raised code) = (code ≡ 3) × ((asked : ℕ) × (w.refused ≡ Some asked))
+CanBeTold w event (Raised code) = IsRaised w.refused code
 CanBeTold w event state = Unit {0}
 
 -- however long its turn is over what is common, each step that an instance makes can be told
