@@ -1,1 +1,1 @@
-pub mod ColumnLemmas
+mod ColumnFacts
