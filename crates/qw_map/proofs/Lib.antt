@@ -2,7 +2,7 @@ pub mod AccessLemmas
 pub mod AreaLemmas
 pub mod Chains
 pub mod ColumnLemmas
-mod NoTrap
+pub mod NoTrap
 pub mod OpenRuns
 pub mod ResultLemmas
 pub mod ResultRows

@@ -11,7 +11,7 @@ use Rattle.qw_map.proofs.TurnFacts.{each-step, turns-keep}
 use Rattle.qw_map.proofs.Separate.{safe-step, fine-now}
 
 -- a state to which fine steps lead: nothing trapped, and what was raised may be raised
-abbrev Goes : World → State → Type 0
+abbrev pub Goes : World → State → Type 0
 Goes w (Running c) = Unit {0}
 Goes w Returned = Unit {0}
 Goes w (Raised code) = IsFine w (Raises code)
@@ -44,7 +44,7 @@ left-goes w the_store (frame outer arity below after ∷ contexts) operands s e 
     (λ is_not. absurd (none-some s (rw is_not at e)))
     (cases_Bool (nat_le arity (length operands)))
 
-step-goes : (w : World) (c : Config) (m : List ℕ) (e : Event) (s : State) (after : List ℕ) → Step c m e s after → IsFine w e → Goes (world_after w m e) s
+pub step-goes : (w : World) (c : Config) (m : List ℕ) (e : Event) (s : State) (after : List ℕ) → Step c m e s after → IsFine w e → Goes (world_after w m e) s
 step-goes w _ _ _ _ _ (nop c m rest code) fine = settled-goes w c.store c.contexts rest _ _
 step-goes w _ _ _ _ _ (unreachable_traps c m rest code) fine = absurd fine
 step-goes w _ _ _ _ _ (drop_operand c m v operands rest code popped) fine = settled-goes w c.store c.contexts rest _ _
