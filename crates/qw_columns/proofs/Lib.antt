@@ -1,1 +1,2 @@
-mod ColumnFacts
+mod PlaceLemmas
+mod RoomLemmas

@@ -6,7 +6,7 @@ ghost use Rattle.qw_types.specs.Limits.{most_tables};
 ghost use Rattle.qw_map.specs.Columns as columns;
 ghost use Rattle.qw_columns.specs.Mapped.{at_indices};
 
-use crate::room::{column_end, columns_end, placed_at};
+use crate::room::{column_end, column_type, columns_end, placed_at};
 use qw_csv::Loaded;
 use qw_map::layout::{COLUMNS_START, Placed};
 use qw_types::{ColumnType, NoMemory};
@@ -86,7 +86,7 @@ fn table_map(alloc: Global, loaded: &Loaded, at: u64) -> Result<TableMap, NoMemo
     let mut placed = Vec::with_capacity(alloc, loaded.width())?;
     let mut end = at;
     for column in 0..loaded.width() {
-        let column_type = loaded.columns()[column];
+        let column_type = column_type(loaded, column);
         let one = placed_at(loaded, column, end);
         end = column_end(column_type.not_null, &one);
         columns.push(column_type)?;

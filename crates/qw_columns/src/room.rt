@@ -13,16 +13,16 @@ ghost use Rattle.qw_csv.specs.Field.{val_of};
 use qw_csv::{Cell, Loaded};
 use qw_linear::linear::PAGE;
 use qw_map::layout::{COLUMN_ALIGNMENT, COLUMNS_START, Placed};
-use qw_types::Ty;
+use qw_types::{ColumnType, Ty};
 
-/// The most octets that a column takes: a million texts of 4,000 octets, as many offsets of 4 and one more, and null bits.
-const MAX_COLUMN_SIZE: u64 = 4_004_125_008;
+/// No column takes more octets: of a million rows 8 each for values or offsets, 4,000 each for texts, and null bits.
+const MAX_COLUMN_SIZE: u64 = 4_008_125_000;
 
-/// The most octets that the columns of a table take.
-const MAX_TABLE_SIZE: u64 = 64 * MAX_COLUMN_SIZE;
+/// Nor do the 64 columns of a table.
+const MAX_TABLE_SIZE: u64 = 256_520_000_000;
 
-/// The most pages that the columns of tables take: 32 tables of 64 such columns.
-pub const MAX_COLUMN_PAGES: u64 = 125_128_907;
+/// The columns of 32 tables take no more pages.
+pub const MAX_COLUMN_PAGES: u64 = 125_253_907;
 
 /// How many pages the columns of loaded tables take together. Nothing else stands on the last one.
 pub fn pages_needed(loaded: &[Loaded]) -> u64
@@ -57,7 +57,7 @@ pub(crate) fn columns_end(loaded: &Loaded, at: u64) -> u64
 {
     let mut end = at;
     for column in 0..loaded.width() {
-        end = column_end(loaded.columns()[column].not_null, &placed_at(loaded, column, end));
+        end = column_end(column_type(loaded, column).not_null, &placed_at(loaded, column, end));
     }
     end
 }
@@ -66,7 +66,8 @@ pub(crate) fn columns_end(loaded: &Loaded, at: u64) -> u64
 pub(crate) fn column_end(not_null: bool, placed: &Placed) -> u64
     requires rows { placed.now.rows ≤ most_rows }
     requires small { placed.now.nulls ≤ 2 ^ 62 }
-    ensures { result ≡ columns.column_end not_null placed.now }
+    ensures end { result ≡ columns.column_end not_null placed.now }
+    ensures limit { result ≤ placed.now.nulls + 125_000 }
 {
     placed.nulls + to_eight(nulls_size(not_null, placed.rows))
 }
@@ -82,7 +83,7 @@ pub(crate) fn placed_at(loaded: &Loaded, column: usize, at: u64) -> Placed
 {
     let rows = loaded.len() as u64;
     let size = text_octets(loaded, column);
-    let octets = at + to_eight(values_size(loaded.columns()[column].ty, rows));
+    let octets = at + to_eight(values_size(column_type(loaded, column).ty, rows));
     Placed {
         values: at,
         octets,
@@ -90,6 +91,14 @@ pub(crate) fn placed_at(loaded: &Loaded, column: usize, at: u64) -> Placed
         nulls: octets + to_eight(size),
         rows,
     }
+}
+
+/// The type of a column.
+pub(crate) fn column_type(loaded: &Loaded, column: usize) -> ColumnType
+    requires { column < length loaded.now.columns }
+    ensures { slice_get loaded.now.columns column ≡ Some result }
+{
+    loaded.columns()[column]
 }
 
 /// How many octets the texts of a column have together.
@@ -107,7 +116,7 @@ fn text_octets(loaded: &Loaded, column: usize) -> u64
 
 /// The octets of a text; of other values none.
 pub(crate) fn text_of<'a>(cell: Cell<'a>) -> &'a [u8]
-    ensures { result.now ≡ octets_in (val_of cell) }
+    ensures { result.now ≡ octets_in (val_of cell.entry) }
 {
     match cell {
         Cell::Text(octets) => octets,

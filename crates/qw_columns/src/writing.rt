@@ -9,7 +9,7 @@ ghost use Rattle.std.specs.Int.{cast_unsigned, w64};
 ghost use Rattle.qw_map.specs.Columns.{HoldsColumn, HoldsTable, column_end, column_values, columns_end, placed_at, placed_columns};
 ghost use Rattle.qw_columns.specs.Inner.Writing.{HasNulls, HasNumbers, HasStarts, HasTexts, HasValues, KeepsBelow, flags_from, is_null, number_in, width_of};
 
-use crate::room::text_of;
+use crate::room::{column_type, text_of};
 use qw_csv::{Cell, Loaded};
 use qw_linear::linear::Linear;
 use qw_map::layout::Placed;
@@ -40,7 +40,7 @@ fn write_column(loaded: &Loaded, column: usize, placed: &Placed, memory: &mut Li
         → HoldsColumn memory.new.octets type.ty type.not_null placed.now (column_values loaded.now.rows column) }
     ensures keeps { KeepsBelow memory.old memory.new placed.now.values }
 {
-    let column_type = loaded.columns()[column];
+    let column_type = column_type(loaded, column);
     write_values(loaded, column, column_type.ty, placed, memory);
     if !column_type.not_null {
         write_nulls(loaded, column, placed.nulls, memory);
@@ -99,7 +99,7 @@ fn width_of(ty: Ty) -> u64
 
 /// The number of a value; 0 of a null and of a text.
 fn number_of(cell: Cell<'_>) -> i64
-    ensures { result ≡ number_in (val_of cell) }
+    ensures { result ≡ number_in (val_of cell.entry) }
 {
     match cell {
         Cell::Num(number) => number,
