@@ -1,19 +1,21 @@
 -- Indices of columns, and the one meaning of names.
 use Rattle.std.proofs.Common.{◌≡◌, ℕ, zero, suc, ◌+◌, ◌<◌, ◌≤◌, ◌^◌, Bool, ltb, List, [], ◌∷◌, ◌++◌, length, map, take, get_or, Option, Some, None, Result, Ok, Err, refl, sym, ap, subst, ◌∙◌, arith, inl, inr}
-use Rattle.std.specs.Prelude.{ℤ, ◌⊎◌, find, true, false, IfOk}
+use Rattle.std.specs.Prelude.{ℤ, ◌⊎◌, find, position, slice_get, true, false, IfOk}
 use Rattle.std.specs.Option.{option_map, option_or}
-use Rattle.std.specs.List.{AllByRecursion}
+use Rattle.std.specs.List.{AllByRecursion, position_or_len}
 use Rattle.std.specs.Str.{bytes_eq}
 use Rattle.std.specs.Borrow.{Bor}
 use Rattle.std.proofs.lemmas.Bool.{cases_Bool, ltb-true, ltb-false}
 use Rattle.std.proofs.lemmas.List.{length-map, map_push, take_more, take_all}
-use Rattle.std.proofs.lemmas.List.Folds.{find-append}
+use Rattle.std.proofs.lemmas.Grind.{common_steps}
+use Rattle.std.proofs.lemmas.List.Folds.{find-append, find_at}
+use Rattle.std.proofs.lemmas.Option.{slice_get_past, slice_get_read}
 use Rattle.std.proofs.lemmas.List.Quantifiers.{position-Some}
 use Rattle.qw_types.specs.declared.memory.NoMemory.{NoMemory}
 use Rattle.qw_types.specs.declared.schema.Column.{Column}
 use Rattle.qw_types.specs.declared.schema.Table.{Table}
-use Rattle.qw_types.specs.Limits.{most_columns}
-use Rattle.qw_types.specs.Schema.{AreColumns}
+use Rattle.qw_types.specs.Limits.{most_columns, most_tables}
+use Rattle.qw_types.specs.Schema.{AreColumns, AreTables}
 use Rattle.qw_meaning.specs.declared.query.Comparison.{Comparison}
 use Rattle.qw_meaning.specs.Statement.{most_items, Statement, IsStatement}
 use Rattle.qw_ast.specs.Grammar.{folded, Selection}
@@ -23,7 +25,7 @@ use Rattle.qw_parse.specs.declared.parse.QueryFault.TheVariants.{Mistyped}
 use Rattle.qw_parse.specs.declared.parse.TypeFault.{TypeFault}
 use Rattle.qw_parse.specs.declared.parse.TypeFault.TheVariants.{UnknownColumn, LiteralTooLong, Clash}
 use Rattle.qw_parse.specs.Query as query
-use Rattle.qw_parse.specs.Query.{table_of, index_of, column_names, is_unknown, first_unknown, clashes, magnitude_of, literal_value, Means, IsMistyped}
+use Rattle.qw_parse.specs.Query.{table_of, table_index, index_of, column_names, is_unknown, first_unknown, clashes, magnitude_of, literal_value, Means, IsMistyped}
 use Rattle.qw_parse.specs.Inner.Queries.{IsUnknownIn, fault_named, value_within}
 use Rattle.qw_parse.proofs.TerminalLemmas.{guard_some, none_not_some}
 use Rattle.qw_ast.specs.Inner.Views.{folded_names}
@@ -69,11 +71,12 @@ as_many find names indices e =
     let counts : length (map find names) ≡ length (map Some indices) = ap (λ (x : List (Option ℕ)). length x) e in
     omega (arith, counts, length-map names find, length-map {A = ℕ} indices Some)
 
-pub statement_within : (columns : List Column) (names : List (Bor (List ℕ))) (indices : List ℕ) (name : List ℕ) (tested : ℕ) (comparison : Comparison) (literal : ℤ) → AreColumns columns → 0 < length names → length names ≤ most_items → map (index_of columns) (folded_names names) ≡ map Some indices → Some tested ≡ index_of columns name → IsStatement (record { columns = indices; tested = tested; comparison = comparison; literal = literal })
-statement_within columns names indices name tested comparison literal are some few found is =
+pub statement_within : (columns : List Column) (names : List (Bor (List ℕ))) (indices : List ℕ) (name : List ℕ) (tested : ℕ) (comparison : Comparison) (literal : ℤ) (place : ℕ) → place < most_tables → AreColumns columns → 0 < length names → length names ≤ most_items → map (index_of columns) (folded_names names) ≡ map Some indices → Some tested ≡ index_of columns name → IsStatement (record { table = place; columns = indices; tested = tested; comparison = comparison; literal = literal })
+statement_within columns names indices name tested comparison literal place among are some few found is =
     let count = as_many (index_of columns) (folded_names names) indices found in
     let named = length-map names (λ n. folded n.now) in
     record {
+      table = among;
       some = omega (arith, count, named, some);
       few = omega (arith, count, named, few);
       selected = indices_within columns (folded_names names) indices most_columns are.few found;
@@ -157,9 +160,42 @@ pub fault_is_named : (k : ℕ) (kind : TypeFault) (r : Result (List ℕ) NoMemor
 fault_is_named k kind (Ok text) name f P is made h = inr (subst P (sym (made ∙ ap (Mistyped k kind) is)) h)
 fault_is_named k kind (Err none) name f P is made h = inl made
 
+-- the first index at which a test passes is that of the first element that passes it
+found_at : {X : Type 0} (p : X → Bool) (xs : List X) (i : ℕ) → position p xs ≡ Some i → slice_get xs i ≡ find p xs
+found_at p xs i is =
+    let at : position_or_len p xs ≡ i = grind (arith, common_steps) in
+    ap (slice_get xs) (sym at) ∙ sym (find_at p xs)
+
+found_nowhere : {X : Type 0} (p : X → Bool) (xs : List X) → position p xs ≡ None → find p xs ≡ None
+found_nowhere p xs is =
+    let past : length xs ≤ position_or_len p xs = grind (arith, common_steps) in
+    find_at p xs ∙ slice_get_past xs (position_or_len p xs) past
+
+-- the table of a name, where it has an index, and where it has none
+pub table_there : (tables : List Table) (name : List ℕ) (place : ℕ) (table : Table) → Some place ≡ table_index tables name → place < length tables → table ≡ get_or tables place table → Some table ≡ table_of tables name
+table_there tables name place table is within at =
+    sym (slice_get_read tables (length tables) place table refl within at) ∙ found_at (λ (t : Table). bytes_eq name t.name) tables place (sym is)
+
+pub no_table : (tables : List Table) (name : List ℕ) → None ≡ table_index tables name → None ≡ table_of tables name
+no_table tables name is = sym (found_nowhere (λ (t : Table). bytes_eq name t.name) tables (sym is))
+
+pub index_within : (tables : List Table) (name : List ℕ) (place : ℕ) → Some place ≡ table_index tables name → place < length tables
+index_within tables name place is =
+    let other : Table = record { name = []; columns = [] } in
+    (position-Some (λ (t : Table). bytes_eq name t.name) tables place other (sym is)).0
+
 -- the table that was looked up among the same tables
 pub table_is_same : (items schema : List Table) (name : List ℕ) (found : Option Table) → items ≡ schema → found ≡ table_of items name → table_of schema name ≡ found
 table_is_same items schema name found same is = ap (λ (s : List Table). table_of s name) (sym same) ∙ sym is
+
+-- and its index
+pub place_is_same : (items schema : List Table) (name : List ℕ) (place : ℕ) → items ≡ schema → Some place ≡ table_index items name → table_index schema name ≡ Some place
+place_is_same items schema name place same is = ap (λ (s : List Table). table_index s name) (sym same) ∙ sym is
+
+-- which is one of the few that there may be
+pub places_few : (tables : List Table) (name : List ℕ) (place : ℕ) → AreTables tables → Some place ≡ table_index tables name → place < most_tables
+places_few tables name place are is =
+    omega (arith, are.few, index_within tables name place is)
 
 module _ (schema : List Table) (k : ℕ) (selection : Selection) (table : Table) (there : table_of schema selection.source.table ≡ Some table) where
   unknown : (name : List ℕ) → first_unknown table selection ≡ Some name → (f : QueryFault) → f ≡ Mistyped k UnknownColumn name → IsMistyped schema k selection f
@@ -209,15 +245,16 @@ module _ (schema : List Table) (k : ℕ) (selection : Selection) (table : Table)
       query.clash table name there known fits (ap (λ (x : List Column). find (clashes x) (column_names selection)) (sym same) ∙ sym first)
 
   -- the names mean a statement
-  pub names_mean : (columns : List Column) (names : List (List ℕ)) (indices : List ℕ) (tested : ℕ) (literal : ℤ) → columns ≡ table.columns → names ≡ selection.columns → map (index_of columns) names ≡ map Some indices → index_of columns selection.source.tested ≡ Some tested
+  pub names_mean : (columns : List Column) (names : List (List ℕ)) (indices : List ℕ) (tested : ℕ) (literal : ℤ) (place : ℕ) → table_index schema selection.source.table ≡ Some place → columns ≡ table.columns → names ≡ selection.columns → map (index_of columns) names ≡ map Some indices → index_of columns selection.source.tested ≡ Some tested
       → Some literal ≡ value_within selection.source → None ≡ find (clashes columns) (column_names selection)
-      → Means schema selection (record { columns = indices; tested = tested; comparison = selection.source.comparison; literal = literal })
-  names_mean columns names indices tested literal same all found is value none =
+      → Means schema selection (record { table = place; columns = indices; tested = tested; comparison = selection.source.comparison; literal = literal })
+  names_mean columns names indices tested literal place here same all found is value none =
       let known = names_known columns names indices tested same all found is in
       let number = literal_is_value literal value in
       record {
         table = table;
         table_is = there;
+        place_is = here;
         columns_are = known.0;
         tested_is = known.1;
         fits = number.0;
@@ -239,7 +276,10 @@ Means-unique schema selection statement other m n =
     let tested : statement.tested ≡ other.tested = cc in
     let comparison = m.comparison_is ∙ sym n.comparison_is in
     let literal = m.literal_is ∙ sym n.literal_is in
-    ap (λ x. record statement { columns = x }) columns
-    ∙ ap (λ x. record statement { columns = other.columns; tested = x }) tested
+    let places : Some statement.table ≡ Some other.table = sym m.place_is ∙ n.place_is in
+    let place : statement.table ≡ other.table = cc in
+    ap (λ x. record statement { table = x }) place
+    ∙ ap (λ x. record statement { table = other.table; columns = x }) columns
+    ∙ ap (λ x. record statement { table = other.table; columns = other.columns; tested = x }) tested
     ∙ ap (λ x. record other { comparison = x; literal = statement.literal }) comparison
     ∙ ap (λ x. record other { literal = x }) literal

@@ -22,6 +22,10 @@ use Rattle.qw_parse.specs.declared.parse.Count.TheVariants.{Statements, SelectIt
 abbrev pub table_of : List Table → List ℕ → Option Table
 table_of schema name = find (λ (t : Table). bytes_eq name t.name) schema
 
+-- its index
+abbrev pub table_index : List Table → List ℕ → Option ℕ
+table_index schema name = position (λ (t : Table). bytes_eq name t.name) schema
+
 -- the column of this name
 abbrev pub column_of : List Column → List ℕ → Option Column
 column_of columns name = find (λ (c : Column). bytes_eq name c.name) columns
@@ -69,6 +73,7 @@ literal_value source = if source.negative then neg_ℤ (pos (magnitude_of source
 pub record Means (schema : List Table) (selection : Selection) (statement : Statement) : Type 0 where
   pub table : Table
   pub table_is : table_of schema selection.source.table ≡ Some table
+  pub place_is : table_index schema selection.source.table ≡ Some statement.table
   pub columns_are : map (index_of table.columns) selection.columns ≡ map Some statement.columns
   pub tested_is : index_of table.columns selection.source.tested ≡ Some statement.tested
   pub fits : magnitude_of selection.source < 10 ^ 18

@@ -1,27 +1,50 @@
--- The result rows of an instance that is done.
-use Rattle.std.proofs.Common.{◌≡◌, ℕ, ◌+◌, ◌^◌, ◌<◌, ◌≤◌, List, [], ◌∷◌, length, Option, Some, None, IsSome, slice_get, refl, sym, ap, ◌∙◌, subst, arith}
-use Rattle.std.specs.Prelude.{IfSome}
+-- What a bench keeps of an instance that is done.
+use Rattle.std.proofs.Common.{◌≡◌, ℕ, ◌+◌, ◌*◌, ◌^◌, ◌<◌, ◌≤◌, nat_le, true, false, inl, inr, List, ◌++◌, length, Option, Some, None, IsSome, slice_get, refl, sym, ap, ◌∙◌, subst, arith}
+use Rattle.std.specs.Prelude.{IfSome, ◌==◌, ◌||◌}
 use Rattle.std.specs.List.{AllByRecursion}
-use Rattle.std.specs.Option.{option_and_then, option_map_or}
-use Rattle.std.proofs.lemmas.Option.{none-some, same_Some, slice_get_within}
-use Rattle.qw_types.specs.declared.value.Ty.{Ty}
+use Rattle.std.specs.Option.{option_and_then}
+use Rattle.std.proofs.lemmas.Bool.{cases_Bool}
+use Rattle.std.proofs.lemmas.Option.{none-some, slice_get_within, slice_get-get_or}
 use Rattle.qw_types.specs.declared.value.Val.{Val}
-use Rattle.qw_linear.specs.Memory.{page}
-use Rattle.qw_map.specs.Areas.{Area}
-use Rattle.qw_map.specs.Turns.{Done, Instance, LiesWithin}
+use Rattle.qw_linear.specs.Memory.{page, most_pages}
+use Rattle.qw_map.specs.Areas.{Area, World}
+use Rattle.qw_map.specs.Behaving.{HasRows}
+use Rattle.qw_map.specs.Runs.{begins}
+use Rattle.qw_map.specs.Turns.{Done, Exception, Steps, Trap, Instance, LiesWithin, end_at, end_of_raise, end_of_refusal, moment_of}
+use Rattle.qw_module.specs.Execution.{State, Running, Returned, Raised, Trapped, IsOver}
 use Rattle.qw_map.proofs.AreaLemmas.{all-back}
-use Rattle.qw_meaning.specs.Statement.{Statement}
-use Rattle.qw_meaning.specs.Meaning.{Rows, outcome}
-use Rattle.qw_map.specs.Layout.{cell_types, rows_at}
-use Rattle.qw_bench.specs.Bench.{AreServing, IsAt, Serves, Task, end_in}
+use Rattle.qw_map.specs.Layout.{Layout, rows_at}
+use Rattle.qw_bench.specs.Bench.{AreServing, Serves, Task, end_in}
 use Rattle.qw_bench.specs.Standing.{IsBench, Standing, rows_in}
-use Rattle.qw_bench.proofs.Serving.{served-at, there}
+use Rattle.qw_bench.proofs.LayoutLemmas.{there}
 
--- what the instance of a number has of the memory
-abbrev pub own_in : Standing → ℕ → List Area
-own_in b i = option_map_or (λ (instance : Instance). instance.world.own) (slice_get b.shared.instances i) []
+-- an instance that is done has returned
+pub returned : (s : State) (w : World) (ran most : ℕ) → end_at s w ran most ≡ Some Done → s ≡ Returned
+returned Returned w ran most is = refl
+returned (Trapped why) w ran most is = cc
+returned (Running c) w ran most is = elim (cases_Bool (nat_le most ran)) [
+  | inl e ↦ absurd (steps-done (rw e at is))
+  | inr e ↦ absurd (none-some Done (rw e at is))
+]
+  where
+    steps-done : {most : ℕ} → Some (Steps most) ≡ Some Done → ⊥
+    steps-done h = cc
+returned (Raised code) w ran most is = absurd (raised code w is)
+  where
+    refusal : (o : Option ℕ) (w : World) → end_of_refusal o w ≡ Some Done → ⊥
+    refusal None w h = cc
+    refusal (Some asked) w h = cc
 
--- the instance that is done, and its task
+    raised : (code : ℕ) (w : World) → end_of_raise code w ≡ Some Done → ⊥
+    raised code w h = elim (cases_Bool ((code == 1) || (code == 2))) [
+      | inl e ↦ (let h : Some (Exception code) ≡ Some Done = rw e at h in cc)
+      | inr e ↦ elim (cases_Bool (code == 3)) [
+        | inl f ↦ refusal w.refused w (rw (e, f) at h)
+        | inr f ↦ (let h : Some Trap ≡ Some Done = rw (e, f) at h in cc)
+      ]
+    ]
+
+-- The instance of a number that is done, its task, and what follows of them.
 pub record IsDone (b : Standing) (i : ℕ) : Type 0 where
   pub instance : Instance
   pub instance_found : slice_get b.shared.instances i ≡ Some instance
@@ -35,79 +58,41 @@ done-there b i kept done = by_instance (slice_get b.shared.instances i) refl don
     by_instance : (o : Option Instance) → slice_get b.shared.instances i ≡ o → option_and_then (λ (x : Instance). x.end) o ≡ Some Done → IsDone b i
     by_instance None found done = absurd (none-some Done done)
     by_instance (Some instance) found done =
-        let task = there b.tasks i (omega (arith, slice_get_within b.shared.instances i instance found, kept.serving.many)) in
+        let within : i < length b.tasks = omega (arith, slice_get_within b.shared.instances i instance found, kept.serving.many) in
+        let task = there b.tasks i within in
         record { instance = instance; instance_found = found; done = done; task = task.0; task_found = task.1 }
 
-module _ (b : Standing) (i : ℕ) (is : IsDone b i) where
-  own_found : own_in b i ≡ is.instance.world.own
-  own_found = rw is.instance_found refl
+module _ (b : Standing) (i : ℕ) (kept : IsBench b) (is : IsDone b i) where
+  serves : Serves b.shared.common.memory is.task is.instance
+  serves = kept.serving.serving i is.task is.instance is.task_found is.instance_found
 
-  -- its rows are those of the statement's outcome
-  record HasAnswer (table : List (List Val)) : Type 0 where
-    bag : List (List Val)
-    outcome_is : outcome is.task.statement table ≡ Rows bag
-    rows_are : rows_at (cell_types is.task.statement) is.instance.world.own b.shared.common.memory is.task.descriptor ≡ Some bag
+  inside : AllByRecursion (LiesWithin (length b.shared.common.memory)) is.instance.world.own
+  inside =
+      all-back (LiesWithin (length b.shared.common.memory)) is.instance.world.mapped is.instance.world.own
+      (kept.serving.safe.separate.inside i is.instance is.instance_found)
 
-  serves : (table : List (List Val)) → AreServing table b.tasks b.shared → Serves table b.shared.common.memory is.task is.instance
-  serves table serving = serving.serving i is.task is.instance is.task_found is.instance_found
-
-  answer : (table : List (List Val)) → AreServing table b.tasks b.shared → HasAnswer table
-  answer table serving =
-      let one = serves table serving in
-      let at = subst (IsAt table b.shared.common.memory is.task one.number is.instance) is.done (served-at table b.shared.common.memory is.task is.instance one) in
-      record { bag = at.2.0; outcome_is = at.2.1; rows_are = at.2.2 }
-
-  descriptor-is : (d : ℕ) → IfSome (slice_get b.tasks i) (λ (task : Task). d ≡ task.descriptor) → d ≡ is.task.descriptor
-  descriptor-is d told = rw is.task_found at told
-
-  statement-is : (statement : Statement) → IfSome (slice_get b.tasks i) (λ (task : Task). statement ≡ task.statement) → statement ≡ is.task.statement
-  statement-is statement told = rw is.task_found at told
-
-  module _ (kept : IsBench b) where
-    inside : AllByRecursion (LiesWithin (length b.shared.common.memory)) is.instance.world.own
-    inside =
-        all-back (LiesWithin (length b.shared.common.memory)) is.instance.world.mapped is.instance.world.own
-        (kept.serving.safe.separate.inside i is.instance is.instance_found)
-
-    -- what it has lies in the memory
-    own-inside : AllByRecursion (LiesWithin (length b.shared.common.memory)) (own_in b i)
-    own-inside = rw own_found inside
-
-    descriptor-small : is.task.descriptor < 2 ^ 32
-    descriptor-small =
-        let first = (serves kept.table kept.serving).first_page in
-        let within : AllByRecursion (LiesWithin (length b.shared.common.memory)) (record { start = is.task.descriptor; size = page } ∷ first.0) = rw first.1 at inside in
-        let ends : is.task.descriptor + page ≤ length b.shared.common.memory = within.0 in
-        omega (arith, kept.serving.safe.separate.room, ends)
-
-    rows-there : IsSome (rows_at (cell_types is.task.statement) (own_in b i) b.shared.common.memory is.task.descriptor)
-    rows-there = rw (own_found, (answer kept.table kept.serving).rows_are) refl
-
-  rows-are : (rows : List (List Val)) → rows_at (cell_types is.task.statement) (own_in b i) b.shared.common.memory is.task.descriptor ≡ Some rows → rows_in b i ≡ Some rows
-  rows-are rows read = rw (is.task_found, is.instance_found) (rw own_found at read)
+  rows-there : IsSome (rows_at is.task.program.layout is.instance.world b.shared.common.memory is.task.descriptor)
+  rows-there =
+      let over : is.instance.state ≡ Returned = returned is.instance.state is.instance.world is.instance.ran is.instance.most_steps (sym serves.whole.end_is ∙ is.done) in
+      let here = moment_of is.instance b.shared.common.memory in
+      let rows = (serves.behaves.2.ends 0 here (begins here) (subst IsOver (sym over) tt)).1 in
+      subst (HasRows is.task.program.layout is.task.descriptor here) over rows
 
   -- what was told of a bench leads to its rows
-  pub record Leads (types : List Ty) (memory : List ℕ) (descriptor : ℕ) : Type 0 where
-    pub small : descriptor < 2 ^ 32
-    pub inside : AllByRecursion (LiesWithin (length memory)) (own_in b i)
-    pub there : IsSome (rows_at types (own_in b i) memory descriptor)
-    pub reads : (rows : List (List Val)) → rows_at types (own_in b i) memory descriptor ≡ Some rows → rows_in b i ≡ Some rows
+  pub record Leads (layout : Layout) (memory : List ℕ) (descriptor : ℕ) : Type 0 where
+    pub room : length memory < 2 ^ 32
+    pub inside : AllByRecursion (LiesWithin (length memory)) is.instance.world.own
+    pub there : IsSome (rows_at layout is.instance.world memory descriptor)
+    pub reads : (rows : List (List Val)) → rows_at layout is.instance.world memory descriptor ≡ Some rows → rows_in b i ≡ Some rows
 
-  pub leads : IsBench b → (types : List Ty) (memory : List ℕ) (descriptor : ℕ) (statement : Statement) → types ≡ cell_types statement →
-      IfSome (slice_get b.tasks i) (λ (task : Task). statement ≡ task.statement) → memory ≡ b.shared.common.memory →
-      IfSome (slice_get b.tasks i) (λ (task : Task). descriptor ≡ task.descriptor) → Leads types memory descriptor
-  leads kept types memory descriptor statement types_are asked memory_is begins =
-      rw (types_are, statement-is statement asked, memory_is, descriptor-is descriptor begins) (record {
-        small = descriptor-small kept;
-        inside = own-inside kept;
-        there = rows-there kept;
-        reads = rows-are;
+  pub leads : (layout : Layout) (memory : List ℕ) (descriptor : ℕ) → IfSome (slice_get b.tasks i) (λ (task : Task). layout ≡ task.program.layout) →
+      memory ≡ b.shared.common.memory → IfSome (slice_get b.tasks i) (λ (task : Task). descriptor ≡ task.descriptor) → Leads layout memory descriptor
+  leads layout memory descriptor laid memory_is first =
+      let layout_is : layout ≡ is.task.program.layout = rw is.task_found at laid in
+      let descriptor_is : descriptor ≡ is.task.descriptor = rw is.task_found at first in
+      rw (layout_is, memory_is, descriptor_is) (record {
+        room = omega (arith, kept.serving.safe.separate.room);
+        inside = inside;
+        there = rows-there;
+        reads = λ rows read. rw (is.task_found, is.instance_found) read;
       })
-
-  pub rows-answer : (rows : List (List Val)) → rows_in b i ≡ Some rows → (table : List (List Val)) → AreServing table b.tasks b.shared →
-      IfSome (slice_get b.tasks i) (λ (task : Task). outcome task.statement table ≡ Rows rows)
-  rows-answer rows read table serving =
-      let answered = answer table serving in
-      let found = rw (is.task_found, is.instance_found) at read in
-      let same : answered.bag ≡ rows = same_Some answered.bag rows (sym answered.rows_are ∙ found) in
-      rw is.task_found (answered.outcome_is ∙ ap Rows same)

@@ -1,26 +1,54 @@
 -- The text of rows, a line at a time.
-use Rattle.std.proofs.Common.{◌≡◌, ◌<◌, ◌+◌, ◌∙◌, ℕ, List, [], ◌∷◌, ◌++◌, map, length, take, get_or, sym, ap, append_assoc}
+use Rattle.std.proofs.Common.{◌≡◌, ◌<◌, ◌≤◌, ◌+◌, ◌-◌, ◌^◌, ◌∙◌, ◌⊎◌, inl, inr, zero, suc, refl, arith, ℕ, List, [], ◌∷◌, ◌++◌, map, length, take, get_or, sym, ap, append_assoc}
 use Rattle.std.specs.List.{flat_map}
 use Rattle.std.proofs.lemmas.Grind.{flat_map-append}
-use Rattle.std.proofs.lemmas.List.{append-nil, take_more}
+use Rattle.std.proofs.lemmas.List.{append-nil, length-take, take_more}
 use Rattle.qw_types.specs.declared.value.Val.{Val}
 use Rattle.qw_sink.specs.declared.sink.Head.{Head}
-use Rattle.qw_sink.specs.Sink.{line_of, printed, text_of_rows}
+use Rattle.qw_sink.specs.Sink.{line_of, printed, printed_row, text_of_rows}
 
 -- no row: the header alone
 pub text_of_rows-none : (header : List Head) → text_of_rows header [] ≡ line_of (map (λ (h : Head). h.name) header)
 text_of_rows-none header = append-nil (line_of (map (λ (h : Head). h.name) header))
 
 -- one more row: its line at the end
-text_of_rows-push : (header : List Head) (rows : List (List Val)) (row : List Val) → text_of_rows header (rows ++ row ∷ []) ≡ text_of_rows header rows ++ line_of (map printed row)
+text_of_rows-push : (header : List Head) (rows : List (List Val)) (row : List Val) → text_of_rows header (rows ++ row ∷ []) ≡ text_of_rows header rows ++ line_of (printed_row header row)
 text_of_rows-push header rows row =
     let names = line_of (map (λ (h : Head). h.name) header) in
-    let line = λ (r : List Val). line_of (map printed r) in
+    let line = λ (r : List Val). line_of (printed_row header r) in
     ap (λ t. names ++ t) (flat_map-append line rows (row ∷ []) ∙ ap (λ t. flat_map line rows ++ t) (append-nil (line row)))
     ∙ sym (append_assoc names (flat_map line rows) (line row))
 
 pub text_of_rows-more : (header : List Head) (rows : List (List Val)) (i : ℕ) (row : List Val) (text : List ℕ) → i < length rows → row ≡ get_or rows i row
-    → text ++ text_of_rows header (take (i + 1) rows) ≡ (text ++ text_of_rows header (take i rows)) ++ line_of (map printed row)
+    → text ++ text_of_rows header (take (i + 1) rows) ≡ (text ++ text_of_rows header (take i rows)) ++ line_of (printed_row header row)
 text_of_rows-more header rows i row text lt e =
     let more : take (i + 1) rows ≡ take i rows ++ row ∷ [] = take_more rows i row lt ∙ ap (λ r. take i rows ++ r ∷ []) (sym e) in
-    rw more (ap (λ t. text ++ t) (text_of_rows-push header (take i rows) row) ∙ sym (append_assoc text (text_of_rows header (take i rows)) (line_of (map printed row))))
+    rw more (ap (λ t. text ++ t) (text_of_rows-push header (take i rows) row) ∙ sym (append_assoc text (text_of_rows header (take i rows)) (line_of (printed_row header row))))
+
+-- ---- the values of a row
+
+-- one more value
+pub printed-more : (header : List Head) (values : List Val) (i : ℕ) (head : Head) (value : Val) → i < length header → i < length values →
+    head ≡ get_or header i head → value ≡ get_or values i value →
+    take (i + 1) (printed_row header values) ≡ take i (printed_row header values) ++ printed head.kind value ∷ []
+printed-more [] values i head value less within is at = absurd (omega (arith, less))
+printed-more (h ∷ header) [] i head value less within is at = absurd (omega (arith, within))
+printed-more (h ∷ header) (v ∷ values) zero head value less within is at = rw (is, at) refl
+printed-more (h ∷ header) (v ∷ values) (suc i) head value less within is at =
+    let next : suc i + 1 ≡ suc (i + 1) = omega arith in
+    rw next (ap (λ (t : List (List ℕ)). printed h.kind v ∷ t) (printed-more header values i head value (omega arith) (omega arith) is at))
+
+-- all of them
+pub printed-all : (header : List Head) (values : List Val) (i : ℕ) → (length header ≤ i) ⊎ (length values ≤ i) → take i (printed_row header values) ≡ printed_row header values
+printed-all [] values zero past = refl
+printed-all [] values (suc i) past = refl
+printed-all (h ∷ header) [] zero past = refl
+printed-all (h ∷ header) [] (suc i) past = refl
+printed-all (h ∷ header) (v ∷ values) zero (inl past) = absurd (omega (arith, past))
+printed-all (h ∷ header) (v ∷ values) zero (inr past) = absurd (omega (arith, past))
+printed-all (h ∷ header) (v ∷ values) (suc i) (inl past) = ap (λ (t : List (List ℕ)). printed h.kind v ∷ t) (printed-all header values i (inl (omega (arith, past))))
+printed-all (h ∷ header) (v ∷ values) (suc i) (inr past) = ap (λ (t : List (List ℕ)). printed h.kind v ∷ t) (printed-all header values i (inr (omega (arith, past))))
+
+-- few of them are taken
+pub few-taken-values : (row : List (List ℕ)) (i : ℕ) → i + 1 ≤ 2 ^ 64 - 1 → length (take i row) < 2 ^ 64 - 1
+few-taken-values row i fits = omega (arith, length-take i row)

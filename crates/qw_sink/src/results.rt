@@ -1,41 +1,28 @@
 //! The result rows of an instance, read from the memory.
 
-ghost use Rattle.std.specs.Prelude.{◌≡◌, ◌+◌, ◌<◌, ◌≤◌, ◌^◌, ◌*◌, List, length, IfOk, IfSome, IsSome, Some, slice_get};
+ghost use Rattle.std.specs.Prelude.{◌≡◌, ◌+◌, ◌<◌, ◌≤◌, ◌^◌, ◌*◌, List, length, take, drop, IfOk, IsSome, IsUtf8, Some};
 ghost use Rattle.std.specs.List.{AllByRecursion};
-ghost use Rattle.qw_types.specs.declared.value.Val.{Val};
-ghost use Rattle.qw_meaning.specs.Statement.{most_items};
-ghost use Rattle.qw_meaning.specs.Meaning.{Rows, outcome};
-ghost use Rattle.qw_map.specs.Areas.{Area};
+ghost use Rattle.qw_map.specs.Areas.{Area, World};
 ghost use Rattle.qw_map.specs.Turns.{Done, LiesWithin};
-ghost use Rattle.qw_map.specs.Layout.{cell_at, cell_types, cells_at, rows_at, rows_from};
-ghost use Rattle.qw_bench.specs.Bench.{AreServing, end_in};
+ghost use Rattle.qw_map.specs.Layout.{cell_at, cells_at, plain_cell, rows_at, rows_from};
+ghost use Rattle.qw_bench.specs.Bench.{end_in};
 ghost use Rattle.qw_bench.specs.Standing.{rows_in};
 
 use qw_bench::bench::Bench;
 use qw_linear::linear::Linear;
-use qw_map::layout::{CELL_OFFSET, CELL_SIZE, COUNT_OFFSET, FIRST_ROW_OFFSET};
-use qw_meaning::query::Query;
-use qw_types::{NoMemory, Row, Ty, Val};
+use qw_map::layout::{
+    CELL_LENGTH_OFFSET, CELL_NULL_OFFSET, CELL_OFFSET, CELL_SIZE, COUNT_OFFSET, FIRST_ROW_OFFSET,
+    Layout,
+};
+use qw_types::{Kind, NoMemory, Row, Text, Val};
 use std::alloc::Global;
 
 /// The result rows of an instance that is done. The error is want of memory.
 pub fn received(alloc: Global, bench: &Bench, i: usize) -> Result<Vec<Row>, NoMemory>
     requires { end_in bench.now.shared i ≡ Some Done }
-    ensures rows { IfOk result (λ rows. rows_in bench.now i ≡ Some rows.items) }
-    ensures answer { IfOk result (λ rows. (table : List (List Val)) → AreServing table bench.now.tasks bench.now.shared
-        → IfSome (slice_get bench.now.tasks i) (λ task. outcome task.statement table ≡ Rows rows.items)) }
+    ensures { IfOk result (λ rows. rows_in bench.now i ≡ Some rows.items) }
 {
-    let types = types_of(alloc, bench.query(i))?;
-    rows_of(alloc, bench.memory(), bench.descriptor(i), types.as_slice())
-}
-
-/// The types of the cells of a statement's result rows.
-fn types_of(alloc: Global, query: &Query) -> Result<Vec<Ty>, NoMemory>
-    ensures types { IfOk result (λ types. types.items ≡ cell_types query.now) }
-    ensures few { IfOk result (λ types. length types.items ≤ most_items) }
-{
-    let types = query.columns().iter().map(|_| Ty::Integer).collect(alloc)?;
-    Ok(types)
+    rows_of(alloc, bench.memory(), bench.descriptor(i), bench.layout(i))
 }
 
 /// The result rows that a descriptor leads to.
@@ -43,20 +30,19 @@ fn rows_of(
     alloc: Global,
     memory: &Linear,
     descriptor: u64,
-    types: &[Ty],
+    layout: &Layout,
 ) -> Result<Vec<Row>, NoMemory>
-    requires small { descriptor < 2 ^ 32 }
-    requires few { length types.now ≤ most_items }
-    requires there { (own : List Area) × AllByRecursion (LiesWithin (length memory.now.octets)) own
-        × IsSome (rows_at types.now own memory.now.octets descriptor) }
-    ensures { IfOk result (λ rows. (own : List Area) → IsSome (rows_at types.now own memory.now.octets descriptor)
-        → rows_at types.now own memory.now.octets descriptor ≡ Some rows.items) }
+    requires room { length memory.now.octets < 2 ^ 32 }
+    requires there { (w : World) × AllByRecursion (LiesWithin (length memory.now.octets)) w.own
+        × IsSome (rows_at layout.now w memory.now.octets descriptor) }
+    ensures { IfOk result (λ rows. (w : World) → IsSome (rows_at layout.now w memory.now.octets descriptor)
+        → rows_at layout.now w memory.now.octets descriptor ≡ Some rows.items) }
 {
     let first = memory
         .load32(descriptor + u64::from(FIRST_ROW_OFFSET))
         .unwrap();
     let count = memory.load64(descriptor + u64::from(COUNT_OFFSET)).unwrap();
-    chained_rows(alloc, memory, first, count, types)
+    chained_rows(alloc, memory, first, count, layout.cells())
 }
 
 /// So many rows, each of which has the address of the next one.
@@ -65,48 +51,81 @@ fn chained_rows(
     memory: &Linear,
     first: u64,
     count: u64,
-    types: &[Ty],
+    kinds: &[Kind],
 ) -> Result<Vec<Row>, NoMemory>
+    requires room { length memory.now.octets < 2 ^ 32 }
     requires small { first < 2 ^ 32 }
-    requires few { length types.now ≤ most_items }
-    requires there { (own : List Area) × AllByRecursion (LiesWithin (length memory.now.octets)) own
-        × IsSome (rows_from types.now own memory.now.octets count first) }
-    ensures { IfOk result (λ rows. (own : List Area) → IsSome (rows_from types.now own memory.now.octets count first)
-        → rows_from types.now own memory.now.octets count first ≡ Some rows.items) }
+    requires there { (texts own : List Area) × AllByRecursion (LiesWithin (length memory.now.octets)) own
+        × IsSome (rows_from kinds.now texts own memory.now.octets count first) }
+    ensures { IfOk result (λ rows. (texts own : List Area) → IsSome (rows_from kinds.now texts own memory.now.octets count first)
+        → rows_from kinds.now texts own memory.now.octets count first ≡ Some rows.items) }
 {
     let mut rows = Vec::new(alloc);
     let mut at = first;
     for _ in 0..count {
-        rows.push(row_at(alloc, memory, at + u64::from(CELL_OFFSET), types)?)?;
+        rows.push(row_at(alloc, memory, at + u64::from(CELL_OFFSET), kinds)?)?;
         at = memory.load32(at).unwrap();
     }
     Ok(rows)
 }
 
 /// The row whose cells begin at an address.
-fn row_at(alloc: Global, memory: &Linear, cells: u64, types: &[Ty]) -> Result<Row, NoMemory>
-    requires small { cells < 2 ^ 33 }
-    requires few { length types.now ≤ most_items }
-    requires inside { cells + 16 * length types.now ≤ length memory.now.octets }
-    requires there { IsSome (cells_at memory.now.octets cells types.now) }
-    ensures { IfOk result (λ row. cells_at memory.now.octets cells types.now ≡ Some row) }
+fn row_at(alloc: Global, memory: &Linear, cells: u64, kinds: &[Kind]) -> Result<Row, NoMemory>
+    requires room { length memory.now.octets < 2 ^ 32 }
+    requires inside { cells + 16 * length kinds.now ≤ length memory.now.octets }
+    requires there { (texts : List Area) × IsSome (cells_at texts memory.now.octets cells kinds.now) }
+    ensures { IfOk result (λ row. (texts : List Area) → IsSome (cells_at texts memory.now.octets cells kinds.now)
+        → cells_at texts memory.now.octets cells kinds.now ≡ Some row) }
 {
-    let mut values = Vec::with_capacity(alloc, types.len())?;
-    for (index, ty) in types.iter().enumerate() {
+    let mut values = Vec::with_capacity(alloc, kinds.len())?;
+    for (index, kind) in kinds.iter().enumerate() {
         let cell = cells + u64::from(CELL_SIZE) * index as u64;
-        values.push(value_at(memory, cell, *ty))?;
+        values.push(value_at(alloc, memory, cell, *kind)?)?;
     }
     Ok(Row::new(values))
 }
 
-/// The value of a cell that isn't null.
-fn value_at(memory: &Linear, cell: u64, ty: Ty) -> Val
+/// The value of a cell.
+fn value_at(alloc: Global, memory: &Linear, cell: u64, kind: Kind) -> Result<Val, NoMemory>
+    requires room { length memory.now.octets < 2 ^ 32 }
     requires inside { cell + 16 ≤ length memory.now.octets }
-    requires there { IsSome (cell_at memory.now.octets cell ty) }
-    ensures { cell_at memory.now.octets cell ty ≡ Some result }
+    requires there { (texts : List Area) × IsSome (cell_at texts memory.now.octets cell kind) }
+    ensures { IfOk result (λ value. (texts : List Area) → IsSome (cell_at texts memory.now.octets cell kind)
+        → cell_at texts memory.now.octets cell kind ≡ Some value) }
 {
-    match ty {
-        Ty::Integer => Val::Num(memory.load64(cell).unwrap().cast_signed()),
-        _ => unreachable!(),
+    if memory.load8(cell + u64::from(CELL_NULL_OFFSET)).unwrap() == 1 {
+        return Ok(Val::Null);
     }
+    plain_value(alloc, memory, cell, kind)
+}
+
+/// The value of a cell that isn't null.
+fn plain_value(alloc: Global, memory: &Linear, cell: u64, kind: Kind) -> Result<Val, NoMemory>
+    requires room { length memory.now.octets < 2 ^ 32 }
+    requires inside { cell + 16 ≤ length memory.now.octets }
+    requires there { (texts : List Area) × IsSome (plain_cell texts memory.now.octets cell kind) }
+    ensures { IfOk result (λ value. (texts : List Area) → IsSome (plain_cell texts memory.now.octets cell kind)
+        → plain_cell texts memory.now.octets cell kind ≡ Some value) }
+{
+    let number = memory.load64(cell).unwrap().cast_signed();
+    match kind {
+        Kind::Number(_) => Ok(Val::Num(number)),
+        Kind::Date => Ok(Val::Date(number as i32)),
+        Kind::Text => {
+            let address = memory.load32(cell).unwrap();
+            let size = memory.load32(cell + u64::from(CELL_LENGTH_OFFSET)).unwrap();
+            Ok(Val::Text(text_at(alloc, memory, address, size)?))
+        }
+    }
+}
+
+/// The text of so many octets from an address on, which are UTF-8.
+fn text_at(alloc: Global, memory: &Linear, address: u64, size: u64) -> Result<Text, NoMemory>
+    requires inside { address + size ≤ length memory.now.octets }
+    requires utf8 { IsUtf8 (take size (drop address memory.now.octets)) }
+    ensures { IfOk result (λ text. text ≡ take size (drop address memory.now.octets)) }
+{
+    let octets = memory.octets_at(address, size).unwrap();
+    let text = std::str::from_utf8(octets).unwrap();
+    Ok(Text::new(String::from_str(alloc, text)?))
 }

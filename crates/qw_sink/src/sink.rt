@@ -2,14 +2,16 @@
 
 ghost use Rattle.std.specs.Prelude.{◌≡◌, ◌≤◌, ◌<◌, ◌-◌, ◌^◌, ◌++◌, ◌∷◌, [], List, ℕ, length, map, IfOk, OnOk};
 ghost use Rattle.std.specs.String.{string_bytes};
-ghost use Rattle.qw_sink.specs.Sink.{AreRowsOf, date_text, line_of, printed, report_of_pages, report_of_rows, text_of_rows, with_digit, with_two};
+ghost use Rattle.qw_sink.specs.Sink.{date_text, line_of, printed, printed_row, kind_scale, report_of_exception, report_of_pages, report_of_rows, report_of_steps, rows_line, sqlstate, text_of_rows, with_digit, with_two};
 ghost use Rattle.qw_sink.specs.Inner.Sink.{HasBegun, HasWritten};
 
 use csv::{Writer, WriterBuilder};
-use qw_types::{Kind, NoMemory, Row, Text, Val};
+use qw_types::number_text::push_decimal;
+use qw_types::{Code, Kind, NoMemory, Row, Text, Val};
 use std::alloc::{AllocError, Global};
+use std::marker::Model;
 
-/// A column of a result. Rows are printed where all columns are numbers of scale 0.
+/// A column of a result.
 #[derive(Debug, Drop)]
 pub struct Head {
     /// The name in the header.
@@ -18,39 +20,149 @@ pub struct Head {
     pub kind: Kind,
 }
 
-/// A query's part of the report: `QUERY k ROWS r`, and the rows under their header. Queries are numbered from 1.
-pub fn report_text(
+/// The heads of the columns of a result, in order. Contracts see it as a list.
+#[derive(Debug, Drop)]
+pub struct Header {
+    heads: Vec<Head>,
+}
+
+impl Model for Header {
+    ghost use Rattle.std.specs.Prelude.{List};
+    ghost use Rattle.qw_sink.specs.declared.sink.Head.{Head};
+
+    ghost Value = { List Head };
+
+    ghost view = { λ a. a.heads.items };
+}
+
+impl Header {
+    /// The header of these heads.
+    pub fn new(heads: Vec<Head>) -> Self
+        ensures { result ≡ heads.items }
+    {
+        Header { heads }
+    }
+
+    /// The heads, in order.
+    pub fn as_slice(&self) -> &[Head]
+        ensures { result.now ≡ self.now }
+    {
+        self.heads.as_slice()
+    }
+}
+
+/// A report with the part of a query of this number, from 1 on, that gave rows: `QUERY k ROWS r`, and the rows under their header.
+pub fn with_rows_of(
     alloc: Global,
-    number: u32,
+    report: Vec<u8>,
+    number: usize,
     header: &[Head],
     rows: &[Row],
 ) -> Result<Vec<u8>, NoMemory>
-    requires { AreRowsOf header.now rows.now }
-    ensures { IfOk result (λ text. text.items ≡ report_of_rows number header.now rows.now) }
+    ensures { IfOk result (λ text. text.items ≡ report.items ++ report_of_rows number header.now rows.now) }
 {
-    let count = rows.len();
-    let headline = format!(in alloc; "QUERY {number} ROWS {count}\n")?;
-    with_rows(alloc, headline.into_bytes(), header, rows)
+    let headline = headline(alloc, number, rows.len())?;
+    let report = with_line(report, headline.as_str())?;
+    with_rows(alloc, report, header, rows)
 }
 
-/// A query's part of the report where a request for pages was past its limit: `QUERY k PAGES held asked limit`.
-/// It held so many pages, and asked for so many more.
-pub fn pages_text(
+/// The line before the header of so many rows.
+fn headline(alloc: Global, number: usize, count: usize) -> Result<String, NoMemory>
+    ensures { IfOk result (λ line. string_bytes line ≡ rows_line number count) }
+{
+    Ok(format!(in alloc; "QUERY {number} ROWS {count}\n")?)
+}
+
+/// A report with the part of a query that raised an exception: `QUERY k SQLSTATE c`.
+pub fn with_exception(
     alloc: Global,
-    number: u32,
+    report: Vec<u8>,
+    number: usize,
+    code: Code,
+) -> Result<Vec<u8>, NoMemory>
+    ensures { IfOk result (λ text. text.items ≡ report.items ++ report_of_exception number code) }
+{
+    let line = exception_line(alloc, number, code)?;
+    with_line(report, line.as_str())
+}
+
+/// The line on a query that raised an exception.
+fn exception_line(alloc: Global, number: usize, code: Code) -> Result<String, NoMemory>
+    ensures { IfOk result (λ line. string_bytes line ≡ report_of_exception number code) }
+{
+    let state = sqlstate(code);
+    Ok(format!(in alloc; "QUERY {number} SQLSTATE {state}\n")?)
+}
+
+/// The SQLSTATE of an exception (ISO/IEC 9075:1992, 22.1).
+fn sqlstate(code: Code) -> &'static str
+    ensures { result.now ≡ sqlstate code }
+{
+    match code {
+        Code::DivZero => "22012",
+        Code::OutOfRange => "22003",
+    }
+}
+
+/// A report with the part of a query whose request for pages was past its limit: `QUERY k PAGES held asked limit`. It held so many
+/// pages, and asked for so many more.
+pub fn with_pages(
+    alloc: Global,
+    report: Vec<u8>,
+    number: usize,
     held: u32,
     asked: u32,
     limit: u32,
 ) -> Result<Vec<u8>, NoMemory>
-    ensures { IfOk result (λ text. text.items ≡ report_of_pages number held asked limit) }
+    ensures { IfOk result (λ text. text.items ≡ report.items ++ report_of_pages number held asked limit) }
 {
-    let text = format!(in alloc; "QUERY {number} PAGES {held} {asked} {limit}\n")?;
-    Ok(text.into_bytes())
+    let line = pages_line(alloc, number, held, asked, limit)?;
+    with_line(report, line.as_str())
+}
+
+/// The line on a query whose request for pages was past its limit.
+fn pages_line(
+    alloc: Global,
+    number: usize,
+    held: u32,
+    asked: u32,
+    limit: u32,
+) -> Result<String, NoMemory>
+    ensures { IfOk result (λ line. string_bytes line ≡ report_of_pages number held asked limit) }
+{
+    Ok(format!(in alloc; "QUERY {number} PAGES {held} {asked} {limit}\n")?)
+}
+
+/// A report with the part of a query that ran as many instructions as its limit says: `QUERY k STEPS limit`.
+pub fn with_steps(
+    alloc: Global,
+    report: Vec<u8>,
+    number: usize,
+    limit: u64,
+) -> Result<Vec<u8>, NoMemory>
+    ensures { IfOk result (λ text. text.items ≡ report.items ++ report_of_steps number limit) }
+{
+    let line = steps_line(alloc, number, limit)?;
+    with_line(report, line.as_str())
+}
+
+/// The line on a query that ran as many instructions as its limit says.
+fn steps_line(alloc: Global, number: usize, limit: u64) -> Result<String, NoMemory>
+    ensures { IfOk result (λ line. string_bytes line ≡ report_of_steps number limit) }
+{
+    Ok(format!(in alloc; "QUERY {number} STEPS {limit}\n")?)
+}
+
+/// A text, and after it a line.
+fn with_line(mut text: Vec<u8>, line: &str) -> Result<Vec<u8>, NoMemory>
+    ensures { IfOk result (λ whole. whole.items ≡ text.items ++ line.now) }
+{
+    text.extend_from_slice(line.as_bytes())?;
+    Ok(text)
 }
 
 /// The rows under their header, a line each.
 pub fn rows_text(alloc: Global, header: &[Head], rows: &[Row]) -> Result<Vec<u8>, NoMemory>
-    requires { AreRowsOf header.now rows.now }
     ensures { IfOk result (λ text. text.items ≡ text_of_rows header.now rows.now) }
 {
     with_rows(alloc, Vec::new(alloc), header, rows)
@@ -86,7 +198,7 @@ fn write_rows(
     write_names(writer, header)?;
     let mut digits = String::new(alloc);
     for row in rows {
-        write_values(writer, &mut digits, row.values())?;
+        write_values(writer, &mut digits, header, row.values())?;
     }
     Ok(())
 }
@@ -102,32 +214,45 @@ fn write_names(writer: &mut Writer<Vec<u8>>, header: &[Head]) -> Result<(), NoMe
     end_line(writer)
 }
 
-/// Writes a line of the values of a row. Each value's text stands in `digits` for a while, so that a row takes no memory.
+/// Writes a line of the values of a row, each under its head. Each value's text stands in `digits` for a while, so that a row
+/// takes no memory.
 fn write_values(
     writer: &mut Writer<Vec<u8>>,
     digits: &mut String,
+    header: &[Head],
     values: &[Val],
 ) -> Result<(), NoMemory>
     ensures { OnOk result ((text : List ℕ) → HasWritten writer.old text
-        → HasWritten writer.new (text ++ line_of (map printed values.now))) }
+        → HasWritten writer.new (text ++ line_of (printed_row header.now values.now))) }
 {
-    for value in values {
-        print(digits, value)?;
+    for index in 0..header.len().min(values.len()) {
+        print(digits, header[index].kind, &values[index])?;
         write_field(writer, digits.as_bytes())?;
     }
     end_line(writer)
 }
 
-/// Puts the text of a value in the place of what was there.
-fn print(text: &mut String, value: &Val) -> Result<(), AllocError>
-    ensures { OnOk result (string_bytes text.new ≡ printed value.now) }
+/// Puts the text of a value of a kind in the place of what was there.
+fn print(text: &mut String, kind: Kind, value: &Val) -> Result<(), NoMemory>
+    ensures { OnOk result (string_bytes text.new ≡ printed kind value.now) }
 {
     text.clear();
     match value {
-        Val::Null => Ok(()),
-        Val::Num(number) => write!(text, "{number}"),
-        Val::Date(day) => print_date(text, day.unsigned_abs()),
-        Val::Text(octets) => text.push_str(octets.as_str()),
+        Val::Null => {}
+        Val::Num(number) => push_decimal(text, *number, scale_of(kind))?,
+        Val::Date(day) => print_date(text, day.unsigned_abs())?,
+        Val::Text(octets) => text.push_str(octets.as_str())?,
+    }
+    Ok(())
+}
+
+/// The digits after the point of a kind's numbers.
+fn scale_of(kind: Kind) -> u8
+    ensures { result ≡ kind_scale kind }
+{
+    match kind {
+        Kind::Number(scale) => scale,
+        Kind::Date | Kind::Text => 0,
     }
 }
 

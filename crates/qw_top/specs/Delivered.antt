@@ -1,112 +1,143 @@
 -- What a run leaves: the bench that it turned to the end, what it wrote of the report, and what it noted.
-use Rattle.std.specs.Prelude.{◌≡◌, ◌⊎◌, ℕ, List, [], ◌∷◌, length, codes, Option, Some, None, IfSome}
+use Rattle.std.specs.Prelude.{◌≡◌, ◌⊎◌, ℕ, zero, suc, ◌<◌, Bool, true, false, if◌then◌else◌, List, [], ◌∷◌, ◌++◌, length, Contains, Option, Some, None, IfSome, IsSome}
+use Rattle.std.specs.List.{AllZip, list_any}
+use Rattle.qw_types.specs.Contents.{Contents}
+use Rattle.qw_types.specs.declared.code.Code.{Code}
 use Rattle.qw_types.specs.declared.schema.Table.{Table}
 use Rattle.qw_types.specs.declared.value.Val.{Val}
-use Rattle.qw_module.specs.declared.module.Module.{Module}
-use Rattle.qw_map.specs.Turns.{Act, End, Done as EndedDone, Pages, Shared, turns}
-use Rattle.qw_meaning.specs.Statement.{Statement}
-use Rattle.qw_meaning.specs.Meaning.{Rows, outcome}
-use Rattle.qw_emit.specs.Compiled.{IsCompiled}
-use Rattle.qw_top.specs.Limits.{default_limits, quantum}
-use Rattle.qw_top.specs.declared.status.Status.{Status}
-use Rattle.qw_top.specs.declared.status.Status.TheVariants.{Done, WordsRefused, SchemaRefused, TableFileRefused, QueriesRefused, ReadFailed, WriteFailed, PageLimitMet, NoMemory}
-use Rattle.qw_bench.specs.Bench.{AreRounds, IsStart, end_in}
-use Rattle.qw_top.specs.Notes.{read_fault_line, refusal_line, want_of_memory_line}
+use Rattle.qw_meaning.specs.Outcome.{Rows, Raises, outcome}
+use Rattle.qw_map.specs.Turns.{Act, End, Done as EndedDone, Exception, Pages, Steps, Trap, Shared, turns}
+use Rattle.qw_emit.specs.Compiled.{IsCompiled, raised_for}
+use Rattle.qw_bench.specs.Bench.{AreRounds, IsStart, Program, end_in, rows_in_tables}
+use Rattle.qw_bench.specs.Standing.{Standing, AreTasksOf, rows_in}
+use Rattle.qw_bench.specs.declared.bench.Limits.{Limits}
+use Rattle.qw_sink.specs.Sink.{report_of_rows, report_of_exception, report_of_pages, report_of_steps}
+use Rattle.qw_top.specs.Causes.{Cause, line_of_cause, status_of_cause}
+use Rattle.qw_top.specs.Notes.{read_fault_line, want_of_memory_line}
 use Rattle.qw_top.specs.Output.{TookFront, with_text}
-use Rattle.qw_bench.specs.Standing.{Standing, first_task, rows_in}
-use Rattle.qw_sink.specs.Sink.{report_of_rows, report_of_pages}
-use Rattle.qw_top.specs.Top.{AreNames, Files, HasQuery, HasRows, IsNoQuery, Names, IsNamed, header_of}
+use Rattle.qw_top.specs.Top.{Asked, Asks, Files, IsNamed, Settles, same_limits}
+use Rattle.qw_top.specs.declared.status.Status.{Status}
+use Rattle.qw_top.specs.declared.status.Status.TheVariants.{Done, WordsRefused, SchemaRefused, TableFileRefused, QueriesRefused, ReadFailed, WriteFailed, Raised, PageLimitMet, StepLimitMet, TotalPages, NoMemory}
 
--- The words name files that declare this one table, hold these rows and ask for this statement.
-pub record Asks (files : Files) (words : List (List ℕ)) (table : Table) (rows : List (List Val)) (statement : Statement) : Type 0 where
-  pub names : Names
-  pub named : AreNames words names
-  pub asked : HasQuery files names table rows statement
+-- a program is a query's compiled form
+abbrev pub IsProgramOf : Asked → Program → Type 0
+IsProgramOf asked program = IsCompiled asked.specification program.layout program.module'
 
--- A bench has run a statement over these rows of a table to its end: it has one task, the statement's compiled module under
--- the limits where none are given; it stands where rounds of turns led from a start of that task; and the instance ended so.
-pub record HasRun (width : ℕ) (rows : List (List Val)) (statement : Statement) (b : Standing) : Type 0 where
-  pub program : Module
-  pub compiled : IsCompiled statement program
-  pub tasks : b.tasks ≡ first_task width (length rows) (record { statement = statement; program = program }) default_limits ∷ []
+-- A bench has run queries over tables to their ends, under limits, in turns of so many instructions: it has one task for each
+-- query in order, its compiled module; it stands where rounds of turns led from a start of these tasks; and all instances ended.
+pub record HasRun (limits : Limits) (quantum : ℕ) (tables : List Contents) (queries : List Asked) (b : Standing) : Type 0 where
+  pub programs : List Program
+  pub compiled : AllZip IsProgramOf queries programs
+  pub tasks : AreTasksOf programs (same_limits limits queries) b.tasks
   pub start : Shared
-  pub began : IsStart width rows b.tasks start
+  pub began : IsStart tables b.tasks start
   pub given : List Act
   pub rounds : AreRounds quantum given start
   pub turned : b.shared ≡ turns given start
-  pub end : End
-  pub ended : end_in b.shared 0 ≡ Some end
+  pub ended : (k : ℕ) → k < length queries → IsSome (end_in b.shared k)
 
--- What is reported of an end: the rows that stand in the bench's memory, which are those of the statement's meaning; or the
--- pages. There is no other end.
-abbrev pub ShowsEnd : Table → List (List Val) → Statement → Standing → End → (report : List ℕ) → Type 0
-ShowsEnd table rows statement b EndedDone report =
-    (bag : List (List Val)) × (outcome statement rows ≡ Rows bag) × (rows_in b 0 ≡ Some bag) × (report ≡ report_of_rows 1 (header_of table statement) bag)
-ShowsEnd table rows statement b (Pages held asked limit) report = report ≡ report_of_pages 1 held asked limit
-ShowsEnd table rows statement b _ report = ⊥
+-- What is reported of the end of query k, counted from 0: the rows that stand in the bench's memory, which are those of the
+-- query's meaning; the exception, which is one of its meaning's; the pages, or the limit of instructions. There is no other end.
+abbrev pub ShowsEnd : List Contents → Asked → Standing → ℕ → Option End → (block : List ℕ) → Type 0
+ShowsEnd tables asked b k None block = ⊥
+ShowsEnd tables asked b k (Some EndedDone) block = (bag : List (List Val))
+    × (outcome asked.specification (rows_in_tables tables) ≡ Rows bag) × (rows_in b k ≡ Some bag) × (block ≡ report_of_rows (suc k) asked.header bag)
+ShowsEnd tables asked b k (Some (Exception code)) block = (raised : List Code) × (one : Code)
+    × (outcome asked.specification (rows_in_tables tables) ≡ Raises raised) × Contains raised one × (code ≡ raised_for one) × (block ≡ report_of_exception (suc k) one)
+ShowsEnd tables asked b k (Some (Pages held asked_for limit)) block = block ≡ report_of_pages (suc k) held asked_for limit
+ShowsEnd tables asked b k (Some (Steps limit)) block = block ≡ report_of_steps (suc k) limit
+ShowsEnd tables asked b k (Some Trap) block = ⊥
 
--- the status of a run whose report was written
-abbrev pub status_of : End → Status
-status_of (Pages held asked limit) = PageLimitMet
-status_of _ = Done
+-- The blocks of queries from number k on, one behind another.
+abbrev pub ShowsEnds : List Contents → List Asked → Standing → (k : ℕ) → (report : List ℕ) → Type 0
+ShowsEnds tables [] b k report = report ≡ []
+ShowsEnds tables (asked ∷ queries) b k report = (block : List ℕ) × (blocks : List ℕ) × (report ≡ block ++ blocks)
+    × ShowsEnd tables asked b k (end_in b.shared k) block × ShowsEnds tables queries b (suc k) blocks
 
--- The words and the files ask for a statement, this bench has run it, the report shows its end, and this is the status of a
--- run with that end.
-pub record Reports (files : Files) (words : List (List ℕ)) (b : Standing) (report : List ℕ) (status : Status) : Type 0 where
-  pub table : Table
-  pub rows : List (List Val)
-  pub statement : Statement
-  pub asks : Asks files words table rows statement
-  pub run : HasRun (length table.columns) rows statement b
-  pub shows : ShowsEnd table rows statement b run.end report
-  pub status_is : status ≡ status_of run.end
+-- whether an end was at a limit of pages, at one of instructions, at an exception
+abbrev pub is_pages : Option End → Bool
+is_pages (Some (Pages held asked limit)) = true
+is_pages _ = false
+
+abbrev pub is_steps : Option End → Bool
+is_steps (Some (Steps limit)) = true
+is_steps _ = false
+
+abbrev pub is_exception : Option End → Bool
+is_exception (Some (Exception code)) = true
+is_exception _ = false
+
+-- the ends of the first n instances
+abbrev pub ends_below : Standing → (n : ℕ) → List (Option End)
+ends_below b zero = []
+ends_below b (suc n) = ends_below b n ++ end_in b.shared n ∷ []
+
+-- The status of a run whose report was written: a limit of pages that was met comes before one of instructions, and that before
+-- an exception.
+abbrev pub status_of_ends : List (Option End) → Status
+status_of_ends ends =
+    if list_any is_pages ends then PageLimitMet else (if list_any is_steps ends then StepLimitMet else (if list_any is_exception ends then Raised else Done))
+
+-- The words and the files ask for queries, this bench has run them, the report shows their ends, and this is the status of a run
+-- with those ends.
+pub record Reports (limits : Limits) (quantum : ℕ) (files : Files) (words : List (List ℕ)) (b : Standing) (report : List ℕ) (status : Status) : Type 0 where
+  pub schema : List Table
+  pub tables : List Contents
+  pub queries : List Asked
+  pub asks : Asks files words schema tables queries
+  pub run : HasRun limits quantum tables queries b
+  pub shows : ShowsEnds tables queries b 0 report
+  pub status_is : status ≡ status_of_ends (ends_below b (length queries))
 
 -- there is no bench, and nothing was written
 abbrev pub LeavesNothing : (kept : Option Standing) → (old new : Option (List ℕ)) → Type 0
 LeavesNothing kept old new = (kept ≡ None) × (new ≡ old)
 
 -- the bench is there, and its report, at this status, has the property
-abbrev pub LeavesBench : Files → (words : List (List ℕ)) → (kept : Option Standing) → (Status → List ℕ → Type 0) → Type 0
-LeavesBench files words kept P =
-    (b : Standing) × (report : List ℕ) × (status : Status) × (kept ≡ Some b) × Reports files words b report status × P status report
+abbrev pub LeavesBench : (limits : Limits) → (quantum : ℕ) → Files → (words : List (List ℕ)) → (kept : Option Standing) → (Status → List ℕ → Type 0) → Type 0
+LeavesBench limits quantum files words kept P =
+    (b : Standing) × (report : List ℕ) × (status : Status) × (kept ≡ Some b) × Reports limits quantum files words b report status × P status report
+
+-- the bench is there, and its report, of this status, was written whole
+abbrev pub LeavesReport : (limits : Limits) → (quantum : ℕ) → Files → (words : List (List ℕ)) → Status → (kept : Option Standing) → (old new : Option (List ℕ)) → Type 0
+LeavesReport limits quantum files words result kept old new =
+    LeavesBench limits quantum files words kept (λ status report. (status ≡ result) × (new ≡ with_text old report))
 
 -- What a run leaves, by its status: the bench that it kept, and what a sink had taken before of the report and has taken now.
 -- Memory may be wanted before there is a bench, or while the report is made and written; and a line on what went wrong may
 -- fail to be written.
-abbrev pub Leaves : Files → (words : List (List ℕ)) → Status → (kept : Option Standing) → (old new : Option (List ℕ)) → Type 0
-Leaves files words Done kept old new = LeavesBench files words kept (λ status report. (status ≡ Done) × (new ≡ with_text old report))
-Leaves files words PageLimitMet kept old new = LeavesBench files words kept (λ status report. (status ≡ PageLimitMet) × (new ≡ with_text old report))
-Leaves files words WriteFailed kept old new = LeavesNothing kept old new ⊎ LeavesBench files words kept (λ status report. TookFront old new report)
-Leaves files words NoMemory kept old new = LeavesNothing kept old new ⊎ LeavesBench files words kept (λ status report. TookFront old new report)
-Leaves files words WordsRefused kept old new = LeavesNothing kept old new
-Leaves files words SchemaRefused kept old new = LeavesNothing kept old new
-Leaves files words TableFileRefused kept old new = LeavesNothing kept old new
-Leaves files words QueriesRefused kept old new = LeavesNothing kept old new
-Leaves files words ReadFailed kept old new = LeavesNothing kept old new
-
--- the line on the queries file of these names, which is refused after all files before it were accepted
-pub record IsQueriesLine (files : Files) (names : Names) (line : List ℕ) : Type 0 where
-  pub table : Table
-  pub rows : List (List Val)
-  pub accepted : HasRows files names table rows
-  pub cause : List ℕ
-  pub refused : IsNoQuery files names.queries (table ∷ []) cause
-  pub line_is : line ≡ refusal_line (codes "queries") cause
+abbrev pub Leaves : (limits : Limits) → (quantum : ℕ) → Files → (words : List (List ℕ)) → Status → (kept : Option Standing) → (old new : Option (List ℕ)) → Type 0
+Leaves limits quantum files words Done kept old new = LeavesReport limits quantum files words Done kept old new
+Leaves limits quantum files words Raised kept old new = LeavesReport limits quantum files words Raised kept old new
+Leaves limits quantum files words PageLimitMet kept old new = LeavesReport limits quantum files words PageLimitMet kept old new
+Leaves limits quantum files words StepLimitMet kept old new = LeavesReport limits quantum files words StepLimitMet kept old new
+Leaves limits quantum files words WriteFailed kept old new =
+    LeavesNothing kept old new ⊎ LeavesBench limits quantum files words kept (λ status report. TookFront old new report)
+Leaves limits quantum files words NoMemory kept old new =
+    LeavesNothing kept old new ⊎ LeavesBench limits quantum files words kept (λ status report. TookFront old new report)
+Leaves limits quantum files words status kept old new = LeavesNothing kept old new
 
 -- a line that a run may note
-abbrev pub IsLine : Files → (words : List (List ℕ)) → List ℕ → Type 0
-IsLine files words line = (line ≡ want_of_memory_line)
+abbrev pub IsLine : (limits : Limits) → Files → (words : List (List ℕ)) → List ℕ → Type 0
+IsLine limits files words line = (line ≡ want_of_memory_line)
     ⊎ ((name : List ℕ) × IsNamed files words name × (line ≡ read_fault_line name))
-    ⊎ ((names : Names) × AreNames words names × IsQueriesLine files names line)
+    ⊎ ((cause : Cause) × Settles limits files words cause × (line ≡ line_of_cause cause))
 
--- What a run notes, by its status: at ReadFailed the line of a name that a run may read, which is the name of the last fault
--- that the shelf counted, where it tells that; at QueriesRefused the line on the queries file; at NoMemory and WriteFailed a
--- front of a line that a run may note; and else nothing.
-abbrev pub Notes : Files → (words : List (List ℕ)) → (fault_name : Option (List ℕ)) → Status → (old new : Option (List ℕ)) → Type 0
-Notes files words fault_name ReadFailed old new =
+-- the line of the cause that the words and the files settle, and whose status this is
+abbrev pub NotesCause : (limits : Limits) → Files → (words : List (List ℕ)) → Status → (old new : Option (List ℕ)) → Type 0
+NotesCause limits files words status old new =
+    (cause : Cause) × Settles limits files words cause × (status ≡ status_of_cause cause) × (new ≡ with_text old (line_of_cause cause))
+
+-- What a run notes, by its status: at a refusal the line of its cause; at ReadFailed the line of a name that a run may read, which
+-- is the name of the last fault that the shelf counted, where it tells that; at NoMemory and WriteFailed a front of a line that
+-- a run may note; and where a report was written nothing.
+abbrev pub Notes : (limits : Limits) → Files → (words : List (List ℕ)) → (fault_name : Option (List ℕ)) → Status → (old new : Option (List ℕ)) → Type 0
+Notes limits files words fault_name ReadFailed old new =
     (name : List ℕ) × IsNamed files words name × IfSome fault_name (λ last. last ≡ name) × (new ≡ with_text old (read_fault_line name))
-Notes files words fault_name QueriesRefused old new =
-    (names : Names) × (line : List ℕ) × AreNames words names × IsQueriesLine files names line × (new ≡ with_text old line)
-Notes files words fault_name NoMemory old new = (line : List ℕ) × IsLine files words line × TookFront old new line
-Notes files words fault_name WriteFailed old new = (line : List ℕ) × IsLine files words line × TookFront old new line
-Notes files words fault_name _ old new = new ≡ old
+Notes limits files words fault_name NoMemory old new = (line : List ℕ) × IsLine limits files words line × TookFront old new line
+Notes limits files words fault_name WriteFailed old new = (line : List ℕ) × IsLine limits files words line × TookFront old new line
+Notes limits files words fault_name Done old new = new ≡ old
+Notes limits files words fault_name Raised old new = new ≡ old
+Notes limits files words fault_name PageLimitMet old new = new ≡ old
+Notes limits files words fault_name StepLimitMet old new = new ≡ old
+Notes limits files words fault_name status old new = NotesCause limits files words status old new

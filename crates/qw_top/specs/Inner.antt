@@ -1,6 +1,8 @@
 -- What restates code for proofs. No public clause rests on it.
+pub mod Causes
 pub mod Inputs
 pub mod Noted
+pub mod Reports
 pub mod Shelves
 pub mod Sinks
 pub mod Stages

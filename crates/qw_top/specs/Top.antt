@@ -5,17 +5,22 @@ use Rattle.std.specs.Prelude.{◌≡◌, ◌⊎◌, ℕ, ◌<◌, ◌≤◌, Lis
 use Rattle.qw_io.specs.Files.{OfFile}
 use Rattle.qw_types.specs.Contents.{Contents, column_type}
 use Rattle.qw_types.specs.Kind.{type_kind}
+use Rattle.qw_types.specs.declared.code.Code.{Code}
 use Rattle.qw_types.specs.declared.schema.Column.{Column}
 use Rattle.qw_types.specs.declared.schema.Table.{Table}
-use Rattle.qw_types.specs.declared.value.Ty.{Ty}
+use Rattle.qw_types.specs.declared.value.Val.{Val}
 use Rattle.qw_linear.specs.Memory.{most_pages}
 use Rattle.qw_csv.specs.Loading.{IsFirstFault, Loads}
+use Rattle.qw_meaning.specs.Outcome.{Raises, outcome}
 use Rattle.qw_meaning.specs.Select.{Specification}
 use Rattle.qw_meaning.specs.Simple.{simple}
 use Rattle.qw_meaning.specs.Statement.{Statement}
 use Rattle.qw_parse.specs.Parse.{IsRefused, ReadsSchema}
 use Rattle.qw_parse.specs.Query.{IsQueryRefused, ReadsQuery}
-use Rattle.qw_emit.specs.Compiled.{page_bound}
+use Rattle.qw_module.specs.declared.module.Module.{Module}
+use Rattle.qw_module.specs.Validity.{IsShaped}
+use Rattle.qw_map.specs.Layout.{Layout}
+use Rattle.qw_emit.specs.Compiled.{IsCompiled, bound, page_bound}
 use Rattle.qw_bench.specs.Bench.{rows_in_tables}
 use Rattle.qw_bench.specs.Standing.{total_pages as pages_in_all}
 use Rattle.qw_bench.specs.declared.bench.Limits.{Limits}
@@ -137,9 +142,13 @@ IsNamed files words name = (names : Names) × AreNames words names × IsFileOf f
 
 -- ---- which cause they settle
 
--- The files of these names settle the cause for which a run ends before it has a bench, with limits for the queries. A file is
+-- the limits of queries, each the same
+abbrev pub same_limits : Limits → List Asked → List Limits
+same_limits limits queries = map (λ (asked : Asked). limits) queries
+
+-- The files of these names settle the cause for which a run ends before it has a bench, under limits for each query. A file is
 -- refused only where all files before it were accepted.
-abbrev pub FilesSettle : (limits : List Asked → List Limits) → Files → Names → Cause → Type 0
+abbrev pub FilesSettle : (limits : Limits) → Files → Names → Cause → Type 0
 FilesSettle limits files names words_refused = ⊥
 FilesSettle limits files names schema_too_long = IsTooLong files names.schema most_text_octets
 FilesSettle limits files names (schema_refused fault) = (text : List ℕ) × IsFile files names.schema most_text_octets text × IsRefused text fault
@@ -152,11 +161,11 @@ FilesSettle limits files names queries_too_long = (schema : List Table) × (tabl
 FilesSettle limits files names (queries_refused fault) = (schema : List Table) × (tables : List Contents) × (text : List ℕ)
     × HasTables files names schema tables × IsFile files names.queries most_text_octets text × IsQueryRefused schema text fault
 FilesSettle limits files names (total_pages need) = (schema : List Table) × (tables : List Contents) × (queries : List Asked)
-    × HasQueries files names schema tables queries × (need ≡ pages_in_all tables (limits queries)) × (most_pages < need)
+    × HasQueries files names schema tables queries × (need ≡ pages_in_all tables (same_limits limits queries)) × (most_pages < need)
 
 -- The words and the files settle the cause: the words are none of `run`, or they give names whose files settle it. Words come
 -- first, so another cause comes only where they were read.
-abbrev pub Settles : (limits : List Asked → List Limits) → Files → List (List ℕ) → Cause → Type 0
+abbrev pub Settles : (limits : Limits) → Files → List (List ℕ) → Cause → Type 0
 Settles limits files words words_refused = (names : Names) → AreNames words names → ⊥
 Settles limits files words cause = (names : Names) × AreNames words names × FilesSettle limits files names cause
 
@@ -180,6 +189,14 @@ IsRefusal QueriesRefused = Unit {0}
 IsRefusal TotalPages = Unit {0}
 IsRefusal _ = ⊥
 
+-- an end of a run whose queries were executed to their ends
+abbrev pub IsReported : Status → Type 0
+IsReported Done = Unit {0}
+IsReported Raised = Unit {0}
+IsReported PageLimitMet = Unit {0}
+IsReported StepLimitMet = Unit {0}
+IsReported _ = ⊥
+
 -- a fault of the outside, or want of memory
 abbrev pub IsFault : Status → Type 0
 IsFault ReadFailed = Unit {0}
@@ -187,15 +204,25 @@ IsFault WriteFailed = Unit {0}
 IsFault NoMemory = Unit {0}
 IsFault _ = ⊥
 
--- The words and the files explain how a run ended, whose instances may hold so many pages: they settle a cause of a refusal; or
--- they ask for queries, of which one needs more pages, where a limit of pages was met. A fault comes only where the words were
--- read.
-abbrev pub Explains : (limits : List Asked → List Limits) → (pages : ℕ) → Files → List (List ℕ) → Status → Type 0
-Explains limits pages files words Done = (schema : List Table) × (tables : List Contents) × (queries : List Asked) × Asks files words schema tables queries
-Explains limits pages files words Raised = (schema : List Table) × (tables : List Contents) × (queries : List Asked) × Asks files words schema tables queries
-Explains limits pages files words StepLimitMet = (schema : List Table) × (tables : List Contents) × (queries : List Asked) × Asks files words schema tables queries
-Explains limits pages files words PageLimitMet = AsksOne files words (λ tables one. pages < page_bound one.specification (rows_in_tables tables))
-Explains limits pages files words ReadFailed = (names : Names) × AreNames words names
-Explains limits pages files words WriteFailed = (names : Names) × AreNames words names
-Explains limits pages files words NoMemory = (names : Names) × AreNames words names
-Explains limits pages files words status = (cause : Cause) × Settles limits files words cause × (status ≡ status_of_cause cause)
+-- a compiled form of the query has a bound that is past so many instructions
+abbrev pub IsPastSteps : (steps : ℕ) → (tables : List (List (List Val))) → Asked → Type 0
+IsPastSteps steps tables one = (layout : Layout) × (m : Module) × (number : ℕ)
+    × IsCompiled one.specification layout m × IsShaped m number × (steps < bound one.specification tables m number)
+
+-- limits are enough for a query over tables: its bound on pages is within them, and so is that on instructions of each compiled form
+pub record IsEnough (limits : Limits) (tables : List (List (List Val))) (one : Asked) : Type 0 where
+  pub pages : page_bound one.specification tables ≤ limits.pages
+  pub steps : IsPastSteps limits.steps tables one → ⊥
+
+-- The words and the files explain how a run under limits ended: they settle a cause of a refusal; or they ask for queries, of
+-- which one raises, where an exception was raised, and has bounds that are past the limits, where one was met. A fault comes only
+-- where the words were read.
+abbrev pub Explains : (limits : Limits) → Files → List (List ℕ) → Status → Type 0
+Explains limits files words Done = (schema : List Table) × (tables : List Contents) × (queries : List Asked) × Asks files words schema tables queries
+Explains limits files words Raised = AsksOne files words (λ tables one. (codes : List Code) × (outcome one.specification (rows_in_tables tables) ≡ Raises codes))
+Explains limits files words PageLimitMet = AsksOne files words (λ tables one. limits.pages < page_bound one.specification (rows_in_tables tables))
+Explains limits files words StepLimitMet = AsksOne files words (λ tables one. IsPastSteps limits.steps (rows_in_tables tables) one)
+Explains limits files words ReadFailed = (names : Names) × AreNames words names
+Explains limits files words WriteFailed = (names : Names) × AreNames words names
+Explains limits files words NoMemory = (names : Names) × AreNames words names
+Explains limits files words status = (cause : Cause) × Settles limits files words cause × (status ≡ status_of_cause cause)

@@ -1,23 +1,106 @@
-//! The lines on the causes for which a file is refused.
+//! Why a run ends before it has a bench, and the line that says so.
 
 ghost use Rattle.std.specs.Prelude.{◌≡◌, ◌++◌, IfOk, codes};
+ghost use Rattle.std.specs.Fmt.{decimal};
 ghost use Rattle.std.specs.String.{string_bytes};
-ghost use Rattle.qw_top.specs.Causes.{counted, in_statement, kind_words, query_cause, too_many};
-ghost use Rattle.qw_top.specs.Notes.{refusal_line};
+ghost use Rattle.qw_top.specs.Causes.{cell_cause, column_name, counted, in_statement, kind_words, line_of_cause, query_cause, schema_cause, status_of_cause, table_cause, too_many};
+ghost use Rattle.qw_top.specs.Inner.Causes.{cause_of};
+ghost use Rattle.qw_top.specs.Inner.Stop.{refusal_status};
 
-use qw_parse::parse::{Count, QueryFault, TypeFault};
-use qw_types::NoMemory;
+use crate::stop::Refusal;
+use qw_csv::CellFault;
+use qw_csv::loading::LoadFault;
+use qw_parse::parse::{Count, QueryFault, SchemaFault, TypeFault};
+use qw_types::{FieldFault, NoMemory, Table};
 use std::alloc::Global;
 
-/// The line on a file, which is told by this word, that is refused for this cause.
-pub(crate) fn refusal_line(alloc: Global, file: &str, cause: &str) -> Result<String, NoMemory>
-    ensures { IfOk result (λ line. string_bytes line ≡ refusal_line file.now cause.now) }
+/// Why a run whose words were read ends before it has a bench.
+#[derive(Clone, Copy, Debug)]
+pub(crate) enum Cause<'a> {
+    SchemaTooLong,
+    Schema(&'a SchemaFault),
+    TableTooLong(&'a Table),
+    Table(&'a Table, &'a LoadFault),
+    QueriesTooLong,
+    Queries(&'a QueryFault),
+    /// The pages of the columns and of the limits together, which are more than a memory has.
+    TotalPages(u64),
+}
+
+impl Cause<'_> {
+    /// What is refused for it.
+    pub(crate) fn refusal(self) -> Refusal
+        ensures { refusal_status result ≡ status_of_cause (cause_of self) }
+    {
+        match self {
+            Cause::SchemaTooLong | Cause::Schema(_) => Refusal::Schema,
+            Cause::TableTooLong(_) | Cause::Table(_, _) => Refusal::TableFile,
+            Cause::QueriesTooLong | Cause::Queries(_) => Refusal::Queries,
+            Cause::TotalPages(_) => Refusal::TotalPages,
+        }
+    }
+
+    /// The line on it.
+    pub(crate) fn line(self, alloc: Global) -> Result<String, NoMemory>
+        ensures { IfOk result (λ line. string_bytes line ≡ line_of_cause (cause_of self)) }
+    {
+        match self {
+            Cause::SchemaTooLong => line_on(alloc, "schema", "too long"),
+            Cause::Schema(fault) => {
+                let words = schema_cause(alloc, fault)?;
+                line_on(alloc, "schema", words.as_str())
+            }
+            Cause::TableTooLong(table) => line_on(alloc, table.name.as_str(), "too long"),
+            Cause::Table(table, fault) => {
+                let words = table_cause(alloc, table, fault)?;
+                line_of(alloc, words.as_str())
+            }
+            Cause::QueriesTooLong => line_on(alloc, "queries", "too long"),
+            Cause::Queries(fault) => {
+                let words = query_cause(alloc, fault)?;
+                line_on(alloc, "queries", words.as_str())
+            }
+            Cause::TotalPages(need) => Ok(format!(in alloc; "total pages {need}\n")?),
+        }
+    }
+}
+
+/// A line of these words.
+fn line_of(alloc: Global, words: &str) -> Result<String, NoMemory>
+    ensures { IfOk result (λ line. string_bytes line ≡ words.now ++ codes "\n") }
 {
-    Ok(format!(in alloc; "{file}: {cause}\n")?)
+    Ok(format!(in alloc; "{words}\n")?)
+}
+
+/// A line of what is told, and these words on it.
+fn line_on(alloc: Global, told: &str, words: &str) -> Result<String, NoMemory>
+    ensures { IfOk result (λ line. string_bytes line ≡ (told.now ++ codes ": " ++ words.now) ++ codes "\n") }
+{
+    Ok(format!(in alloc; "{told}: {words}\n")?)
+}
+
+/// The words for why a text is no schema.
+fn schema_cause(alloc: Global, fault: &SchemaFault) -> Result<String, NoMemory>
+    ensures { IfOk result (λ words. string_bytes words ≡ schema_cause fault.now) }
+{
+    match fault {
+        SchemaFault::NotUtf8 => Ok(String::from_str(alloc, "not utf-8")?),
+        SchemaFault::NotToken { at } => Ok(format!(in alloc; "not a token at {at}")?),
+        SchemaFault::NotGrammar { statement } => in_statement(alloc, "not grammar", *statement),
+        SchemaFault::TooDeep { statement } => in_statement(alloc, "too deep", *statement),
+        SchemaFault::TooMany {
+            statement,
+            what,
+            limit,
+        } => too_many(alloc, *statement, *what, *limit),
+        SchemaFault::Duplicate { statement } => in_statement(alloc, "duplicate", *statement),
+        SchemaFault::BadSize { statement } => in_statement(alloc, "bad size", *statement),
+        SchemaFault::NoMemory => Ok(String::from_str(alloc, "want of memory")?),
+    }
 }
 
 /// The words for why a text is no query.
-pub(crate) fn query_cause(alloc: Global, fault: &QueryFault) -> Result<String, NoMemory>
+fn query_cause(alloc: Global, fault: &QueryFault) -> Result<String, NoMemory>
     ensures { IfOk result (λ words. string_bytes words ≡ query_cause fault.now) }
 {
     match fault {
@@ -88,5 +171,60 @@ fn kind_words(kind: TypeFault) -> &'static str
         TypeFault::UnknownColumn => "unknown column",
         TypeFault::LiteralTooLong => "literal too long",
         TypeFault::Clash => "clash",
+    }
+}
+
+/// The words for why a table file stands for no rows.
+fn table_cause(alloc: Global, table: &Table, fault: &LoadFault) -> Result<String, NoMemory>
+    ensures { IfOk result (λ words. string_bytes words ≡ table_cause table.now fault.now) }
+{
+    let name = table.name.as_str();
+    match fault {
+        LoadFault::BadHeader => Ok(format!(in alloc; "{name}: bad header")?),
+        LoadFault::FieldCount { row } => Ok(format!(in alloc; "{name} record {row}: field count")?),
+        LoadFault::Field { row, column, fault } => {
+            field_cause(alloc, name, *row, column_name(table, *column), *fault)
+        }
+        LoadFault::TooManyRows => Ok(format!(in alloc; "{name}: too many rows")?),
+        LoadFault::NoMemory => Ok(String::from_str(alloc, "want of memory")?),
+    }
+}
+
+/// The words for why a field of a record stands for no value of its column.
+fn field_cause(
+    alloc: Global,
+    table: &str,
+    row: usize,
+    column: &str,
+    fault: CellFault,
+) -> Result<String, NoMemory>
+    ensures { IfOk result (λ words. string_bytes words ≡ table.now ++ codes " record " ++ decimal row ++ codes " column " ++ column.now ++ codes ": " ++ cell_cause fault) }
+{
+    let why = cell_cause(fault);
+    Ok(format!(in alloc; "{table} record {row} column {column}: {why}")?)
+}
+
+/// The name of a column of a table, counted from 0; the empty text where it has none.
+fn column_name(table: &Table, column: usize) -> &str
+    ensures { result.now ≡ column_name table.now column }
+{
+    match table.columns.as_slice().get(column) {
+        Some(column) => column.name.as_str(),
+        None => "",
+    }
+}
+
+/// The words for why a field stands for no value of a column.
+fn cell_cause(fault: CellFault) -> &'static str
+    ensures { result.now ≡ cell_cause fault }
+{
+    match fault {
+        CellFault::Form(FieldFault::NotNumber) => "not a number",
+        CellFault::Form(FieldFault::TooLarge) => "too large",
+        CellFault::Form(FieldFault::TooFine) => "too fine",
+        CellFault::Form(FieldFault::NotDate) => "not a date",
+        CellFault::NullForbidden => "null forbidden",
+        CellFault::TextTooLong => "text too long",
+        CellFault::NotUtf8 => "not utf-8",
     }
 }

@@ -1,19 +1,17 @@
 //! The lines that say what went wrong. They are written piece by piece, without taking memory.
 
-ghost use Rattle.std.specs.Prelude.{◌≡◌, ◌≢◌, IsErrOf, IsTrue, OnOk, OnErr, option_map};
-ghost use Rattle.std.specs.String.{string_bytes};
+ghost use Rattle.std.specs.Prelude.{◌≡◌, ◌≢◌, IsErrOf, IsTrue, OnOk, OnErr};
 ghost use Rattle.qw_io.specs.Faults.{IsCounted};
 ghost use Rattle.qw_top.specs.declared.status.Status.{Status};
 ghost use Rattle.qw_top.specs.declared.stop.Stop.{Stop};
 ghost use Rattle.qw_top.specs.Inner.Sinks.{CountsWrite};
-ghost use Rattle.qw_top.specs.Inner.Stop.{refusal_status};
-ghost use Rattle.qw_top.specs.Inner.Noted.{NotesLine, NotesRefusal, NotesStop};
+ghost use Rattle.qw_top.specs.Inner.Noted.{NotesLine, NotesStop};
 ghost use Rattle.qw_top.specs.Notes.{read_fault_line, want_of_memory_line};
 ghost use Rattle.qw_top.specs.Output.{TookFront, with_text};
 
 use crate::output::{end_of_write, write_whole};
 use crate::status::Status;
-use crate::stop::{Refusal, Stop};
+use crate::stop::Stop;
 use qw_io::{IoFault, Sink};
 
 /// Notes why a run stopped, where there is a line on that. Answers how the run ends: with what kept the line from being
@@ -27,7 +25,10 @@ pub fn note_stop<E: Sink>(notes: &mut E, stop: &Stop<'_>) -> Status
     ensures no_fault { result ≢ Status.WriteFailed → E.faults notes.new ≡ E.faults notes.old }
 {
     match stop {
-        Stop::Refused { refusal, line } => note_refusal(notes, *refusal, line),
+        Stop::Words => Status::WordsRefused,
+        Stop::Refused { refusal, line } => {
+            end_of_write(write_whole(notes, line.as_bytes()), refusal.status())
+        }
         Stop::Unread(name) => note_read_fault(notes, name.as_str()),
         Stop::NoMemory => note_want_of_memory(notes),
     }
@@ -42,19 +43,6 @@ pub fn note_want_of_memory<E: Sink>(notes: &mut E) -> Status
     ensures no_fault { result ≢ Status.WriteFailed → E.faults notes.new ≡ E.faults notes.old }
 {
     end_of_write(write_whole(notes, b"want of memory\n"), Status::NoMemory)
-}
-
-/// Notes the line on a refusal, where there is one, and answers how the run ends.
-fn note_refusal<E: Sink>(notes: &mut E, refusal: Refusal, line: &Option<String>) -> Status
-    ensures noted { NotesRefusal (option_map string_bytes line.now) (refusal_status refusal) result (E.taken notes.old) (E.taken notes.new) }
-    ensures memory_is_taken { result ≡ Status.NoMemory → IsTrue E.takes_memory }
-    ensures fault { result ≡ Status.WriteFailed → IsCounted (E.faults notes.old) (E.faults notes.new) }
-    ensures no_fault { result ≢ Status.WriteFailed → E.faults notes.new ≡ E.faults notes.old }
-{
-    match line {
-        Some(line) => end_of_write(write_whole(notes, line.as_bytes()), refusal.status()),
-        None => refusal.status(),
-    }
 }
 
 /// Notes that the file of this name couldn't be read, and answers how the run ends.

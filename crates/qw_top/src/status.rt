@@ -10,6 +10,8 @@ use qw_types::NoMemory;
 pub enum Status {
     /// Every query gave rows, and the report was written.
     Done,
+    /// The report was written, and it says of a query that it raised an exception, and of none that it met a limit.
+    Raised,
     /// The words of the command line are none that the program takes.
     WordsRefused,
     /// The schema file is too long, or its text is no schema.
@@ -26,6 +28,10 @@ pub enum Status {
     PageLimitMet,
     /// There was no memory left.
     NoMemory,
+    /// The report was written, and it says of a query that it met its limit of instructions, and of none that it met one of pages.
+    StepLimitMet,
+    /// The pages of the columns and the limits of pages are more than a memory has.
+    TotalPages,
 }
 
 impl From<NoMemory> for Status {
@@ -45,6 +51,7 @@ impl Status {
     {
         match self {
             Status::Done => 0,
+            Status::Raised => 1,
             Status::WordsRefused => 2,
             Status::SchemaRefused => 3,
             Status::TableFileRefused => 4,
@@ -53,6 +60,8 @@ impl Status {
             Status::WriteFailed => 7,
             Status::PageLimitMet => 8,
             Status::NoMemory => 9,
+            Status::StepLimitMet => 10,
+            Status::TotalPages => 11,
         }
     }
 }
@@ -60,6 +69,7 @@ impl Status {
 /// The numbers of all statuses.
 pub fn status_numbers()
     ensures done { exit_code Status.Done ≡ 0 }
+    ensures raised { exit_code Status.Raised ≡ 1 }
     ensures words { exit_code Status.WordsRefused ≡ 2 }
     ensures schema { exit_code Status.SchemaRefused ≡ 3 }
     ensures table { exit_code Status.TableFileRefused ≡ 4 }
@@ -68,4 +78,6 @@ pub fn status_numbers()
     ensures write { exit_code Status.WriteFailed ≡ 7 }
     ensures pages { exit_code Status.PageLimitMet ≡ 8 }
     ensures no_memory { exit_code Status.NoMemory ≡ 9 }
+    ensures steps { exit_code Status.StepLimitMet ≡ 10 }
+    ensures total { exit_code Status.TotalPages ≡ 11 }
 {}

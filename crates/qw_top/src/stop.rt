@@ -1,22 +1,25 @@
 //! Refusals, unread files and want of memory, as a run stops at them.
 
-ghost use Rattle.std.specs.Prelude.{◌≡◌, option_map};
-ghost use Rattle.qw_top.specs.Inner.Stop.{noted_as, octets_of, refusal_status};
+ghost use Rattle.std.specs.Prelude.{◌≡◌};
+ghost use Rattle.qw_top.specs.Inner.Causes.{cause_of};
+ghost use Rattle.qw_top.specs.Inner.Stop.{octets_of, refusal_status, StopsFor};
 
+use crate::causes::Cause;
 use crate::status::Status;
 use qw_types::NoMemory;
+use std::alloc::Global;
 
-/// What a run refuses.
+/// What a run refuses whose words were read.
 #[derive(Clone, Copy, Debug, PartialEq, Eq)]
 pub enum Refusal {
-    /// The words of the command line.
-    Words,
     /// The schema file.
     Schema,
     /// A table's file.
     TableFile,
     /// The queries file.
     Queries,
+    /// More pages than a memory has.
+    TotalPages,
 }
 
 impl Refusal {
@@ -25,20 +28,10 @@ impl Refusal {
         ensures { result ≡ refusal_status self }
     {
         match self {
-            Refusal::Words => Status::WordsRefused,
             Refusal::Schema => Status::SchemaRefused,
             Refusal::TableFile => Status::TableFileRefused,
             Refusal::Queries => Status::QueriesRefused,
-        }
-    }
-
-    /// The word that tells the file in the line on its refusal; there is none where no line is noted.
-    pub fn noted_as(self) -> Option<&'static str>
-        ensures { option_map (λ word. word.now) result ≡ noted_as self }
-    {
-        match self {
-            Refusal::Queries => Some("queries"),
-            Refusal::Words | Refusal::Schema | Refusal::TableFile => None,
+            Refusal::TotalPages => Status::TotalPages,
         }
     }
 }
@@ -67,11 +60,13 @@ impl FileName<'_> {
 /// Why a run stopped before it had a bench.
 #[derive(Debug, Drop)]
 pub enum Stop<'a> {
-    /// The words or a file were refused.
+    /// The words are those of no command.
+    Words,
+    /// A file was refused, or more pages are needed than a memory has.
     Refused {
         refusal: Refusal,
-        /// The line on the cause, where it is noted.
-        line: Option<String>,
+        /// The line on the cause.
+        line: String,
     },
     /// The file of this name could not be read.
     Unread(FileName<'a>),
@@ -86,5 +81,18 @@ impl From<NoMemory> for Stop<'_> {
 
     fn from(_fault: NoMemory) -> Self {
         Stop::NoMemory
+    }
+}
+
+/// Why a run stops for this cause. Where there is no memory for its line, that is why.
+pub(crate) fn refused<'a>(alloc: Global, cause: Cause<'_>) -> Stop<'a>
+    ensures { StopsFor (cause_of cause) result }
+{
+    match cause.line(alloc) {
+        Ok(line) => Stop::Refused {
+            refusal: cause.refusal(),
+            line,
+        },
+        Err(NoMemory) => Stop::NoMemory,
     }
 }

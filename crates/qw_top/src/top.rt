@@ -1,18 +1,22 @@
 //! A run, from the words of the command line on.
 
 ghost use Rattle.std.specs.Prelude.{◌≡◌, ◌≢◌, ◌≤◌, ◌⊎◌, ℕ, List, map, IfSome, IsTrue, Option, Some};
+ghost use Rattle.std.specs.List.{AllByRecursion};
 ghost use Rattle.std.specs.String.{string_bytes};
 ghost use Rattle.qw_io.specs.Faults.{IsCounted};
+ghost use Rattle.qw_types.specs.Contents.{Contents};
 ghost use Rattle.qw_types.specs.declared.schema.Table.{Table};
-ghost use Rattle.qw_types.specs.declared.value.Val.{Val};
-ghost use Rattle.qw_meaning.specs.Statement.{Statement};
-ghost use Rattle.qw_emit.specs.Compiled.{page_bound};
-ghost use Rattle.qw_top.specs.Limits.{default_limits};
+ghost use Rattle.qw_linear.specs.Memory.{most_pages};
+ghost use Rattle.qw_bench.specs.Bench.{rows_in_tables};
+ghost use Rattle.qw_bench.specs.Standing.{total_pages};
+ghost use Rattle.qw_bench.specs.declared.bench.Limits.{Limits};
+ghost use Rattle.qw_top.specs.Causes.{Cause, status_of_cause, words_refused};
+ghost use Rattle.qw_top.specs.Limits.{default_limits, quantum};
 ghost use Rattle.qw_top.specs.declared.status.Status.{Status};
-ghost use Rattle.qw_top.specs.Delivered.{IsQueriesLine, Leaves, LeavesBench, Notes};
+ghost use Rattle.qw_top.specs.Delivered.{Leaves, LeavesBench, Notes};
 ghost use Rattle.qw_top.specs.Notes.{want_of_memory_line};
 ghost use Rattle.qw_top.specs.Output.{TookFront, with_text};
-ghost use Rattle.qw_top.specs.Top.{AreNames, Explains, HasQuery, IsFault, IsNamed, IsSettled, Names};
+ghost use Rattle.qw_top.specs.Top.{Asked, Asks, Explains, Files, HasQueries, IsEnough, IsFault, IsNamed, IsRefusal, IsReported, Names, Settles, same_limits};
 
 use crate::notes::{note_stop, note_want_of_memory};
 use crate::status::Status;
@@ -22,10 +26,10 @@ use report::deliver;
 use run::run;
 use std::alloc::Global;
 
+mod header;
 mod inputs;
 mod report;
 mod run;
-mod taken;
 
 /// How many instructions an instance runs before the next one has its turn: so many that the cost of a turn
 /// doesn't count, and so few that instances alternate.
@@ -44,21 +48,23 @@ pub fn qwasm<F: Shelf, O: Sink, E: Sink>(
     notes: &mut E,
     kept: &mut Option<Bench>,
 ) -> Status
-    ensures explained { Explains (F.files files.old) (map string_bytes words.now) result }
-    ensures exactly { (told : List ℕ → Option (List ℕ)) (status : Status) → F.files files.old ≡ Some told
-        → Explains (Some told) (map string_bytes words.now) status → IsSettled status
-        → (result ≡ status) ⊎ IsFault result }
-    ensures runs { (told : List ℕ → Option (List ℕ)) → F.files files.old ≡ Some told
-        → Explains (Some told) (map string_bytes words.now) Status.Done
-        → (result ≡ Status.Done) ⊎ (result ≡ Status.PageLimitMet) ⊎ IsFault result }
-    ensures enough { (told : List ℕ → Option (List ℕ)) (names : Names) (table : Table) (rows : List (List Val)) (statement : Statement)
-        → F.files files.old ≡ Some told → AreNames (map string_bytes words.now) names → HasQuery (Some told) names table rows statement
-        → page_bound statement rows ≤ default_limits.pages → (result ≡ Status.Done) ⊎ IsFault result }
-    ensures left { Leaves (F.files files.old) (map string_bytes words.now) result kept.new (O.taken out.old) (O.taken out.new) }
+    ensures explained { Explains default_limits (F.files files.old) (map string_bytes words.now) result }
+    ensures exactly { (told : List ℕ → Option (List ℕ)) (cause : Cause) → F.files files.old ≡ Some told
+        → Settles default_limits (Some told) (map string_bytes words.now) cause
+        → (result ≡ status_of_cause cause) ⊎ IsFault result }
+    ensures runs { (told : List ℕ → Option (List ℕ)) (schema : List Table) (tables : List Contents) (queries : List Asked)
+        → F.files files.old ≡ Some told → Asks (Some told) (map string_bytes words.now) schema tables queries
+        → total_pages tables (same_limits default_limits queries) ≤ most_pages → IsReported result ⊎ IsFault result }
+    ensures enough { (told : List ℕ → Option (List ℕ)) (schema : List Table) (tables : List Contents) (queries : List Asked)
+        → F.files files.old ≡ Some told → Asks (Some told) (map string_bytes words.now) schema tables queries
+        → total_pages tables (same_limits default_limits queries) ≤ most_pages
+        → AllByRecursion (IsEnough default_limits (rows_in_tables tables)) queries
+        → ((result ≡ Status.Done) ⊎ (result ≡ Status.Raised)) ⊎ IsFault result }
+    ensures left { Leaves default_limits quantum (F.files files.old) (map string_bytes words.now) result kept.new (O.taken out.old) (O.taken out.new) }
     ensures kept_at_fault { O.faults out.new ≢ O.faults out.old
-        → LeavesBench (F.files files.old) (map string_bytes words.now) kept.new
+        → LeavesBench default_limits quantum (F.files files.old) (map string_bytes words.now) kept.new
         (λ status report. TookFront (O.taken out.old) (O.taken out.new) report) }
-    ensures noted { Notes (F.files files.old) (map string_bytes words.now) (F.fault_name files.new) result (E.taken notes.old) (E.taken notes.new) }
+    ensures noted { Notes default_limits (F.files files.old) (map string_bytes words.now) (F.fault_name files.new) result (E.taken notes.old) (E.taken notes.new) }
     ensures noted_whole { (IsTrue E.takes_memory → ⊥) → result ≡ Status.NoMemory
         → E.taken notes.new ≡ with_text (E.taken notes.old) want_of_memory_line }
     ensures silent_at_fault { O.faults out.new ≢ O.faults out.old → E.taken notes.new ≡ E.taken notes.old }
@@ -88,43 +94,39 @@ pub fn qwasm<F: Shelf, O: Sink, E: Sink>(
     }
 }
 
-/// The refusals are settled, faults of the outside and want of memory are faults, and the two ends of a run whose query
-/// was executed are neither.
+/// Refusals, faults and ends of runs whose queries were executed are apart, and each status is one of them.
 pub fn kinds_of_ends()
-    ensures settled { IsSettled Status.WordsRefused × IsSettled Status.SchemaRefused
-        × IsSettled Status.TableFileRefused × IsSettled Status.QueriesRefused }
+    ensures refusals { IsRefusal Status.WordsRefused × IsRefusal Status.SchemaRefused × IsRefusal Status.TableFileRefused
+        × IsRefusal Status.QueriesRefused × IsRefusal Status.TotalPages }
     ensures faults { IsFault Status.ReadFailed × IsFault Status.WriteFailed × IsFault Status.NoMemory }
-    ensures apart { (status : Status) → IsSettled status → IsFault status → ⊥ }
-    ensures executed { (status : Status) → (status ≡ Status.Done) ⊎ (status ≡ Status.PageLimitMet)
-        → ¬ (IsSettled status ⊎ IsFault status) }
+    ensures reported { IsReported Status.Done × IsReported Status.Raised × IsReported Status.PageLimitMet × IsReported Status.StepLimitMet }
+    ensures one { (status : Status) → IsRefusal status ⊎ IsFault status ⊎ IsReported status }
+    ensures apart { (status : Status) → (IsRefusal status → IsFault status → ⊥) × (IsRefusal status → IsReported status → ⊥)
+        × (IsFault status → IsReported status → ⊥) }
 {}
 
-/// Words and told files settle one end of a run at most, which is a refusal. So a run that promises `Explains`
-/// ends with this refusal, or with a fault of the outside or want of memory.
-pub fn one_end()
-    ensures { (told : List ℕ → Option (List ℕ)) (words : List (List ℕ)) (status other : Status)
-        → Explains (Some told) words status → Explains (Some told) words other
-        → IsSettled status → (IsFault other → ⊥) → status ≡ other }
+/// Words and told files settle one cause at most, whose status is that of a refusal. So a run that promises `Explains` ends with
+/// this refusal, or with a fault of the outside or want of memory.
+pub fn one_cause()
+    ensures one { (limits : Limits) (told : List ℕ → Option (List ℕ)) (words : List (List ℕ)) (cause other : Cause)
+        → Settles limits (Some told) words cause → Settles limits (Some told) words other → cause ≡ other }
+    ensures refusal { (cause : Cause) → IsRefusal (status_of_cause cause) }
+    ensures ends { (limits : Limits) (told : List ℕ → Option (List ℕ)) (words : List (List ℕ)) (cause : Cause) (status : Status)
+        → Settles limits (Some told) words cause → Explains limits (Some told) words status
+        → (status ≡ status_of_cause cause) ⊎ IsFault status }
 {}
 
 /// Words that are refused explain no other end, not even a fault.
 pub fn refused_words_come_first()
-    ensures { (told : List ℕ → Option (List ℕ)) (words : List (List ℕ)) (status : Status)
-        → Explains (Some told) words Status.WordsRefused → Explains (Some told) words status
-        → status ≡ Status.WordsRefused }
+    ensures { (limits : Limits) (files : Files) (words : List (List ℕ)) (status : Status)
+        → Settles limits files words words_refused → Explains limits files words status → status ≡ Status.WordsRefused }
 {}
 
-/// Told files hold one table, one list of its rows and one statement at most.
+/// Told files hold one schema, one list of rows of each of its tables, and one list of queries at most.
 pub fn one_content()
-    ensures { (told : List ℕ → Option (List ℕ)) (names : Names) (table other_table : Table)
-        (rows other_rows : List (List Val)) (statement other_statement : Statement)
-        → HasQuery (Some told) names table rows statement
-        → HasQuery (Some told) names other_table other_rows other_statement
-        → (table ≡ other_table) × (rows ≡ other_rows) × (statement ≡ other_statement) }
-{}
-
-/// Told files give one line at most on a queries file that is refused.
-pub fn one_line()
-    ensures { (told : List ℕ → Option (List ℕ)) (names : Names) (line other : List ℕ)
-        → IsQueriesLine (Some told) names line → IsQueriesLine (Some told) names other → line ≡ other }
+    ensures { (told : List ℕ → Option (List ℕ)) (names : Names) (schema other_schema : List Table)
+        (tables other_tables : List Contents) (queries other_queries : List Asked)
+        → HasQueries (Some told) names schema tables queries
+        → HasQueries (Some told) names other_schema other_tables other_queries
+        → (schema ≡ other_schema) × (tables ≡ other_tables) × (queries ≡ other_queries) }
 {}

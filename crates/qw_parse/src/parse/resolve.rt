@@ -4,7 +4,7 @@ ghost use Rattle.std.specs.Prelude.{◌≡◌, ◌≤◌, ◌<◌, ◌⊎◌, �
 ghost use Rattle.qw_types.specs.Digits.{are_digits};
 ghost use Rattle.qw_meaning.specs.Statement.{most_items};
 ghost use Rattle.qw_ast.specs.Grammar.{folded};
-ghost use Rattle.qw_parse.specs.Query.{IsMistyped, Means, clashes, column_names, column_of, index_of, is_integer, table_of};
+ghost use Rattle.qw_parse.specs.Query.{IsMistyped, Means, clashes, column_names, column_of, index_of, is_integer, table_index, table_of};
 ghost use Rattle.qw_parse.specs.Inner.Queries.{IsUnknownIn, fault_named, value_within};
 ghost use Rattle.qw_ast.specs.Inner.Views.{folded_names, selection, source};
 
@@ -36,7 +36,7 @@ pub(crate) fn resolved(
     ensures fault { IfErr result (λ fault. (fault ≡ QueryFault.NoMemory) ⊎ IsMistyped schema.now statement (selection query.now) fault) }
 {
     let source = &query.source;
-    let Some(table) = table_named(schema.as_slice(), source.table) else {
+    let Some((place, table)) = table_named(schema.as_slice(), source.table) else {
         let name = folded_text(alloc, source.table);
         return Err(mistyped(statement, TypeFault::UnknownTable, name));
     };
@@ -52,7 +52,7 @@ pub(crate) fn resolved(
         let name = folded_text(alloc, name);
         return Err(mistyped(statement, TypeFault::Clash, name));
     }
-    Ok(Query::new(selected, tested, source.comparison, literal))
+    Ok(Query::new(place, selected, tested, source.comparison, literal))
 }
 
 /// The fault, with the name or the literal that is at fault; or want of memory, where there is none for that.
@@ -69,13 +69,24 @@ fn mistyped(statement: usize, kind: TypeFault, name: Result<Text, NoMemory>) -> 
     }
 }
 
-/// The table of the name.
-fn table_named<'s>(tables: &'s [Table], name: &[u8]) -> Option<&'s Table>
-    ensures { option_map (λ t. t.now) result ≡ table_of tables.now (folded name.now) }
+/// The table of the name, behind its index.
+fn table_named<'s>(tables: &'s [Table], name: &[u8]) -> Option<(usize, &'s Table)>
+    ensures index { option_map (λ t. t.0) result ≡ table_index tables.now (folded name.now) }
+    ensures table { option_map (λ t. t.1.now) result ≡ table_of tables.now (folded name.now) }
+{
+    match index_of_table(tables, name) {
+        Some(index) => Some((index, &tables[index])),
+        None => None,
+    }
+}
+
+/// The index of the table of the name.
+fn index_of_table(tables: &[Table], name: &[u8]) -> Option<usize>
+    ensures { result ≡ table_index tables.now (folded name.now) }
 {
     tables
         .iter()
-        .find(|table| folds_to(name, table.name.as_str().as_bytes()))
+        .position(|table| folds_to(name, table.name.as_str().as_bytes()))
 }
 
 /// The column of the name.

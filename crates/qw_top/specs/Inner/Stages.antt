@@ -1,91 +1,76 @@
--- What the stages of a run hand on, and how they stop.
-use Rattle.std.specs.Prelude.{◌≡◌, ℕ, List, [], ◌∷◌, Option, Some, None, Result, Ok, Err, length}
-use Rattle.std.specs.Option.{option_map}
+-- Mirrors what the stages of a run hand on (`top::run::run`, `top::report::deliver`), and how they stop.
+use Rattle.std.specs.Prelude.{◌≡◌, ◌⊎◌, ◌<◌, ℕ, List, [], ◌∷◌, Option, map, length}
 use Rattle.std.specs.String.{string_bytes}
+use Rattle.qw_types.specs.Contents.{Contents, column_type}
 use Rattle.qw_types.specs.declared.schema.Table.{Table}
-use Rattle.qw_types.specs.declared.value.Val.{Val}
-use Rattle.qw_meaning.specs.Statement.{Statement}
+use Rattle.qw_linear.specs.Memory.{most_pages}
+use Rattle.qw_bench.specs.Standing.{Standing, total_pages as pages_in_all}
+use Rattle.qw_sink.specs.declared.sink.Head.{Head}
 use Rattle.qw_top.specs.declared.status.Status.{Status}
-use Rattle.qw_top.specs.declared.status.Status.TheVariants.{Done, WordsRefused, PageLimitMet, WriteFailed, NoMemory as EndsInWant}
-use Rattle.qw_top.specs.declared.stop.Refusal.{Refusal}
-use Rattle.qw_top.specs.declared.stop.Refusal.TheVariants.{Words, Queries}
+use Rattle.qw_top.specs.declared.status.Status.TheVariants.{Done, Raised, PageLimitMet, StepLimitMet, WriteFailed, NoMemory as EndsInWant}
 use Rattle.qw_top.specs.declared.stop.Stop.{Stop}
-use Rattle.qw_top.specs.declared.stop.Stop.TheVariants.{Refused, Unread, NoMemory}
-use Rattle.qw_top.specs.Delivered.{Asks, HasRun, IsQueriesLine, ShowsEnd, status_of}
-use Rattle.qw_csv.specs.Contents.{AreIntegers}
+use Rattle.qw_top.specs.declared.stop.Stop.TheVariants.{Words, Refused, Unread, NoMemory}
+use Rattle.qw_top.specs.Causes.{Cause, total_pages, words_refused}
+use Rattle.qw_top.specs.Delivered.{HasRun, ShowsEnds, ends_below, status_of_ends}
+use Rattle.qw_top.specs.Limits.{default_limits, quantum}
 use Rattle.qw_top.specs.Output.{TookFront, with_text}
-use Rattle.qw_bench.specs.Standing.{Standing}
-use Rattle.qw_top.specs.Inner.Stop.{line_for, octets_of, refusal_status}
-use Rattle.qw_top.specs.Top.{AreNames, Explains, Files, FilesExplain, IsFileOf, Names}
-use Rattle.qw_top.specs.Inner.Inputs.{AreColumnsOf}
-
--- a refusal, with the line on this cause
-abbrev pub IsRefusalFor : Refusal → (cause : List ℕ) → (other : Refusal) → (line : Option (List ℕ)) → Type 0
-IsRefusalFor refusal cause other line = (other ≡ refusal) × (line ≡ line_for refusal cause)
-
--- a stop by a refusal for this cause, or for want of memory for its line
-abbrev pub StopsFor : Refusal → (cause : List ℕ) → Stop → Type 0
-StopsFor refusal cause (Refused other line) = IsRefusalFor refusal cause other (option_map string_bytes line)
-StopsFor refusal cause (Unread file) = ⊥
-StopsFor refusal cause NoMemory = Unit {0}
-
--- why a stage that reads a file stopped: by its own refusal, for a cause of this kind; or as the file of this name couldn't be
--- read; or for want of memory
-abbrev pub StopsAs : Refusal → (reason : List ℕ → Type 0) → (name : List ℕ) → Stop → Type 0
-StopsAs refusal reason name (Refused other line) = (cause : List ℕ) × reason cause × IsRefusalFor refusal cause other (option_map string_bytes line)
-StopsAs refusal reason name (Unread file) = octets_of file ≡ name
-StopsAs refusal reason name NoMemory = Unit {0}
-
--- the name of the file at which the reading failed that stopped a stage
-abbrev pub failed_at : Stop → Option (List ℕ)
-failed_at (Unread file) = Some (octets_of file)
-failed_at _ = None
-
--- the same of a stage that may have stopped
-abbrev pub failed_stop : {T : Type 0} → Result T Stop → Option (List ℕ)
-failed_stop (Ok _) = None
-failed_stop (Err stop) = failed_at stop
-
--- this is the line on a file that is refused: that on the queries file, and of another one none
-abbrev pub IsRefusalLine : Files → Names → Refusal → (line : Option (List ℕ)) → Type 0
-IsRefusalLine files names Queries (Some line) = IsQueriesLine files names line
-IsRefusalLine files names Queries None = ⊥
-IsRefusalLine files names _ line = line ≡ None
+use Rattle.qw_top.specs.Top.{AreNames, Asked, Asks, Files, FilesSettle, IsFileOf, Names, Settles, same_limits}
+use Rattle.qw_top.specs.Inner.Stop.{IsRefusalFor, StopsFor, octets_of}
 
 -- the files of these names explain a stop
 abbrev pub FilesStop : Files → Names → Stop → Type 0
-FilesStop files names (Refused refusal line) = FilesExplain files names (refusal_status refusal) × IsRefusalLine files names refusal (option_map string_bytes line)
+FilesStop files names Words = ⊥
+FilesStop files names (Refused refusal line) =
+    (cause : Cause) × FilesSettle default_limits files names cause × IsRefusalFor cause refusal (string_bytes line)
 FilesStop files names (Unread file) = IsFileOf files names (octets_of file)
 FilesStop files names NoMemory = Unit {0}
 
 -- the words and the files explain a stop
 abbrev pub Stops : Files → List (List ℕ) → Stop → Type 0
-Stops files words (Refused Words line) = Explains files words WordsRefused × (option_map string_bytes line ≡ None)
+Stops files words Words = Settles default_limits files words words_refused
 Stops files words stop = (names : Names) × AreNames words names × FilesStop files names stop
 
--- the schema has one table, and the bench has run a statement over its columns to the end
-pub record Ran (schema : List Table) (b : Standing) : Type 0 where
-  pub table : Table
-  pub rows : List (List Val)
-  pub statement : Statement
-  pub one : schema ≡ table ∷ []
-  pub integers : AreIntegers table.columns
-  pub columns : AreColumnsOf table statement
-  pub run : HasRun (length table.columns) rows statement b
+-- the rows of tables are of their columns
+abbrev pub AreContentsOf : List Table → List Contents → Type 0
+AreContentsOf [] [] = Unit {0}
+AreContentsOf (table ∷ tables) (one ∷ contents) = (one.columns ≡ map column_type table.columns) × AreContentsOf tables contents
+AreContentsOf _ _ = ⊥
 
--- and this is what the words and the files ask for
-abbrev pub HasAsked : Files → (words : List (List ℕ)) → (schema : List Table) → Standing → Type 0
-HasAsked files words schema b = (ran : Ran schema b) × Asks files words ran.table ran.rows ran.statement
+-- a stop as so many pages are needed, which are more than there can be
+abbrev pub StopsForPages : (need : ℕ) → Stop → Type 0
+StopsForPages need stop = (most_pages < need) × StopsFor (total_pages need) stop
 
--- the report that shows the end, and the status of a run with that end
-abbrev pub IsReport : (schema : List Table) → Standing → (report : List ℕ) → Status → Type 0
-IsReport schema b report status = (ran : Ran schema b) (shown : List ℕ) →
-    ShowsEnd ran.table ran.rows ran.statement b ran.run.end shown → (report ≡ shown) × (status ≡ status_of ran.run.end)
+-- why a run of queries over tables stopped before its bench: for want of memory, or as they need too many pages
+abbrev pub StopsToRun : List Contents → List Asked → Stop → Type 0
+StopsToRun tables queries stop = (stop ≡ NoMemory) ⊎ StopsForPages (pages_in_all tables (same_limits default_limits queries)) stop
+
+-- a bench has run the queries that the words and the files ask for, and these are the headers of their rows
+pub record HasAsked (files : Files) (words : List (List ℕ)) (headers : List (List Head)) (b : Standing) : Type 0 where
+  pub schema : List Table
+  pub tables : List Contents
+  pub queries : List Asked
+  pub asks : Asks files words schema tables queries
+  pub run : HasRun default_limits quantum tables queries b
+  pub headers_are : headers ≡ map (λ (asked : Asked). asked.header) queries
+
+-- a bench has run queries with these headers
+pub record Ran (headers : List (List Head)) (b : Standing) : Type 0 where
+  pub tables : List Contents
+  pub queries : List Asked
+  pub run : HasRun default_limits quantum tables queries b
+  pub headers_are : headers ≡ map (λ (asked : Asked). asked.header) queries
+
+-- the report that shows the ends of queries, whichever they are that have these headers, and the status of a run with those ends
+abbrev pub IsReport : (headers : List (List Head)) → Standing → (report : List ℕ) → Status → Type 0
+IsReport headers b report status = (ran : Ran headers b)
+    → ShowsEnds ran.tables ran.queries b 0 report × (status ≡ status_of_ends (ends_below b (length ran.queries)))
 
 -- How the writing of a report ended: it was taken whole, and the run ends with this status; or a front of it was taken.
 abbrev pub Writes : (status result : Status) → (old new : Option (List ℕ)) → (report : List ℕ) → Type 0
 Writes status Done old new report = (status ≡ Done) × (new ≡ with_text old report)
+Writes status Raised old new report = (status ≡ Raised) × (new ≡ with_text old report)
 Writes status PageLimitMet old new report = (status ≡ PageLimitMet) × (new ≡ with_text old report)
+Writes status StepLimitMet old new report = (status ≡ StepLimitMet) × (new ≡ with_text old report)
 Writes status WriteFailed old new report = TookFront old new report
 Writes status EndsInWant old new report = TookFront old new report
 Writes status _ old new report = ⊥

@@ -1,14 +1,15 @@
--- Why a run stopped before it had a bench.
-use Rattle.std.specs.Prelude.{ℕ, List, Option, Some, None, codes}
-use Rattle.std.specs.Option.{option_map}
+-- Mirrors `stop::Stop`: why a run stopped before it had a bench.
+use Rattle.std.specs.Prelude.{◌≡◌, ℕ, List, Option, Some, None, Result, Ok, Err}
 use Rattle.std.specs.String.{string_bytes}
-use Rattle.qw_top.specs.declared.status.Status.{Status}
-use Rattle.qw_top.specs.declared.status.Status.TheVariants.{WordsRefused, SchemaRefused, TableFileRefused, QueriesRefused}
 use Rattle.qw_top.specs.declared.stop.FileName.{FileName}
 use Rattle.qw_top.specs.declared.stop.FileName.TheVariants.{Given, Made}
 use Rattle.qw_top.specs.declared.stop.Refusal.{Refusal}
-use Rattle.qw_top.specs.declared.stop.Refusal.TheVariants.{Words, Schema, TableFile, Queries}
-use Rattle.qw_top.specs.Notes.{refusal_line}
+use Rattle.qw_top.specs.declared.stop.Refusal.TheVariants.{Schema, TableFile, Queries, TotalPages as MorePages}
+use Rattle.qw_top.specs.declared.stop.Stop.{Stop}
+use Rattle.qw_top.specs.declared.stop.Stop.TheVariants.{Words, Refused, Unread, NoMemory}
+use Rattle.qw_top.specs.Causes.{Cause, line_of_cause, status_of_cause}
+use Rattle.qw_top.specs.declared.status.Status.{Status}
+use Rattle.qw_top.specs.declared.status.Status.TheVariants.{SchemaRefused, TableFileRefused, QueriesRefused, TotalPages}
 
 -- the octets of a file's name
 abbrev pub octets_of : FileName → List ℕ
@@ -17,16 +18,36 @@ octets_of (Made name) = string_bytes name
 
 -- the status of a run that ends with a refusal
 abbrev pub refusal_status : Refusal → Status
-refusal_status Words = WordsRefused
 refusal_status Schema = SchemaRefused
 refusal_status TableFile = TableFileRefused
 refusal_status Queries = QueriesRefused
+refusal_status MorePages = TotalPages
 
--- the word that tells a file in the line on its refusal, where there is one
-abbrev pub noted_as : Refusal → Option (List ℕ)
-noted_as Queries = Some (codes "queries")
-noted_as _ = None
+-- a refusal and a line are those of a cause
+abbrev pub IsRefusalFor : Cause → Refusal → (line : List ℕ) → Type 0
+IsRefusalFor cause refusal line = (refusal_status refusal ≡ status_of_cause cause) × (line ≡ line_of_cause cause)
 
--- the line on a refusal for this cause
-abbrev pub line_for : Refusal → (cause : List ℕ) → Option (List ℕ)
-line_for refusal cause = option_map (λ file. refusal_line file cause) (noted_as refusal)
+-- a stop for this cause, or for want of memory for its line
+abbrev pub StopsFor : Cause → Stop → Type 0
+StopsFor cause Words = ⊥
+StopsFor cause (Refused refusal line) = IsRefusalFor cause refusal (string_bytes line)
+StopsFor cause (Unread file) = ⊥
+StopsFor cause NoMemory = Unit {0}
+
+-- Why a stage that reads a file stopped: for a cause of this kind; or as the file of this name couldn't be read; or for want of
+-- memory.
+abbrev pub StopsAs : (reason : Cause → Type 0) → (name : List ℕ) → Stop → Type 0
+StopsAs reason name Words = ⊥
+StopsAs reason name (Refused refusal line) = (cause : Cause) × reason cause × IsRefusalFor cause refusal (string_bytes line)
+StopsAs reason name (Unread file) = octets_of file ≡ name
+StopsAs reason name NoMemory = Unit {0}
+
+-- the name of the file at which the reading failed that stopped a stage
+abbrev pub failed_at : Stop → Option (List ℕ)
+failed_at (Unread file) = Some (octets_of file)
+failed_at _ = None
+
+-- the same of a stage that may have stopped
+abbrev pub failed_stop : {T : Type 0} → Result T Stop → Option (List ℕ)
+failed_stop (Ok _) = None
+failed_stop (Err stop) = failed_at stop

@@ -1,75 +1,61 @@
 //! From the words of a run to the contents of its files.
 
-ghost use Rattle.std.specs.Prelude.{◌≡◌, ◌≤◌, [], ◌∷◌, None, IfOk, IfErr, map};
-ghost use Rattle.qw_types.specs.declared.schema.Table.{Table};
-ghost use Rattle.qw_csv.specs.Contents.{AreIntegers, column_type};
-ghost use Rattle.qw_top.specs.Causes.{query_cause, too_long};
+ghost use Rattle.std.specs.Prelude.{◌≡◌, [], ◌∷◌, IfOk, IfErr};
 ghost use Rattle.qw_top.specs.FileNames.{table_file_of};
-ghost use Rattle.qw_top.specs.Inner.Stages.{FilesStop, StopsAs, StopsFor, failed_stop};
+ghost use Rattle.qw_top.specs.Inner.Causes.{cause_of};
+ghost use Rattle.qw_top.specs.Inner.Inputs.{IsNoQuery, IsNoSchema, IsNoTable, IsStatementOf, StopsAtTables, names_of};
+ghost use Rattle.qw_top.specs.Inner.Stages.{FilesStop};
 ghost use Rattle.qw_top.specs.Inner.Shelves.{HasRead, told_by};
-ghost use Rattle.qw_top.specs.Inner.Stop.{octets_of};
-ghost use Rattle.qw_top.specs.Top.{HasQuery, IsFile, IsNoQuery, IsNoSchema, IsNoTable, IsOneTable, IsTooLong, QueryIs, SchemaIs, TableIs};
-ghost use Rattle.qw_top.specs.Inner.Inputs.{names_of};
+ghost use Rattle.qw_top.specs.Inner.Stop.{StopsAs, failed_stop, octets_of};
+ghost use Rattle.qw_top.specs.Top.{HasQueries, IsFile, IsTooLong, QueriesAre, SchemaIs, TableIs, TablesAre, asked_by};
 
-use super::taken::is_one_table;
-use crate::causes::{query_cause, refusal_line};
+use crate::causes::Cause;
 use crate::files::{MAX_TABLE_FILE, MAX_TEXT_FILE, ReadFault, read_whole, table_file_name};
-use crate::stop::{FileName, Refusal, Stop};
+use crate::stop::{FileName, Stop, refused};
 use crate::words::RunWords;
 use qw_csv::Loaded;
 use qw_csv::loading::{LoadFault, load};
 use qw_io::Shelf;
 use qw_meaning::query::Query;
 use qw_parse::parse::{QueryFault, SchemaFault, query_of, schema_of};
-use qw_types::{NoMemory, Schema, Table};
+use qw_types::{Schema, Table};
 use std::alloc::Global;
 
 /// What the files of a run hold.
 #[derive(Debug, Drop)]
 pub struct Prepared {
-    /// The schema, of one table.
+    /// The schema.
     pub schema: Schema,
-    /// Its rows.
-    pub loaded: Loaded,
-    /// The query over it.
+    /// The rows of its tables, in order.
+    pub tables: Vec<Loaded>,
+    /// The query over them.
     pub query: Query,
 }
 
-/// Reads the files that the words name: the schema file, the table's file and the queries file, in this
-/// order. The first that is refused ends the reading.
+/// Reads the files that the words name: the schema file, the tables' files in the order of the schema, and the queries
+/// file. The first that is refused ends the reading.
 ///
 /// # Errors
 ///
-/// A refusal of the file, the name of the one that couldn't be read, or want of memory.
+/// A refusal of a file, the name of the one that couldn't be read, or want of memory.
 pub fn prepare<'a, F: Shelf>(
     alloc: Global,
     names: &RunWords<'a>,
     files: &mut F,
 ) -> Result<Prepared, Stop<'a>>
-    ensures accepted { IfOk result (λ run. (table : Table) × (run.schema ≡ table ∷ [])
-        × (run.loaded.columns ≡ map column_type table.columns)
-        × HasQuery (F.files files.old) (names_of names.now) table run.loaded.rows run.query) }
-    ensures one_table { IfOk result (λ run. IsOneTable run.schema) }
+    ensures accepted { IfOk result (λ run. IsStatementOf run.schema run.query
+        × HasQueries (F.files files.old) (names_of names.now) run.schema run.tables.items (asked_by run.schema run.query ∷ [])) }
     ensures stops { IfErr result (λ stop. FilesStop (F.files files.old) (names_of names.now) stop) }
     ensures shelf { HasRead (failed_stop result) (told_by F.Shelf files.old) (told_by F.Shelf files.new) }
 {
     let schema = read_schema(alloc, names.schema, files)?;
-    let loaded = read_table(alloc, names.folder, &schema, files)?;
+    let tables = read_tables(alloc, names.folder, schema.as_slice(), files)?;
     let query = read_query(alloc, names.queries, &schema, files)?;
     Ok(Prepared {
         schema,
-        loaded,
+        tables,
         query,
     })
-}
-
-/// The table of a schema of one table.
-pub fn one_table(schema: &Schema) -> &Table
-    requires { IsOneTable schema.now }
-    ensures only { schema.now ≡ result.now ∷ [] }
-    ensures integers { AreIntegers result.now.columns }
-{
-    &schema.as_slice()[0]
 }
 
 /// The schema of a schema file.
@@ -79,61 +65,57 @@ fn read_schema<'a, F: Shelf>(
     files: &mut F,
 ) -> Result<Schema, Stop<'a>>
     ensures accepted { IfOk result (λ schema. SchemaIs (F.files files.old) name.now schema) }
-    ensures one_table { IfOk result (λ schema. IsOneTable schema) }
-    ensures stops { IfErr result (λ stop.
-        StopsAs Refusal.Schema (λ cause. IsNoSchema (F.files files.old) name.now) name.now stop) }
+    ensures stops { IfErr result (λ stop. StopsAs (IsNoSchema (F.files files.old) name.now) name.now stop) }
     ensures shelf { HasRead (failed_stop result) (told_by F.Shelf files.old) (told_by F.Shelf files.new) }
 {
     let name = FileName::Given(name);
-    let text = read_file(alloc, files, name, MAX_TEXT_FILE, Refusal::Schema)?;
+    let text = read_file(alloc, files, name, MAX_TEXT_FILE, Cause::SchemaTooLong)?;
     match schema_of(alloc, text.as_slice()) {
-        Ok(schema) if is_one_table(&schema) => Ok(schema),
-        Ok(_) => Err(unnoted(Refusal::Schema)),
-        Err(fault) => Err(schema_stop(fault)),
+        Ok(schema) => Ok(schema),
+        Err(SchemaFault::NoMemory) => Err(Stop::NoMemory),
+        Err(fault) => Err(refused(alloc, Cause::Schema(&fault))),
     }
 }
 
-/// Why a run stops at a schema that is none.
-fn schema_stop<'a>(fault: SchemaFault) -> Stop<'a>
-    ensures memory { fault ≡ SchemaFault.NoMemory → result ≡ Stop.NoMemory }
-    ensures refused { (fault ≡ SchemaFault.NoMemory → ⊥) → result ≡ Stop.Refused Refusal.Schema None }
+/// The rows of the table files of a schema, in this folder.
+fn read_tables<'a, F: Shelf>(
+    alloc: Global,
+    folder: &str,
+    schema: &[Table],
+    files: &mut F,
+) -> Result<Vec<Loaded>, Stop<'a>>
+    ensures accepted { IfOk result (λ tables. TablesAre (F.files files.old) folder.now schema.now tables.items) }
+    ensures stops { IfErr result (λ stop. StopsAtTables (F.files files.old) folder.now schema.now stop) }
+    ensures shelf { HasRead (failed_stop result) (told_by F.Shelf files.old) (told_by F.Shelf files.new) }
 {
-    match fault {
-        SchemaFault::NoMemory => Stop::NoMemory,
-        SchemaFault::NotUtf8
-        | SchemaFault::NotToken { .. }
-        | SchemaFault::NotGrammar { .. }
-        | SchemaFault::TooDeep { .. }
-        | SchemaFault::TooMany { .. }
-        | SchemaFault::Duplicate { .. }
-        | SchemaFault::BadSize { .. } => unnoted(Refusal::Schema),
+    let mut tables = Vec::with_capacity(alloc, schema.len()).map_err(|_| Stop::NoMemory)?;
+    for table in schema {
+        let loaded = read_table(alloc, folder, table, files)?;
+        tables.push(loaded).map_err(|_| Stop::NoMemory)?;
     }
+    Ok(tables)
 }
 
-/// The rows of the table file of a schema's one table, in this folder.
+/// The rows of the file of a table, in this folder.
 fn read_table<'a, F: Shelf>(
     alloc: Global,
     folder: &str,
-    schema: &Schema,
+    table: &Table,
     files: &mut F,
 ) -> Result<Loaded, Stop<'a>>
-    requires { IsOneTable schema.now }
-    ensures accepted { IfOk result (λ loaded. (table : Table) → schema.now ≡ table ∷ []
-        → TableIs (F.files files.old) folder.now table loaded.rows) }
-    ensures kinds { IfOk result (λ loaded. (table : Table) → schema.now ≡ table ∷ []
-        → loaded.columns ≡ map column_type table.columns) }
-    ensures stops { IfErr result (λ stop. (table : Table) → schema.now ≡ table ∷ []
-        → StopsAs Refusal.TableFile (λ cause. IsNoTable (F.files files.old) folder.now table) (table_file_of folder.now table.name) stop) }
+    ensures accepted { IfOk result (λ loaded. TableIs (F.files files.old) folder.now table.now loaded) }
+    ensures stops { IfErr result (λ stop.
+        StopsAs (IsNoTable (F.files files.old) folder.now table.now) (table_file_of folder.now table.now.name) stop) }
     ensures shelf { HasRead (failed_stop result) (told_by F.Shelf files.old) (told_by F.Shelf files.new) }
 {
-    let table = one_table(schema);
     let name = table_file_name(alloc, folder, table.name.as_str()).map_err(|_| Stop::NoMemory)?;
     let name = FileName::Made(name);
-    let bytes = read_file(alloc, files, name, MAX_TABLE_FILE, Refusal::TableFile)?;
+    let cause = Cause::TableTooLong(table);
+    let bytes = read_file(alloc, files, name, MAX_TABLE_FILE, cause)?;
     match load(alloc, table, bytes.as_slice()) {
         Ok(loaded) => Ok(loaded),
         Err(LoadFault::NoMemory) => Err(Stop::NoMemory),
-        Err(_) => Err(unnoted(Refusal::TableFile)),
+        Err(fault) => Err(refused(alloc, Cause::Table(table, &fault))),
     }
 }
 
@@ -144,75 +126,36 @@ fn read_query<'a, F: Shelf>(
     schema: &Schema,
     files: &mut F,
 ) -> Result<Query, Stop<'a>>
-    ensures accepted { IfOk result (λ query. QueryIs (F.files files.old) name.now schema.now query) }
-    ensures stops { IfErr result (λ stop.
-        StopsAs Refusal.Queries (IsNoQuery (F.files files.old) name.now schema.now) name.now stop) }
+    ensures accepted { IfOk result (λ query. QueriesAre (F.files files.old) name.now schema.now (asked_by schema.now query ∷ [])) }
+    ensures named { IfOk result (λ query. IsStatementOf schema.now query) }
+    ensures stops { IfErr result (λ stop. StopsAs (IsNoQuery (F.files files.old) name.now schema.now) name.now stop) }
     ensures shelf { HasRead (failed_stop result) (told_by F.Shelf files.old) (told_by F.Shelf files.new) }
 {
     let name = FileName::Given(name);
-    let text = read_file(alloc, files, name, MAX_TEXT_FILE, Refusal::Queries)?;
+    let text = read_file(alloc, files, name, MAX_TEXT_FILE, Cause::QueriesTooLong)?;
     match query_of(alloc, schema, text.as_slice()) {
         Ok(query) => Ok(query),
-        Err(fault) => Err(query_stop(alloc, &fault)),
+        Err(QueryFault::NoMemory) => Err(Stop::NoMemory),
+        Err(fault) => Err(refused(alloc, Cause::Queries(&fault))),
     }
 }
 
-/// Why a run stops at a text that is no query.
-fn query_stop<'a>(alloc: Global, fault: &QueryFault) -> Stop<'a>
-    ensures memory { fault.now ≡ QueryFault.NoMemory → result ≡ Stop.NoMemory }
-    ensures refused { StopsFor Refusal.Queries (query_cause fault.now) result }
-{
-    if matches!(fault, QueryFault::NoMemory) {
-        return Stop::NoMemory;
-    }
-    match query_cause(alloc, fault) {
-        Ok(cause) => refused(alloc, Refusal::Queries, cause.as_str()),
-        Err(NoMemory) => Stop::NoMemory,
-    }
-}
-
-/// Why a run stops at a refusal for this cause. Where there is no memory for its line, that is why.
-fn refused<'a>(alloc: Global, refusal: Refusal, cause: &str) -> Stop<'a>
-    ensures { StopsFor refusal cause.now result }
-{
-    let Some(file) = refusal.noted_as() else {
-        return unnoted(refusal);
-    };
-    match refusal_line(alloc, file, cause) {
-        Ok(line) => Stop::Refused {
-            refusal,
-            line: Some(line),
-        },
-        Err(NoMemory) => Stop::NoMemory,
-    }
-}
-
-/// Why a run stops at a refusal that isn't noted.
-fn unnoted<'a>(refusal: Refusal) -> Stop<'a>
-    ensures { result ≡ Stop.Refused refusal None }
-{
-    Stop::Refused {
-        refusal,
-        line: None,
-    }
-}
-
-/// A whole file within its limit. A longer one is refused.
+/// A whole file within its limit. A longer one is refused for this cause.
 fn read_file<'a, F: Shelf>(
     alloc: Global,
     files: &mut F,
     name: FileName<'a>,
     limit: usize,
-    refusal: Refusal,
+    too_long: Cause<'_>,
 ) -> Result<Vec<u8>, Stop<'a>>
     ensures whole { IfOk result (λ bytes. IsFile (F.files files.old) (octets_of name.entry) limit bytes.items) }
-    ensures stops { IfErr result (λ stop.
-        StopsAs refusal (λ cause. IsTooLong (F.files files.old) (octets_of name.entry) limit × (cause ≡ too_long)) (octets_of name.entry) stop) }
+    ensures stops { IfErr result (λ stop. StopsAs (λ cause. (cause ≡ cause_of too_long) × IsTooLong (F.files files.old) (octets_of name.entry) limit)
+        (octets_of name.entry) stop) }
     ensures shelf { HasRead (failed_stop result) (told_by F.Shelf files.old) (told_by F.Shelf files.new) }
 {
     match read_whole(alloc, files, name.as_str(), limit) {
         Ok(bytes) => Ok(bytes),
-        Err(ReadFault::TooLong) => Err(refused(alloc, refusal, "too long")),
+        Err(ReadFault::TooLong) => Err(refused(alloc, too_long)),
         Err(ReadFault::Failed) => Err(Stop::Unread(name)),
         Err(ReadFault::NoMemory) => Err(Stop::NoMemory),
     }

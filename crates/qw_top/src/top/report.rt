@@ -1,36 +1,29 @@
 //! From the turned bench of a run to the written report.
 
-ghost use Rattle.std.specs.Prelude.{◌≡◌, ◌≢◌, ℕ, List, slice_get, Some, IfOk, IfSome, IsSomeAnd};
+ghost use Rattle.std.specs.Prelude.{◌≡◌, ◌≢◌, ◌<◌, ◌++◌, ℕ, List, length, IfOk, IsSome};
 ghost use Rattle.qw_io.specs.Faults.{IsCounted};
-ghost use Rattle.qw_types.specs.declared.value.Val.{Val};
-ghost use Rattle.qw_csv.specs.Contents.{AreIntegers};
-ghost use Rattle.qw_map.specs.Turns.{Done};
+ghost use Rattle.qw_bench.specs.Standing.{end_of};
 ghost use Rattle.qw_bench.specs.Bench.{end_in};
-ghost use Rattle.qw_top.specs.Delivered.{ShowsEnd, status_of};
-ghost use Rattle.qw_bench.specs.Standing.{rows_in};
-ghost use Rattle.qw_sink.specs.Sink.{report_of_rows};
+ghost use Rattle.qw_top.specs.Delivered.{ShowsEnds, ends_below, status_of_ends};
+ghost use Rattle.qw_top.specs.Inner.Reports.{AreBlocks, IsBlock, status_with};
 ghost use Rattle.qw_top.specs.Inner.Stages.{IsReport, Ran, Writes};
-ghost use Rattle.qw_top.specs.Top.{head_of, header_of};
-ghost use Rattle.qw_top.specs.Inner.Inputs.{AreColumnsOf};
 
-use super::inputs::one_table;
 use super::run::Turned;
 use crate::output::{end_of_write, write_whole};
 use crate::status::Status;
 use qw_bench::bench::{Bench, Ended};
 use qw_io::Sink;
-use qw_meaning::query::Query;
 use qw_sink::results::received;
-use qw_sink::sink::{Head, pages_text, report_text};
-use qw_types::{Column, Kind, NoMemory, Table, Text};
+use qw_sink::sink::{Head, Header, with_exception, with_pages, with_rows_of, with_steps};
+use qw_types::NoMemory;
 use std::alloc::Global;
 
-/// Writes the report of a bench that has run the query of a run. At a fault a front of it was taken.
+/// Writes the report of a bench that has run the queries of a run. At a fault a front of it was taken.
 pub fn deliver<O: Sink>(alloc: Global, run: &Turned, out: &mut O) -> Status
-    requires { Ran run.now.schema run.now.bench }
-    ensures writes { (ran : Ran run.now.schema run.now.bench) (report : List ℕ)
-        → ShowsEnd ran.table ran.rows ran.statement run.now.bench ran.run.end report
-        → Writes (status_of ran.run.end) result (O.taken out.old) (O.taken out.new) report }
+    requires { Ran run.now.headers.items run.now.bench }
+    ensures writes { (ran : Ran run.now.headers.items run.now.bench) → (report : List ℕ)
+        × ShowsEnds ran.tables ran.queries run.now.bench 0 report
+        × Writes (status_of_ends (ends_below run.now.bench (length ran.queries))) result (O.taken out.old) (O.taken out.new) report }
     ensures fault { result ≡ Status.WriteFailed → IsCounted (O.faults out.old) (O.faults out.new) }
     ensures no_fault { result ≢ Status.WriteFailed → O.faults out.new ≡ O.faults out.old }
 {
@@ -47,64 +40,76 @@ struct Report {
     status: Status,
 }
 
-/// The report of a bench that has run the query of a run.
+/// The report of a bench that has run the queries of a run.
 fn report_of(alloc: Global, run: &Turned) -> Result<Report, NoMemory>
-    requires { Ran run.now.schema run.now.bench }
-    ensures { IfOk result (λ report. IsReport run.now.schema run.now.bench report.text.items report.status) }
+    requires { Ran run.now.headers.items run.now.bench }
+    ensures { IfOk result (λ report. IsReport run.now.headers.items run.now.bench report.text.items report.status) }
 {
-    match run.bench.ended(0) {
+    let text = blocks_of(alloc, &run.bench, run.headers.as_slice())?;
+    Ok(Report {
+        text,
+        status: status_of(&run.bench),
+    })
+}
+
+/// The parts of the report, one for each query.
+fn blocks_of(alloc: Global, bench: &Bench, headers: &[Header]) -> Result<Vec<u8>, NoMemory>
+    requires many { length headers.now ≡ length bench.now.shared.instances }
+    requires ended { (k : ℕ) → k < length headers.now → IsSome (end_in bench.now.shared k) }
+    ensures { IfOk result (λ text. AreBlocks headers.now bench.now 0 text.items) }
+{
+    let mut text = Vec::new(alloc);
+    for (k, header) in headers.iter().enumerate() {
+        text = with_block(alloc, text, bench, k, header.as_slice())?;
+    }
+    Ok(text)
+}
+
+/// A report with the part of the query of the instance of this number.
+fn with_block(
+    alloc: Global,
+    report: Vec<u8>,
+    bench: &Bench,
+    k: usize,
+    header: &[Head],
+) -> Result<Vec<u8>, NoMemory>
+    requires there { k < length bench.now.shared.instances }
+    requires ended { IsSome (end_in bench.now.shared k) }
+    ensures { IfOk result (λ text. (block : List ℕ) × (text.items ≡ report.items ++ block) × IsBlock header.now bench.now k (end_in bench.now.shared k) block) }
+{
+    match bench.ended(k) {
         Some(Ended::Done) => {
-            let text = rows_report(alloc, one_table(&run.schema), &run.bench)?;
-            Ok(Report {
-                text,
-                status: Status::Done,
-            })
+            let rows = received(alloc, bench, k)?;
+            with_rows_of(alloc, report, k + 1, header, rows.as_slice())
         }
+        Some(Ended::Raised(code)) => with_exception(alloc, report, k + 1, code),
         Some(Ended::Pages { held, asked, limit }) => {
-            let text = pages_text(alloc, 1, held, asked, limit)?;
-            Ok(Report {
-                text,
-                status: Status::PageLimitMet,
-            })
+            with_pages(alloc, report, k + 1, held, asked, limit)
         }
-        Some(Ended::Steps { .. }) => unreachable!(),
+        Some(Ended::Steps { limit }) => with_steps(alloc, report, k + 1, limit),
         None => unreachable!(),
     }
 }
 
-/// The report of the rows of a bench whose instance is done.
-fn rows_report(alloc: Global, table: &Table, bench: &Bench) -> Result<Vec<u8>, NoMemory>
-    requires done { end_in bench.now.shared 0 ≡ Some Done }
-    requires integers { AreIntegers table.now.columns }
-    requires columns { IsSomeAnd (slice_get bench.now.tasks 0) (λ task. AreColumnsOf table.now task.statement) }
-    ensures { IfOk result (λ text. IfSome (slice_get bench.now.tasks 0) (λ task. (bag : List (List Val))
-        → rows_in bench.now 0 ≡ Some bag → text.items ≡ report_of_rows 1 (header_of table.now task.statement) bag)) }
+/// The status of a run whose instances ended so.
+fn status_of(bench: &Bench) -> Status
+    ensures { result ≡ status_of_ends (ends_below bench.now (length bench.now.shared.instances)) }
 {
-    let rows = received(alloc, bench, 0)?;
-    let header = header(alloc, table, bench.query(0))?;
-    report_text(alloc, 1, header.as_slice(), rows.as_slice())
-}
-
-/// The header of the rows that a statement gives.
-fn header(alloc: Global, table: &Table, query: &Query) -> Result<Vec<Head>, NoMemory>
-    requires { AreColumnsOf table.now query.now }
-    ensures { IfOk result (λ header. header.items ≡ header_of table.now query.now) }
-{
-    let columns = table.columns.as_slice();
-    let mut header = Vec::new(alloc);
-    for column in query.columns() {
-        header.push(head(alloc, &columns[*column])?)?;
+    let mut status = Status::Done;
+    for k in 0..bench.len() {
+        status = status_with(status, bench.ended(k));
     }
-    Ok(header)
+    status
 }
 
-/// What the header says of a column.
-fn head(alloc: Global, column: &Column) -> Result<Head, NoMemory>
-    ensures { IfOk result (λ head. head ≡ head_of column.now) }
+/// The status with one end more.
+fn status_with(status: Status, end: Option<Ended>) -> Status
+    ensures { result ≡ status_with status (end_of end) }
 {
-    let name = String::from_str(alloc, column.name.as_str())?;
-    Ok(Head {
-        name: Text::new(name),
-        kind: Kind::of_type(column.ty),
-    })
+    match (status, end) {
+        (_, Some(Ended::Pages { .. })) | (Status::PageLimitMet, _) => Status::PageLimitMet,
+        (_, Some(Ended::Steps { .. })) | (Status::StepLimitMet, _) => Status::StepLimitMet,
+        (_, Some(Ended::Raised(_))) | (Status::Raised, _) => Status::Raised,
+        (_, Some(Ended::Done)) | (_, None) => status,
+    }
 }

@@ -1,62 +1,70 @@
 //! From the words of a run to the bench that was turned to its end.
 
-ghost use Rattle.std.specs.Prelude.{◌≡◌, ◌<◌, [], ◌∷◌, map, length, IfOk, IfErr};
+ghost use Rattle.std.specs.Prelude.{◌≡◌, ◌≤◌, ◌⊎◌, List, [], ◌∷◌, length, map, IfOk, IfErr};
 ghost use Rattle.std.specs.List.{AllByRecursion};
 ghost use Rattle.std.specs.String.{string_bytes};
-ghost use Rattle.qw_types.specs.declared.schema.Table.{Table};
-ghost use Rattle.qw_csv.specs.Contents.{AreIntegerKinds, column_type};
-ghost use Rattle.qw_bench.specs.Bench.{IsStart};
-ghost use Rattle.qw_bench.specs.Standing.{first_task};
+ghost use Rattle.qw_types.specs.declared.value.Ty.{Ty};
+ghost use Rattle.qw_meaning.specs.Simple.{HasIntegers, simple};
+ghost use Rattle.qw_types.specs.Limits.{most_tables};
 ghost use Rattle.qw_emit.specs.Compiled.{IsCompiled};
-ghost use Rattle.qw_map.specs.Layout.{used};
-ghost use Rattle.qw_top.specs.Delivered.{Asks, HasRun};
-ghost use Rattle.qw_top.specs.Inner.Stages.{HasAsked, Stops, failed_stop};
+ghost use Rattle.qw_emit.specs.ScanLayout.{layout_for};
+ghost use Rattle.qw_bench.specs.Bench.{IsColumnIn, IsStart};
+ghost use Rattle.qw_bench.specs.Standing.{AreTasksOf, total_pages as pages_in_all};
+ghost use Rattle.qw_top.specs.Delivered.{HasRun};
+ghost use Rattle.qw_top.specs.Inner.Inputs.{IsStatementOf};
+ghost use Rattle.qw_top.specs.Inner.Stages.{AreContentsOf, HasAsked, Stops, StopsForPages, StopsToRun};
 ghost use Rattle.qw_top.specs.Inner.Shelves.{HasRead, told_by};
-ghost use Rattle.qw_top.specs.Limits.{default_limits};
-ghost use Rattle.qw_top.specs.Top.{IsOneTable};
+ghost use Rattle.qw_top.specs.Inner.Stop.{failed_stop};
+ghost use Rattle.qw_top.specs.Limits.{default_limits, quantum};
+ghost use Rattle.qw_top.specs.Top.{Asks, asked_by};
 
 use super::QUANTUM;
+use super::header::header_of;
 use super::inputs::{Prepared, prepare};
-use crate::stop::{Refusal, Stop};
+use crate::causes::Cause;
+use crate::stop::{Stop, refused};
 use crate::words::run_words;
 use qw_bench::bench::{Bench, BenchFault, DEFAULT_LIMITS, Job};
 use qw_csv::Loaded;
 use qw_emit::emit::module_of;
+use qw_emit::layout::layout_of;
 use qw_io::Shelf;
 use qw_meaning::query::Query;
+use qw_sink::sink::Header;
 use qw_types::{NoMemory, Schema};
 use qw_valid::valid::{ValidFault, validate};
 use std::alloc::Global;
 
-/// The schema of a run, and the bench that was turned to its end.
+/// The headers of the rows of each query, and the bench that was turned to its end.
 #[derive(Drop)]
 pub struct Turned {
-    pub schema: Schema,
+    pub headers: Vec<Header>,
     pub bench: Bench,
 }
 
-/// Reads the words and the files, and runs the query over the table.
+/// Reads the words and the files, and runs the queries over the tables.
 ///
 /// # Errors
 ///
-/// A refusal of the words or of a file, the name of a file that couldn't be read, or want of memory.
+/// A refusal of the words or of a file, more pages than a memory has, the name of a file that couldn't be read, or want of memory.
 pub fn run<'a, F: Shelf>(
     alloc: Global,
     words: &'a [String],
     files: &mut F,
 ) -> Result<Turned, Stop<'a>>
     ensures asked { IfOk result (λ run.
-        HasAsked (F.files files.old) (map string_bytes words.now) run.schema run.bench) }
+        HasAsked (F.files files.old) (map string_bytes words.now) run.headers.items run.bench) }
     ensures stops { IfErr result (λ stop. Stops (F.files files.old) (map string_bytes words.now) stop) }
     ensures shelf { HasRead (failed_stop result) (told_by F.Shelf files.old) (told_by F.Shelf files.new) }
 {
     let Prepared {
         schema,
-        loaded,
+        tables,
         query,
     } = accept(alloc, words, files)?;
-    let bench = finished(alloc, &loaded, query)?;
-    Ok(Turned { schema, bench })
+    let headers = vec![in alloc; header_of(alloc, &schema, &query)?].map_err(|_| Stop::NoMemory)?;
+    let bench = finished(alloc, &schema, tables.as_slice(), &query)?;
+    Ok(Turned { headers, bench })
 }
 
 /// Reads the words, and the files that they name.
@@ -65,56 +73,59 @@ fn accept<'a, F: Shelf>(
     words: &'a [String],
     files: &mut F,
 ) -> Result<Prepared, Stop<'a>>
-    ensures asks { IfOk result (λ run. (table : Table) × (run.schema ≡ table ∷ [])
-        × (run.loaded.columns ≡ map column_type table.columns)
-        × Asks (F.files files.old) (map string_bytes words.now) table run.loaded.rows run.query) }
-    ensures one_table { IfOk result (λ run. IsOneTable run.schema) }
+    ensures asks { IfOk result (λ run. IsStatementOf run.schema run.query
+        × Asks (F.files files.old) (map string_bytes words.now) run.schema run.tables.items (asked_by run.schema run.query ∷ [])) }
     ensures stops { IfErr result (λ stop. Stops (F.files files.old) (map string_bytes words.now) stop) }
     ensures shelf { HasRead (failed_stop result) (told_by F.Shelf files.old) (told_by F.Shelf files.new) }
 {
-    let refused = Stop::Refused {
-        refusal: Refusal::Words,
-        line: None,
-    };
-    let names = run_words(words).ok_or(refused)?;
+    let names = run_words(words).ok_or(Stop::Words)?;
     prepare(alloc, &names, files)
 }
 
-/// The bench of a query over a loaded table, after the turns that end it.
-fn finished(alloc: Global, loaded: &Loaded, query: Query) -> Result<Bench, NoMemory>
-    requires integers { AreIntegerKinds loaded.now.columns }
-    requires columns { AllByRecursion (λ column. column < length loaded.now.columns) (used query) }
-    ensures { IfOk result (λ bench. HasRun (length loaded.now.columns) loaded.now.rows query bench) }
+/// The bench of a query over loaded tables, after the turns that end it.
+fn finished<'a>(
+    alloc: Global,
+    schema: &Schema,
+    tables: &[Loaded],
+    query: &Query,
+) -> Result<Bench, Stop<'a>>
+    requires statement { IsStatementOf schema.now query.now }
+    requires tables { AreContentsOf schema.now tables.now }
+    ensures ran { IfOk result (λ bench. HasRun default_limits quantum tables.now (asked_by schema.now query.now ∷ []) bench) }
+    ensures stops { IfErr result (λ stop. StopsToRun tables.now (asked_by schema.now query.now ∷ []) stop) }
 {
     let job = compiled(alloc, query)?;
-    let mut bench = begun(alloc, loaded, job)?;
+    let mut bench = begun(alloc, tables, job)?;
     bench.run_all(QUANTUM);
     Ok(bench)
 }
 
-/// The bench of a query over a loaded table, under the limits where none are given: they leave room for the
-/// columns of every table.
-fn begun(alloc: Global, loaded: &Loaded, job: Job) -> Result<Bench, NoMemory>
-    requires integers { AreIntegerKinds loaded.now.columns }
-    requires columns { AllByRecursion (λ column. column < length loaded.now.columns) (used job.statement) }
-    ensures tasks { IfOk result (λ bench. bench.tasks ≡ first_task (length loaded.now.columns) (length loaded.now.rows) job default_limits ∷ []) }
-    ensures start { IfOk result (λ bench. IsStart (length loaded.now.columns) loaded.now.rows bench.tasks bench.shared) }
+/// The bench of one program over loaded tables, under the limits where none are given.
+fn begun<'a>(alloc: Global, tables: &[Loaded], job: Job) -> Result<Bench, Stop<'a>>
+    requires few { length tables.now ≤ most_tables }
+    requires columns { AllByRecursion (IsColumnIn tables.now) job.layout.columns }
+    ensures tasks { IfOk result (λ bench. AreTasksOf (job ∷ []) (default_limits ∷ []) bench.tasks) }
+    ensures start { IfOk result (λ bench. IsStart tables.now bench.tasks bench.shared) }
+    ensures stops { IfErr result (λ stop. (stop ≡ Stop.NoMemory) ⊎ StopsForPages (pages_in_all tables.now (default_limits ∷ [])) stop) }
 {
-    match Bench::new(alloc, loaded, job, DEFAULT_LIMITS) {
+    let jobs = vec![in alloc; job].map_err(|_| Stop::NoMemory)?;
+    match Bench::new(alloc, tables, jobs, &[DEFAULT_LIMITS]) {
         Ok(bench) => Ok(bench),
-        Err(BenchFault::NoMemory) => Err(NoMemory),
-        Err(BenchFault::TotalPages { .. }) => unreachable!(),
+        Err(BenchFault::NoMemory) => Err(Stop::NoMemory),
+        Err(BenchFault::TotalPages { need }) => Err(refused(alloc, Cause::TotalPages(need))),
     }
 }
 
-/// The statement with its module. A compiled module is valid, so it is refused for want of memory alone.
-fn compiled(alloc: Global, query: Query) -> Result<Job, NoMemory>
-    ensures query { IfOk result (λ job. job.statement ≡ query) }
-    ensures compiled { IfOk result (λ job. IsCompiled query job.program) }
+/// The program of a statement. A compiled module is valid, so it is refused for want of memory alone.
+fn compiled(alloc: Global, query: &Query) -> Result<Job, NoMemory>
+    ensures layout { IfOk result (λ job. job.layout ≡ layout_for query.now) }
+    ensures compiled { IfOk result (λ job. (types : List Ty) → HasIntegers types query.now
+        → IsCompiled (simple types query.now) job.layout job.module') }
 {
-    let module = module_of(alloc, &query)?;
+    let layout = layout_of(alloc, query)?;
+    let module = module_of(alloc, query)?;
     match validate(alloc, module) {
-        Ok(valid) => Ok(Job::new(query, valid)),
+        Ok(valid) => Ok(Job::new(valid, layout)),
         Err(ValidFault::NoMemory) => Err(NoMemory),
         Err(ValidFault::Part(_)) => unreachable!(),
         Err(ValidFault::Body { .. }) => unreachable!(),

@@ -6,7 +6,7 @@ use Rattle.qw_sink.proofs.results.chained_rows.Given as goal
 
 abbrev pub invariant-loop : goal.invariant-loop
 invariant-loop l = record {
-  read : (own : List Area) → IsSome (rows_from l.types own l.memory.octets l.count l.first) →
-      IsRead l.types own l.memory.octets l.count l.first l.counter l.at l.rows.items;
+  read : (texts own : List Area) → IsSome (rows_from l.kinds texts own l.memory.octets l.count l.first) →
+      IsRead l.kinds texts own l.memory.octets l.count l.first l.counter l.at l.rows.items;
   small : l.at < 2 ^ 32;
 }

@@ -1,0 +1,48 @@
+-- Mirrors `top::report::with_block`, `blocks_of` and `status_with`.
+use Rattle.std.specs.Prelude.{◌≡◌, ℕ, suc, Bool, true, false, ◌||◌, List, [], ◌∷◌, ◌++◌, Option, Some, None, if◌then◌else◌}
+use Rattle.qw_types.specs.declared.code.Code.{Code}
+use Rattle.qw_types.specs.declared.value.Val.{Val}
+use Rattle.qw_map.specs.Turns.{End, Done as EndedDone, Exception, Pages, Steps, Trap}
+use Rattle.qw_emit.specs.Compiled.{raised_for}
+use Rattle.qw_bench.specs.Bench.{end_in}
+use Rattle.qw_bench.specs.Standing.{Standing, rows_in}
+use Rattle.qw_sink.specs.Sink.{report_of_rows, report_of_exception, report_of_pages, report_of_steps}
+use Rattle.qw_sink.specs.declared.sink.Head.{Head}
+use Rattle.qw_top.specs.Delivered.{is_exception, is_pages, is_steps}
+use Rattle.qw_top.specs.declared.status.Status.{Status}
+use Rattle.qw_top.specs.declared.status.Status.TheVariants.{Done, Raised, PageLimitMet, StepLimitMet}
+
+-- the block of an end of the instance of a number, counted from 0
+abbrev pub IsBlock : List Head → Standing → ℕ → Option End → (block : List ℕ) → Type 0
+IsBlock header b k None block = ⊥
+IsBlock header b k (Some EndedDone) block = (bag : List (List Val)) × (rows_in b k ≡ Some bag) × (block ≡ report_of_rows (suc k) header bag)
+IsBlock header b k (Some (Exception code)) block = (one : Code) × (code ≡ raised_for one) × (block ≡ report_of_exception (suc k) one)
+IsBlock header b k (Some (Pages held asked limit)) block = block ≡ report_of_pages (suc k) held asked limit
+IsBlock header b k (Some (Steps limit)) block = block ≡ report_of_steps (suc k) limit
+IsBlock header b k (Some Trap) block = ⊥
+
+-- the blocks of instances from number k on, one behind another
+abbrev pub AreBlocks : List (List Head) → Standing → (k : ℕ) → (text : List ℕ) → Type 0
+AreBlocks [] b k text = text ≡ []
+AreBlocks (header ∷ headers) b k text = (block : List ℕ) × (blocks : List ℕ) × (text ≡ block ++ blocks)
+    × IsBlock header b k (end_in b.shared k) block × AreBlocks headers b (suc k) blocks
+
+-- whether it is that of a limit of pages that was met, of one of instructions, of an exception
+abbrev pub is_page_limit : Status → Bool
+is_page_limit PageLimitMet = true
+is_page_limit _ = false
+
+abbrev pub is_step_limit : Status → Bool
+is_step_limit StepLimitMet = true
+is_step_limit _ = false
+
+abbrev pub is_raised : Status → Bool
+is_raised Raised = true
+is_raised _ = false
+
+-- the status of a run with one end more
+abbrev pub status_with : Status → Option End → Status
+status_with status end =
+    if is_pages end || is_page_limit status then PageLimitMet
+    else (if is_steps end || is_step_limit status then StepLimitMet
+    else (if is_exception end || is_raised status then Raised else status))
