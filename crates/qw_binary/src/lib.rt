@@ -1,0 +1,2 @@
+//! Modules in the binary format.
+#![tactic(auto)]
