@@ -2,8 +2,12 @@
 //! names (WebAssembly Core Specification 1.0, 5.1 and 5.2).
 //!
 //! - [`fault::BinaryFault`]: why octets were not read; [`fault::What`]: what lies outside the profile.
+//! - [`numbers`], [`names`]: numbers and names at the front of octets; [`windows`]: what has a size.
 //! - `specs/Grammar`: grammars, the octets that spell a value, the first construct that no rule allows.
 //! - `specs/Reading`: reading by a grammar, which `proofs/GrammarLaws` proves to be the same, of every grammar.
 #![tactic(auto)]
 
 pub mod fault;
+pub mod names;
+pub mod numbers;
+pub mod windows;
