@@ -58,6 +58,16 @@ pub one_more_fails : {A : Type 0} (e : BinaryFault) (item : Grammar A) (before :
 unfolding read
 one_more_fails e item before bytes h = fails_through e (read item bytes) (λ y. Ok (before ++ y.0 ∷ [], y.1)) _ h refl
 
+module _ {A : Type 0} (item : Grammar A) where
+  pub goes_on_one_more : (count i : ℕ) (before : List A) (bytes : List ℕ) (x : A) (rest : List ℕ) (total : Result (List A × List ℕ) BinaryFault) → i < count → read item bytes ≡ Ok (x, rest)
+      → read (counted (count - i) (one_more item) before) bytes ≡ total → read (counted (count - (i + 1)) (one_more item) (before ++ x ∷ [])) rest ≡ total
+  goes_on_one_more count i before bytes x rest total lt h so_far =
+      goes_on_counted (one_more item) count i before bytes (before ++ x ∷ []) rest total lt (one_more_ok item before bytes x rest h) so_far
+
+  pub ends_one_more : (e : BinaryFault) (count i : ℕ) (before : List A) (bytes : List ℕ) (total : Result (List A × List ℕ) BinaryFault) → i < count → Fails e (read item bytes)
+      → read (counted (count - i) (one_more item) before) bytes ≡ total → Fails e total
+  ends_one_more e count i before bytes total lt h so_far = ends_counted (one_more item) e count i before bytes total lt (one_more_fails e item before bytes h) so_far
+
 -- ---- items by a state
 
 module _ {S A : Type 0} (p : S → ℕ → List ℕ → Result (Next S A × List ℕ) BinaryFault) where

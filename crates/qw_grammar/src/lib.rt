@@ -2,7 +2,7 @@
 //! names (WebAssembly Core Specification 1.0, 5.1 and 5.2).
 //!
 //! - [`fault::BinaryFault`]: why octets were not read; [`fault::What`]: what lies outside the profile.
-//! - [`numbers`], [`names`]: numbers and names at the front of octets; [`windows`]: what has a size.
+//! - [`numbers`], [`names`], [`vectors`]: numbers, names and vectors at the front of octets; [`windows`]: what has a size.
 //! - `specs/Grammar`: grammars, the octets that spell a value, the first construct that no rule allows.
 //! - `specs/Reading`: reading by a grammar, which `proofs/GrammarLaws` proves to be the same, of every grammar.
 #![tactic(auto)]
@@ -10,4 +10,5 @@
 pub mod fault;
 pub mod names;
 pub mod numbers;
+pub mod vectors;
 pub mod windows;
