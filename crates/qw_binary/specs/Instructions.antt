@@ -34,17 +34,18 @@ given None k g = g
 
 -- ---- instructions that hold no sequence, behind their codes
 
--- those with one index: branches and calls (5.4.1), and variables (5.4.3); or else otherwise
-abbrev pub indexed : (code : ℕ) → Grammar Instr → Grammar Instr
-indexed code g =
-    pick (code == 0x0C) (after u32 (λ label. is (i.Br label)))
-    (pick (code == 0x0D) (after u32 (λ label. is (i.BrIf label)))
-    (pick (code == 0x10) (after u32 (λ index. is (i.Call index)))
-    (pick (code == 0x20) (after u32 (λ index. is (i.Op (o.LocalGet index))))
-    (pick (code == 0x21) (after u32 (λ index. is (i.Op (o.LocalSet index))))
-    (pick (code == 0x22) (after u32 (λ index. is (i.Op (o.LocalTee index))))
-    (pick (code == 0x23) (after u32 (λ index. is (i.Op (o.GlobalGet index))))
-    (pick (code == 0x24) (after u32 (λ index. is (i.Op (o.GlobalSet index)))) g)))))))
+-- those with one index: branches and calls (5.4.1), and variables (5.4.3)
+abbrev pub indexed_by : (code : ℕ) → Option (ℕ → Instr)
+indexed_by code =
+    if code == 0x0C then Some (λ label. i.Br label)
+    else if code == 0x0D then Some (λ label. i.BrIf label)
+    else if code == 0x10 then Some (λ index. i.Call index)
+    else if code == 0x20 then Some (λ index. i.Op (o.LocalGet index))
+    else if code == 0x21 then Some (λ index. i.Op (o.LocalSet index))
+    else if code == 0x22 then Some (λ index. i.Op (o.LocalTee index))
+    else if code == 0x23 then Some (λ index. i.Op (o.GlobalGet index))
+    else if code == 0x24 then Some (λ index. i.Op (o.GlobalSet index))
+    else None
 
 -- loads (5.4.4)
 abbrev pub load_by : (code : ℕ) → Option Load
@@ -152,7 +153,7 @@ plain_by code =
 -- an instruction that holds no sequence and no vector, behind its code; constants are signed (5.4.5)
 abbrev pub simple : (code : ℕ) → Grammar Instr
 simple code =
-    indexed code
+    given (indexed_by code) (λ make. after u32 (λ index. is (make index)))
     (given (load_by code) (λ load. after mem_arg (λ arg. is (i.Op (o.Load load arg))))
     (given (store_by code) (λ store. after mem_arg (λ arg. is (i.Op (o.Store store arg))))
     (pick (code == 0x3F) (after zero_octet (λ _. is (i.Op o.MemorySize)))

@@ -1,4 +1,5 @@
 pub mod Contents
+pub mod Inner
 pub mod Instructions
 pub mod Modules
 pub mod Sections

@@ -135,3 +135,6 @@ module _ {S : Type 0} (step : S → ℕ → Grammar S) where
 
   pub all_begin : (k : ℕ) (s : S) (bytes : List ℕ) → read_all step (k - 0) s bytes ≡ read_all step k s bytes
   all_begin k s bytes = let e : k - 0 ≡ k = omega arith in ap (λ n. read_all step n s bytes) e
+
+-- what a loop over the items of a vector cites
+pub ruleset vector_loop = (goes_on_one_more, ends_one_more, done_counted, begin_counted)

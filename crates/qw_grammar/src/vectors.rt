@@ -10,7 +10,7 @@ use crate::numbers::u32_at;
 use std::alloc::Global;
 
 /// So many unsigned numbers of 32 bits. Nothing is reserved by their count, which may be a lie.
-#[tactic(auto, using(crate::proofs::Loops::goes_on_one_more, crate::proofs::Loops::ends_one_more, crate::proofs::Loops::done_counted, crate::proofs::Loops::begin_counted))]
+#[tactic(auto, using(crate::proofs::Loops::vector_loop))]
 fn numbers_at(
     alloc: Global,
     count: u32,

@@ -1,0 +1,9 @@
+use Rattle.std.proofs.Common.{◌≡◌, ◌-◌, []}
+use Rattle.std.specs.Prelude.{map}
+use Rattle.qw_grammar.specs.Vectors.{counted, one_more}
+use Rattle.qw_grammar.specs.Reading.{read}
+use Rattle.qw_binary.specs.Types.{limits}
+use Rattle.qw_binary.proofs.read.types.memories_at.Given as goal
+
+abbrev pub invariant-loop : goal.invariant-loop
+invariant-loop l = read (counted (l.count - l.counter) (one_more limits) l.found.items) l.rest ≡ read (counted l.count (one_more limits) []) l.octets
