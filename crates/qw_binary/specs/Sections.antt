@@ -5,7 +5,7 @@ use Rattle.qw_grammar.specs.declared.fault.BinaryFault.TheVariants.{NotModule, O
 use Rattle.qw_grammar.specs.declared.fault.What.TheVariants as what
 use Rattle.qw_grammar.specs.Grammar.{Grammar, is, refuse, octet, after, within, pick, settle}
 use Rattle.qw_grammar.specs.Numbers.{u32}
-use Rattle.qw_grammar.specs.Vectors.{counted, vector, name}
+use Rattle.qw_grammar.specs.Vectors.{counted, one_more, vector, name}
 use Rattle.qw_module.specs.declared.instruction.Const.{Const}
 use Rattle.qw_module.specs.declared.instruction.ValType.{ValType}
 use Rattle.qw_module.specs.declared.instruction.Instr.{Instr}
@@ -78,19 +78,35 @@ abbrev pub described : Imported → Grammar Import
 described memory = octet (λ b. pick (b == 0x02) (after limits (λ l. is (import.Memory l))) (refuse (other_kind b)))
 described raise = octet (λ b. pick (b == 0x00) (after u32 (λ type. is (import.Raise type))) (refuse (other_kind b)))
 
+-- an import, which no other one before it names
+abbrev pub import_behind : List Import → Grammar Import
+import_behind before = after (names before) described
+
 -- an import behind those before it
 abbrev pub next_import : List Import → Grammar (List Import)
-next_import before = after (after (names before) described) (λ x. is (before ++ x ∷ []))
+next_import before = one_more (import_behind before) before
 
 abbrev pub imports : Grammar (List Import)
 imports = after u32 (λ n. counted n next_import [])
 
 -- ---- globals (5.5.9)
 
--- the constant that an expression is, where it is one
+-- the constant that an instruction is
+abbrev pub constant_instruction : Instr → Result Const BinaryFault
+constant_instruction (i.Op (o.Const c)) = Ok c
+constant_instruction _ = Err NotModule
+
+-- the constant that a sequence is, where it is that alone
+abbrev pub constant_sequence : List Instr → Result Const BinaryFault
+constant_sequence [] = Err NotModule
+constant_sequence (instruction ∷ []) = constant_instruction instruction
+constant_sequence (instruction ∷ next ∷ rest) = Err NotModule
+
+-- the constant that an expression is, where it is that alone
 abbrev pub constant_of : List (List Instr) → Result Const BinaryFault
-constant_of ((i.Op (o.Const c) ∷ []) ∷ []) = Ok c
-constant_of _ = Err NotModule
+constant_of [] = Err NotModule
+constant_of (sequence ∷ []) = constant_sequence sequence
+constant_of (sequence ∷ next ∷ rest) = Err NotModule
 
 abbrev pub global_from : ValType → Bool → Const → Global
 global_from type mutable init = record { ty = type; mutable = mutable; init = init }
@@ -143,7 +159,7 @@ code type_index =
 
 -- the code of the function behind these, of which the indices of the types are given
 abbrev pub next_function : List ℕ → List FunctionContents → Grammar (List FunctionContents)
-next_function type_indices before = after (code (get_or type_indices (length before) 0)) (λ function. is (before ++ function ∷ []))
+next_function type_indices before = one_more (code (get_or type_indices (length before) 0)) before
 
 -- as many as there are indices, which is judged at the count
 abbrev pub functions : List ℕ → Grammar (List FunctionContents)

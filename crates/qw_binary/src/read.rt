@@ -2,6 +2,11 @@
 //! octets behind it; nothing calls itself, and nothing is reserved by a count.
 
 mod codes;
+mod exports;
 mod expression;
+mod functions;
+mod globals;
+mod imports;
 mod instruction;
+pub mod sections;
 mod types;
