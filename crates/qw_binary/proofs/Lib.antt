@@ -1,0 +1,4 @@
+mod FunctionLemmas
+mod ImportLemmas
+mod LocalsLemmas
+mod ModuleLaws

@@ -1,0 +1,6 @@
+-- What restates code for proofs. No public clause rests on it.
+pub mod Decoding
+pub mod Imported
+pub mod Indexed
+pub mod Reader
+pub mod SoFar

@@ -1,0 +1,17 @@
+//! Laws of the binary format, each the contract of a function that does nothing.
+
+ghost use Rattle.std.specs.Prelude.{◌≡◌, ℕ, List};
+ghost use Rattle.qw_grammar.specs.declared.fault.BinaryFault.{BinaryFault};
+ghost use Rattle.qw_binary.specs.Contents.{Contents};
+ghost use Rattle.qw_binary.specs.Modules.{SpellsModule, FirstStuck};
+
+/// Octets spell at most one module.
+pub fn one_module()
+    ensures { (text : List ℕ) (m n : Contents) → SpellsModule m text → SpellsModule n text → m ≡ n }
+{}
+
+/// Octets have at most one first construct that no rule allows, and those that spell a module have none.
+pub fn one_fault()
+    ensures one { (text : List ℕ) (f g : BinaryFault) → FirstStuck text f → FirstStuck text g → f ≡ g }
+    ensures never_both { (text : List ℕ) (m : Contents) (f : BinaryFault) → SpellsModule m text → FirstStuck text f → ⊥ }
+{}

@@ -1,0 +1,4 @@
+pub mod AllLaws
+pub mod GrammarLaws
+pub mod Loops
+mod NumberFacts
