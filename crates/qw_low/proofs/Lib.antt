@@ -11,6 +11,7 @@ mod OpenOutcomes
 mod PageUse
 pub mod PromisedRuns
 pub mod Promises
+pub mod Results
 pub mod Standing
 pub mod StatementRuns
 mod StepsWritten

@@ -6,6 +6,8 @@ pub mod Places
 pub mod Typing
 pub mod Promise
 pub mod Size
+pub mod Raising
+pub mod Held
 pub mod Steps
 pub mod Worked
 pub mod Inner

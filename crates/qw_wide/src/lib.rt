@@ -1,0 +1,2 @@
+//! Blocks of exact arithmetic and comparison within 64 bits.
+#![tactic(auto)]
