@@ -110,11 +110,11 @@ module _ (most fuel N : ℕ) where
 
     -- an exception where a test holds, and else what follows
     pub comes_unless : {B : Type 0} (Q : B → LowState → Type 0) (r : Result B Code) (e : Expression) (g : Bool) (code : Code) (b : Statement) (s : LowState) → value s e ≡ Some (Number (truth g)) →
-        Comes Q r b s → Comes Q (if g then Err code else r) (seq (conditional e (raise (code_of code)) skip) b) s
+        (g ≡ false → Comes Q r b s) → Comes Q (if g then Err code else r) (seq (conditional e (raise (code_of code)) skip) b) s
     comes_unless Q r e true code b s is onward =
         comes_then {A = ℕ} (λ n t. t ≡ s) Q (Err code) (λ n. r) (conditional e (raise (code_of code)) skip) b s
         (comes_choose {B = ℕ} (λ n t. t ≡ s) (Err code) e true (raise (code_of code)) skip s is (λ set. comes_raise {B = ℕ} (λ n t. t ≡ s) code s) (λ unset. absurd cc)) (λ n t same is_same. absurd cc)
     comes_unless Q r e false code b s is onward =
         comes_then {A = ℕ} (λ n t. t ≡ s) Q (Ok 0) (λ n. r) (conditional e (raise (code_of code)) skip) b s
         (comes_choose {B = ℕ} (λ n t. t ≡ s) (Ok 0) e false (raise (code_of code)) skip s is (λ set. absurd cc) (λ unset. comes_skip {A = ℕ} (λ n t. t ≡ s) 0 s refl))
-        (λ n t same is_same. subst (λ (u : LowState). Comes Q r b u) (sym is_same) onward)
+        (λ n t same is_same. subst (λ (u : LowState). Comes Q r b u) (sym is_same) (onward refl))

@@ -1,1 +1,3 @@
+pub mod ArithmeticRuns
+pub mod OrderRuns
 pub mod Words

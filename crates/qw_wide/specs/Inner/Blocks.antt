@@ -1,6 +1,6 @@
 -- Mirrors `src/arithmetic.rt`: the statements whose steps its functions add. `x` and `y` are the operands' locals, and `n` the first
 -- free one.
-use Rattle.std.specs.Prelude.{ℕ, ◌+◌, ◌-◌, ◌/◌, ◌^◌, ◌==◌, Bool, if◌then◌else◌}
+use Rattle.std.specs.Prelude.{ℕ, zero, suc, ◌+◌, ◌-◌, ◌/◌, ◌^◌, Bool, if◌then◌else◌}
 use Rattle.qw_module.specs.declared.instruction.ValType.TheVariants.{I64}
 use Rattle.qw_module.specs.declared.instruction.Sign.TheVariants.{Signed, Unsigned}
 use Rattle.qw_module.specs.declared.instruction.Const.TheVariants as const
@@ -25,10 +25,12 @@ abbrev pub raise_scale : (checked : Bool) → (k n x : ℕ) → Statement
 raise_scale checked k n x = seq (check_if checked ((10 ^ 18 - 1) / 10 ^ k) x) (assign n (binop I64 Mul (local x) (i64 (10 ^ k))))
 
 abbrev pub bring_block : (checked : Bool) → (k n x : ℕ) → Statement
-bring_block checked k n x = if k == 0 then skip else raise_scale checked k n x
+bring_block checked zero n x = skip
+bring_block checked (suc k) n x = raise_scale checked (suc k) n x
 
 abbrev pub brought_in : (k n x : ℕ) → ℕ
-brought_in k n x = if k == 0 then x else n
+brought_in zero n x = x
+brought_in (suc k) n x = n
 
 -- a sum or a difference of numbers that are brought by 10^ka and 10^kb first
 abbrev pub sum_block : Binary → (ca cb c : Bool) → (ka kb n x y : ℕ) → Statement
