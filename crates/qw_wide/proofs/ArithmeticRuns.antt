@@ -70,13 +70,13 @@ tested_product a b m p size positive = ⊎_elim
     (λ more. rw (le-ltb ((10 ^ 18 - 1) / p) m more) (sym (checked_in (a *ℤ b) (omega (arith, size, product_in m p positive more)))))
     (cases_lt ((10 ^ 18 - 1) / p) m)
 
-same_ok : {v w : ℤ} → ◌≡◌ {A = Result ℤ Code} (Ok v) (Ok w) → v ≡ w
+pub same_ok : {v w : ℤ} → ◌≡◌ {A = Result ℤ Code} (Ok v) (Ok w) → v ≡ w
 same_ok e = cc
 
-no_ok : {v : ℤ} {code : Code} → ◌≡◌ {A = Result ℤ Code} (Ok v) (Err code) → ⊥
+pub no_ok : {v : ℤ} {code : Code} → ◌≡◌ {A = Result ℤ Code} (Ok v) (Err code) → ⊥
 no_ok e = absurd cc
 
-scaled_abs : (a : ℤ) (k : ℕ) → unsigned_abs (a *ℤ pos (10 ^ k)) ≡ unsigned_abs a * 10 ^ k
+pub scaled_abs : (a : ℤ) (k : ℕ) → unsigned_abs (a *ℤ pos (10 ^ k)) ≡ unsigned_abs a * 10 ^ k
 scaled_abs a k = unsigned_abs-mul a (pos (10 ^ k))
 
 zero_abs : (z : ℤ) → unsigned_abs z ≡ 0 → z ≡ pos 0
@@ -170,7 +170,7 @@ module _ (most fuel N : ℕ) (some : 1 ≤ N) where
 
     pub combines : (s : LowState) (ca cb c : Bool) (ka kb n x y : ℕ) (a b : ℤ) → HoldsNumber s x a → HoldsNumber s y b → IsTrue (fits a) → IsTrue (fits b) → x < n → y < n → ka ≤ 18 → kb ≤ 18 →
         n + 1 < length s.locals → (ca ≡ false → unsigned_abs a * 10 ^ ka < 10 ^ 18) → (cb ≡ false → unsigned_abs b * 10 ^ kb < 10 ^ 18) →
-        (c ≡ false → (v w : ℤ) → unsigned_abs v ≡ unsigned_abs a * 10 ^ ka → unsigned_abs w ≡ unsigned_abs b * 10 ^ kb → unsigned_abs (made v w) < 10 ^ 18) →
+        (c ≡ false → (v w : ℤ) → unsigned_abs v ≡ unsigned_abs a * 10 ^ ka → unsigned_abs w ≡ unsigned_abs b * 10 ^ kb → unsigned_abs v < 10 ^ 18 → unsigned_abs w < 10 ^ 18 → unsigned_abs (made v w) < 10 ^ 18) →
         Comes most fuel N (Given n s n) (checked (a *ℤ pos (10 ^ ka)) >>= (λ v. checked (b *ℤ pos (10 ^ kb)) >>= (λ w. checked (made v w)))) (sum_block operator ca cb c ka kb n x y) s
     combines s ca cb c ka kb n x y a b left right fit_a fit_b below_x below_y low_a low_b room within_a within_b within =
         comes_then most fuel N (Given n s (brought_in ka n x)) (Given n s n) (checked (a *ℤ pos (10 ^ ka))) (λ v. checked (b *ℤ pos (10 ^ kb)) >>= (λ w. checked (made v w)))
@@ -184,7 +184,7 @@ module _ (most fuel N : ℕ) (some : 1 ≤ N) where
         (λ w u is_w other.
         makes_one s u c n (brought_in ka n x) (brought_in kb (n + 1) y) v w (Kept-then n (n + 1) s t u (omega arith) given.0 other.0)
         (held_kept (n + 1) t u (brought_in ka n x) v other.0 (in_below ka n x below_x) given.1) other.1 given.2 other.2 (omega (arith, many, other.0.many))
-        (λ unchecked. within unchecked v w (size_of_brought a v ka is_v) (size_of_brought b w kb is_w))))
+        (λ unchecked. within unchecked v w (size_of_brought a v ka is_v) (size_of_brought b w kb is_w) (fits_below v given.2) (fits_below w other.2))))
       where
         in_below : (k n x : ℕ) → x < n → brought_in k n x < n + 1
         in_below zero n x h = omega (arith, h)

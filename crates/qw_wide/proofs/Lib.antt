@@ -1,3 +1,4 @@
 pub mod ArithmeticRuns
+pub mod Operations
 pub mod OrderRuns
 pub mod Words

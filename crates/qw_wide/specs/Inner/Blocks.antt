@@ -1,6 +1,6 @@
 -- Mirrors `src/arithmetic.rt`: the statements whose steps its functions add. `x` and `y` are the operands' locals, and `n` the first
 -- free one.
-use Rattle.std.specs.Prelude.{ℕ, zero, suc, ◌+◌, ◌-◌, ◌/◌, ◌^◌, Bool, if◌then◌else◌}
+use Rattle.std.specs.Prelude.{ℕ, zero, suc, ◌+◌, ◌-◌, ◌/◌, ◌^◌, min, nat_lt, Bool, if◌then◌else◌}
 use Rattle.qw_module.specs.declared.instruction.ValType.TheVariants.{I64}
 use Rattle.qw_module.specs.declared.instruction.Sign.TheVariants.{Signed, Unsigned}
 use Rattle.qw_module.specs.declared.instruction.Const.TheVariants as const
@@ -12,6 +12,13 @@ use Rattle.qw_low.specs.Syntax.{Expression, constant_of, local, binop, divop, is
 
 abbrev pub i64 : ℕ → Expression
 i64 n = constant_of (const.I64 n)
+
+-- a magnitude is past 18 digits, and the greatest that a checked number of a magnitude may have
+abbrev pub is_past : ℕ → Bool
+is_past m = nat_lt (10 ^ 18 - 1) m
+
+abbrev pub capped : ℕ → ℕ
+capped m = min m (10 ^ 18 - 1)
 
 -- raises 2 where the magnitude of a number is past a limit
 abbrev pub range_check : (limit x : ℕ) → Statement
