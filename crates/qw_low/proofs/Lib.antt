@@ -1,3 +1,4 @@
+pub mod Appended
 pub mod BlockSteps
 pub mod CellLemmas
 mod CodeSize

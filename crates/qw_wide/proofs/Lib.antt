@@ -1,3 +1,4 @@
+mod Added
 pub mod ArithmeticRuns
 pub mod Operations
 pub mod OrderRuns
