@@ -2,4 +2,5 @@ mod Added
 pub mod ArithmeticRuns
 pub mod Operations
 pub mod OrderRuns
+pub mod Orders
 pub mod Words

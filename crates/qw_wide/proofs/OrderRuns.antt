@@ -45,7 +45,7 @@ order_facts Equal p q r m = q m
 order_facts Greater p q r m = r m
 
 -- one order is another where they agree both ways
-same_order : (a b c d : ℤ) → (a <ℤ b → c <ℤ d) → (a ≡ b → c ≡ d) → (b <ℤ a → d <ℤ c) → int_cmp a b ≡ int_cmp c d
+pub same_order : (a b c d : ℤ) → (a <ℤ b → c <ℤ d) → (a ≡ b → c ≡ d) → (b <ℤ a → d <ℤ c) → int_cmp a b ≡ int_cmp c d
 same_order a b c d less equal greater = int_cmp_is c d (int_cmp a b) (order_facts (int_cmp a b) less equal greater (int_ranks a b))
 
 -- ---- the left operand at the right one's scale

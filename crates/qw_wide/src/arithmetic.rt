@@ -30,7 +30,7 @@ pub struct Scaled {
 
 /// A power of ten.
 #[tactic(auto, using(crate::proofs::ArithmeticRuns::power_some))]
-fn ten_to(exponent: u8) -> u64
+pub fn ten_to(exponent: u8) -> u64
     requires { exponent ≤ 18 }
     ensures value { result ≡ 10 ^ exponent }
     ensures positive { 0 < result }

@@ -1,6 +1,6 @@
 -- Mirrors `src/arithmetic.rt`: the statements whose steps its functions add. `x` and `y` are the operands' locals, and `n` the first
 -- free one.
-use Rattle.std.specs.Prelude.{◌≡◌, ℕ, zero, suc, ◌+◌, ◌-◌, ◌*◌, ◌/◌, ◌^◌, min, max, nat_lt, Bool, if◌then◌else◌, List, ◌++◌}
+use Rattle.std.specs.Prelude.{◌≡◌, ℕ, zero, suc, ◌+◌, ◌-◌, ◌*◌, ◌/◌, ◌^◌, ◌==◌, min, max, nat_lt, Bool, if◌then◌else◌, List, ◌++◌}
 use Rattle.qw_module.specs.declared.instruction.ValType.TheVariants.{I64}
 use Rattle.qw_module.specs.declared.instruction.Sign.TheVariants.{Signed, Unsigned}
 use Rattle.qw_module.specs.declared.instruction.Const.TheVariants as const
@@ -89,6 +89,14 @@ abbrev pub right_brought : (k n x y : ℕ) → Statement
 right_brought k n x y =
     seq (assign n (binop I64 Sub (divop I64 (Div Signed) (local x) (i64 (10 ^ k))) (local y)))
     (conditional (is_zero I64 (local n)) (assign n (divop I64 (Rem Signed) (local x) (i64 (10 ^ k)))) skip)
+
+-- at one scale the difference tells the order
+abbrev pub difference_block : (n x y : ℕ) → Statement
+difference_block n x y = assign n (binop I64 Sub (local x) (local y))
+
+abbrev pub order_block : (sa sb n x y : ℕ) → Statement
+order_block sa sb n x y =
+    if sa == sb then difference_block n x y else (if nat_lt sa sb then left_brought (sb - sa) n x y else right_brought (sa - sb) n x y)
 
 -- what the steps of a sum or a difference leave of a code, and the number that they make
 pub record Sums (operator : Binary) (left right : Scaled) (n : ℕ) (out : Scaled) (old new : List LowStep) : Type 0 where
