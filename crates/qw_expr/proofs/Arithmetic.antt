@@ -1,5 +1,5 @@
 -- Operators on numbers, with null.
-use Rattle.std.proofs.Common.{◌≡◌, ℕ, suc, ℤ, ◌+◌, ◌*◌, ◌<◌, ◌≤◌, ◌||◌, Bool, true, false, IsTrue, unsigned_abs, List, [], ◌∷◌, ◌++◌, length, length-append, Option, Some, None, Result, Ok, Err, IfOk, slice_get, refl, sym, ap, ◌∙◌, subst, arith}
+use Rattle.std.proofs.Common.{◌≡◌, ℕ, zero, suc, ℤ, ◌+◌, ◌*◌, ◌<◌, ◌≤◌, ◌||◌, Bool, true, false, IsTrue, unsigned_abs, List, [], ◌∷◌, ◌++◌, length, length-append, Option, Some, None, Result, Ok, Err, IfOk, slice_get, refl, sym, ap, ◌∙◌, subst, arith}
 use Rattle.qw_types.specs.Arithmetic.{◌>>=◌, fits}
 use Rattle.qw_types.specs.Kind.{IsOfKind}
 use Rattle.qw_types.specs.declared.code.Code.{Code}
@@ -9,7 +9,7 @@ use Rattle.qw_types.specs.declared.value.Val.{Val}
 use Rattle.qw_types.specs.declared.value.Val.TheVariants as val
 use Rattle.qw_meaning.specs.declared.expression.Operator.{Operator}
 use Rattle.qw_meaning.specs.Columns.{HasColumns, HoldsIn}
-use Rattle.qw_meaning.specs.Evaluation.{applied, as_number, combined, negated, value_of}
+use Rattle.qw_meaning.specs.Evaluation.{Environment, applied, as_number, combined, negated, value_of}
 use Rattle.qw_meaning.specs.Expression.{Expression, arithmetic, negative, scale_of, scale_after}
 use Rattle.qw_meaning.specs.Typing.{IsTyped, IsValueOf, is_number, kind_of}
 use Rattle.qw_meaning.proofs.TypingLemmas.{typed_value}
@@ -28,7 +28,7 @@ use Rattle.qw_low.proofs.Promises.{Ends-more, Ends-weaker}
 use Rattle.qw_low.proofs.Results.{Kept-same, Kept-then, at_least, Comes, comes_weaker, comes_then, comes_skip}
 use Rattle.qw_wide.specs.Numbers.{HasNumber, Operates, Converts}
 use Rattle.qw_expr.specs.declared.operand.Operand.{Operand}
-use Rattle.qw_expr.specs.Cells.{HoldsValue, Holds, IsWithin, IsBelow, IsBelowNull, DeclaresNull, DeclaresValue, Declares}
+use Rattle.qw_expr.specs.Cells.{HoldsValue, Holds, IsWithin, IsBelow, IsBelowNull, DeclaresNull, DeclaresKind, DeclaresValue, Declares}
 use Rattle.qw_expr.specs.Units.{units}
 use Rattle.qw_expr.specs.Computes.{Known, AreHeld, AreBelow, AreDeclared, Computes}
 use Rattle.qw_expr.specs.Inner.Nulls.{join_block, joined_null, unless_null}
@@ -44,14 +44,14 @@ NumberOrNull (val.Text t) = ⊥
 pub number_or_null : (k : Option Kind) (v : Val) → IsTrue (is_number k) → IsValueOf k v → NumberOrNull v
 number_or_null k val.Null is of = tt
 number_or_null k (val.Num v) is of = tt
-number_or_null None (val.Date d) is of = absurd is
+number_or_null None (val.Date d) is of = absurd cc
 number_or_null (Some (kind.Number s)) (val.Date d) is of = of
-number_or_null (Some kind.Date) (val.Date d) is of = absurd is
-number_or_null (Some kind.Text) (val.Date d) is of = absurd is
-number_or_null None (val.Text t) is of = absurd is
+number_or_null (Some kind.Date) (val.Date d) is of = absurd cc
+number_or_null (Some kind.Text) (val.Date d) is of = absurd cc
+number_or_null None (val.Text t) is of = absurd cc
 number_or_null (Some (kind.Number s)) (val.Text t) is of = of
-number_or_null (Some kind.Date) (val.Text t) is of = absurd is
-number_or_null (Some kind.Text) (val.Text t) is of = absurd is
+number_or_null (Some kind.Date) (val.Text t) is of = absurd cc
+number_or_null (Some kind.Text) (val.Text t) is of = absurd cc
 
 -- what a result's value is, where there is one
 pub if_ok_is : {A : Type 0} (P : A → Type 0) (r : Result A Code) (v : A) → r ≡ Ok v → IfOk r P → P v
@@ -139,17 +139,13 @@ combined_left operator x sa y sb is = rw is refl
 combined_numbers : (operator : Operator) (x : Val) (sa : ℕ) (y : Val) (sb : ℕ) (a b : ℤ) → x ≡ val.Num a → y ≡ val.Num b → combined operator x sa y sb ≡ as_number (applied operator a sa b sb)
 combined_numbers operator x sa y sb a b is_x is_y = rw (is_x, is_y) refl
 
-pub declares_first : (types : List ValType) (n : ℕ) (a b : List ValType) → Declares types n (a ++ b) → Declares types n a
-declares_first types n (t ∷ a) b all i u found = first_of a i found
-  where
-    front : (xs ys : List ValType) (i : ℕ) (u : ValType) → slice_get xs i ≡ Some u → slice_get (xs ++ ys) i ≡ Some u
-    front [] ys i u found = absurd cc
-    front (x ∷ xs) ys zero u found = found
-    front (x ∷ xs) ys (suc i) u found = front xs ys i u found
+front : {A : Type 0} (xs ys : List A) (i : ℕ) (u : A) → slice_get xs i ≡ Some u → slice_get (xs ++ ys) i ≡ Some u
+front [] ys i u found = absurd cc
+front (x ∷ xs) ys zero u found = found
+front (x ∷ xs) ys (suc i) u found = front xs ys i u found
 
-    first_of : (a : List ValType) (i : ℕ) → slice_get (t ∷ a) i ≡ Some u → slice_get types (n + i) ≡ Some u
-    first_of a i found = all i u (front (t ∷ a) b i u found)
-declares_first types n [] b all i u found = absurd cc
+pub declares_first : (types : List ValType) (n : ℕ) (a b : List ValType) → Declares types n (a ++ b) → Declares types n a
+declares_first types n a b all i u found = all i u (front a b i u found)
 
 pub declares_rest : (types : List ValType) (n : ℕ) (a b : List ValType) → Declares types n (a ++ b) → Declares types (n + length a) b
 declares_rest types n a b all i u found =
@@ -163,3 +159,151 @@ declares_rest types n a b all i u found =
     behind (x ∷ xs) i found =
         let same : suc (length xs) + i ≡ suc (length xs + i) = omega arith in
         rw same (behind xs i found)
+
+number_declared : (types : List ValType) (c : Cell) (k : Option Kind) → IsTrue (is_number k) → DeclaresKind types c k → slice_get types c.value ≡ Some I64
+number_declared types c None is declared = absurd cc
+number_declared types c (Some (kind.Number s)) is declared = declared
+number_declared types c (Some kind.Date) is declared = declared
+number_declared types c (Some kind.Text) is declared = absurd cc
+
+pub operand_declared : (types : List ValType) (o : Operand) (e : Expression) → o.kind ≡ kind_of e → IsTrue (is_number (kind_of e)) → DeclaresValue types o → slice_get types o.cell.value ≡ Some I64
+operand_declared types o e same is declared = number_declared types o.cell (kind_of e) is (subst (DeclaresKind types o.cell) same declared.0)
+
+pub join_typed : (types : List ValType) (p : ℕ) (a b : Option ℕ) → DeclaresNull types a → DeclaresNull types b → slice_get types p ≡ Some I32 → low.IsTyped types (join_block p a b) × DeclaresNull types (joined_null p a b)
+join_typed types p None b one other is = (tt, other)
+join_typed types p (Some m) None one other is = (tt, one)
+join_typed types p (Some m) (Some n) one other is = ((I32, is, (one, other, refl)), is)
+
+pub unless_typed : (types : List ValType) (null : Option ℕ) (body : Statement) → DeclaresNull types null → low.IsTyped types body → low.IsTyped types (unless_null null body)
+unless_typed types None body declared typed = typed
+unless_typed types (Some n) body declared typed = (declared, tt, typed)
+
+three_long : (a b : List ValType) (x y z : ValType) → length (a ++ (b ++ (x ∷ y ∷ z ∷ []))) ≡ length a + length b + 3
+three_long a b x y z = omega (arith, length-append a (b ++ (x ∷ y ∷ z ∷ [])), length-append b (x ∷ y ∷ z ∷ []))
+
+third : (types : List ValType) (n : ℕ) (x y z : ValType) → Declares types n (x ∷ y ∷ z ∷ []) → (slice_get types n ≡ Some x) × (slice_get types (n + 1) ≡ Some y) × (slice_get types (n + 1 + 1) ≡ Some z)
+third types n x y z declares =
+    let zeroth : n + 0 ≡ n = omega arith in
+    let two : n + 2 ≡ n + 1 + 1 = omega arith in
+    (subst (λ k. slice_get types k ≡ Some x) zeroth (declares 0 x refl), declares 1 y refl, subst (λ k. slice_get types k ≡ Some z) two (declares 2 z refl))
+
+module _ (known : List Known) (next : ℕ) (low : AreBelow next known) (operator : Operator) (a b : Expression) (typed : IsTyped (arithmetic operator a b))
+    (oa ob : Operand) (sa sb : Statement) (owna ownb : List ValType) (ca : Computes known a next oa sa owna) (cb : Computes known b (next + length owna) ob sb ownb) where
+  abbrev pub m : ℕ
+  m = next + length owna + length ownb
+
+  module _ (f : Statement) (out limit : ℕ) (operates : Operates (λ v w. applied operator v (scale_of a) w (scale_of b)) oa.cell.value oa.most ob.cell.value ob.most (m + 1) out limit f) (low_out : out < m + 3) where
+    abbrev pub result : Operand
+    result = number_at out (joined_null m oa.cell.null ob.cell.null) (scale_after operator (scale_of a) (scale_of b)) limit
+
+    abbrev pub tail : Statement
+    tail = seq (join_block m oa.cell.null ob.cell.null) (unless_null (joined_null m oa.cell.null ob.cell.null) f)
+
+    abbrev pub block : Statement
+    block = seq sa (seq sb tail)
+
+    abbrev pub own : List ValType
+    own = owna ++ (ownb ++ (I32 ∷ I64 ∷ I64 ∷ []))
+
+    runs : (pages fuel more : ℕ) (row : List Val) (s : LowState) → 1 + units (arithmetic operator a b) (record { row = row }) ≤ more → more ≤ fuel → AreHeld known row s → HasColumns (HoldsIn row) (arithmetic operator a b) →
+        next + length own ≤ length s.locals →
+        Comes pages fuel more (λ v t. Kept next s t × Holds result v t) (value_of (arithmetic operator a b) (record { row = row })) block s
+    runs pages fuel more row s enough within held columns room =
+        let env : Environment = record { row = row } in
+        let some : 1 ≤ more = omega (arith, enough) in
+        let long = three_long owna ownb I32 I64 I64 in
+        comes_then pages fuel more (λ v t. Kept next s t × Holds oa v t) (λ v t. Kept next s t × Holds result v t) (value_of a env) (λ x. value_of b env >>= (λ y. combined operator x (scale_of a) y (scale_of b))) sa
+        (seq sb (tail)) s
+        (ca.runs pages fuel more row s (omega (arith, enough)) within held columns.0 (omega (arith, room, long)))
+        (λ x t is_x left.
+        comes_then pages fuel more (λ v w. Kept (next + length owna) t w × Holds ob v w) (λ v t. Kept next s t × Holds result v t) (value_of b env) (λ y. combined operator x (scale_of a) y (scale_of b)) sb (tail) t
+        (cb.runs pages fuel more row t (omega (arith, enough)) within (known_kept next s t row known left.0 low held) columns.1 (omega (arith, room, long, left.0.many)))
+        (λ y w is_y right.
+        let nx = number_of_typed a row x typed.0.0 typed.1.0.0 columns.0 is_x in
+        let ny = number_of_typed b row y typed.0.1 typed.1.0.1 columns.1 is_y in
+        comes_weaker pages fuel more (λ v v'. Kept m w v' × Holds result v v') (λ v v'. Kept next s v' × Holds result v v') (combined operator x (scale_of a) y (scale_of b)) (tail) w
+        (λ v z is kept. (Kept-then next m s w z (omega arith) (Kept-then next (next + length owna) s t w (omega arith) left.0 right.0) kept.0, kept.1))
+        (finishes pages fuel more some w m oa ob (below_more (next + length owna) m oa.cell (omega arith) ca.below) cb.below (omega (arith, room, long, left.0.many, right.0.many))
+        (λ v v'. applied operator v (scale_of a) v' (scale_of b)) f out limit (scale_after operator (scale_of a) (scale_of b)) operates x y (combined operator x (scale_of a) y (scale_of b)) nx ny
+        (combined_left operator x (scale_of a) y (scale_of b)) (combined_null operator x (scale_of a) y (scale_of b) nx)
+        (λ v v' is_v is_v'. combined_numbers operator x (scale_of a) y (scale_of b) v v' is_v is_v')
+        (value_kept (next + length owna) t w oa.cell x right.0 ca.below left.1.0, left.1.1) right.1)))
+
+    pub arithmetic_computes : Computes known (arithmetic operator a b) next result block own
+    arithmetic_computes = record {
+      kind_is = refl;
+      scale_is = refl;
+      below =
+          let long = three_long owna ownb I32 I64 I64 in
+          let most : next + length own ≡ m + 2 + 1 = omega (arith, long) in
+          (omega (arith, low_out, long), omega (arith, low_out, long), subst (λ k. IsBelowNull k (joined_null m oa.cell.null ob.cell.null)) (sym most)
+          (joined_below m (m + 2) oa.cell.null ob.cell.null (omega arith) (below_more (next + length owna) m oa.cell (omega arith) ca.below).2 cb.below.2));
+      runs = runs;
+      typed = λ types declared declares.
+          let rest = declares_rest types next owna (ownb ++ (I32 ∷ I64 ∷ I64 ∷ [])) declares in
+          let last = third types m I32 I64 I64 (declares_rest types (next + length owna) ownb (I32 ∷ I64 ∷ I64 ∷ []) rest) in
+          let first = ca.typed types declared (declares_first types next owna (ownb ++ (I32 ∷ I64 ∷ I64 ∷ [])) declares) in
+          let second = cb.typed types declared (declares_first types (next + length owna) ownb (I32 ∷ I64 ∷ I64 ∷ []) rest) in
+          let joined = join_typed types m oa.cell.null ob.cell.null first.1.1 second.1.1 last.0 in
+          let done = operates.typed types (operand_declared types oa a ca.kind_is typed.1.0.0 first.1) (operand_declared types ob b cb.kind_is typed.1.0.1 second.1) last.1 last.2 in
+          ((first.0, (second.0, (joined.0, unless_typed types (joined_null m oa.cell.null ob.cell.null) f joined.1 done.0))), (done.1, joined.1));
+    }
+
+-- ---- one operand
+pub one_long : (a : List ValType) (x : ValType) → length (a ++ x ∷ []) ≡ length a + 1
+one_long a x = length-append a (x ∷ [])
+
+pub first_declared : (types : List ValType) (n : ℕ) (x : ValType) → Declares types n (x ∷ []) → slice_get types n ≡ Some x
+first_declared types n x declares =
+    let zeroth : n + 0 ≡ n = omega arith in
+    subst (λ k. slice_get types k ≡ Some x) zeroth (declares 0 x refl)
+
+pub value_or_null : (known : List Known) (next : ℕ) → AreBelow next known → (e a : Expression) (g : Val → Result Val Code) (o result : Operand) (sa f : Statement) (owna : List ValType) →
+    result.cell.null ≡ o.cell.null → result.kind ≡ kind_of e → result.scale ≡ scale_of e → result.cell.value ≤ next + length owna → result.cell.length ≤ next + length owna → (g val.Null ≡ Ok val.Null) →
+    ((env : Environment) → (value_of e env ≡ (value_of a env >>= g)) × (units e env ≡ units a env)) → ((row : List Val) → HasColumns (HoldsIn row) e → HasColumns (HoldsIn row) a) →
+    Computes known a next o sa owna →
+    ((pages fuel more : ℕ) (row : List Val) (v : Val) (t : LowState) → 1 ≤ more → HasColumns (HoldsIn row) e → value_of a (record { row = row }) ≡ Ok v → (v ≡ val.Null → ⊥) → Holds o v t → next + length owna < length t.locals →
+    Comes pages fuel more (λ w u. Kept (next + length owna) t u × Holds result w u) (g v) f t) →
+    ((types : List ValType) → DeclaresValue types o → slice_get types (next + length owna) ≡ Some I64 → low.IsTyped types f × DeclaresKind types result.cell result.kind) →
+    Computes known e next result (seq sa (unless_null o.cell.null f)) (owna ++ I64 ∷ [])
+value_or_null known next low e a g o result sa f owna null_is kind_is scale_is low_value low_length at_null means columns ca does types_of = record {
+  kind_is = kind_is;
+  scale_is = scale_is;
+  below =
+      let long = one_long owna I64 in
+      (omega (arith, long, low_value), omega (arith, long, low_length),
+      subst (λ (n : Option ℕ). IsBelowNull (next + length (owna ++ I64 ∷ [])) n) (sym null_is) (below_more (next + length owna) (next + length (owna ++ I64 ∷ [])) o.cell (omega (arith, long)) ca.below).2);
+  runs = λ pages fuel more row s enough within held has room.
+      let env : Environment = record { row = row } in
+      let some : 1 ≤ more = omega (arith, enough) in
+      let long = one_long owna I64 in
+      let same = means env in
+      subst (λ (r : Result Val Code). Comes pages fuel more (λ v t. Kept next s t × Holds result v t) r (seq sa (unless_null o.cell.null f)) s) (sym same.0)
+      (comes_then pages fuel more (λ v t. Kept next s t × Holds o v t) (λ v t. Kept next s t × Holds result v t) (value_of a env) g sa (unless_null o.cell.null f) s
+      (ca.runs pages fuel more row s (omega (arith, enough, same.1)) within held (columns row has) (omega (arith, room, long)))
+      (λ v t is_v left. after pages fuel more row s v t some has is_v left (omega (arith, room, long, left.0.many))));
+  typed = λ types declared declares.
+      let first = ca.typed types declared (declares_first types next owna (I64 ∷ []) declares) in
+      let mine = types_of types first.1 (first_declared types (next + length owna) I64 (declares_rest types next owna (I64 ∷ []) declares)) in
+      ((first.0, unless_typed types o.cell.null f first.1.1 mine.0), (mine.1, subst (DeclaresNull types) (sym null_is) first.1.1));
+}
+  where
+    further : (pages fuel more : ℕ) (s : LowState) (v : Val) (t : LowState) → Kept next s t → Comes pages fuel more (λ w u. Kept (next + length owna) t u × Holds result w u) (g v) f t →
+        Comes pages fuel more (λ w u. Kept next s u × Holds result w u) (g v) f t
+    further pages fuel more s v t kept h = comes_weaker pages fuel more (λ w u. Kept (next + length owna) t u × Holds result w u) (λ w u. Kept next s u × Holds result w u) (g v) f t
+        (λ w u is left. (Kept-then next (next + length owna) s t u (omega arith) kept left.0, left.1)) h
+
+    after : (pages fuel more : ℕ) (row : List Val) (s : LowState) (v : Val) (t : LowState) → 1 ≤ more → HasColumns (HoldsIn row) e → value_of a (record { row = row }) ≡ Ok v → Kept next s t × Holds o v t → next + length owna < length t.locals →
+        Comes pages fuel more (λ w u. Kept next s u × Holds result w u) (g v) (unless_null o.cell.null f) t
+    after pages fuel more row s val.Null t some has is_v left room =
+        rw at_null (unless pages fuel more some (λ w u. Kept next s u × Holds result w u) (Ok val.Null) o.cell.null true f t left.1.0
+        (λ there. comes_skip pages fuel more some (λ w u. Kept next s u × Holds result w u) val.Null t (left.0, (subst (SaysNull t) (sym null_is) left.1.0, tt))) (λ bad. absurd cc))
+    after pages fuel more row s (val.Num n) t some has is_v left room =
+        unless pages fuel more some (λ w u. Kept next s u × Holds result w u) (g (val.Num n)) o.cell.null false f t left.1.0.2 (λ bad. absurd cc)
+        (λ there. further pages fuel more s (val.Num n) t left.0 (does pages fuel more row (val.Num n) t some has is_v (λ e. absurd cc) left.1 room))
+    after pages fuel more row s (val.Date d) t some has is_v left room =
+        unless pages fuel more some (λ w u. Kept next s u × Holds result w u) (g (val.Date d)) o.cell.null false f t left.1.0.1 (λ bad. absurd cc)
+        (λ there. further pages fuel more s (val.Date d) t left.0 (does pages fuel more row (val.Date d) t some has is_v (λ e. absurd cc) left.1 room))
+    after pages fuel more row s (val.Text x) t some has is_v left room =
+        unless pages fuel more some (λ w u. Kept next s u × Holds result w u) (g (val.Text x)) o.cell.null false f t left.1.0.1 (λ bad. absurd cc)
+        (λ there. further pages fuel more s (val.Text x) t left.0 (does pages fuel more row (val.Text x) t some has is_v (λ e. absurd cc) left.1 room))

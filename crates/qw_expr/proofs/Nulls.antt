@@ -70,7 +70,7 @@ known_kept n s t row [] kept low held = tt
 known_kept n s t row (k ∷ known) kept low held =
     ((held.0.0, held.0.1, (value_kept n s t k.operand.cell held.0.0 kept low.0 held.0.2.0, held.0.2.1)), known_kept n s t row known kept low.1 held.1)
 
-null_below_more : (m n : ℕ) (null : Option ℕ) → m ≤ n → IsBelowNull m null → IsBelowNull n null
+pub null_below_more : (m n : ℕ) (null : Option ℕ) → m ≤ n → IsBelowNull m null → IsBelowNull n null
 null_below_more m n None le low = tt
 null_below_more m n (Some x) le low = omega (arith, low)
 

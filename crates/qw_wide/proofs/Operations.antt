@@ -76,6 +76,7 @@ brought_typed types (suc k) n x is_x is_n = is_n
 pub bring_converts : (k x m n : ℕ) → k ≤ 18 → x < n →
     Converts (λ v. checked (v *ℤ pos (10 ^ k))) x m n (brought_in k n x) (capped (m * 10 ^ k)) (bring_block (is_past (m * 10 ^ k)) k n x)
 bring_converts k x m n low below = record {
+  place = in_place k below;
   runs = λ pages fuel s v has room.
       let r : Result ℤ Code = checked (v *ℤ pos (10 ^ k)) in
       once pages fuel (λ w t. Kept n s t × HasNumber (brought_in k n x) (capped (m * 10 ^ k)) w t) r (bring_block (is_past (m * 10 ^ k)) k n x) s
@@ -84,6 +85,10 @@ bring_converts k x m n low below = record {
       (brings pages fuel 1 (omega arith) s s (is_past (m * 10 ^ k)) k n x v (Kept-same n s) has.0 has.1 low room (unchecked (unsigned_abs v) m k has.2)));
   typed = λ types is_x is_n. (bring_typed types (is_past (m * 10 ^ k)) k n x low is_x is_n, brought_typed types k n x is_x is_n);
 }
+  where
+    in_place : (k : ℕ) → x < n → brought_in k n x ≤ n
+    in_place zero less = omega (arith, less)
+    in_place (suc k) less = omega arith
 
 -- ---- sums
 module _ (operator : Binary) (made : ℤ → ℤ → ℤ)
@@ -116,6 +121,7 @@ module _ (operator : Binary) (made : ℤ → ℤ → ℤ)
 
   pub sum_operates : Operates result x mx y my n n (capped (ma + mb)) block
   sum_operates = record {
+    place = omega arith;
     runs = λ pages fuel s a b has_a has_b room.
         once pages fuel (λ r t. Kept n s t × HasNumber n (capped (ma + mb)) r t) (result a b) block s
         (comes_weaker pages fuel 1 (Given n s n) (λ r t. Kept n s t × HasNumber n (capped (ma + mb)) r t) (result a b) block s
@@ -163,6 +169,7 @@ sub_operates sa sb x mx y my n la lb below_x below_y =
 -- ---- opposites
 pub opposite_converts : (x m n : ℕ) → Converts (λ v. Ok (neg_ℤ v)) x m n n m (opposite_block n x)
 opposite_converts x m n = record {
+  place = omega arith;
   runs = λ pages fuel s v has room.
       let same : unsigned_abs (neg_ℤ v) ≡ unsigned_abs v = omega (arith, ints) in
       once pages fuel (λ w t. Kept n s t × HasNumber n m w t) (Ok (neg_ℤ v)) (opposite_block n x) s
@@ -184,6 +191,7 @@ product_typed types true n x y is_x is_y is_n =
 
 pub product_operates : (x mx y my n : ℕ) → x < n → y < n → Operates product_of x mx y my n n (capped (mx * my)) (product_block (is_past (mx * my)) n x y)
 product_operates x mx y my n below_x below_y = record {
+  place = omega arith;
   runs = λ pages fuel s a b has_a has_b room.
       let more : unsigned_abs a * unsigned_abs b ≤ mx * my = mul-le (unsigned_abs a) (unsigned_abs b) mx my has_a.2 has_b.2 in
       once pages fuel (λ r t. Kept n s t × HasNumber n (capped (mx * my)) r t) (product_of a b) (product_block (is_past (mx * my)) n x y) s
@@ -212,6 +220,7 @@ quotient_ok b r q is = ⊎_elim
 pub quotient_operates : (sa sb x mx y my n : ℕ) → sb ≤ 18 → x < n → y < n →
     Operates (λ v w. quotient_of v sa w sb) x mx y my n n (capped (mx * 10 ^ sb)) (quotient_block (is_past (mx * 10 ^ sb)) sb n x y)
 quotient_operates sa sb x mx y my n low below_x below_y = record {
+  place = omega arith;
   runs = λ pages fuel s a b has_a has_b room.
       let same : sa + sb - sa ≡ sb = omega arith in
       let r : Result ℤ Code = if unsigned_abs b == 0 then Err DivZero else checked (a *ℤ pos (10 ^ sb)) >>= (λ v. Ok (int_div v b)) in

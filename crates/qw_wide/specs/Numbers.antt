@@ -22,6 +22,7 @@ HasNumber x most v s = HoldsNumber s x v × IsTrue (fits v) × (unsigned_abs v �
 -- A block that begins with the numbers in `x` and `y`, and sets no local below `free`: it leaves what the operation gives in `out`, or
 -- raises its exception, within as many instructions as it has.
 pub record Operates (operation : ℤ → ℤ → Result ℤ Code) (x most_x y most_y free out most : ℕ) (a : Statement) : Type 0 where
+  pub place : out ≤ free
   pub runs : (pages fuel : ℕ) (s : LowState) (v w : ℤ) → HasNumber x most_x v s → HasNumber y most_y w s → free + 1 < length s.locals →
       Ends (size a) (Leaves (λ r t. Kept free s t × HasNumber out most r t) (operation v w)) (λ t. ⊥) (Raises (operation v w)) (meaning pages fuel a s)
   pub typed : (types : List ValType) → slice_get types x ≡ Some I64 → slice_get types y ≡ Some I64 → slice_get types free ≡ Some I64 → slice_get types (free + 1) ≡ Some I64 →
@@ -29,6 +30,7 @@ pub record Operates (operation : ℤ → ℤ → Result ℤ Code) (x most_x y mo
 
 -- the same of an operation on one number
 pub record Converts (operation : ℤ → Result ℤ Code) (x most_x free out most : ℕ) (a : Statement) : Type 0 where
+  pub place : out ≤ free
   pub runs : (pages fuel : ℕ) (s : LowState) (v : ℤ) → HasNumber x most_x v s → free < length s.locals →
       Ends (size a) (Leaves (λ r t. Kept free s t × HasNumber out most r t) (operation v)) (λ t. ⊥) (Raises (operation v)) (meaning pages fuel a s)
   pub typed : (types : List ValType) → slice_get types x ≡ Some I64 → slice_get types free ≡ Some I64 → IsTyped types a × (slice_get types out ≡ Some I64)

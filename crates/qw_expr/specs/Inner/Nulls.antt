@@ -1,5 +1,8 @@
--- Mirrors `src/nulls.rt`: null words, and what is done only where there is a value.
-use Rattle.std.specs.Prelude.{ℕ, Option, Some, None}
+-- Mirrors `src/emitter.rt`: null words, and what is done only where there is a value.
+use Rattle.std.specs.Prelude.{ℕ, Option, Some, None, List, [], ◌∷◌}
+use Rattle.qw_module.specs.declared.instruction.Op.TheVariants as o
+use Rattle.qw_low.specs.declared.step.LowStep.{LowStep}
+use Rattle.qw_low.specs.declared.step.LowStep.TheVariants as step
 use Rattle.qw_module.specs.declared.instruction.ValType.TheVariants.{I32}
 use Rattle.qw_module.specs.declared.instruction.Binary.TheVariants.{Or}
 use Rattle.qw_low.specs.Syntax.{Statement, local, binop, skip, assign, conditional}
@@ -18,3 +21,12 @@ joined_null p (Some m) (Some n) = Some p
 abbrev pub unless_null : Option ℕ → Statement → Statement
 unless_null None body = body
 unless_null (Some n) body = conditional (local n) skip body
+
+-- the steps before and after what is done unless a value is null
+abbrev pub before_unless : Option ℕ → List LowStep
+before_unless None = []
+before_unless (Some n) = step.Op (o.LocalGet n) ∷ step.If ∷ step.Else ∷ []
+
+abbrev pub after_unless : Option ℕ → List LowStep
+after_unless None = []
+after_unless (Some n) = step.End ∷ []
