@@ -1,3 +1,4 @@
-pub mod Arithmetic
+pub mod Binary
+mod Emitted
 pub mod Nulls
 pub mod Unary

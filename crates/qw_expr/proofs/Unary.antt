@@ -32,10 +32,11 @@ use Rattle.qw_expr.specs.declared.operand.Operand.{Operand}
 use Rattle.qw_expr.specs.Cells.{Holds, IsBelow, DeclaresKind, DeclaresValue}
 use Rattle.qw_expr.specs.Units.{units}
 use Rattle.qw_expr.specs.Computes.{Known, AreBelow, Computes}
+use Rattle.qw_expr.specs.Inner.Operated.{number_at}
 use Rattle.qw_expr.specs.Inner.Nulls.{unless_null}
 use Rattle.qw_expr.specs.Inner.Fields.{field_block}
 use Rattle.qw_expr.proofs.Nulls.{below_more, null_below_more, value_says}
-use Rattle.qw_expr.proofs.Arithmetic.{NumberOrNull, number_of_typed, if_ok_is, number_at, comes_of, comes_number, value_or_null, operand_declared}
+use Rattle.qw_expr.proofs.Binary.{NumberOrNull, number_of_typed, if_ok_is, comes_of, comes_number, value_or_null, operand_declared}
 
 -- an operation on one number, with null
 module _ (known : List Known) (next : ℕ) (low_known : AreBelow next known) (e a : Expression) (g : Val → Result Val Code) (o : Operand) (sa : Statement) (owna : List ValType) (ca : Computes known a next o sa owna)

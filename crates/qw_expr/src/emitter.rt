@@ -49,7 +49,7 @@ impl Emitter {
     }
 
     /// Adds the steps that join two null words, in the local `p` where there are two, and tells the local of the joined one.
-    fn join_nulls(
+    pub(crate) fn join_nulls(
         &mut self,
         p: Local,
         left: Option<Local>,
@@ -75,7 +75,7 @@ impl Emitter {
     }
 
     /// Begins what is done unless a value is null.
-    fn begin_unless(&mut self, null: Option<Local>) -> Result<(), NoMemory>
+    pub(crate) fn begin_unless(&mut self, null: Option<Local>) -> Result<(), NoMemory>
         ensures code { OnOk result (self.new.block.code.items ≡ self.old.block.code.items ++ before_unless null) }
         ensures same { OnOk result ((self.new.first ≡ self.old.first) × (self.new.own.items ≡ self.old.own.items)) }
     {
@@ -90,7 +90,7 @@ impl Emitter {
     }
 
     /// Ends it.
-    fn end_unless(&mut self, null: Option<Local>) -> Result<(), NoMemory>
+    pub(crate) fn end_unless(&mut self, null: Option<Local>) -> Result<(), NoMemory>
         ensures code { OnOk result (self.new.block.code.items ≡ self.old.block.code.items ++ after_unless null) }
         ensures same { OnOk result ((self.new.first ≡ self.old.first) × (self.new.own.items ≡ self.old.own.items)) }
     {

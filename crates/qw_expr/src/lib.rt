@@ -6,5 +6,6 @@
 //! - `specs/Computes`: what the block of an expression promises.
 #![tactic(auto)]
 
+pub mod arithmetic;
 pub mod emitter;
 pub mod operand;

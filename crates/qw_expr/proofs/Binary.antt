@@ -31,6 +31,7 @@ use Rattle.qw_expr.specs.declared.operand.Operand.{Operand}
 use Rattle.qw_expr.specs.Cells.{HoldsValue, Holds, IsWithin, IsBelow, IsBelowNull, DeclaresNull, DeclaresKind, DeclaresValue, Declares}
 use Rattle.qw_expr.specs.Units.{units}
 use Rattle.qw_expr.specs.Computes.{Known, AreHeld, AreBelow, AreDeclared, Computes}
+use Rattle.qw_expr.specs.Inner.Operated.{number_at}
 use Rattle.qw_expr.specs.Inner.Nulls.{join_block, joined_null, unless_null}
 use Rattle.qw_expr.proofs.Nulls.{Says, value_says, value_kept, known_kept, below_more, joins, unless}
 
@@ -59,10 +60,6 @@ if_ok_is P r v is h = subst (λ (q : Result _ Code). IfOk q P) is h
 
 pub number_of_typed : (e : Expression) (row : List Val) (v : Val) → IsTyped e → IsTrue (is_number (kind_of e)) → HasColumns (HoldsIn row) e → value_of e (record { row = row }) ≡ Ok v → NumberOrNull v
 number_of_typed e row v typed is columns here = number_or_null (kind_of e) v is (if_ok_is (IsValueOf (kind_of e)) (value_of e (record { row = row })) v here (typed_value e row typed columns))
-
--- the operand of a result
-abbrev pub number_at : (out : ℕ) → (null : Option ℕ) → (scale most : ℕ) → Operand
-number_at out null scale most = record { cell = record { value = out; length = out; null = null }; kind = Some (kind.Number scale); scale = scale; most = most }
 
 joined_below : (m n : ℕ) (a b : Option ℕ) → m ≤ n → IsBelowNull m a → IsBelowNull m b → IsBelowNull (n + 1) (joined_null m a b)
 joined_below m n None None le low_a low_b = tt
