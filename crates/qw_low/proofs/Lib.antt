@@ -1,3 +1,4 @@
+pub mod Appended
 pub mod BeginLemmas
 pub mod BlockSteps
 pub mod CellLemmas
@@ -12,6 +13,7 @@ mod OpenOutcomes
 mod PageUse
 pub mod PromisedRuns
 pub mod Promises
+pub mod Results
 pub mod Standing
 pub mod StatementRuns
 mod StepsWritten

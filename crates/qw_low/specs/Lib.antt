@@ -7,6 +7,8 @@ pub mod Typing
 pub mod Begin
 pub mod Promise
 pub mod Size
+pub mod Raising
+pub mod Held
 pub mod Steps
 pub mod Worked
 pub mod Inner

@@ -3,6 +3,7 @@
 //! - [`block`]: blocks of steps, and how each statement is composed of its parts.
 //! - [`body`]: from steps to a numbered body, in one pass.
 //! - [`step`]: the flat steps.
+//! - [`cell`]: the locals of a value.
 //! - [`run_laws`]: each open run of the code is the run that Low means, with its count.
 //! - [`begin_laws`]: what is known where a run begins.
 //! - [`typing_laws`]: the code is typed by the standard's rules.
@@ -19,6 +20,7 @@ pub mod begin_laws;
 pub mod block;
 pub mod block_laws;
 pub mod body;
+pub mod cell;
 pub mod run_laws;
 pub mod size_laws;
 pub mod step;

@@ -1,0 +1,4 @@
+pub mod Binary
+mod Emitted
+pub mod Nulls
+pub mod Unary

@@ -1,0 +1,12 @@
+use Rattle.std.proofs.Common.{◌∙◌}
+use Rattle.qw_types.specs.Arithmetic.{bring}
+use Rattle.qw_expr.proofs.Emitted.{onto, converted_adds}
+use Rattle.qw_expr.proofs.emitter.Emitter.scaled_to.Goals as goal
+
+pub returns : goal.returns
+returns c = converted_adds (λ v. bring v c.args.operand.scale c.args.scale) c.args.scale c.args.operand c.number.result c.args.self.now c.end_unless.new.self
+    c.begin_unless.new.self.block.code.items c.bring.new.block.code.items c.in_ok-free.free c.in_ok-made.ensures.block.0 c.in_ok-made.made
+    (c.in_ok-end_unless.ensures.same.0 ∙ c.in_ok-begin_unless.ensures.same.0 ∙ c.in_ok-free.ensures.same.0)
+    (c.in_ok-end_unless.ensures.same.1 ∙ c.in_ok-begin_unless.ensures.same.1 ∙ c.in_ok-free.ensures.own) c.in_ok-free.ensures.local.0
+    (onto c.args.self.now.block.code.items c.fresh.new.self.block.code.items c.begin_unless.new.self.block.code.items _ c.in_ok-free.ensures.same.1 c.in_ok-begin_unless.ensures.code) c.in_ok-made.ensures.block.1 c.in_ok-end_unless.ensures.code
+    (rw c.scaled.ensures at c.in_ok-made.ensures.block.2) c.number.ensures c.in_ok-made.ensures.scale

@@ -1,0 +1,36 @@
+-- The units by which the instructions of an expression are bounded: the octets of the texts that its comparisons compare.
+use Rattle.std.specs.Prelude.{ℕ, ◌+◌, length, Result, Ok, Err}
+use Rattle.qw_types.specs.declared.code.Code.{Code}
+use Rattle.qw_types.specs.declared.value.Val.{Val}
+use Rattle.qw_types.specs.declared.value.Val.TheVariants as val
+use Rattle.qw_meaning.specs.Expression.{Expression, Condition, null, number, date, text, column, arithmetic, negative, extract, brought, choice, comparison, is_null, both, either, negation_of, is}
+use Rattle.qw_meaning.specs.Evaluation.{Environment, value_of}
+
+-- the octets of a value that is a text
+abbrev pub octets_of : Result Val Code → ℕ
+octets_of (Ok val.Null) = 0
+octets_of (Ok (val.Num v)) = 0
+octets_of (Ok (val.Date d)) = 0
+octets_of (Ok (val.Text t)) = length t
+octets_of (Err code) = 0
+
+abbrev mutual
+  pub units : Expression → Environment → ℕ
+  units null env = 0
+  units (number v s) env = 0
+  units (date d) env = 0
+  units (text t) env = 0
+  units (column i ty) env = 0
+  units (arithmetic operator a b) env = units a env + units b env
+  units (negative a) env = units a env
+  units (extract field a) env = units a env
+  units (brought a s) env = units a env
+  units (choice c a b) env = units_of c env + (units a env + units b env)
+
+  pub units_of : Condition → Environment → ℕ
+  units_of (comparison op a b) env = units a env + units b env + (octets_of (value_of a env) + octets_of (value_of b env))
+  units_of (is_null a) env = units a env
+  units_of (both c d) env = units_of c env + units_of d env
+  units_of (either c d) env = units_of c env + units_of d env
+  units_of (negation_of c) env = units_of c env
+  units_of (is c t) env = units_of c env
