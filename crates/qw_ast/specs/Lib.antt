@@ -4,3 +4,5 @@ pub use Rattle.qw_types.specs.Digits
 pub mod Grammar
 pub mod Inner
 pub mod SchemaGrammar
+pub mod Syntax
+pub mod SyntaxTree
