@@ -1,0 +1,1 @@
+//! The script that a text says.
