@@ -1,1 +1,4 @@
+mod ExactLemmas
 mod LoopLemmas
+mod PrimaryLemmas
+mod TokenLemmas
