@@ -1,4 +1,5 @@
 mod ExactLemmas
 mod LoopLemmas
 mod PrimaryLemmas
+mod SumLemmas
 mod TokenLemmas

@@ -15,7 +15,7 @@ use Rattle.qw_script.proofs.LoopLemmas.{bind_some, some_same, cases_option, none
 use Rattle.qw_script.proofs.TokenLemmas.{word_is, symbol_is, Front, front, one_takes, one_is, one_not, Found, found, token_takes, token_is, token_shortens, octets_found, octets_are, choose, strength, Stops, stops_at, strong_symbol, strong_word}
 use Rattle.qw_script.proofs.ExactLemmas.{starts, Starts, starts_at, starts_not, Exact, exact_shortens, operator_stops, series_front, list_takes, list_is, list_shorter, no_comma, further_takes, further_is, further_shorter, further_stops, other_word, no_word, word_stops, symbol_stops, EndsDate, date_takes, date_is, date_shorter, date_begins}
 
-the_expression_is : (c : Clause) (e : Expression) → the_expression c ≡ Some e → c ≡ expression e
+pub the_expression_is : (c : Clause) (e : Expression) → the_expression c ≡ Some e → c ≡ expression e
 the_expression_is (condition c) e h = absurd cc
 the_expression_is (expression d) e h = ap expression (some_same d e h)
 
@@ -41,7 +41,7 @@ when_not w t rest f e h = let is = word_is w t h in rw (is.0, is.1) (rw (rw f at
 
 -- ---- kinds of tokens
 
-string_no_number : (t : Lexeme) → is_string t ≡ true → is_number t ≡ false
+pub string_no_number : (t : Lexeme) → is_string t ≡ true → is_number t ≡ false
 string_no_number t e = of_kind t.kind e
   where
     of_kind : (k : Kind) → is_string_kind k ≡ true → is_number_kind k ≡ false
@@ -52,17 +52,17 @@ string_no_number t e = of_kind t.kind e
     of_kind Symbol e = refl
 
 -- a name is of no other kind
-name_kind : (t : Lexeme) (k : Kind) → t.kind ≡ k → is_name t ≡ true → (is_number_kind k ≡ false) × (is_string_kind k ≡ false) × (is_symbol_kind k ≡ false)
+pub name_kind : (t : Lexeme) (k : Kind) → t.kind ≡ k → is_name t ≡ true → (is_number_kind k ≡ false) × (is_string_kind k ≡ false) × (is_symbol_kind k ≡ false)
 name_kind t Word e h = (refl, refl, refl)
 name_kind t DelimitedIdentifier e h = (refl, refl, refl)
 name_kind t CharacterString e h = absurd (let no : false ≡ true = rw e at h in cc)
 name_kind t Number e h = absurd (let no : false ≡ true = rw e at h in cc)
 name_kind t Symbol e h = absurd (let no : false ≡ true = rw e at h in cc)
 
-name_no_symbol : (s : List ℕ) (t : Lexeme) → is_name t ≡ true → is_symbol s t ≡ false
+pub name_no_symbol : (s : List ℕ) (t : Lexeme) → is_name t ≡ true → is_symbol s t ≡ false
 name_no_symbol s t h = let k = name_kind t t.kind refl h in rw k.2 refl
 
-name_no_word : (w : List ℕ) (t : Lexeme) → folded w ≡ w → is_name (record { kind = Word; octets = w }) ≡ false → is_name t ≡ true → is_word w t ≡ false
+pub name_no_word : (w : List ℕ) (t : Lexeme) → folded w ≡ w → is_name (record { kind = Word; octets = w }) ≡ false → is_name t ≡ true → is_word w t ≡ false
 name_no_word w t f e h =
     elim (cases_Bool (is_word w t)) [
       | inl is ↦ absurd (
@@ -90,12 +90,12 @@ pub record EndsPrimary (ts : List Lexeme) : Type 0 where
   pub no_point : symbol_at (codes ".") ts ≡ None
   pub date : EndsDate ts
 
-as_clause_some : (o : Option (Expression × List Lexeme)) (x : Clause × List Lexeme) → as_clause o ≡ Some x → (y : Expression × List Lexeme) × (o ≡ Some y) × ((expression y.0, y.1) ≡ x)
+pub as_clause_some : (o : Option (Expression × List Lexeme)) (x : Clause × List Lexeme) → as_clause o ≡ Some x → (y : Expression × List Lexeme) × (o ≡ Some y) × ((expression y.0, y.1) ≡ x)
 unfolding as_clause
 as_clause_some None x e = absurd cc
 as_clause_some (Some y) x e = (y, refl, some_same (expression y.0, y.1) x e)
 
-as_clause_is : (o : Option (Expression × List Lexeme)) (e : Expression) (rest : List Lexeme) → o ≡ Some (e, rest) → as_clause o ≡ Some (expression e, rest)
+pub as_clause_is : (o : Option (Expression × List Lexeme)) (e : Expression) (rest : List Lexeme) → o ≡ Some (e, rest) → as_clause o ≡ Some (expression e, rest)
 unfolding as_clause
 as_clause_is o e rest h = rw h refl
 
@@ -107,7 +107,7 @@ data IsCaseOperand (Inner : Clause → List Lexeme → List Lexeme → Type 0) :
 module _ (Inner : Clause → List Lexeme → List Lexeme → Type 0) (inner : List Lexeme → Option (Clause × List Lexeme)) (reads : Exact Inner (Stops 1) inner) where
   -- ---- an expression
 
-  expression_takes : (ts : List Lexeme) (x : Expression × List Lexeme) → expression_at inner ts ≡ Some x → Inner (expression x.0) ts x.1
+  pub expression_takes : (ts : List Lexeme) (x : Expression × List Lexeme) → expression_at inner ts ≡ Some x → Inner (expression x.0) ts x.1
   unfolding expression_at
   expression_takes ts x e =
       let c = bind_some (inner ts) _ x e in
@@ -115,7 +115,7 @@ module _ (Inner : Clause → List Lexeme → List Lexeme → Type 0) (inner : Li
       subst (λ (y : Expression × List Lexeme). Inner (expression y.0) ts y.1) (some_same (d.0, c.0.1) x d.2)
       (subst (λ y. Inner y ts c.0.1) (the_expression_is c.0.0 d.0 d.1) (reads.takes ts c.0 c.1))
 
-  expression_is : (e : Expression) (ts rest : List Lexeme) → Inner (expression e) ts rest → Stops 1 rest → expression_at inner ts ≡ Some (e, rest)
+  pub expression_is : (e : Expression) (ts rest : List Lexeme) → Inner (expression e) ts rest → Stops 1 rest → expression_at inner ts ≡ Some (e, rest)
   unfolding expression_at
   expression_is e ts rest h ends = rw (reads.is (expression e) ts rest h ends) refl
 
@@ -145,7 +145,7 @@ module _ (Inner : Clause → List Lexeme → List Lexeme → Type 0) (inner : Li
   result_is _ _ _ (null_result t rest h) ends = rw (one_is (is_word (codes "NULL")) t rest h) refl
   result_is _ _ _ (result e ts rest h) ends = rw (starts_not (codes "NULL") refl refl ts (reads.begins (expression e) ts rest h)) (expression_exact.is e ts rest h ends)
 
-  result_shorter : (e : Expression) (ts rest : List Lexeme) → IsResult Inner e ts rest → length rest < length ts
+  pub result_shorter : (e : Expression) (ts rest : List Lexeme) → IsResult Inner e ts rest → length rest < length ts
   result_shorter _ _ _ (null_result t rest h) = omega arith
   result_shorter _ _ _ (result e ts rest h) = reads.shorter (expression e) ts rest h
 
@@ -191,7 +191,7 @@ module _ (Inner : Clause → List Lexeme → List Lexeme → Type 0) (inner : Li
     unfolding branches_at
     branches_are bs ts rest h ends none = list_is is_when 1 branch_exact when_weak bs ts rest h ends none
 
-    branches_shorter : (bs : List Branch) (ts rest : List Lexeme) → AreBranches Inner searched bs ts rest → length rest ≤ length ts
+    pub branches_shorter : (bs : List Branch) (ts rest : List Lexeme) → AreBranches Inner searched bs ts rest → length rest ≤ length ts
     branches_shorter bs ts rest h = list_shorter is_when 1 branch_exact bs ts rest h
 
     -- branches begin with WHEN
@@ -237,7 +237,7 @@ module _ (Inner : Clause → List Lexeme → List Lexeme → Type 0) (inner : Li
   else_is _ _ _ (else_result e word end ts rest a r b) =
       rw (one_is (is_word (codes "ELSE")) word ts a, result_is e ts (end ∷ rest) r (word_stops (codes "END") 1 end rest refl refl (omega arith) b), one_is (is_word (codes "END")) end rest b) refl
 
-  else_shorter : (e : Expression) (ts rest : List Lexeme) → IsElse Inner e ts rest → length rest < length ts
+  pub else_shorter : (e : Expression) (ts rest : List Lexeme) → IsElse Inner e ts rest → length rest < length ts
   else_shorter _ _ _ (no_else end rest h) = omega arith
   else_shorter _ _ _ (else_result e word end ts rest a r b) = let s = result_shorter e ts (end ∷ rest) r in omega (arith, s)
 
@@ -266,7 +266,7 @@ module _ (Inner : Clause → List Lexeme → List Lexeme → Type 0) (inner : Li
   case_made word w _ (b ∷ bs) other e _ _ vs rest (an_operand x ts us h) branches end made =
       subst (λ y. IsPrimary Inner y (word ∷ ts) rest) (some_same (simple_case x (branching (b ∷ bs) other)) e made) (a_simple_case x b bs other word ts us vs rest w h branches end)
 
-  case_takes : (word : Lexeme) → IsTrue (is_word (codes "CASE") word) → (ts : List Lexeme) (x : Expression × List Lexeme) → case_at inner ts ≡ Some x → IsPrimary Inner x.0 (word ∷ ts) x.1
+  pub case_takes : (word : Lexeme) → IsTrue (is_word (codes "CASE") word) → (ts : List Lexeme) (x : Expression × List Lexeme) → case_at inner ts ≡ Some x → IsPrimary Inner x.0 (word ∷ ts) x.1
   unfolding case_at
   case_takes word w ts x e =
       let o = bind_some (case_operand_at inner ts) _ x e in
@@ -287,14 +287,14 @@ module _ (Inner : Clause → List Lexeme → List Lexeme → Type 0) (inner : Li
   when_stops : (ts us : List Lexeme) → Front (is_word (codes "WHEN")) ts us → Stops 1 ts
   when_stops _ _ (front t rest h) = word_stops (codes "WHEN") 1 t rest refl refl (omega arith) h
 
-  searched_is : (b : Branch) (bs : List Branch) (other : Expression) (ts us rest : List Lexeme) → AreBranches Inner true (b ∷ bs) ts us → IsElse Inner other us rest → case_at inner ts ≡ Some (searched_case (branching (b ∷ bs) other), rest)
+  pub searched_is : (b : Branch) (bs : List Branch) (other : Expression) (ts us rest : List Lexeme) → AreBranches Inner true (b ∷ bs) ts us → IsElse Inner other us rest → case_at inner ts ≡ Some (searched_case (branching (b ∷ bs) other), rest)
   unfolding case_at
   searched_is b bs other ts us rest h end =
       let begins = branches_front true b bs ts us h in
       let ends = else_ends other us rest end in
       rw (operand_none ts begins.0 begins.1, branches_are true (b ∷ bs) ts us h ends.0 ends.1, else_is other us rest end) refl
 
-  simple_is : (x : Expression) (b : Branch) (bs : List Branch) (other : Expression) (ts us vs rest : List Lexeme) → Inner (expression x) ts us → AreBranches Inner false (b ∷ bs) us vs → IsElse Inner other vs rest → case_at inner ts ≡ Some (simple_case x (branching (b ∷ bs) other), rest)
+  pub simple_is : (x : Expression) (b : Branch) (bs : List Branch) (other : Expression) (ts us vs rest : List Lexeme) → Inner (expression x) ts us → AreBranches Inner false (b ∷ bs) us vs → IsElse Inner other vs rest → case_at inner ts ≡ Some (simple_case x (branching (b ∷ bs) other), rest)
   unfolding case_at
   simple_is x b bs other ts us vs rest i h end =
       let begins = branches_front false b bs us vs h in
@@ -309,7 +309,7 @@ module _ (Inner : Clause → List Lexeme → List Lexeme → Type 0) (inner : Li
   coalesce_made word w e (y ∷ es) x _ us vs _ rest (front o _ f) i h (front c _ g) made =
       subst (λ z. IsPrimary Inner z (word ∷ o ∷ us) rest) (some_same (coalesce (arguments e (y ∷ es))) x made) (a_coalesce e y es word o c us vs rest w f i h g)
 
-  coalesce_takes : (word : Lexeme) → IsTrue (is_word (codes "COALESCE") word) → (ts : List Lexeme) (x : Expression × List Lexeme) → coalesce_at inner ts ≡ Some x → IsPrimary Inner x.0 (word ∷ ts) x.1
+  pub coalesce_takes : (word : Lexeme) → IsTrue (is_word (codes "COALESCE") word) → (ts : List Lexeme) (x : Expression × List Lexeme) → coalesce_at inner ts ≡ Some x → IsPrimary Inner x.0 (word ∷ ts) x.1
   unfolding coalesce_at
   coalesce_takes word w ts x h =
       let us = bind_some (symbol_at (codes "(") ts) _ x h in
@@ -320,10 +320,10 @@ module _ (Inner : Clause → List Lexeme → List Lexeme → Type 0) (inner : Li
       subst (λ (y : Expression × List Lexeme). IsPrimary Inner y.0 (word ∷ ts) y.1) (some_same (c.0, rest.0) x c.2)
       (coalesce_made word w e.0.0 es.0.0 c.0 ts us.0 e.0.1 es.0.1 rest.0 (one_takes (is_symbol (codes "(")) ts us.0 us.1) (expression_takes us.0 e.0 e.1) (further_takes expression_exact e.0.1 es.0 es.1) (one_takes (is_symbol (codes ")")) es.0.1 rest.0 rest.1) c.1)
 
-  closing_ends : (c : Lexeme) (rest : List Lexeme) → IsTrue (is_symbol (codes ")") c) → Stops 1 (c ∷ rest)
+  pub closing_ends : (c : Lexeme) (rest : List Lexeme) → IsTrue (is_symbol (codes ")") c) → Stops 1 (c ∷ rest)
   closing_ends c rest h = symbol_stops (codes ")") 1 c rest refl (omega arith) h
 
-  coalesce_is : (e y : Expression) (es : List Expression) (o c : Lexeme) (ts us rest : List Lexeme) → IsTrue (is_symbol (codes "(") o) → Inner (expression e) ts us → AreFurther (IsExpressionOf Inner) (y ∷ es) us (c ∷ rest) → IsTrue (is_symbol (codes ")") c) → coalesce_at inner (o ∷ ts) ≡ Some (coalesce (arguments e (y ∷ es)), rest)
+  pub coalesce_is : (e y : Expression) (es : List Expression) (o c : Lexeme) (ts us rest : List Lexeme) → IsTrue (is_symbol (codes "(") o) → Inner (expression e) ts us → AreFurther (IsExpressionOf Inner) (y ∷ es) us (c ∷ rest) → IsTrue (is_symbol (codes ")") c) → coalesce_at inner (o ∷ ts) ≡ Some (coalesce (arguments e (y ∷ es)), rest)
   unfolding coalesce_at
   coalesce_is e y es o c ts us rest f i h g =
       let ends = closing_ends c rest g in
@@ -334,7 +334,7 @@ module _ (Inner : Clause → List Lexeme → List Lexeme → Type 0) (inner : Li
       → Front (is_symbol (codes "(")) ts us → Inner (expression a) us vs → Front (is_symbol (codes ",")) vs ws → Inner (expression b) ws xs → Front (is_symbol (codes ")")) xs rest → IsPrimary Inner (null_if a b) (word ∷ ts) rest
   null_if_made word w a b _ us _ ws _ rest (front o _ f) i (front m _ g) j (front c _ k) = a_null_if a b word o m c us ws rest w f i g j k
 
-  null_if_takes : (word : Lexeme) → IsTrue (is_word (codes "NULLIF") word) → (ts : List Lexeme) (x : Expression × List Lexeme) → null_if_at inner ts ≡ Some x → IsPrimary Inner x.0 (word ∷ ts) x.1
+  pub null_if_takes : (word : Lexeme) → IsTrue (is_word (codes "NULLIF") word) → (ts : List Lexeme) (x : Expression × List Lexeme) → null_if_at inner ts ≡ Some x → IsPrimary Inner x.0 (word ∷ ts) x.1
   unfolding null_if_at
   null_if_takes word w ts x h =
       let us = bind_some (symbol_at (codes "(") ts) _ x h in
@@ -345,7 +345,7 @@ module _ (Inner : Clause → List Lexeme → List Lexeme → Type 0) (inner : Li
       subst (λ (y : Expression × List Lexeme). IsPrimary Inner y.0 (word ∷ ts) y.1) (some_same (null_if a.0.0 b.0.0, rest.0) x rest.2)
       (null_if_made word w a.0.0 b.0.0 ts us.0 a.0.1 vs.0 b.0.1 rest.0 (one_takes (is_symbol (codes "(")) ts us.0 us.1) (expression_takes us.0 a.0 a.1) (one_takes (is_symbol (codes ",")) a.0.1 vs.0 vs.1) (expression_takes vs.0 b.0 b.1) (one_takes (is_symbol (codes ")")) b.0.1 rest.0 rest.1))
 
-  null_if_is : (a b : Expression) (o m c : Lexeme) (ts us rest : List Lexeme) → IsTrue (is_symbol (codes "(") o) → Inner (expression a) ts (m ∷ us) → IsTrue (is_symbol (codes ",") m) → Inner (expression b) us (c ∷ rest) → IsTrue (is_symbol (codes ")") c) → null_if_at inner (o ∷ ts) ≡ Some (null_if a b, rest)
+  pub null_if_is : (a b : Expression) (o m c : Lexeme) (ts us rest : List Lexeme) → IsTrue (is_symbol (codes "(") o) → Inner (expression a) ts (m ∷ us) → IsTrue (is_symbol (codes ",") m) → Inner (expression b) us (c ∷ rest) → IsTrue (is_symbol (codes ")") c) → null_if_at inner (o ∷ ts) ≡ Some (null_if a b, rest)
   unfolding null_if_at
   null_if_is a b o m c ts us rest f i g j k =
       rw (one_is (is_symbol (codes "(")) o ts f, expression_is a ts (m ∷ us) i (symbol_stops (codes ",") 1 m us refl (omega arith) g), one_is (is_symbol (codes ",")) m us g, expression_is b us (c ∷ rest) j (closing_ends c rest k), one_is (is_symbol (codes ")")) c rest k) refl
@@ -354,7 +354,7 @@ module _ (Inner : Clause → List Lexeme → List Lexeme → Type 0) (inner : Li
       → Front (is_symbol (codes "(")) ts us → Found field_of field us vs → Front (is_word (codes "FROM")) vs ws → Inner (expression e) ws xs → Front (is_symbol (codes ")")) xs rest → IsPrimary Inner (extract field e) (word ∷ ts) rest
   extract_made word w _ e _ _ _ ws _ rest (front o _ f) (found field n _ g) (front m _ h) i (front c _ k) = an_extract field e word o n m c ws rest w f g h i k
 
-  extract_takes : (word : Lexeme) → IsTrue (is_word (codes "EXTRACT") word) → (ts : List Lexeme) (x : Expression × List Lexeme) → extract_at inner ts ≡ Some x → IsPrimary Inner x.0 (word ∷ ts) x.1
+  pub extract_takes : (word : Lexeme) → IsTrue (is_word (codes "EXTRACT") word) → (ts : List Lexeme) (x : Expression × List Lexeme) → extract_at inner ts ≡ Some x → IsPrimary Inner x.0 (word ∷ ts) x.1
   unfolding extract_at
   extract_takes word w ts x h =
       let us = bind_some (symbol_at (codes "(") ts) _ x h in
@@ -365,7 +365,10 @@ module _ (Inner : Clause → List Lexeme → List Lexeme → Type 0) (inner : Li
       subst (λ (y : Expression × List Lexeme). IsPrimary Inner y.0 (word ∷ ts) y.1) (some_same (extract field.0.0 e.0.0, rest.0) x rest.2)
       (extract_made word w field.0.0 e.0.0 ts us.0 field.0.1 vs.0 e.0.1 rest.0 (one_takes (is_symbol (codes "(")) ts us.0 us.1) (token_takes field_of us.0 field.0 field.1) (one_takes (is_word (codes "FROM")) field.0.1 vs.0 vs.1) (expression_takes vs.0 e.0 e.1) (one_takes (is_symbol (codes ")")) e.0.1 rest.0 rest.1))
 
-  extract_is : (field : Field) (e : Expression) (o n m c : Lexeme) (ts rest : List Lexeme) → IsTrue (is_symbol (codes "(") o) → field_of n ≡ Some field → IsTrue (is_word (codes "FROM") m) → Inner (expression e) ts (c ∷ rest) → IsTrue (is_symbol (codes ")") c) → extract_at inner (o ∷ n ∷ m ∷ ts) ≡ Some (extract field e, rest)
+  pub extract_is : (field : Field) (e : Expression) (o n m c : Lexeme) (ts rest : List Lexeme) → IsTrue (is_symbol (codes "(") o) → field_of n ≡ Some field → IsTrue (is_word (codes "FROM") m) → Inner (expression e) ts (c ∷ rest) → IsTrue (is_symbol (codes ")") c) → extract_at inner (o ∷ n ∷ m ∷ ts) ≡ Some (extract field e, rest)
   unfolding extract_at
   extract_is field e o n m c ts rest f g h i k =
       rw (one_is (is_symbol (codes "(")) o (n ∷ m ∷ ts) f, token_is field_of n (m ∷ ts) field g, one_is (is_word (codes "FROM")) m ts h, expression_is e ts (c ∷ rest) i (closing_ends c rest k), one_is (is_symbol (codes ")")) c rest k) refl
+
+  pub further_down : (es : List Expression) (ts rest : List Lexeme) → AreFurther (IsExpressionOf Inner) es ts rest → length rest ≤ length ts
+  further_down es ts rest h = further_shorter expression_exact es ts rest h
