@@ -1,5 +1,6 @@
 mod ExactLemmas
 mod LoopLemmas
 mod PrimaryLemmas
+mod RankLemmas
 mod SumLemmas
 mod TokenLemmas

@@ -62,6 +62,26 @@ name_kind t Symbol e h = absurd (let no : false ≡ true = rw e at h in cc)
 pub name_no_symbol : (s : List ℕ) (t : Lexeme) → is_name t ≡ true → is_symbol s t ≡ false
 name_no_symbol s t h = let k = name_kind t t.kind refl h in rw k.2 refl
 
+pub number_no_symbol : (s : List ℕ) (t : Lexeme) → is_number t ≡ true → is_symbol s t ≡ false
+number_no_symbol s t h = let k = of_kind t.kind h in rw k refl
+  where
+    of_kind : (k : Kind) → is_number_kind k ≡ true → is_symbol_kind k ≡ false
+    of_kind Word e = refl
+    of_kind DelimitedIdentifier e = refl
+    of_kind CharacterString e = refl
+    of_kind Number e = refl
+    of_kind Symbol e = absurd cc
+
+pub string_no_symbol : (s : List ℕ) (t : Lexeme) → is_string t ≡ true → is_symbol s t ≡ false
+string_no_symbol s t h = let k = of_kind t.kind h in rw k refl
+  where
+    of_kind : (k : Kind) → is_string_kind k ≡ true → is_symbol_kind k ≡ false
+    of_kind Word e = refl
+    of_kind DelimitedIdentifier e = refl
+    of_kind CharacterString e = refl
+    of_kind Number e = refl
+    of_kind Symbol e = absurd cc
+
 pub name_no_word : (w : List ℕ) (t : Lexeme) → folded w ≡ w → is_name (record { kind = Word; octets = w }) ≡ false → is_name t ≡ true → is_word w t ≡ false
 name_no_word w t f e h =
     elim (cases_Bool (is_word w t)) [

@@ -15,7 +15,7 @@ use Rattle.qw_script.specs.Inner.Readers.{◌>>=◌, token_at, one_at, word_at, 
 use Rattle.qw_script.proofs.LoopLemmas.{bind_some, some_same, cases_option, none_not_some, Shortens, series_holds, series_is, series_shorter, series_begins}
 use Rattle.qw_script.proofs.TokenLemmas.{word_is, symbol_is, Front, front, one_takes, one_is, one_not, Found, found, token_takes, token_is, token_not, token_shortens, octets_found, octets_are, choose, strength, Stops, stops_at, stops_weaker, stops_one, stops_token, strong_symbol, strong_word}
 use Rattle.qw_script.proofs.ExactLemmas.{starts, Starts, starts_at, starts_not, Exact, exact_shortens, operator_takes, operator_is, operator_shorter, other_word, EndsDate, BeginsDate, date_takes, date_is, date_shorter, date_begins}
-use Rattle.qw_script.proofs.PrimaryLemmas.{the_expression_is, string_no_number, name_kind, name_no_symbol, name_no_word, front_is, Of, IsBracketed, bracketed, EndsPrimary, as_clause_some, as_clause_is, expression_is, case_takes, searched_is, simple_is, coalesce_takes, coalesce_is, null_if_takes, null_if_is, extract_takes, extract_is, closing_ends, branches_shorter, else_shorter, further_down}
+use Rattle.qw_script.proofs.PrimaryLemmas.{the_expression_is, string_no_number, name_kind, name_no_symbol, name_no_word, number_no_symbol, string_no_symbol, front_is, Of, IsBracketed, bracketed, EndsPrimary, as_clause_some, as_clause_is, expression_is, case_takes, searched_is, simple_is, coalesce_takes, coalesce_is, null_if_takes, null_if_is, extract_takes, extract_is, closing_ends, branches_shorter, else_shorter, further_down}
 
 -- ---- what the operators are
 
@@ -209,9 +209,24 @@ module _ (Inner : Clause → List Lexeme → List Lexeme → Type 0) (inner : Li
       let k = name_kind t t.kind refl h in
       rw (k.0, k.1, name_no_symbol (codes "(") t h, name_no_word (codes "CASE") t refl refl h, name_no_word (codes "COALESCE") t refl refl h, name_no_word (codes "NULLIF") t refl refl h, name_no_word (codes "EXTRACT") t refl refl h, name_no_word (codes "DATE") t refl refl h) refl
 
-  date_primary : (d : Dated) (ts us rest : List Lexeme) → Front (is_word (codes "DATE")) ts us → date_at ts ≡ Some (d, rest) → primary_at inner ts ≡ Some (expression (date d.string d.intervals), rest)
+  date_step : (d : Dated) (ts rest : List Lexeme) (o : Option (Expression × List Lexeme)) → date_at ts ≡ Some (d, rest) → o ≡ (date_at ts >>= (λ x. Some (date x.0.string x.0.intervals, x.1))) → o ≡ Some (date d.string d.intervals, rest)
+  date_step d ts rest o e same = same ∙ rw e refl
+
+  date_literal : (t : Lexeme) (us : List Lexeme) → IsTrue (is_word (codes "DATE") t) → (d : Dated) (rest : List Lexeme) → date_at (t ∷ us) ≡ Some (d, rest) → primary_at inner (t ∷ us) ≡ Some (expression (date d.string d.intervals), rest)
   unfolding primary_at
-  date_primary d _ us rest (front t _ h) e = let is = word_is (codes "DATE") t h in rw (is.0, is.1) (as_clause_is _ (date d.string d.intervals) rest (rw e refl))
+  date_literal t us h d rest e =
+      let is = word_is (codes "DATE") t h in
+      let number : is_number t ≡ false = rw is.0 refl in
+      let string : is_string t ≡ false = rw is.0 refl in
+      let opening : is_symbol (codes "(") t ≡ false = rw is.0 refl in
+      let case : is_word (codes "CASE") t ≡ false = rw (is.0, is.1) refl in
+      let coalesce_word : is_word (codes "COALESCE") t ≡ false = rw (is.0, is.1) refl in
+      let null_if_word : is_word (codes "NULLIF") t ≡ false = rw (is.0, is.1) refl in
+      let extract_word : is_word (codes "EXTRACT") t ≡ false = rw (is.0, is.1) refl in
+      rw (number, string, opening, case, coalesce_word, null_if_word, extract_word, h) (as_clause_is _ (date d.string d.intervals) rest (date_step d (t ∷ us) rest _ e refl))
+
+  date_primary : (d : Dated) (ts us rest : List Lexeme) → Front (is_word (codes "DATE")) ts us → date_at ts ≡ Some (d, rest) → primary_at inner ts ≡ Some (expression (date d.string d.intervals), rest)
+  date_primary d _ us rest (front t _ h) e = date_literal t us h d rest e
 
   primary_is : (e : Expression) (ts rest : List Lexeme) → IsPrimary Inner e ts rest → EndsPrimary rest → primary_at inner ts ≡ Some (expression e, rest)
   unfolding primary_at
@@ -291,3 +306,88 @@ module _ (Inner : Clause → List Lexeme → List Lexeme → Type 0) (inner : Li
 
   bracketed_begins : (c : Condition) (ts rest : List Lexeme) → IsBracketed Inner c ts rest → Starts ts
   bracketed_begins _ _ _ (bracketed c opening closing ts rest f h g) = symbol_starts (codes "(") opening ts refl f
+
+  -- ---- a factor
+
+  no_sign_of : (t : Lexeme) (ts : List Lexeme) → is_symbol (codes "+") t ≡ false → is_symbol (codes "-") t ≡ false → token_at sign_of (t ∷ ts) ≡ None
+  no_sign_of t ts a b = token_not sign_of t ts (rw (a, b) refl)
+
+  no_sign_word : (w : List ℕ) (t : Lexeme) (ts : List Lexeme) → IsTrue (is_word w t) → token_at sign_of (t ∷ ts) ≡ None
+  no_sign_word w t ts h = let is = word_is w t h in no_sign_of t ts (rw is.0 refl) (rw is.0 refl)
+
+  no_sign_name : (t : Lexeme) (ts : List Lexeme) → IsTrue (is_name t) → token_at sign_of (t ∷ ts) ≡ None
+  no_sign_name t ts h = no_sign_of t ts (name_no_symbol (codes "+") t h) (name_no_symbol (codes "-") t h)
+
+  no_sign_front : (ts us : List Lexeme) → Front (is_word (codes "DATE")) ts us → token_at sign_of ts ≡ None
+  no_sign_front _ _ (front t rest h) = no_sign_word (codes "DATE") t rest h
+
+  primary_no_sign : (e : Expression) (ts rest : List Lexeme) → IsPrimary Inner e ts rest → token_at sign_of ts ≡ None
+  primary_no_sign _ _ _ (a_number t rest h) = no_sign_of t rest (number_no_symbol (codes "+") t h) (number_no_symbol (codes "-") t h)
+  primary_no_sign _ _ _ (a_string t rest h) = no_sign_of t rest (string_no_symbol (codes "+") t h) (string_no_symbol (codes "-") t h)
+  primary_no_sign _ _ _ (a_date d ts rest h) = let b = date_begins d ts rest h in no_sign_front ts b.0 b.1
+  primary_no_sign _ _ _ (a_column t rest h) = no_sign_name t rest h
+  primary_no_sign _ _ _ (a_qualified_column q p t rest h f i) = no_sign_name q (p ∷ t ∷ rest) h
+  primary_no_sign _ _ _ (brackets e opening closing ts rest f h g) = let is = symbol_is (codes "(") opening f in no_sign_of opening ts (rw (is.0, is.1) refl) (rw (is.0, is.1) refl)
+  primary_no_sign _ _ _ (a_searched_case b bs other t ts us rest w h end) = no_sign_word (codes "CASE") t ts w
+  primary_no_sign _ _ _ (a_simple_case x b bs other t ts us vs rest w i h end) = no_sign_word (codes "CASE") t ts w
+  primary_no_sign _ _ _ (a_coalesce e y es t o c ts us rest w f i h g) = no_sign_word (codes "COALESCE") t (o ∷ ts) w
+  primary_no_sign _ _ _ (a_null_if a b t o m c ts us rest w f i g j k) = no_sign_word (codes "NULLIF") t (o ∷ ts) w
+  primary_no_sign _ _ _ (an_extract field e t o n m c ts rest w f g h i k) = no_sign_word (codes "EXTRACT") t (o ∷ n ∷ m ∷ ts) w
+
+  bracketed_no_sign : (c : Condition) (ts rest : List Lexeme) → IsBracketed Inner c ts rest → token_at sign_of ts ≡ None
+  bracketed_no_sign _ _ _ (bracketed c opening closing ts rest f h g) = let is = symbol_is (codes "(") opening f in no_sign_of opening ts (rw (is.0, is.1) refl) (rw (is.0, is.1) refl)
+
+  signed_made : (s : Sign) (c : Clause) (e : Expression) (ts us rest : List Lexeme) → Found sign_of s ts us → Of (IsPrimary Inner) (IsBracketed Inner) c us rest → c ≡ expression e → IsFactor Inner (signed s e) ts rest
+  signed_made _ c e _ us rest (found s t _ f) h same = signed_factor s e t us rest f (subst (λ y. Of (IsPrimary Inner) (IsBracketed Inner) y us rest) same h)
+
+  to_factor : (c : Clause) (ts rest : List Lexeme) → Of (IsPrimary Inner) (IsBracketed Inner) c ts rest → Of (IsFactor Inner) (IsBracketed Inner) c ts rest
+  to_factor (expression e) ts rest h = unsigned_factor e ts rest h
+  to_factor (condition c) ts rest h = h
+
+  factor_takes : (ts : List Lexeme) (x : Clause × List Lexeme) → factor_at inner ts ≡ Some x → Of (IsFactor Inner) (IsBracketed Inner) x.0 ts x.1
+  unfolding factor_at
+  factor_takes ts x e =
+      elim (cases_option (token_at sign_of ts)) [
+        | inl none ↦ to_factor x.0 ts x.1 (primary_takes ts x (rw none at e))
+        | inr s ↦ (
+            let c = bind_some (primary_at inner s.0.1) _ x (rw s.1 at e) in
+            let d = bind_some (the_expression c.0.0) _ x c.2 in
+            subst (λ (y : Clause × List Lexeme). Of (IsFactor Inner) (IsBracketed Inner) y.0 ts y.1) (some_same (expression (signed s.0.0 d.0), c.0.1) x d.2)
+            (signed_made s.0.0 c.0.0 d.0 ts s.0.1 c.0.1 (token_takes sign_of ts s.0 s.1) (primary_takes s.0.1 c.0 c.1) (the_expression_is c.0.0 d.0 d.1)))
+      ]
+
+  factor_of : (e : Expression) (ts rest : List Lexeme) → IsFactor Inner e ts rest → EndsFactor 7 rest → factor_at inner ts ≡ Some (expression e, rest)
+  unfolding factor_at
+  factor_of _ _ _ (unsigned_factor e ts rest h) ends = rw (primary_no_sign e ts rest h) (primary_is e ts rest h (ends_primary 7 rest (omega arith) ends))
+  factor_of _ _ _ (signed_factor s e t ts rest f h) ends = rw (token_is sign_of t ts s f, primary_is e ts rest h (ends_primary 7 rest (omega arith) ends)) refl
+
+  factor_down : (e : Expression) (ts rest : List Lexeme) → IsFactor Inner e ts rest → length rest < length ts
+  factor_down _ _ _ (unsigned_factor e ts rest h) = primary_shorter e ts rest h
+  factor_down _ _ _ (signed_factor s e t ts rest f h) = let z = primary_shorter e ts rest h in omega (arith, z)
+
+  sign_starts : (t : Lexeme) (ts : List Lexeme) (s : Sign) → sign_of t ≡ Some s → Starts (t ∷ ts)
+  sign_starts t ts s e =
+      elim (sign_symbol t s e) [
+        | inl h ↦ symbol_starts (codes "+") t ts refl h
+        | inr h ↦ symbol_starts (codes "-") t ts refl h
+      ]
+
+  factor_front : (e : Expression) (ts rest : List Lexeme) → IsFactor Inner e ts rest → Starts ts
+  factor_front _ _ _ (unsigned_factor e ts rest h) = primary_begins e ts rest h
+  factor_front _ _ _ (signed_factor s e t ts rest f h) = sign_starts t ts s f
+
+  factor_is : (c : Clause) (ts rest : List Lexeme) → Of (IsFactor Inner) (IsBracketed Inner) c ts rest → EndsFactor 7 rest → factor_at inner ts ≡ Some (c, rest)
+  unfolding factor_at
+  factor_is (condition c) ts rest h ends = rw (bracketed_no_sign c ts rest h) (bracketed_is c ts rest h)
+  factor_is (expression e) ts rest h ends = factor_of e ts rest h ends
+
+  factor_shorter : (c : Clause) (ts rest : List Lexeme) → Of (IsFactor Inner) (IsBracketed Inner) c ts rest → length rest < length ts
+  factor_shorter (condition c) ts rest h = bracketed_shorter c ts rest h
+  factor_shorter (expression e) ts rest h = factor_down e ts rest h
+
+  factor_begins : (c : Clause) (ts rest : List Lexeme) → Of (IsFactor Inner) (IsBracketed Inner) c ts rest → Starts ts
+  factor_begins (condition c) ts rest h = bracketed_begins c ts rest h
+  factor_begins (expression e) ts rest h = factor_front e ts rest h
+
+  pub factor_exact : Exact (Of (IsFactor Inner) (IsBracketed Inner)) (EndsFactor 7) (factor_at inner)
+  factor_exact = record { takes = factor_takes; is = factor_is; shorter = factor_shorter; begins = factor_begins }
