@@ -1,3 +1,4 @@
+mod ConditionLemmas
 mod ExactLemmas
 mod LoopLemmas
 mod PrimaryLemmas

@@ -9,7 +9,7 @@ use Rattle.qw_token.specs.declared.token.Kind.TheVariants.{Word, DelimitedIdenti
 use Rattle.qw_meaning.specs.declared.expression.Field.{Field}
 use Rattle.qw_ast.specs.Grammar.{folded}
 use Rattle.qw_ast.specs.Syntax.{Expression, null, number, text, date, column, extract, searched_case, simple_case, coalesce, null_if, Condition, Clause, condition, expression}
-use Rattle.qw_ast.specs.ScriptGrammar.{is_string_kind, is_number_kind, is_symbol_kind, is_word, is_symbol, is_number, is_string, is_name, field_of, appended, is_comma, is_when, is_condition, Series, first, more, IsOperator, operator, IsNothing, nothing, AreFurther, IsResult, null_result, result, Branch, IsBranch, branch, AreBranches, IsElse, no_else, else_result, IsExpressionOf, Dated, IsDate, arguments, branching, IsPrimary, a_number, a_string, a_date, a_column, a_qualified_column, brackets, a_searched_case, a_simple_case, a_coalesce, a_null_if, an_extract}
+use Rattle.qw_ast.specs.ScriptGrammar.{is_word_kind, is_string_kind, is_number_kind, is_symbol_kind, is_word, is_symbol, is_number, is_string, is_name, field_of, appended, is_comma, is_when, is_condition, Series, first, more, IsOperator, operator, IsNothing, nothing, AreFurther, IsResult, null_result, result, Branch, IsBranch, branch, AreBranches, IsElse, no_else, else_result, IsExpressionOf, Dated, IsDate, arguments, branching, IsPrimary, a_number, a_string, a_date, a_column, a_qualified_column, brackets, a_searched_case, a_simple_case, a_coalesce, a_null_if, an_extract}
 use Rattle.qw_script.specs.Inner.Readers.{◌>>=◌, token_at, one_at, word_at, symbol_at, octets_if, append, further_at, expression_at, the_expression, result_at, same, branch_at, branches_at, else_at, case_operand_at, case_of, is_absent, case_with, case_at, coalesce_of, coalesce_at, null_if_at, extract_at, brackets_at, column_at, date_at, as_clause, primary_of, primary_at, interval_sign_at}
 use Rattle.qw_script.proofs.LoopLemmas.{bind_some, some_same, cases_option, none_not_some, Shortens}
 use Rattle.qw_script.proofs.TokenLemmas.{word_is, symbol_is, Front, front, one_takes, one_is, one_not, Found, found, token_takes, token_is, token_shortens, octets_found, octets_are, choose, strength, Stops, stops_at, strong_symbol, strong_word}
@@ -81,6 +81,26 @@ string_no_symbol s t h = let k = of_kind t.kind h in rw k refl
     of_kind CharacterString e = refl
     of_kind Number e = refl
     of_kind Symbol e = absurd cc
+
+pub number_no_word : (w : List ℕ) (t : Lexeme) → is_number t ≡ true → is_word w t ≡ false
+number_no_word w t h = let k = of_kind t.kind h in rw k refl
+  where
+    of_kind : (k : Kind) → is_number_kind k ≡ true → is_word_kind k ≡ false
+    of_kind Word e = absurd cc
+    of_kind DelimitedIdentifier e = refl
+    of_kind CharacterString e = refl
+    of_kind Number e = refl
+    of_kind Symbol e = refl
+
+pub string_no_word : (w : List ℕ) (t : Lexeme) → is_string t ≡ true → is_word w t ≡ false
+string_no_word w t h = let k = of_kind t.kind h in rw k refl
+  where
+    of_kind : (k : Kind) → is_string_kind k ≡ true → is_word_kind k ≡ false
+    of_kind Word e = absurd cc
+    of_kind DelimitedIdentifier e = refl
+    of_kind CharacterString e = refl
+    of_kind Number e = refl
+    of_kind Symbol e = refl
 
 pub name_no_word : (w : List ℕ) (t : Lexeme) → folded w ≡ w → is_name (record { kind = Word; octets = w }) ≡ false → is_name t ≡ true → is_word w t ≡ false
 name_no_word w t f e h =

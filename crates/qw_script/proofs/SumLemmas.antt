@@ -14,8 +14,9 @@ use Rattle.qw_ast.specs.ScriptGrammar.{is_word, is_symbol, is_number, is_string,
 use Rattle.qw_script.specs.Inner.Readers.{◌>>=◌, token_at, one_at, word_at, symbol_at, octets_if, series_at, the_expression, case_at, coalesce_at, null_if_at, extract_at, brackets_at, column_at, date_at, as_clause, primary_of, primary_at, interval_sign_at, factor_at, join_arithmetic, term_at, sum_at}
 use Rattle.qw_script.proofs.LoopLemmas.{bind_some, some_same, cases_option, none_not_some, Shortens, series_holds, series_is, series_shorter, series_begins}
 use Rattle.qw_script.proofs.TokenLemmas.{word_is, symbol_is, Front, front, one_takes, one_is, one_not, Found, found, token_takes, token_is, token_not, token_shortens, octets_found, octets_are, choose, strength, Stops, stops_at, stops_weaker, stops_one, stops_token, strong_symbol, strong_word}
+use Rattle.qw_script.proofs.RankLemmas.{rank_exact}
 use Rattle.qw_script.proofs.ExactLemmas.{starts, Starts, starts_at, starts_not, Exact, exact_shortens, operator_takes, operator_is, operator_shorter, other_word, EndsDate, BeginsDate, date_takes, date_is, date_shorter, date_begins}
-use Rattle.qw_script.proofs.PrimaryLemmas.{the_expression_is, string_no_number, name_kind, name_no_symbol, name_no_word, number_no_symbol, string_no_symbol, front_is, Of, IsBracketed, bracketed, EndsPrimary, as_clause_some, as_clause_is, expression_is, case_takes, searched_is, simple_is, coalesce_takes, coalesce_is, null_if_takes, null_if_is, extract_takes, extract_is, closing_ends, branches_shorter, else_shorter, further_down}
+use Rattle.qw_script.proofs.PrimaryLemmas.{the_expression_is, string_no_number, name_kind, name_no_symbol, name_no_word, number_no_symbol, string_no_symbol, number_no_word, string_no_word, front_is, Of, IsBracketed, bracketed, EndsPrimary, as_clause_some, as_clause_is, expression_is, case_takes, searched_is, simple_is, coalesce_takes, coalesce_is, null_if_takes, null_if_is, extract_takes, extract_is, closing_ends, branches_shorter, else_shorter, further_down}
 
 -- ---- what the operators are
 
@@ -49,21 +50,21 @@ multiplication_symbol t o e =
       ]
     ]
 
-addition_strong : (t : Lexeme) (o : Operator) → addition_of t ≡ Some o → strength t ≡ 5
+pub addition_strong : (t : Lexeme) (o : Operator) → addition_of t ≡ Some o → strength t ≡ 5
 addition_strong t o e =
     elim (addition_symbol t o e) [
       | inl h ↦ strong_symbol (codes "+") 5 t refl h
       | inr h ↦ strong_symbol (codes "-") 5 t refl h
     ]
 
-multiplication_strong : (t : Lexeme) (o : Operator) → multiplication_of t ≡ Some o → strength t ≡ 6
+pub multiplication_strong : (t : Lexeme) (o : Operator) → multiplication_of t ≡ Some o → strength t ≡ 6
 multiplication_strong t o e =
     elim (multiplication_symbol t o e) [
       | inl h ↦ strong_symbol (codes "*") 6 t refl h
       | inr h ↦ strong_symbol (codes "/") 6 t refl h
     ]
 
-sign_strong : (t : Lexeme) (s : Sign) → sign_of t ≡ Some s → strength t ≡ 5
+pub sign_strong : (t : Lexeme) (s : Sign) → sign_of t ≡ Some s → strength t ≡ 5
 sign_strong t s e =
     elim (sign_symbol t s e) [
       | inl h ↦ strong_symbol (codes "+") 5 t refl h
@@ -76,7 +77,7 @@ symbol_strong s n m e le t h = let z = strong_symbol s m t e h in omega (arith, 
 -- ---- what stops a factor
 
 -- no sign before INTERVAL
-no_interval : (ts : List Lexeme) → token_at sign_of ts ≡ None → interval_sign_at ts ≡ None
+pub no_interval : (ts : List Lexeme) → token_at sign_of ts ≡ None → interval_sign_at ts ≡ None
 unfolding interval_sign_at
 no_interval ts e = rw e refl
 
@@ -391,3 +392,126 @@ module _ (Inner : Clause → List Lexeme → List Lexeme → Type 0) (inner : Li
 
   pub factor_exact : Exact (Of (IsFactor Inner) (IsBracketed Inner)) (EndsFactor 7) (factor_at inner)
   factor_exact = record { takes = factor_takes; is = factor_is; shorter = factor_shorter; begins = factor_begins }
+
+  -- ---- neither begins with NOT
+
+  no_not_of : (t : Lexeme) (ts : List Lexeme) → is_word (codes "NOT") t ≡ false → word_at (codes "NOT") (t ∷ ts) ≡ None
+  no_not_of t ts e = one_not (is_word (codes "NOT")) t ts e
+
+  no_not_symbol : (s : List ℕ) (t : Lexeme) → IsTrue (is_symbol s t) → is_word (codes "NOT") t ≡ false
+  no_not_symbol s t h = let is = symbol_is s t h in rw is.0 refl
+
+  no_not_front : (ts us : List Lexeme) → Front (is_word (codes "DATE")) ts us → word_at (codes "NOT") ts ≡ None
+  no_not_front _ _ (front t rest h) = other_word (codes "DATE") (codes "NOT") t rest refl refl h
+
+  primary_no_not : (e : Expression) (ts rest : List Lexeme) → IsPrimary Inner e ts rest → word_at (codes "NOT") ts ≡ None
+  primary_no_not _ _ _ (a_number t rest h) = no_not_of t rest (number_no_word (codes "NOT") t h)
+  primary_no_not _ _ _ (a_string t rest h) = no_not_of t rest (string_no_word (codes "NOT") t h)
+  primary_no_not _ _ _ (a_date d ts rest h) = let b = date_begins d ts rest h in no_not_front ts b.0 b.1
+  primary_no_not _ _ _ (a_column t rest h) = no_not_of t rest (name_no_word (codes "NOT") t refl refl h)
+  primary_no_not _ _ _ (a_qualified_column q p t rest h f i) = no_not_of q (p ∷ t ∷ rest) (name_no_word (codes "NOT") q refl refl h)
+  primary_no_not _ _ _ (brackets e opening closing ts rest f h g) = no_not_of opening ts (no_not_symbol (codes "(") opening f)
+  primary_no_not _ _ _ (a_searched_case b bs other t ts us rest w h end) = other_word (codes "CASE") (codes "NOT") t ts refl refl w
+  primary_no_not _ _ _ (a_simple_case x b bs other t ts us vs rest w i h end) = other_word (codes "CASE") (codes "NOT") t ts refl refl w
+  primary_no_not _ _ _ (a_coalesce e y es t o c ts us rest w f i h g) = other_word (codes "COALESCE") (codes "NOT") t (o ∷ ts) refl refl w
+  primary_no_not _ _ _ (a_null_if a b t o m c ts us rest w f i g j k) = other_word (codes "NULLIF") (codes "NOT") t (o ∷ ts) refl refl w
+  primary_no_not _ _ _ (an_extract field e t o n m c ts rest w f g h i k) = other_word (codes "EXTRACT") (codes "NOT") t (o ∷ n ∷ m ∷ ts) refl refl w
+
+  sign_no_not : (t : Lexeme) (ts : List Lexeme) (s : Sign) → sign_of t ≡ Some s → word_at (codes "NOT") (t ∷ ts) ≡ None
+  sign_no_not t ts s e =
+      elim (sign_symbol t s e) [
+        | inl h ↦ no_not_of t ts (no_not_symbol (codes "+") t h)
+        | inr h ↦ no_not_of t ts (no_not_symbol (codes "-") t h)
+      ]
+
+  factor_no_not : (e : Expression) (ts rest : List Lexeme) → IsFactor Inner e ts rest → word_at (codes "NOT") ts ≡ None
+  factor_no_not _ _ _ (unsigned_factor e ts rest h) = primary_no_not e ts rest h
+  factor_no_not _ _ _ (signed_factor s e t ts rest f h) = sign_no_not t ts s f
+
+  pub expression_no_not : (e : Expression) (ts rest : List Lexeme) → IsValueExpression Inner e ts rest → word_at (codes "NOT") ts ≡ None
+  expression_no_not e ts rest h =
+      series_begins (λ us. word_at (codes "NOT") us ≡ None) (λ a us vs f. series_begins (λ us. word_at (codes "NOT") us ≡ None) factor_no_not a us vs f) e ts rest h
+
+  pub bracketed_no_not : (c : Condition) (ts rest : List Lexeme) → IsBracketed Inner c ts rest → word_at (codes "NOT") ts ≡ None
+  bracketed_no_not _ _ _ (bracketed c opening closing ts rest f h g) = no_not_of opening ts (no_not_symbol (codes "(") opening f)
+
+-- ---- terms and sums
+
+alone_in : (F : Expression → List Lexeme → List Lexeme → Type 0) (B : Condition → List Lexeme → List Lexeme → Type 0) (meaning : Lexeme → Option Operator) (p : Clause) (ts rest : List Lexeme) → Of F B p ts rest → Of (λ e us vs. Series F (IsOperator meaning) F arithmetic e us vs) B p ts rest
+alone_in F B meaning (expression e) ts rest h = first e ts rest h
+alone_in F B meaning (condition c) ts rest h = h
+
+sorts_in : (F : Expression → List Lexeme → List Lexeme → Type 0) (B : Condition → List Lexeme → List Lexeme → Type 0) (meaning : Lexeme → Option Operator) (p : Clause) (ts rest : List Lexeme) → Of (λ e us vs. Series F (IsOperator meaning) F arithmetic e us vs) B p ts rest
+    → ((a : Expression) × (p ≡ expression a) × Series F (IsOperator meaning) F arithmetic a ts rest) ⊎ Of F B p ts rest
+sorts_in F B meaning (expression e) ts rest h = inl (e, refl, h)
+sorts_in F B meaning (condition c) ts rest h = inr h
+
+arithmetic_parts : (o : Operator) (p q r : Clause) → join_arithmetic o p q ≡ Some r → (a : Expression) × (b : Expression) × (p ≡ expression a) × (q ≡ expression b) × (r ≡ expression (arithmetic o a b))
+arithmetic_parts o (expression a) (expression b) r e = (a, b, refl, refl, sym (some_same (expression (arithmetic o a b)) r e))
+arithmetic_parts o (expression a) (condition d) r e = absurd cc
+arithmetic_parts o (condition c) (expression b) r e = absurd cc
+arithmetic_parts o (condition c) (condition d) r e = absurd cc
+
+interval_none : (t : Lexeme) (ts : List Lexeme) → word_at (codes "INTERVAL") ts ≡ None → interval_sign_at (t ∷ ts) ≡ None
+unfolding interval_sign_at
+interval_none t ts e =
+    elim (cases_option (sign_of t)) [
+      | inl none ↦ rw (token_not sign_of t ts none) refl
+      | inr s ↦ rw (token_is sign_of t ts s.0 s.1, e) refl
+    ]
+
+module _ (Inner : Clause → List Lexeme → List Lexeme → Type 0) (inner : List Lexeme → Option (Clause × List Lexeme)) (reads : Exact Inner (Stops 1) inner) where
+  multiplication_ends : (o : Operator) (ts rest : List Lexeme) → IsOperator multiplication_of o ts rest → EndsFactor 7 ts
+  multiplication_ends _ _ _ (operator o t rest h) =
+      let s = multiplication_strong t o h in
+      record { stops = stops_at 7 t rest (omega (arith, s)); no_interval = no_interval (t ∷ rest) (token_not sign_of t rest (never t o h)) }
+    where
+      never : (t : Lexeme) (o : Operator) → multiplication_of t ≡ Some o → sign_of t ≡ None
+      never t o h =
+          elim (multiplication_symbol t o h) [
+            | inl e ↦ (let is = symbol_is (codes "*") t e in rw (is.0, is.1) refl)
+            | inr e ↦ (let is = symbol_is (codes "/") t e in rw (is.0, is.1) refl)
+          ]
+
+  pub term_exact : Exact (Of (IsTerm Inner) (IsBracketed Inner)) (EndsFactor 6) (term_at inner)
+  unfolding term_at
+  term_exact =
+      rank_exact expression multiplication_of (IsFactor Inner) arithmetic join_arithmetic (Of (IsFactor Inner) (IsBracketed Inner)) (Of (IsTerm Inner) (IsBracketed Inner)) (EndsFactor 7) (EndsFactor 6) (factor_at inner)
+      record {
+        operand = λ a ts rest h. h;
+        clause = λ a ts rest h. h;
+        alone = alone_in (IsFactor Inner) (IsBracketed Inner) multiplication_of;
+        whole = λ a ts rest h. h;
+        series = λ a ts rest h. h;
+        sorts = sorts_in (IsFactor Inner) (IsBracketed Inner) multiplication_of;
+        joins = λ o a b. refl;
+        parts = arithmetic_parts;
+        ends = λ rest e. record { stops = stops_weaker 6 7 rest (omega arith) e.stops; no_interval = e.no_interval };
+        none = λ rest e. stops_token 6 multiplication_of (λ t o h. let s = multiplication_strong t o h in omega (arith, s)) rest e.stops;
+        between = λ o a us vs rest h f. multiplication_ends o us vs h;
+      }
+      (factor_exact Inner inner reads)
+
+  addition_ends : (o : Operator) (ts rest : List Lexeme) → IsOperator addition_of o ts rest → Starts rest → EndsFactor 6 ts
+  addition_ends _ _ _ (operator o t rest h) begins =
+      let s = addition_strong t o h in
+      record { stops = stops_at 6 t rest (omega (arith, s)); no_interval = interval_none t rest (starts_not (codes "INTERVAL") refl refl rest begins) }
+
+  pub sum_exact : Exact (Of (IsValueExpression Inner) (IsBracketed Inner)) (Stops 5) (sum_at inner)
+  unfolding sum_at
+  sum_exact =
+      rank_exact expression addition_of (IsTerm Inner) arithmetic join_arithmetic (Of (IsTerm Inner) (IsBracketed Inner)) (Of (IsValueExpression Inner) (IsBracketed Inner)) (EndsFactor 6) (Stops 5) (term_at inner)
+      record {
+        operand = λ a ts rest h. h;
+        clause = λ a ts rest h. h;
+        alone = alone_in (IsTerm Inner) (IsBracketed Inner) addition_of;
+        whole = λ a ts rest h. h;
+        series = λ a ts rest h. h;
+        sorts = sorts_in (IsTerm Inner) (IsBracketed Inner) addition_of;
+        joins = λ o a b. refl;
+        parts = arithmetic_parts;
+        ends = λ rest e. let f = stops_factor 5 rest (omega arith) e in record { stops = stops_weaker 5 6 rest (omega arith) e; no_interval = f.no_interval };
+        none = λ rest e. stops_token 5 addition_of (λ t o h. let s = addition_strong t o h in omega (arith, s)) rest e;
+        between = λ o a us vs rest h f. addition_ends o us vs h (term_exact.begins (expression a) vs rest f);
+      }
+      term_exact
