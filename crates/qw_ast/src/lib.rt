@@ -4,4 +4,5 @@
 //! - `specs/Grammar`: the forms, terminal by terminal, and when a text is a statement of a form.
 #![tactic(auto)]
 
+pub mod script;
 pub mod tree;

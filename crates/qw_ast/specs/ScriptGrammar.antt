@@ -1,0 +1,336 @@
+-- The grammar of a script (ISO/IEC 9075:1992; the section stands at each rule). A rule tells what stands at the front of some
+-- tokens, and the tokens that follow it. A data type is a rule of the standard, and a constructor one of its alternatives.
+use Rattle.std.specs.Prelude.{◌≡◌, ℕ, zero, suc, Bool, true, false, ◌&&◌, ◌||◌, not, if◌then◌else◌, IsTrue, List, [], ◌∷◌, ◌++◌, Option, Some, None, codes}
+use Rattle.std.specs.List.{list_any}
+use Rattle.std.specs.Str.{bytes_eq}
+use Rattle.qw_types.specs.Digits.{are_digits}
+use Rattle.qw_types.specs.declared.truth.Truth.{Truth}
+use Rattle.qw_types.specs.declared.truth.Truth.TheVariants.{True, False, Unknown}
+use Rattle.qw_meaning.specs.declared.expression.Operator.{Operator}
+use Rattle.qw_meaning.specs.declared.expression.Operator.TheVariants.{Add, Subtract, Multiply, Divide}
+use Rattle.qw_meaning.specs.declared.expression.Field.{Field}
+use Rattle.qw_meaning.specs.declared.expression.Field.TheVariants.{Year, Month, Day}
+use Rattle.qw_meaning.specs.declared.query.Comparison.{Comparison}
+use Rattle.qw_meaning.specs.declared.query.Comparison.TheVariants.{Equal, NotEqual, Less, LessOrEqual, Greater, GreaterOrEqual}
+use Rattle.qw_token.specs.declared.token.Kind.{Kind}
+use Rattle.qw_token.specs.declared.token.Kind.TheVariants.{Word, DelimitedIdentifier, CharacterString, Number, Symbol}
+use Rattle.qw_token.specs.Token.{Lexeme}
+use Rattle.qw_ast.specs.declared.script.Sign.{Sign}
+use Rattle.qw_ast.specs.declared.script.Sign.TheVariants.{Plus, Minus}
+use Rattle.qw_ast.specs.Grammar.{folded, reserved}
+use Rattle.qw_ast.specs.Syntax.{Days, Expression, null, number, text, date, column, signed, arithmetic, extract, searched_case, simple_case, coalesce, null_if, Condition, comparison, between, among, is_null, both, either, negation_of, is, Clause, condition, expression, Expressions, last, further, Branching, otherwise, when, SelectItem, Selected, all_columns, items, Select}
+
+-- ---- tokens (5.2, 5.4)
+
+abbrev pub is_word_kind : Kind → Bool
+is_word_kind Word = true
+is_word_kind _ = false
+
+abbrev pub is_delimited_kind : Kind → Bool
+is_delimited_kind DelimitedIdentifier = true
+is_delimited_kind _ = false
+
+abbrev pub is_string_kind : Kind → Bool
+is_string_kind CharacterString = true
+is_string_kind _ = false
+
+abbrev pub is_number_kind : Kind → Bool
+is_number_kind Number = true
+is_number_kind _ = false
+
+abbrev pub is_symbol_kind : Kind → Bool
+is_symbol_kind Symbol = true
+is_symbol_kind _ = false
+
+-- the key word, in upper or lower case
+abbrev pub is_word : List ℕ → Lexeme → Bool
+is_word word t = is_word_kind t.kind && bytes_eq (folded t.octets) word
+
+-- the symbol
+abbrev pub is_symbol : List ℕ → Lexeme → Bool
+is_symbol octets t = is_symbol_kind t.kind && bytes_eq t.octets octets
+
+abbrev pub is_number : Lexeme → Bool
+is_number t = is_number_kind t.kind
+
+abbrev pub is_string : Lexeme → Bool
+is_string t = is_string_kind t.kind
+
+-- a number without a point
+abbrev pub is_integer : Lexeme → Bool
+is_integer t = is_number t && are_digits t.octets
+
+-- a regular identifier: a word that isn't reserved
+abbrev pub is_regular : Lexeme → Bool
+is_regular t = is_word_kind t.kind && not (list_any (bytes_eq (folded t.octets)) reserved)
+
+-- an identifier, regular or delimited
+abbrev pub is_name : Lexeme → Bool
+is_name t = is_regular t || is_delimited_kind t.kind
+
+abbrev pub sign_of : Lexeme → Option Sign
+sign_of t = if is_symbol (codes "+") t then Some Plus else (if is_symbol (codes "-") t then Some Minus else None)
+
+abbrev pub addition_of : Lexeme → Option Operator
+addition_of t = if is_symbol (codes "+") t then Some Add else (if is_symbol (codes "-") t then Some Subtract else None)
+
+abbrev pub multiplication_of : Lexeme → Option Operator
+multiplication_of t = if is_symbol (codes "*") t then Some Multiply else (if is_symbol (codes "/") t then Some Divide else None)
+
+abbrev pub comparison_of : Lexeme → Option Comparison
+comparison_of t =
+    if is_symbol (codes "=") t then Some Equal
+    else (if is_symbol (codes "<>") t then Some NotEqual
+    else (if is_symbol (codes "<") t then Some Less
+    else (if is_symbol (codes "<=") t then Some LessOrEqual
+    else (if is_symbol (codes ">") t then Some Greater
+    else (if is_symbol (codes ">=") t then Some GreaterOrEqual
+    else None)))))
+
+abbrev pub field_of : Lexeme → Option Field
+field_of t =
+    if is_word (codes "YEAR") t then Some Year
+    else (if is_word (codes "MONTH") t then Some Month
+    else (if is_word (codes "DAY") t then Some Day
+    else None))
+
+abbrev pub truth_of : Lexeme → Option Truth
+truth_of t =
+    if is_word (codes "TRUE") t then Some True
+    else (if is_word (codes "FALSE") t then Some False
+    else (if is_word (codes "UNKNOWN") t then Some Unknown
+    else None))
+
+-- ---- what rules are made of
+
+-- this stands at the front of the tokens, and those follow it
+abbrev pub Rule : Type 0 → Type 1
+Rule A = A → List Lexeme → List Lexeme → Type 0
+
+-- one token of this meaning
+pub data IsOperator {O : Type 0} (meaning : Lexeme → Option O) : O → List Lexeme → List Lexeme → Type 0 where
+  operator : (o : O) (t : Lexeme) (rest : List Lexeme) → meaning t ≡ Some o → IsOperator meaning o (t ∷ rest) rest
+
+-- A first, and then any number of times an operator and an operand, each joined to all that stands before it: so operators of
+-- one rank associate to the left.
+pub data Series {A O B : Type 0} (First : A → List Lexeme → List Lexeme → Type 0) (Between : O → List Lexeme → List Lexeme → Type 0) (Operand : B → List Lexeme → List Lexeme → Type 0) (joined : O → A → B → A) : A → List Lexeme → List Lexeme → Type 0 where
+  first : (a : A) (ts rest : List Lexeme) → First a ts rest → Series First Between Operand joined a ts rest
+  more : (a : A) (o : O) (b : B) (ts us vs rest : List Lexeme) → Series First Between Operand joined a ts us → Between o us vs → Operand b vs rest → Series First Between Operand joined (joined o a b) ts rest
+
+-- no token
+pub data IsNothing {A : Type 0} : List A → List Lexeme → List Lexeme → Type 0 where
+  nothing : (rest : List Lexeme) → IsNothing [] rest rest
+
+-- one more at the end of a list
+abbrev pub appended : {O A : Type 0} → O → List A → A → List A
+appended o xs a = xs ++ a ∷ []
+
+abbrev pub is_comma : Lexeme → Option (Unit {0})
+is_comma t = if is_symbol (codes ",") t then Some tt else None
+
+-- any number of them, each behind a comma
+abbrev pub AreFurther : {A : Type 0} → Rule A → Rule (List A)
+AreFurther Item xs ts rest = Series IsNothing (IsOperator is_comma) Item appended xs ts rest
+
+-- NOT or nothing
+pub data IsOptionalNot : Bool → List Lexeme → List Lexeme → Type 0 where
+  not_absent : (rest : List Lexeme) → IsOptionalNot false rest rest
+  not_there : (t : Lexeme) (rest : List Lexeme) → IsTrue (is_word (codes "NOT") t) → IsOptionalNot true (t ∷ rest) rest
+
+-- ---- dates (5.3 "date literal" and "interval literal", 6.14)
+
+-- the brackets behind DAY, or nothing; they have no effect
+pub data IsPrecision : List Lexeme → List Lexeme → Type 0 where
+  no_precision : (rest : List Lexeme) → IsPrecision rest rest
+  precision : (opening n closing : Lexeme) (rest : List Lexeme) → IsTrue (is_symbol (codes "(") opening) → IsTrue (is_integer n) → IsTrue (is_symbol (codes ")") closing) → IsPrecision (opening ∷ n ∷ closing ∷ rest) rest
+
+-- a sign and INTERVAL
+pub data IsIntervalSign : Sign → List Lexeme → List Lexeme → Type 0 where
+  interval_sign : (s : Sign) (t word : Lexeme) (rest : List Lexeme) → sign_of t ≡ Some s → IsTrue (is_word (codes "INTERVAL") word) → IsIntervalSign s (t ∷ word ∷ rest) rest
+
+-- a string of days, and DAY with a precision or none
+pub data IsDays : List ℕ → List Lexeme → List Lexeme → Type 0 where
+  days : (t day : Lexeme) (ts rest : List Lexeme) → IsTrue (is_string t) → IsTrue (is_word (codes "DAY") day) → IsPrecision ts rest → IsDays t.octets (t ∷ day ∷ ts) rest
+
+-- a date by its string, and its intervals
+pub record Dated : Type 0 where
+  pub string : List ℕ
+  pub intervals : List Days
+
+-- the date with one more interval
+abbrev pub moved : Sign → Dated → List ℕ → Dated
+moved s d octets = record { string = d.string; intervals = d.intervals ++ record { sign = s; string = octets } ∷ [] }
+
+-- DATE and a string
+pub data IsDateString : Dated → List Lexeme → List Lexeme → Type 0 where
+  date_string : (word t : Lexeme) (rest : List Lexeme) → IsTrue (is_word (codes "DATE") word) → IsTrue (is_string t) → IsDateString (record { string = t.octets; intervals = [] }) (word ∷ t ∷ rest) rest
+
+abbrev pub IsDate : Rule Dated
+IsDate d ts rest = Series IsDateString IsIntervalSign IsDays moved d ts rest
+
+-- ---- expressions, over what stands in brackets and in CASE
+
+-- the arguments of a list
+abbrev pub arguments : Expression → List Expression → Expressions
+arguments e [] = last e
+arguments e (f ∷ es) = further e (arguments f es)
+
+-- an expression, of the clauses
+abbrev pub IsExpressionOf : Rule Clause → Rule Expression
+IsExpressionOf Inner e ts rest = Inner (expression e) ts rest
+
+-- a result (6.9): an expression or NULL
+pub data IsResult (Inner : Clause → List Lexeme → List Lexeme → Type 0) : Expression → List Lexeme → List Lexeme → Type 0 where
+  null_result : (t : Lexeme) (rest : List Lexeme) → IsTrue (is_word (codes "NULL") t) → IsResult Inner null (t ∷ rest) rest
+  result : (e : Expression) (ts rest : List Lexeme) → Inner (expression e) ts rest → IsResult Inner e ts rest
+
+-- what WHEN and THEN say
+pub record Branch : Type 0 where
+  pub test : Clause
+  pub result : Expression
+
+abbrev pub is_condition : Clause → Bool
+is_condition (condition c) = true
+is_condition (expression e) = false
+
+-- what stands behind WHEN: a condition where the CASE is searched, else an expression; THEN and a result
+pub data IsBranch (Inner : Clause → List Lexeme → List Lexeme → Type 0) (searched : Bool) : Branch → List Lexeme → List Lexeme → Type 0 where
+  branch : (c : Clause) (e : Expression) (word : Lexeme) (ts us rest : List Lexeme) → Inner c ts (word ∷ us) → is_condition c ≡ searched → IsTrue (is_word (codes "THEN") word) → IsResult Inner e us rest → IsBranch Inner searched (record { test = c; result = e }) ts rest
+
+abbrev pub is_when : Lexeme → Option (Unit {0})
+is_when t = if is_word (codes "WHEN") t then Some tt else None
+
+-- any number of branches, each behind WHEN
+abbrev pub AreBranches : Rule Clause → Bool → Rule (List Branch)
+AreBranches Inner searched bs ts rest = Series IsNothing (IsOperator is_when) (IsBranch Inner searched) appended bs ts rest
+
+-- ELSE and a result, or nothing, which is ELSE NULL (6.9); and END
+pub data IsElse (Inner : Clause → List Lexeme → List Lexeme → Type 0) : Expression → List Lexeme → List Lexeme → Type 0 where
+  no_else : (end : Lexeme) (rest : List Lexeme) → IsTrue (is_word (codes "END") end) → IsElse Inner null (end ∷ rest) rest
+  else_result : (e : Expression) (word end : Lexeme) (ts rest : List Lexeme) → IsTrue (is_word (codes "ELSE") word) → IsResult Inner e ts (end ∷ rest) → IsTrue (is_word (codes "END") end) → IsElse Inner e (word ∷ ts) rest
+
+-- the branches of a CASE in order
+abbrev pub branching : List Branch → Expression → Branching
+branching [] other = otherwise other
+branching (b ∷ bs) other = when b.test b.result (branching bs other)
+
+-- a primary: a literal (5.3), a column reference (6.4), brackets, a case expression (6.9), EXTRACT (6.6)
+pub data IsPrimary (Inner : Clause → List Lexeme → List Lexeme → Type 0) : Expression → List Lexeme → List Lexeme → Type 0 where
+  a_number : (t : Lexeme) (rest : List Lexeme) → IsTrue (is_number t) → IsPrimary Inner (number t.octets) (t ∷ rest) rest
+  a_string : (t : Lexeme) (rest : List Lexeme) → IsTrue (is_string t) → IsPrimary Inner (text t.octets) (t ∷ rest) rest
+  a_date : (d : Dated) (ts rest : List Lexeme) → IsDate d ts rest → IsPrimary Inner (date d.string d.intervals) ts rest
+  a_column : (t : Lexeme) (rest : List Lexeme) → IsTrue (is_name t) → IsPrimary Inner (column None t.octets) (t ∷ rest) rest
+  a_qualified_column : (q point t : Lexeme) (rest : List Lexeme) → IsTrue (is_name q) → IsTrue (is_symbol (codes ".") point) → IsTrue (is_name t) → IsPrimary Inner (column (Some q.octets) t.octets) (q ∷ point ∷ t ∷ rest) rest
+  brackets : (e : Expression) (opening closing : Lexeme) (ts rest : List Lexeme) → IsTrue (is_symbol (codes "(") opening) → Inner (expression e) ts (closing ∷ rest) → IsTrue (is_symbol (codes ")") closing) → IsPrimary Inner e (opening ∷ ts) rest
+  a_searched_case : (b : Branch) (bs : List Branch) (other : Expression) (word : Lexeme) (ts us rest : List Lexeme) → IsTrue (is_word (codes "CASE") word)
+      → AreBranches Inner true (b ∷ bs) ts us → IsElse Inner other us rest → IsPrimary Inner (searched_case (branching (b ∷ bs) other)) (word ∷ ts) rest
+  a_simple_case : (x : Expression) (b : Branch) (bs : List Branch) (other : Expression) (word : Lexeme) (ts us vs rest : List Lexeme) → IsTrue (is_word (codes "CASE") word)
+      → Inner (expression x) ts us → AreBranches Inner false (b ∷ bs) us vs → IsElse Inner other vs rest → IsPrimary Inner (simple_case x (branching (b ∷ bs) other)) (word ∷ ts) rest
+  a_coalesce : (e f : Expression) (es : List Expression) (word opening closing : Lexeme) (ts us rest : List Lexeme) → IsTrue (is_word (codes "COALESCE") word) → IsTrue (is_symbol (codes "(") opening)
+      → Inner (expression e) ts us → AreFurther (IsExpressionOf Inner) (f ∷ es) us (closing ∷ rest) → IsTrue (is_symbol (codes ")") closing) → IsPrimary Inner (coalesce (arguments e (f ∷ es))) (word ∷ opening ∷ ts) rest
+  a_null_if : (a b : Expression) (word opening comma closing : Lexeme) (ts us rest : List Lexeme) → IsTrue (is_word (codes "NULLIF") word) → IsTrue (is_symbol (codes "(") opening)
+      → Inner (expression a) ts (comma ∷ us) → IsTrue (is_symbol (codes ",") comma) → Inner (expression b) us (closing ∷ rest) → IsTrue (is_symbol (codes ")") closing) → IsPrimary Inner (null_if a b) (word ∷ opening ∷ ts) rest
+  an_extract : (field : Field) (e : Expression) (word opening name from closing : Lexeme) (ts rest : List Lexeme) → IsTrue (is_word (codes "EXTRACT") word) → IsTrue (is_symbol (codes "(") opening) → field_of name ≡ Some field
+      → IsTrue (is_word (codes "FROM") from) → Inner (expression e) ts (closing ∷ rest) → IsTrue (is_symbol (codes ")") closing) → IsPrimary Inner (extract field e) (word ∷ opening ∷ name ∷ from ∷ ts) rest
+
+-- a factor (6.12)
+pub data IsFactor (Inner : Clause → List Lexeme → List Lexeme → Type 0) : Expression → List Lexeme → List Lexeme → Type 0 where
+  unsigned_factor : (e : Expression) (ts rest : List Lexeme) → IsPrimary Inner e ts rest → IsFactor Inner e ts rest
+  signed_factor : (s : Sign) (e : Expression) (t : Lexeme) (ts rest : List Lexeme) → sign_of t ≡ Some s → IsPrimary Inner e ts rest → IsFactor Inner (signed s e) (t ∷ ts) rest
+
+-- a term (6.12): factors, with `*` and `/` between them
+abbrev pub IsTerm : Rule Clause → Rule Expression
+IsTerm Inner e ts rest = Series (IsFactor Inner) (IsOperator multiplication_of) (IsFactor Inner) arithmetic e ts rest
+
+-- an expression (6.11, 6.12): terms, with `+` and `-` between them
+abbrev pub IsValueExpression : Rule Clause → Rule Expression
+IsValueExpression Inner e ts rest = Series (IsTerm Inner) (IsOperator addition_of) (IsTerm Inner) arithmetic e ts rest
+
+-- ---- conditions
+
+-- a predicate (8.2, 8.3, 8.4, 8.6)
+pub data IsPredicate (Inner : Clause → List Lexeme → List Lexeme → Type 0) : Condition → List Lexeme → List Lexeme → Type 0 where
+  a_comparison : (a b : Expression) (op : Comparison) (t : Lexeme) (ts us rest : List Lexeme) → IsValueExpression Inner a ts (t ∷ us) → comparison_of t ≡ Some op → IsValueExpression Inner b us rest → IsPredicate Inner (comparison op a b) ts rest
+  a_between : (x a b : Expression) (negated : Bool) (word conjunction : Lexeme) (ts us vs ws rest : List Lexeme) → IsValueExpression Inner x ts us → IsOptionalNot negated us (word ∷ vs) → IsTrue (is_word (codes "BETWEEN") word)
+      → IsValueExpression Inner a vs (conjunction ∷ ws) → IsTrue (is_word (codes "AND") conjunction) → IsValueExpression Inner b ws rest → IsPredicate Inner (between negated x a b) ts rest
+  an_in : (x e : Expression) (es : List Expression) (negated : Bool) (word opening closing : Lexeme) (ts us vs ws rest : List Lexeme) → IsValueExpression Inner x ts us → IsOptionalNot negated us (word ∷ opening ∷ vs) → IsTrue (is_word (codes "IN") word)
+      → IsTrue (is_symbol (codes "(") opening) → Inner (expression e) vs ws → AreFurther (IsExpressionOf Inner) es ws (closing ∷ rest) → IsTrue (is_symbol (codes ")") closing) → IsPredicate Inner (among negated x (arguments e es)) ts rest
+  a_null_test : (x : Expression) (negated : Bool) (word null_word : Lexeme) (ts us rest : List Lexeme) → IsValueExpression Inner x ts (word ∷ us) → IsTrue (is_word (codes "IS") word) → IsOptionalNot negated us (null_word ∷ rest)
+      → IsTrue (is_word (codes "NULL") null_word) → IsPredicate Inner (is_null negated x) ts rest
+
+-- a boolean primary (8.12): a predicate, or a condition in brackets
+pub data IsBooleanPrimary (Inner : Clause → List Lexeme → List Lexeme → Type 0) : Condition → List Lexeme → List Lexeme → Type 0 where
+  predicate : (c : Condition) (ts rest : List Lexeme) → IsPredicate Inner c ts rest → IsBooleanPrimary Inner c ts rest
+  condition_brackets : (c : Condition) (opening closing : Lexeme) (ts rest : List Lexeme) → IsTrue (is_symbol (codes "(") opening) → Inner (condition c) ts (closing ∷ rest) → IsTrue (is_symbol (codes ")") closing) → IsBooleanPrimary Inner c (opening ∷ ts) rest
+
+-- a boolean test (8.12)
+pub data IsBooleanTest (Inner : Clause → List Lexeme → List Lexeme → Type 0) : Condition → List Lexeme → List Lexeme → Type 0 where
+  no_test : (c : Condition) (ts rest : List Lexeme) → IsBooleanPrimary Inner c ts rest → IsBooleanTest Inner c ts rest
+  a_test : (c : Condition) (negated : Bool) (truth : Truth) (word t : Lexeme) (ts us rest : List Lexeme) → IsBooleanPrimary Inner c ts (word ∷ us) → IsTrue (is_word (codes "IS") word) → IsOptionalNot negated us (t ∷ rest) → truth_of t ≡ Some truth
+      → IsBooleanTest Inner (is negated c truth) ts rest
+
+-- a boolean factor (8.12)
+pub data IsBooleanFactor (Inner : Clause → List Lexeme → List Lexeme → Type 0) : Condition → List Lexeme → List Lexeme → Type 0 where
+  no_negation : (c : Condition) (ts rest : List Lexeme) → IsBooleanTest Inner c ts rest → IsBooleanFactor Inner c ts rest
+  a_negation : (c : Condition) (word : Lexeme) (ts rest : List Lexeme) → IsTrue (is_word (codes "NOT") word) → IsBooleanTest Inner c ts rest → IsBooleanFactor Inner (negation_of c) (word ∷ ts) rest
+
+abbrev pub is_and : Lexeme → Option (Unit {0})
+is_and t = if is_word (codes "AND") t then Some tt else None
+
+abbrev pub is_or : Lexeme → Option (Unit {0})
+is_or t = if is_word (codes "OR") t then Some tt else None
+
+-- a boolean term (8.12): boolean factors, with AND between them
+abbrev pub IsBooleanTerm : Rule Clause → Rule Condition
+IsBooleanTerm Inner c ts rest = Series (IsBooleanFactor Inner) (IsOperator is_and) (IsBooleanFactor Inner) (λ _ a b. both a b) c ts rest
+
+-- a search condition (8.12): boolean terms, with OR between them
+abbrev pub IsSearchCondition : Rule Clause → Rule Condition
+IsSearchCondition Inner c ts rest = Series (IsBooleanTerm Inner) (IsOperator is_or) (IsBooleanTerm Inner) (λ _ a b. either a b) c ts rest
+
+-- a condition or an expression, over what stands in brackets and in CASE
+abbrev pub IsClause : Rule Clause → Rule Clause
+IsClause Inner (condition c) ts rest = IsSearchCondition Inner c ts rest
+IsClause Inner (expression e) ts rest = IsValueExpression Inner e ts rest
+
+-- a condition or an expression in which fewer than so many brackets and CASEs are open at any token
+abbrev pub IsNested : ℕ → Rule Clause
+IsNested zero c ts rest = ⊥
+IsNested (suc n) c ts rest = IsClause (IsNested n) c ts rest
+
+-- ---- queries
+
+-- a name behind AS or alone, or nothing
+pub data IsNaming : Option (List ℕ) → List Lexeme → List Lexeme → Type 0 where
+  unnamed : (rest : List Lexeme) → IsNaming None rest rest
+  named : (t : Lexeme) (rest : List Lexeme) → IsTrue (is_name t) → IsNaming (Some t.octets) (t ∷ rest) rest
+  named_as : (word t : Lexeme) (rest : List Lexeme) → IsTrue (is_word (codes "AS") word) → IsTrue (is_name t) → IsNaming (Some t.octets) (word ∷ t ∷ rest) rest
+
+-- a derived column (7.9)
+pub data IsItem (Inner : Clause → List Lexeme → List Lexeme → Type 0) : SelectItem → List Lexeme → List Lexeme → Type 0 where
+  item : (e : Expression) (name : Option (List ℕ)) (ts us rest : List Lexeme) → Inner (expression e) ts us → IsNaming name us rest → IsItem Inner (record { value = e; name = name }) ts rest
+
+-- a select list (7.9)
+pub data IsSelectList (Inner : Clause → List Lexeme → List Lexeme → Type 0) : Selected → List Lexeme → List Lexeme → Type 0 where
+  asterisk : (t : Lexeme) (rest : List Lexeme) → IsTrue (is_symbol (codes "*") t) → IsSelectList Inner all_columns (t ∷ rest) rest
+  some_items : (i : SelectItem) (is : List SelectItem) (ts us rest : List Lexeme) → IsItem Inner i ts us → AreFurther (IsItem Inner) is us rest → IsSelectList Inner (items (i ∷ is)) ts rest
+
+-- ALL or nothing (7.9)
+pub data IsOptionalAll : List Lexeme → List Lexeme → Type 0 where
+  all_absent : (rest : List Lexeme) → IsOptionalAll rest rest
+  all_there : (t : Lexeme) (rest : List Lexeme) → IsTrue (is_word (codes "ALL") t) → IsOptionalAll (t ∷ rest) rest
+
+-- a where clause or nothing (7.6)
+pub data IsFilter (Inner : Clause → List Lexeme → List Lexeme → Type 0) : Option Condition → List Lexeme → List Lexeme → Type 0 where
+  unfiltered : (rest : List Lexeme) → IsFilter Inner None rest rest
+  filtered : (c : Condition) (word : Lexeme) (ts rest : List Lexeme) → IsTrue (is_word (codes "WHERE") word) → Inner (condition c) ts rest → IsFilter Inner (Some c) (word ∷ ts) rest
+
+-- a query specification over one table (7.9, 7.3, 7.4)
+pub data IsSelect (Inner : Clause → List Lexeme → List Lexeme → Type 0) : Select → List Lexeme → List Lexeme → Type 0 where
+  a_select : (selected : Selected) (alias : Option (List ℕ)) (filter : Option Condition) (word from table : Lexeme) (ts us vs ws rest : List Lexeme) → IsTrue (is_word (codes "SELECT") word) → IsOptionalAll ts us
+      → IsSelectList Inner selected us (from ∷ table ∷ vs) → IsTrue (is_word (codes "FROM") from) → IsTrue (is_regular table) → IsNaming alias vs ws → IsFilter Inner filter ws rest
+      → IsSelect Inner (record { selected = selected; table = table.octets; alias = alias; filter = filter }) (word ∷ ts) rest
+
+-- The tokens are this query. A statement with more than 32 brackets and CASEs open is refused before, and so none is a query here.
+abbrev pub IsSelectOf : List Lexeme → Select → Type 0
+IsSelectOf tokens s = IsSelect (IsNested 33) s tokens []

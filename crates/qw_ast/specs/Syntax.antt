@@ -1,0 +1,77 @@
+-- What a script says, apart from any tree of the code: no addresses. Names and literals are octets as they stand in the text.
+use Rattle.std.specs.Prelude.{ℕ, Bool, List, Option}
+use Rattle.qw_types.specs.declared.truth.Truth.{Truth}
+use Rattle.qw_meaning.specs.declared.expression.Operator.{Operator}
+use Rattle.qw_meaning.specs.declared.expression.Field.{Field}
+use Rattle.qw_meaning.specs.declared.query.Comparison.{Comparison}
+use Rattle.qw_ast.specs.declared.script.Sign.{Sign}
+
+-- a sign and the string of an interval of days (ISO/IEC 9075:1992, 5.3)
+pub record Days : Type 0 where
+  pub sign : Sign
+  pub string : List ℕ
+
+mutual
+  -- an expression (6.11)
+  pub data Expression : Type 0 where
+    -- the word NULL as a result of a CASE, or the result of an ELSE that isn't there (6.9)
+    null : Expression
+    -- an unsigned number
+    number : List ℕ → Expression
+    -- a character string
+    text : List ℕ → Expression
+    -- a date by its string, and the intervals added to it and taken from it
+    date : List ℕ → List Days → Expression
+    -- a column by its name, behind a qualifier or not (6.4)
+    column : Option (List ℕ) → List ℕ → Expression
+    signed : Sign → Expression → Expression
+    arithmetic : Operator → Expression → Expression → Expression
+    extract : Field → Expression → Expression
+    -- CASE, in front of its branches an operand or none (6.9)
+    searched_case : Branching → Expression
+    simple_case : Expression → Branching → Expression
+    coalesce : Expressions → Expression
+    null_if : Expression → Expression → Expression
+
+  -- a condition (8.12); a truth value tells whether NOT stands in the predicate
+  pub data Condition : Type 0 where
+    comparison : Comparison → Expression → Expression → Condition
+    between : Bool → Expression → Expression → Expression → Condition
+    among : Bool → Expression → Expressions → Condition
+    is_null : Bool → Expression → Condition
+    both : Condition → Condition → Condition
+    either : Condition → Condition → Condition
+    negation_of : Condition → Condition
+    is : Bool → Condition → Truth → Condition
+
+  -- one of the two
+  pub data Clause : Type 0 where
+    condition : Condition → Clause
+    expression : Expression → Clause
+
+  -- one expression or more
+  pub data Expressions : Type 0 where
+    last : Expression → Expressions
+    further : Expression → Expressions → Expressions
+
+  -- the branches of a CASE: WHEN .. THEN .., and at last what ELSE gives
+  pub data Branching : Type 0 where
+    otherwise : Expression → Branching
+    when : Clause → Expression → Branching → Branching
+
+-- an item of a select list: an expression, and the name that it is given if any (7.9)
+pub record SelectItem : Type 0 where
+  pub value : Expression
+  pub name : Option (List ℕ)
+
+-- a select list (7.9)
+pub data Selected : Type 0 where
+  all_columns : Selected
+  items : List SelectItem → Selected
+
+-- SELECT .. FROM .. WHERE .. (7.9, 7.4, 7.6)
+pub record Select : Type 0 where
+  pub selected : Selected
+  pub table : List ℕ
+  pub alias : Option (List ℕ)
+  pub filter : Option Condition

@@ -1,0 +1,78 @@
+-- What a tree of the code says. A tree is held together by addresses, here `_`, which mean nothing.
+use Rattle.std.specs.Prelude.{ℕ, List, Option, map, option_map}
+use Rattle.std.specs.Borrow.{Bor}
+use Rattle.qw_ast.specs.declared.script.Interval.{Interval}
+use Rattle.qw_ast.specs.declared.script.Expr.{Expr}
+use Rattle.qw_ast.specs.declared.script.Cond.{Cond}
+use Rattle.qw_ast.specs.declared.script.Phrase.{Phrase}
+use Rattle.qw_ast.specs.declared.script.Exprs.{Exprs}
+use Rattle.qw_ast.specs.declared.script.Branches.{Branches}
+use Rattle.qw_ast.specs.declared.script.Item.{Item}
+use Rattle.qw_ast.specs.declared.script.SelectList.{SelectList}
+use Rattle.qw_ast.specs.declared.script.SelectList.TheVariants.{All, Items}
+use Rattle.qw_ast.specs.declared.script.Statement.{Statement}
+use Rattle.qw_ast.specs.declared.script.Script.{Script}
+use Rattle.qw_ast.specs.declared.script.Expr.TheVariants.{Null, Number, Text, Date, Column, Signed', Arithmetic', Extract', Case', Match', Coalesce', NullIf'}
+use Rattle.qw_ast.specs.declared.script.Cond.TheVariants.{Compare', Between', In', IsNull', And', Or', Not', Is'}
+use Rattle.qw_ast.specs.declared.script.Phrase.TheVariants as Phrase
+use Rattle.qw_ast.specs.declared.script.Exprs.TheVariants as Exprs
+use Rattle.qw_ast.specs.declared.script.Branches.TheVariants as Branches
+use Rattle.qw_ast.specs.Syntax.{Days, Expression, null, number, text, date, column, signed, arithmetic, extract, searched_case, simple_case, coalesce, null_if, Condition, comparison, between, among, is_null, both, either, negation_of, is, Clause, condition, expression, Expressions, last, further, Branching, otherwise, when, SelectItem, Selected, all_columns, items, Select}
+
+-- octets that may be there
+abbrev pub octets_of : Option (Bor (List ℕ)) → Option (List ℕ)
+octets_of name = option_map (λ x. x.now) name
+
+abbrev pub days_of : Interval → Days
+days_of i = record { sign = i.sign; string = i.days.now }
+
+abbrev mutual
+  pub expression_of : Expr → Expression
+  expression_of Null = null
+  expression_of (Number n) = number n.now
+  expression_of (Text t) = text t.now
+  expression_of (Date d intervals) = date d.now (map days_of intervals.items)
+  expression_of (Column qualifier name) = column (octets_of qualifier) name.now
+  expression_of (Signed' sign _ a) = signed sign (expression_of a)
+  expression_of (Arithmetic' operator _ a _ b) = arithmetic operator (expression_of a) (expression_of b)
+  expression_of (Extract' field _ a) = extract field (expression_of a)
+  expression_of (Case' _ branches) = searched_case (branching_of branches)
+  expression_of (Match' _ x _ branches) = simple_case (expression_of x) (branching_of branches)
+  expression_of (Coalesce' _ arguments) = coalesce (expressions_of arguments)
+  expression_of (NullIf' _ a _ b) = null_if (expression_of a) (expression_of b)
+
+  pub condition_of : Cond → Condition
+  condition_of (Compare' op _ a _ b) = comparison op (expression_of a) (expression_of b)
+  condition_of (Between' negated _ x _ a _ b) = between negated (expression_of x) (expression_of a) (expression_of b)
+  condition_of (In' negated _ x _ values) = among negated (expression_of x) (expressions_of values)
+  condition_of (IsNull' negated _ a) = is_null negated (expression_of a)
+  condition_of (And' _ c _ d) = both (condition_of c) (condition_of d)
+  condition_of (Or' _ c _ d) = either (condition_of c) (condition_of d)
+  condition_of (Not' _ c) = negation_of (condition_of c)
+  condition_of (Is' negated _ c t) = is negated (condition_of c) t
+
+  pub clause_of : Phrase → Clause
+  clause_of (Phrase.Condition c) = condition (condition_of c)
+  clause_of (Phrase.Expression e) = expression (expression_of e)
+
+  pub expressions_of : Exprs → Expressions
+  expressions_of (Exprs.Last' _ e) = last (expression_of e)
+  expressions_of (Exprs.More' _ e _ es) = further (expression_of e) (expressions_of es)
+
+  pub branching_of : Branches → Branching
+  branching_of (Branches.Else' _ e) = otherwise (expression_of e)
+  branching_of (Branches.When' _ p _ e _ rest) = when (clause_of p) (expression_of e) (branching_of rest)
+
+abbrev pub item_of : Item → SelectItem
+item_of i = record { value = expression_of i.expression; name = octets_of i.name }
+
+abbrev pub selected_of : SelectList → Selected
+selected_of All = all_columns
+selected_of (Items items') = items (map item_of items'.items)
+
+abbrev pub select_of : Statement → Select
+select_of s = record { selected = selected_of s.list; table = s.table.now; alias = octets_of s.alias; filter = option_map condition_of s.condition }
+
+-- the statements in order
+abbrev pub selects_of : Script → List Select
+selects_of s = map select_of s.statements.items

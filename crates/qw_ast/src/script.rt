@@ -1,0 +1,128 @@
+//! The trees of a script. Names and literals are slices of the text, as they stand there.
+
+use qw_meaning::expression::{Field, Operator};
+use qw_meaning::query::Comparison;
+use qw_types::Truth;
+
+/// A sign before a factor or an interval (ISO/IEC 9075:1992, 6.11, 6.14).
+#[derive(Clone, Copy, Debug, PartialEq, Eq)]
+pub enum Sign {
+    Plus,
+    Minus,
+}
+
+/// `sign INTERVAL 'days' DAY` (5.3 "interval literal"), the string with its quotes.
+#[derive(Clone, Copy, Debug)]
+pub struct Interval<'a> {
+    pub sign: Sign,
+    pub days: &'a [u8],
+}
+
+/// An expression (6.11 "value expression").
+#[cycle(script)]
+#[derive(Debug, Drop)]
+pub enum Expr<'a> {
+    /// The word NULL, which stands only as a result of a CASE; also the result of an ELSE that isn't there (6.9).
+    Null,
+    /// An unsigned number.
+    Number(&'a [u8]),
+    /// A character string, with its quotes.
+    Text(&'a [u8]),
+    /// `DATE 'date' intervals`, the string with its quotes.
+    Date(&'a [u8], Vec<Interval<'a>>),
+    /// `[qualifier.]name` (6.4).
+    Column(Option<&'a [u8]>, &'a [u8]),
+    /// `sign operand`.
+    Signed(Sign, Box<Expr<'a>>),
+    /// `left operator right`.
+    Arithmetic(Operator, Box<Expr<'a>>, Box<Expr<'a>>),
+    /// `EXTRACT(field FROM date)` (6.6).
+    Extract(Field, Box<Expr<'a>>),
+    /// `CASE branches END` (6.9 "searched case"); each WHEN has a condition.
+    Case(Box<Branches<'a>>),
+    /// `CASE operand branches END` (6.9 "simple case"); each WHEN has an expression.
+    Match(Box<Expr<'a>>, Box<Branches<'a>>),
+    /// `COALESCE(arguments)`, of two arguments or more (6.9).
+    Coalesce(Box<Exprs<'a>>),
+    /// `NULLIF(left, right)` (6.9).
+    NullIf(Box<Expr<'a>>, Box<Expr<'a>>),
+}
+
+/// A condition (8.12 "search condition", with its predicates). A `bool` tells whether NOT stands in the predicate.
+#[cycle(script)]
+#[derive(Debug, Drop)]
+pub enum Cond<'a> {
+    /// `left comparison right` (8.2).
+    Compare(Comparison, Box<Expr<'a>>, Box<Expr<'a>>),
+    /// `operand [NOT] BETWEEN least AND greatest` (8.3).
+    Between(bool, Box<Expr<'a>>, Box<Expr<'a>>, Box<Expr<'a>>),
+    /// `operand [NOT] IN (values)` (8.4).
+    In(bool, Box<Expr<'a>>, Box<Exprs<'a>>),
+    /// `operand IS [NOT] NULL` (8.6).
+    IsNull(bool, Box<Expr<'a>>),
+    /// `left AND right`.
+    And(Box<Cond<'a>>, Box<Cond<'a>>),
+    /// `left OR right`.
+    Or(Box<Cond<'a>>, Box<Cond<'a>>),
+    /// `NOT operand`.
+    Not(Box<Cond<'a>>),
+    /// `operand IS [NOT] truth`.
+    Is(bool, Box<Cond<'a>>, Truth),
+}
+
+/// A condition or an expression.
+#[cycle(script)]
+#[derive(Debug, Drop)]
+pub enum Phrase<'a> {
+    Condition(Cond<'a>),
+    Expression(Expr<'a>),
+}
+
+/// One or more expressions in order.
+#[cycle(script)]
+#[derive(Debug, Drop)]
+pub enum Exprs<'a> {
+    Last(Box<Expr<'a>>),
+    More(Box<Expr<'a>>, Box<Exprs<'a>>),
+}
+
+/// The branches of a CASE.
+#[cycle(script)]
+#[derive(Debug, Drop)]
+pub enum Branches<'a> {
+    /// `ELSE result`, with NULL where there is no ELSE.
+    Else(Box<Expr<'a>>),
+    /// `WHEN phrase THEN result` and the branches after it.
+    When(Box<Phrase<'a>>, Box<Expr<'a>>, Box<Branches<'a>>),
+}
+
+/// An item of a select list: `expression [[AS] name]` (7.9 "derived column").
+#[derive(Debug, Drop)]
+pub struct Item<'a> {
+    pub expression: Expr<'a>,
+    pub name: Option<&'a [u8]>,
+}
+
+/// A select list (7.9).
+#[derive(Debug, Drop)]
+pub enum SelectList<'a> {
+    /// `*`.
+    All,
+    /// One item or more.
+    Items(Vec<Item<'a>>),
+}
+
+/// `SELECT list FROM table [[AS] alias] [WHERE condition]` (7.9, 7.4, 7.6).
+#[derive(Debug, Drop)]
+pub struct Statement<'a> {
+    pub list: SelectList<'a>,
+    pub table: &'a [u8],
+    pub alias: Option<&'a [u8]>,
+    pub condition: Option<Cond<'a>>,
+}
+
+/// The statements of a text, in order.
+#[derive(Debug, Drop)]
+pub struct Script<'a> {
+    pub statements: Vec<Statement<'a>>,
+}

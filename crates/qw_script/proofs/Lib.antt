@@ -1,0 +1,7 @@
+mod ConditionLemmas
+mod ExactLemmas
+mod LoopLemmas
+mod PrimaryLemmas
+mod RankLemmas
+mod SumLemmas
+mod TokenLemmas

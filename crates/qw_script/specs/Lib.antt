@@ -1,0 +1,3 @@
+pub use Rattle.qw_ast.specs.ScriptGrammar
+pub use Rattle.qw_ast.specs.SyntaxTree
+pub mod Inner

@@ -1,0 +1,4 @@
+//! The script that a text says.
+#![tactic(auto)]
+
+pub mod script;

@@ -1,0 +1,5 @@
+//! The script that a text says.
+
+mod make;
+mod read;
+mod word;

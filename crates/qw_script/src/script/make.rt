@@ -1,0 +1,1 @@
+//! Trees of what was read.
