@@ -1,1 +1,2 @@
-pub mod ColumnLemmas
+mod PlaceLemmas
+mod RoomLemmas

@@ -1,84 +1,76 @@
 //! The columns in the linear memory.
 
-ghost use Rattle.std.specs.Prelude.{◌≡◌, ◌≤◌, ◌<◌, ◌+◌, ◌*◌, length, map, All, IfOk};
-ghost use Rattle.qw_csv.specs.Contents.{AreIntegerKinds};
-ghost use Rattle.qw_linear.specs.Memory.{AreOctets, page, SameBelow};
-ghost use Rattle.qw_map.specs.Columns.{Holds, HoldsColumn, column_pages, column_start, integer_size};
+ghost use Rattle.std.specs.Prelude.{◌≡◌, ◌≤◌, ◌<◌, ◌*◌, ◌^◌, ◌↔◌, ℕ, Err, length, map, IfErr, IfOk};
+ghost use Rattle.std.specs.List.{AllByRecursion};
+ghost use Rattle.qw_types.specs.Contents.{AreLoaded, Contents};
+ghost use Rattle.qw_types.specs.Limits.{most_tables};
+ghost use Rattle.qw_linear.specs.Memory.{AreOctets, page};
+ghost use Rattle.qw_map.specs.Columns.{Holds, column_pages, map_of, tables_end, columns_start};
+ghost use Rattle.qw_columns.specs.Inner.Writing.{KeepsBelow};
+ghost use Rattle.qw_columns.specs.declared.columns.PlaceFault.TheVariants.{TooManyPages};
 
+use crate::column_map::{ColumnMap, map_of};
+use crate::room::pages_needed;
+use crate::writing::write_table;
 use qw_csv::Loaded;
-use qw_linear::linear::{Linear, PAGE};
-use qw_map::layout::{COLUMN_ALIGNMENT, COLUMNS_START, INTEGER_SIZE};
+use qw_linear::linear::Linear;
 use qw_types::NoMemory;
-use qw_types::schema::{MAX_COLUMNS, MAX_ROWS};
 use std::alloc::Global;
+use thiserror::Error;
 
-/// The pages of the columns of the widest and longest table.
-pub const MAX_COLUMN_PAGES: u32 = 3_907;
-
-/// The address of the values of a column, counted from 0, of a table of so many rows. At the number
-/// of the columns: where they end.
-pub fn column_start(rows: usize, column: usize) -> u32
-    requires rows { rows ≤ MAX_ROWS }
-    requires column { column ≤ MAX_COLUMNS }
-    ensures { result ≡ column_start rows column }
-{
-    let size = (INTEGER_SIZE * rows).div_ceil(COLUMN_ALIGNMENT) * COLUMN_ALIGNMENT;
-    (COLUMNS_START + column * size) as u32
+/// Why columns aren't placed.
+#[derive(Clone, Copy, Debug, PartialEq, Eq, Error)]
+pub enum PlaceFault {
+    /// The columns take more pages than the memory may grow to: so many.
+    #[error("{need} pages needed")]
+    TooManyPages { need: u64 },
+    #[error("want of memory")]
+    NoMemory,
 }
 
-/// The addresses of the values of several columns, each counted from 0, of a table of so many rows.
-pub fn column_starts(alloc: Global, rows: usize, columns: &[usize]) -> Result<Vec<u32>, NoMemory>
-    requires rows { rows ≤ MAX_ROWS }
-    requires columns { All (λ column. column < MAX_COLUMNS) columns.now }
-    ensures { IfOk result (λ starts. starts.items ≡ map (column_start rows) columns.now) }
-{
-    let mut starts = Vec::with_capacity(alloc, columns.len())?;
-    for column in columns {
-        starts.push(column_start(rows, *column))?;
+impl From<NoMemory> for PlaceFault {
+    fn from(_e: NoMemory) -> PlaceFault {
+        PlaceFault::NoMemory
     }
-    Ok(starts)
 }
 
-/// How many pages the columns of a loaded table take. Nothing else stands on the last one.
-pub fn pages_needed(loaded: &Loaded) -> u32
-    ensures pages { result ≡ column_pages (length loaded.now.columns) (length loaded.now.rows) }
-    ensures limit { result ≤ MAX_COLUMN_PAGES }
-{
-    let end = column_start(loaded.len(), loaded.width());
-    end.div_ceil(PAGE as u32)
-}
-
-/// Grows an empty memory by the pages of the columns of a loaded table, which are INTEGER NOT NULL, and writes them.
-pub fn place(loaded: &Loaded, memory: &mut Linear)
-    requires integers { AreIntegerKinds loaded.now.columns }
+/// Grows an empty memory by the pages of the columns of loaded tables, and writes them. Answers where they stand.
+///
+/// # Errors
+///
+/// [`PlaceFault::TooManyPages`] where the memory may not grow to the pages of the columns. At any error the memory is as it was.
+pub fn place(alloc: Global, loaded: &[Loaded], memory: &mut Linear) -> Result<ColumnMap, PlaceFault>
+    requires tables { length loaded.now ≤ most_tables }
     requires empty { length memory.old.octets ≡ 0 }
-    requires room { column_pages (length loaded.now.columns) (length loaded.now.rows) ≤ memory.old.reserved }
-    ensures holds { Holds (length loaded.now.columns) memory.new.octets loaded.now.rows }
-    ensures octets { AreOctets memory.new.octets }
-    ensures len { length memory.new.octets ≡ column_pages (length loaded.now.columns) (length loaded.now.rows) * page }
-    ensures reserved { memory.new.reserved ≡ memory.old.reserved }
+    ensures loaded { AllByRecursion AreLoaded loaded.now }
+    ensures too_many { (need : ℕ) → (result ≡ Err (TooManyPages need)) ↔ ((need ≡ column_pages loaded.now) × (memory.old.reserved < need)) }
+    ensures unchanged { IfErr result (λ e. memory.new ≡ memory.old) }
+    ensures placed { IfOk result (λ m. m.placed ≡ map_of loaded.now) }
+    ensures columns { IfOk result (λ m. m.columns ≡ map (λ (table : Contents). table.columns) loaded.now) }
+    ensures holds { IfOk result (λ m. Holds (map_of loaded.now) memory.new.octets loaded.now) }
+    ensures octets { IfOk result (λ m. AreOctets memory.new.octets) }
+    ensures len { IfOk result (λ m. length memory.new.octets ≡ column_pages loaded.now * page) }
+    ensures reservation { IfOk result (λ m. memory.new.reserved ≡ memory.old.reserved) }
 {
-    memory.grow(pages_needed(loaded)).unwrap();
-    for column in 0..loaded.width() {
-        write_column(loaded, memory, column);
+    let need = pages_needed(loaded);
+    if u64::from(memory.reserved()) < need {
+        return Err(PlaceFault::TooManyPages { need });
     }
+    let map = map_of(alloc, loaded)?;
+    memory.grow(need as u32).unwrap();
+    write_tables(loaded, &map, memory);
+    Ok(map)
 }
 
-/// Writes one column, and changes nothing below it.
-fn write_column(loaded: &Loaded, memory: &mut Linear, column: usize)
-    requires integers { AreIntegerKinds loaded.now.columns }
-    requires column { column < length loaded.now.columns }
-    requires room { column_start (length loaded.now.rows) column + integer_size * length loaded.now.rows ≤ length memory.old.octets }
-    ensures holds { HoldsColumn memory.new.octets (column_start (length loaded.now.rows) column) column loaded.now.rows }
-    ensures below { SameBelow memory.old.octets memory.new.octets (column_start (length loaded.now.rows) column) }
-    ensures octets { AreOctets memory.old.octets → AreOctets memory.new.octets }
-    ensures len { length memory.new.octets ≡ length memory.old.octets }
-    ensures reserved { memory.new.reserved ≡ memory.old.reserved }
+/// Writes the columns of tables where the map says.
+fn write_tables(loaded: &[Loaded], map: &ColumnMap, memory: &mut Linear)
+    requires placed { map.now.placed ≡ map_of loaded.now }
+    requires room { tables_end columns_start loaded.now ≤ length memory.old.octets }
+    requires small { length memory.old.octets < 2 ^ 32 }
+    ensures holds { Holds (map_of loaded.now) memory.new.octets loaded.now }
+    ensures keeps { KeepsBelow memory.old memory.new columns_start }
 {
-    let start = column_start(loaded.len(), column) as usize;
-    for row in 0..loaded.len() {
-        let address = start + INTEGER_SIZE * row;
-        let number = loaded.value(row, column).cast_unsigned();
-        memory.store32(address as u64, u64::from(number)).unwrap();
+    for index in 0..loaded.len() {
+        write_table(&loaded[index], map.table(index), memory);
     }
 }

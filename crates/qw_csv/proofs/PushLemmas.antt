@@ -1,14 +1,16 @@
 -- A record's values, pushed column by column behind those of the rows before.
 use Rattle.std.proofs.Common.{◌≡◌, ◌≤◌, ◌<◌, ◌+◌, ◌∙◌, Bool, true, false, ℕ, zero, suc, List, [], ◌∷◌, ◌++◌, length, map, take, get_or, refl, sym, ap, add-one, arith, length-append, Some, subst}
 use Rattle.std.specs.Prelude.{slice_get, slice_index_or, slice_set, IsUtf8}
+use Rattle.std.specs.List.{AllByRecursion}
 use Rattle.std.specs.Str.{chars}
 use Rattle.qw_types.specs.declared.schema.Column.{Column}
+use Rattle.qw_types.specs.declared.schema.ColumnType.{ColumnType}
 use Rattle.qw_types.specs.declared.value.Val.{Val}
 use Rattle.qw_types.specs.declared.value.Val.TheVariants as val
 use Rattle.qw_types.specs.declared.value.Val.TheVariants.{Null}
 use Rattle.qw_types.specs.declared.value.Ty.{Ty}
 use Rattle.qw_types.specs.declared.value.Ty.TheVariants as ty
-use Rattle.qw_types.specs.Value.{IsOfTypeOrNull}
+use Rattle.qw_types.specs.Value.{IsOfTypeOrNull, IsSized}
 use Rattle.qw_types.specs.Contents.{column_type}
 use Rattle.qw_csv.specs.Field.{IsEmptyFieldOf, IsFieldFault, IsFieldOf, IsTypedFieldOf}
 use Rattle.qw_csv.specs.Loading.{IsFirstFieldFault, IsRecordOf}
@@ -153,6 +155,11 @@ pub types_more : (columns : List Column) (k : ℕ) (c : Column) → slice_get co
 types_more [] k c is = cc is
 types_more (d ∷ columns) zero c is = cc is
 types_more (d ∷ columns) (suc k) c is = cc (types_more columns k c is)
+
+-- the types of columns are of the columns' sizes
+pub sized_types : (columns : List Column) → AllByRecursion (λ (c : Column). IsSized c.ty) columns → AllByRecursion (λ (type : ColumnType). IsSized type.ty) (map column_type columns)
+sized_types [] sized = tt
+sized_types (c ∷ columns) sized = (sized.0, sized_types columns sized.1)
 
 -- ---- all columns
 

@@ -117,6 +117,7 @@ pub stored_loaded : (count : ℕ) (types : List ColumnType) (columns : List Valu
 stored_loaded count types columns h = record {
   some = h.some;
   narrow = h.narrow;
+  sized = h.sized;
   few = rw (length-rows_in count columns) h.few;
   typed = typed_rows count count types columns (omega arith) h.kept;
 }

@@ -61,7 +61,8 @@ impl Loaded {
 
     /// How many columns the table has.
     pub fn width(&self) -> usize
-        ensures { result ≡ length self.now.columns }
+        ensures columns { result ≡ length self.now.columns }
+        ensures limits { AreLoaded self.now }
     {
         self.columns.len()
     }

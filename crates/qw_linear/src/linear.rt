@@ -57,7 +57,8 @@ impl Linear {
 
     /// How many pages the memory may grow to.
     pub fn reserved(&self) -> u32
-        ensures { result ≡ self.now.reserved }
+        ensures reserved { result ≡ self.now.reserved }
+        ensures limit { result ≤ MAX_PAGES }
     {
         self.reserved
     }
@@ -162,6 +163,14 @@ impl Linear {
         }
         put_bytes(self.octets.as_mut_slice(), at, bytes);
         Some(())
+    }
+
+    /// So many octets from a place on, or `None` exactly where they don't all lie in the memory.
+    pub fn octets_at(&self, at: u64, size: u64) -> Option<&[u8]>
+        ensures inside { IsSome result ↔ (at + size ≤ length self.now.octets) }
+        ensures octets { IfSome result (λ octets. octets.now ≡ take size (drop at self.now.octets)) }
+    {
+        self.octets.get(at as usize..)?.get(..size as usize)
     }
 
     /// The octets from a place on, or `None` exactly where they don't all lie in the memory.

@@ -2,7 +2,7 @@
 use Rattle.std.specs.Prelude.{◌≤◌, List, length}
 use Rattle.std.specs.List.{AllByRecursion, AllZip}
 use Rattle.qw_types.specs.Limits.{most_columns, most_rows}
-use Rattle.qw_types.specs.Value.{IsOfTypeOrNull}
+use Rattle.qw_types.specs.Value.{IsOfTypeOrNull, IsSized}
 use Rattle.qw_types.specs.declared.schema.Column.{Column}
 use Rattle.qw_types.specs.declared.schema.ColumnType.{ColumnType}
 use Rattle.qw_types.specs.declared.value.Val.{Val}
@@ -24,6 +24,8 @@ IsOfColumnType column value = IsOfTypeOrNull column.ty column.not_null value
 pub record AreLoaded (contents : Contents) : Type 0 where
   pub some : 1 ≤ length contents.columns
   pub narrow : length contents.columns ≤ most_columns
+  -- each of a type of a size that it may have
+  pub sized : AllByRecursion (λ (column : ColumnType). IsSized column.ty) contents.columns
   pub few : length contents.rows ≤ most_rows
   -- a row has a value of each column, in their order
   pub typed : AllByRecursion (AllZip IsOfColumnType contents.columns) contents.rows

@@ -1,6 +1,8 @@
 -- Mirrors how `loaded::Loaded` keeps rows: column by column.
 use Rattle.std.specs.Prelude.{◌≡◌, ◌≤◌, ℕ, zero, suc, List, [], ◌∷◌, ◌++◌, length, map, slice_index_or}
+use Rattle.std.specs.List.{AllByRecursion}
 use Rattle.qw_types.specs.Limits.{most_columns, most_rows}
+use Rattle.qw_types.specs.Value.{IsSized}
 use Rattle.qw_types.specs.declared.value.Val.{Val}
 use Rattle.qw_types.specs.declared.value.Val.TheVariants.{Null}
 use Rattle.qw_types.specs.declared.schema.ColumnType.{ColumnType}
@@ -25,5 +27,6 @@ AreAllKept count _ _ = ⊥
 pub record AreStored (count : ℕ) (types : List ColumnType) (columns : List Values) : Type 0 where
   pub some : 1 ≤ length types
   pub narrow : length types ≤ most_columns
+  pub sized : AllByRecursion (λ (type : ColumnType). IsSized type.ty) types
   pub few : count ≤ most_rows
   pub kept : AreAllKept count types columns

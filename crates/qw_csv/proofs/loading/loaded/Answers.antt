@@ -1,7 +1,7 @@
 use Rattle.std.proofs.Common.{◌≡◌, add-one, arith, length, map, refl, take_all}
 use Rattle.std.proofs.lemmas.List.{length-map}
 use Rattle.qw_types.specs.Contents.{column_type}
-use Rattle.qw_csv.proofs.PushLemmas.{types_more}
+use Rattle.qw_csv.proofs.PushLemmas.{sized_types, types_more}
 use Rattle.qw_csv.proofs.StorageLemmas.{get_is}
 use Rattle.qw_csv.proofs.loading.loaded.Goals as goal
 
@@ -19,6 +19,7 @@ new-requires c =
     rw (all c) (record {
       some = omega (arith, long, c.requires.limits.some);
       narrow = omega (arith, long, c.requires.limits.few);
+      sized = sized_types c.args.columns.now c.requires.limits.sized;
       few = c.requires.few;
       kept = c.requires.kept;
     })

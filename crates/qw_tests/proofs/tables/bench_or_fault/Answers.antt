@@ -9,6 +9,6 @@ pub new-requires-clause-columns : goal.new-requires-clause-columns
 new-requires-clause-columns c =
     let query = c.in_ok-query.query in
     let width = length c.in_ok-loaded.loaded.columns in
-    let some : 0 < width = omega (arith, c.width.ensures, c.if-width-eq0.false) in
+    let some : 0 < width = omega (arith, c.width.ensures.columns, c.if-width-eq0.false) in
     subst (λ (job : CompiledQuery). AllByRecursion (λ column. column < width) (used job.statement)) (sym c.new-job.ensures)
     (subst (AllByRecursion (λ column. column < width)) (sym (used-first query c.in_ok-query.ensures.columns c.in_ok-query.ensures.tested)) (some, tt))
