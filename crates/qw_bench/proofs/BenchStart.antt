@@ -84,8 +84,7 @@ tasks-of (program ∷ programs) (one ∷ limits) [] many as_many each = absurd (
 tasks-of (program ∷ programs) (one ∷ limits) (seat ∷ seats) many as_many each =
     let first = each 0 program one seat refl refl refl in
     let fewer : length seats ≡ length programs = omega (arith, many) in
-    let as_few : length limits ≡ length programs = omega (arith, as_many) in
-    (
+    let as_few : length limits ≡ length programs = omega (arith, as_many) in (
       first.0,
       ap (λ (l : Limits). l.pages) first.1,
       ap (λ (l : Limits). l.steps) first.1,

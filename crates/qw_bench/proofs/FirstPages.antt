@@ -11,7 +11,8 @@ use Rattle.qw_linear.proofs.GrowthFacts.{grown_by-above}
 use Rattle.qw_map.specs.Layout.{HasEntry, IsFresh, Layout, descriptor_size, entry_offset, is_text}
 use Rattle.qw_map.specs.declared.layout.Placed.{Placed}
 use Rattle.qw_map.specs.declared.layout.Used.{Used}
-use Rattle.qw_bench.specs.FirstPage.{AreEntries, HasAddresses, IsBlank, SameOutside}
+use Rattle.qw_bench.specs.FirstPage.{HasAddresses, IsBlank}
+use Rattle.qw_bench.specs.Inner.Entries.{AreEntries, SameOutside}
 
 -- ---- after a number of four octets was stored
 -- it is read back where it is below 2^32

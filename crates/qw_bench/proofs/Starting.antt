@@ -192,8 +192,7 @@ compiled-answers tables tasks s acts query start k t later task found compiled =
     let at : moment_of i s.common.memory ≡ from = ap (λ (x : Instance). moment_of x s.common.memory) begins.instance in
     let runs : LeadsTo later.ran from (moment_of later (turns acts s).common.memory) =
     subst (λ (n : ℕ). LeadsTo n from (moment_of later (turns acts s).common.memory)) none
-    (subst (λ (m : Moment). LeadsTo (later.ran - i.ran) m (moment_of later (turns acts s).common.memory)) at led.1) in
-    (
+    (subst (λ (m : Moment). LeadsTo (later.ran - i.ran) m (moment_of later (turns acts s).common.memory)) at led.1) in (
       begins.number,
       begins.shaped,
       at-end query (rows_in_tables tables) t begins.number from later (turns acts s).common.memory
