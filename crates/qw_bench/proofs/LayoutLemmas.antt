@@ -1,15 +1,12 @@
 -- The columns of a layout: where they stand among those of the tables.
-use Rattle.std.proofs.Common.{◌≡◌, ℕ, zero, suc, ◌<◌, List, [], ◌∷◌, ◌++◌, length, Option, Some, None, slice_get, refl, ap, subst, arith}
+use Rattle.std.proofs.Common.{◌≡◌, ℕ, zero, suc, List, [], ◌∷◌, ◌++◌, length, Option, Some, None, slice_get, refl, ap, subst}
 use Rattle.std.specs.List.{AllByRecursion}
 use Rattle.std.specs.Option.{option_and_then}
 use Rattle.std.proofs.lemmas.Option.{none-some, same_Some}
 use Rattle.qw_types.specs.Contents.{Contents}
-use Rattle.qw_map.specs.Areas.{Area}
 use Rattle.qw_map.specs.Columns.{areas_of, column_values, columns_start, map_of, tables_end}
-use Rattle.qw_map.specs.Layout.{column_areas}
 use Rattle.qw_map.specs.declared.layout.Placed.{Placed}
 use Rattle.qw_map.specs.declared.layout.Used.{Used}
-use Rattle.qw_map.proofs.AreaLemmas.{all-append}
 use Rattle.qw_map.proofs.ColumnLemmas.{LieBetween, stands-between, tables-stand}
 use Rattle.qw_bench.specs.Bench.{ArePlaced, IsColumnIn}
 
