@@ -1,6 +1,10 @@
+mod BenchStart
 mod BenchTurns
 mod FirstPages
+mod FirstSeatLemmas
 mod LayoutLemmas
+mod LimitLemmas
+mod MapLemmas
 mod Rounds
 mod SeatRuns
 mod SeatSteps
