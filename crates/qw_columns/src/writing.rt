@@ -84,7 +84,8 @@ fn write_numbers(loaded: &Loaded, column: usize, ty: Ty, at: u64, memory: &mut L
     ensures keeps { KeepsBelow memory.old memory.new at }
 {
     let width = width_of(ty);
-    for row in 0..loaded.len() {
+    let rows = loaded.len();
+    for row in 0..rows {
         let number = number_of(loaded.cell(row, column));
         store_number(memory, at + width * row as u64, width, number);
     }
