@@ -6,6 +6,7 @@ use Rattle.std.proofs.lemmas.Bool.{false≢true}
 use Rattle.std.proofs.lemmas.List.{take-append-le}
 use Rattle.qw_types.specs.declared.value.Val.{Val}
 use Rattle.qw_types.specs.declared.value.Val.TheVariants as val
+use Rattle.qw_types.specs.DateText.{ShowsDate}
 use Rattle.qw_types.specs.Numeral.{IsNumberOf}
 use Rattle.qw_types.specs.Value.{IsNumeric, IsOfTypeOrNull}
 use Rattle.qw_types.specs.declared.schema.Column.{Column}
@@ -18,8 +19,9 @@ use Rattle.qw_csv.specs.declared.storage.Cells.TheVariants as cells
 use Rattle.qw_csv.specs.declared.storage.Texts.{Texts}
 use Rattle.qw_types.specs.declared.schema.ColumnType.{ColumnType}
 use Rattle.qw_csv.specs.declared.storage.Values.{Values}
+use Rattle.qw_types.specs.Contents.{column_type}
 use Rattle.qw_csv.specs.Contents.{integer_column}
-use Rattle.qw_csv.specs.Inner.Storage.{AreCellsOf, AreEnds, AreKept, is_null, placed, plain_values, texts_from, values_in, with_nulls}
+use Rattle.qw_csv.specs.Inner.Storage.{AreCellsOf, AreEnds, AreKept, IsLiteralOf, is_null, placed, plain_values, texts_from, values_in, with_nulls}
 
 -- octets behind a slice play no part in it
 slice_front : (start count : ℕ) (xs ys : List ℕ) → start + count ≤ length xs → take count (drop start (xs ++ ys)) ≡ take count (drop start xs)
@@ -220,7 +222,7 @@ length-with_nulls (v ∷ values) (f ∷ flags) = ap (λ (n : ℕ). suc n) (lengt
 pub number_in_place : (make : ℤ → Val) (numbers : List ℤ) (row : ℕ) (n : ℤ) → row < length (map make numbers) → n ≡ get_or numbers row n → slice_get (map make numbers) row ≡ Some (make n)
 number_in_place make numbers row n lt is = get_map make numbers row n (get_is numbers row n (omega (arith, lt, length-map numbers make)) is)
 
--- ---- numbers of fields
+-- ---- numbers and dates of fields
 
 -- a field that shows a number of a type isn't empty
 typed_number : (type : Ty) (field : List ℕ) (number : ℤ) → IsNumberOf type field number → IsTypedFieldOf type field (val.Num number)
@@ -229,16 +231,38 @@ typed_number (ty.Decimal precision scale) field number h = h
 typed_number ty.Date field number h = absurd h.range
 typed_number (ty.Varchar limit) field number h = absurd h.range
 
-pub number_field : (column : Column) (field : List ℕ) (number : ℤ) → IsNumberOf column.ty field number → IsFieldOf column field (val.Num number)
+number_field : (column : Column) (field : List ℕ) (number : ℤ) → IsNumberOf column.ty field number → IsFieldOf column field (val.Num number)
 number_field column [] number h = absurd (false≢true h.shows.form)
 number_field column (octet ∷ octets) number h = typed_number column.ty (octet ∷ octets) number h
 
--- what a number is put behind
+date_field : (column : Column) (field : List ℕ) (number : ℤ) → column.ty ≡ ty.Date → ShowsDate field number → IsFieldOf column field (val.Date number)
+date_field column [] number is h = absurd (omega (arith, h.form.long))
+date_field column (octet ∷ octets) number is h = rw is h
+
+pub literal_field : (column : Column) (field : List ℕ) (value : Val) → IsLiteralOf column.ty field value → IsFieldOf column field value
+literal_field column field val.Null h = absurd h
+literal_field column field (val.Num number) h = number_field column field number h
+literal_field column field (val.Date number) h = date_field column field number h.0 h.1
+literal_field column field (val.Text octets) h = absurd h
+
+pub literal_typed : (type : Ty) (not_null : Bool) (field : List ℕ) (value : Val) → IsLiteralOf type field value → IsOfTypeOrNull type not_null value
+literal_typed type not_null field val.Null h = absurd h
+literal_typed type not_null field (val.Num number) h = h.range
+literal_typed type not_null field (val.Date number) h = rw h.0 (record { year = _; month = _; day = _; there = h.1.there; packed_is = h.1.packed_is })
+literal_typed type not_null field (val.Text octets) h = absurd h
+
+pub literal_placed : (type : Ty) (field : List ℕ) (value : Val) → IsLiteralOf type field value → (value ≡ placed type value) × (false ≡ is_null value)
+literal_placed type field val.Null h = absurd h
+literal_placed type field (val.Num number) h = (refl, refl)
+literal_placed type field (val.Date number) h = (refl, refl)
+literal_placed type field (val.Text octets) h = absurd h
+
+-- what a number or a date is put behind
 pub record Put (type : Ty) (field : List ℕ) (before after : Cells) : Type 0 where
-  pub number : ℤ
-  pub of : IsNumberOf type field number
+  pub value : Val
+  pub of : IsLiteralOf type field value
   pub form : AreCellsOf type after
-  pub pushed : plain_values after ≡ plain_values before ++ val.Num number ∷ []
+  pub pushed : plain_values after ≡ plain_values before ++ value ∷ []
 
 pub integer_type : (type : Ty) (numbers : Vec ℤ Global) → AreCellsOf type (cells.Integers numbers) → type ≡ ty.Integer
 integer_type ty.Integer numbers form = refl
@@ -259,15 +283,51 @@ pub integer_put : (type : Ty) (field : List ℕ) (before : Cells) (numbers after
     → IsNumberOf ty.Integer field number → after.items ≡ numbers.items ++ number ∷ [] → Put type field before (cells.Integers after)
 integer_put type field before numbers after number form is of pushed =
     let same = integer_type type numbers (rw is at form) in
-    rw (same, is) (record { number = number; of = of; form = tt; pushed = rw (pushed, map-append val.Num numbers.items (number ∷ [])) refl })
+    rw (same, is) (record { value = val.Num number; of = of; form = tt; pushed = rw (pushed, map-append val.Num numbers.items (number ∷ [])) refl })
 
 pub decimal_put : (type : Ty) (field : List ℕ) (before : Cells) (numbers after : Vec ℤ Global) (number : ℤ) → AreCellsOf type before → before ≡ cells.Decimals numbers
     → IsNumberOf type field number → after.items ≡ numbers.items ++ number ∷ [] → Put type field before (cells.Decimals after)
 decimal_put type field before numbers after number form is of pushed =
-    rw is (record { number = number; of = of; form = of_type type (rw is at form); pushed = rw (pushed, map-append val.Num numbers.items (number ∷ [])) refl })
+    rw is (record { value = val.Num number; of = of; form = of_type type (rw is at form); pushed = rw (pushed, map-append val.Num numbers.items (number ∷ [])) refl })
   where
     of_type : (t : Ty) → AreCellsOf t (cells.Decimals numbers) → AreCellsOf t (cells.Decimals after)
     of_type ty.Integer f = absurd f
     of_type (ty.Decimal precision scale) f = tt
     of_type ty.Date f = absurd f
     of_type (ty.Varchar limit) f = absurd f
+
+pub date_put : (type : Ty) (field : List ℕ) (before : Cells) (numbers after : Vec ℤ Global) (number : ℤ) → AreCellsOf type before → before ≡ cells.Dates numbers
+    → ShowsDate field number → after.items ≡ numbers.items ++ number ∷ [] → Put type field before (cells.Dates after)
+date_put type field before numbers after number form is of pushed =
+    let same = date_type type (rw is at form) in
+    rw (same, is) (record { value = val.Date number; of = (refl, of); form = tt; pushed = rw (pushed, map-append val.Date numbers.items (number ∷ [])) refl })
+  where
+    date_type : (t : Ty) → AreCellsOf t (cells.Dates numbers) → t ≡ ty.Date
+    date_type ty.Integer f = absurd f
+    date_type (ty.Decimal precision scale) f = absurd f
+    date_type ty.Date f = refl
+    date_type (ty.Varchar limit) f = absurd f
+
+-- a number or a date behind the values of a column
+abbrev pub Literal : (column : Column) (field : List ℕ) (before after : Cells) → Type 0
+Literal column field before after = (value : Val) × IsLiteralOf column.ty field value × AreCellsOf column.ty after × (plain_values after ≡ plain_values before ++ value ∷ [])
+
+abbrev pub Stored : (column : Column) (field : List ℕ) (before after : Values) → Type 0
+Stored column field before after = (value : Val) × IsFieldOf column field value × AreKept (column_type column) after × (values_in after ≡ values_in before ++ value ∷ [])
+
+pub literal_kept_with_null : (column : Column) (field : List ℕ) (before after : Values) → column.not_null ≡ false → AreKept (column_type column) before
+    → Literal column field before.cells after.cells → after.nulls.items ≡ before.nulls.items ++ false ∷ [] → Stored column field before after
+literal_kept_with_null column field before after nullable kept (value, of, form, pushed) flags =
+    let (same, not_null) = literal_placed column.ty field value of in
+    let put : plain_values after.cells ≡ plain_values before.cells ++ placed column.ty value ∷ [] = pushed ∙ ap (λ (v : Val). plain_values before.cells ++ v ∷ []) same in
+    let flag : after.nulls.items ≡ before.nulls.items ++ is_null value ∷ [] = flags ∙ ap (λ (b : Bool). before.nulls.items ++ b ∷ []) not_null in
+    let h = kept_with_null (column_type column) before after value nullable kept (literal_typed column.ty column.not_null field value of) form put flag in
+    (value, literal_field column field value of, h.0, h.1)
+
+pub literal_kept_not_null : (column : Column) (field : List ℕ) (before after : Values) → column.not_null ≡ true → AreKept (column_type column) before
+    → Literal column field before.cells after.cells → after.nulls.items ≡ before.nulls.items → Stored column field before after
+literal_kept_not_null column field before after never kept (value, of, form, pushed) flags =
+    let (same, _) = literal_placed column.ty field value of in
+    let put : plain_values after.cells ≡ plain_values before.cells ++ placed column.ty value ∷ [] = pushed ∙ ap (λ (v : Val). plain_values before.cells ++ v ∷ []) same in
+    let h = kept_not_null (column_type column) before after value never kept (literal_typed column.ty column.not_null field value of) form put flags in
+    (value, literal_field column field value of, h.0, h.1)

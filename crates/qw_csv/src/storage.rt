@@ -1,9 +1,8 @@
 //! The values of one column, as they are kept: an INTEGER or a DATE takes four octets, a DECIMAL eight, a text its octets
 //! and eight more, and a column that may be null an octet a row beside.
 
-ghost use Rattle.std.specs.Prelude.{◌≡◌, ◌≤◌, ◌-◌, ◌++◌, ◌<◌, ℕ, ℤ, suc, take, drop, Bool, true, ◌↔◌, IsTrue, [], ◌∷◌, length, Some, IfOk, MatchResult, OnOk, slice_get};
+ghost use Rattle.std.specs.Prelude.{◌≡◌, ◌≤◌, ◌-◌, ◌++◌, ◌<◌, ℕ, suc, take, drop, Bool, true, ◌↔◌, IsTrue, [], ◌∷◌, length, Some, IfOk, MatchResult, OnOk, slice_get};
 ghost use Rattle.std.specs.Bool.{MatchBool};
-ghost use Rattle.qw_types.specs.Numeral.{IsNumberOf};
 ghost use Rattle.qw_types.specs.Value.{IsOfTypeOrNull, IsSized};
 ghost use Rattle.qw_types.specs.declared.value.Ty.{Ty};
 ghost use Rattle.qw_types.specs.declared.value.Ty.TheVariants as ty;
@@ -15,9 +14,10 @@ ghost use Rattle.qw_types.specs.Contents.{column_type};
 ghost use Rattle.qw_csv.specs.Contents.{integer_column};
 ghost use Rattle.qw_types.specs.declared.schema.ColumnType.{ColumnType};
 ghost use Rattle.qw_csv.specs.Field.{IsFieldFault, IsFieldOf, val_of};
-ghost use Rattle.qw_csv.specs.Inner.Storage.{AreCellsOf, AreEnds, AreKept, is_null, placed, plain_values, texts_from, values_in};
+ghost use Rattle.qw_csv.specs.Inner.Storage.{AreCellsOf, AreEnds, AreKept, IsLiteralOf, is_null, placed, plain_values, texts_from, values_in};
 
 use crate::cell::{Cell, CellFault, cell_of};
+use qw_types::date_text::read_date;
 use qw_types::numeral::{read_integer, read_number};
 use qw_types::{Column, ColumnType, NoMemory, Ty};
 use std::alloc::Global;
@@ -132,13 +132,13 @@ impl Cells {
 }
 
 impl Cells {
-    /// Puts the number that a field of the column shows behind the others. Where it shows none, or the column is none of numbers,
-    /// nothing is put, and the answer is false.
-    fn push_number(&mut self, column: &Column, field: &[u8]) -> Result<bool, NoMemory>
+    /// Puts the number or date that a field of the column shows behind the others. Where it shows none, or the column is one of
+    /// texts, nothing is put, and the answer is false.
+    fn push_literal(&mut self, column: &Column, field: &[u8]) -> Result<bool, NoMemory>
         requires form { AreCellsOf column.now.ty self.old }
         requires sized { IsSized column.now.ty }
         ensures { IfOk result (λ put. MatchBool put
-            ((number : ℤ) × IsNumberOf column.now.ty field.now number × AreCellsOf column.now.ty self.new × (plain_values self.new ≡ plain_values self.old ++ Num number ∷ []))
+            ((value : Val) × IsLiteralOf column.now.ty field.now value × AreCellsOf column.now.ty self.new × (plain_values self.new ≡ plain_values self.old ++ value ∷ []))
             (self.new ≡ self.old)) }
     {
         match self {
@@ -150,7 +150,11 @@ impl Cells {
                 Ok(number) => numbers.push(number)?,
                 Err(_) => return Ok(false),
             },
-            _ => return Ok(false),
+            Cells::Dates(dates) => match read_date(field) {
+                Ok(date) => dates.push(date)?,
+                Err(_) => return Ok(false),
+            },
+            Cells::Texts(_) => return Ok(false),
         }
         Ok(true)
     }
@@ -214,16 +218,16 @@ impl Values {
 }
 
 impl Values {
-    /// Puts the number that a field of the column shows behind the others. Where it shows none, or the column is none of numbers,
-    /// nothing is put, and the answer is false.
-    fn push_number(&mut self, column: &Column, field: &[u8]) -> Result<bool, NoMemory>
+    /// Puts the number or date that a field of the column shows behind the others. Where it shows none, or the column is one of
+    /// texts, nothing is put, and the answer is false.
+    fn push_literal(&mut self, column: &Column, field: &[u8]) -> Result<bool, NoMemory>
         requires kept { AreKept (column_type column.now) self.old }
         requires sized { IsSized column.now.ty }
         ensures { IfOk result (λ put. MatchBool put
             ((value : Val) × IsFieldOf column.now field.now value × AreKept (column_type column.now) self.new × (values_in self.new ≡ values_in self.old ++ value ∷ []))
             (self.new ≡ self.old)) }
     {
-        if !self.cells.push_number(column, field)? {
+        if !self.cells.push_literal(column, field)? {
             return Ok(false);
         }
         if !column.not_null {
@@ -242,7 +246,7 @@ impl Values {
             (λ _. (value : Val) × IsFieldOf column.now field.now value × AreKept (column_type column.now) self.new × (values_in self.new ≡ values_in self.old ++ value ∷ []))
             (IsFieldFault column.now field.now)) }
     {
-        if self.push_number(column, field)? {
+        if self.push_literal(column, field)? {
             return Ok(Ok(()));
         }
         match cell_of(column, field) {

@@ -16,6 +16,7 @@ use jiff::civil::Date;
 /// # Errors
 ///
 /// `NotDate` where the text isn't `YYYY-MM-DD`, or the calendar has no such day, or the year is 0.
+#[inline(always)]
 pub fn read_date(bytes: &[u8]) -> Result<i32, FieldFault>
     ensures { MatchResult result (λ number. ShowsDate bytes.now number)
         (λ e. (e ≡ FieldFault.NotDate) × ((number : ℤ) → ShowsDate bytes.now number → ⊥)) }

@@ -4,7 +4,7 @@
 //! - [`arithmetic`]: exact arithmetic on whole numbers with scales; [`code::Code`]: the exceptions that it raises.
 //! - [`value_laws`]: what holds of both, and worked cases.
 //! - [`digits`]: whether octets are digits.
-//! - [`numeral::read_number`], [`date_text::read_date`]: a number or a date from its text.
+//! - [`numeral::read_number`], [`numeral::read_integer`], [`date_text::read_date`]: a number or a date from its text.
 //! - [`number_text::decimal_text`]: the text of a number.
 //! - [`value::Ty`] and [`value::Val`]: a column's type, and a value of a row.
 //! - [`kind::Kind`]: number with a scale, date or text, and that a type's values are of its kind.

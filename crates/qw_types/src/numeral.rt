@@ -68,6 +68,7 @@ struct Fraction<'a> {
 ///
 /// `NotNumber` where the text is no number's; else `TooFine` where a digit past the scale isn't 0; else `TooLarge` where the
 /// number is out of the type's range.
+#[inline(always)]
 pub fn read_number(bytes: &[u8], ty: &Ty) -> Result<i64, FieldFault>
     requires numeric { IsNumeric ty.now }
     requires sized { IsSized ty.now }
@@ -84,6 +85,7 @@ pub fn read_number(bytes: &[u8], ty: &Ty) -> Result<i64, FieldFault>
 /// # Errors
 ///
 /// As those of [`read_number`].
+#[inline(always)]
 pub fn read_integer(bytes: &[u8]) -> Result<i32, FieldFault>
     ensures { MatchResult result (IsNumberOf Integer bytes.now) (IsNumberFault Integer bytes.now) }
 {
@@ -97,6 +99,7 @@ pub fn read_integer(bytes: &[u8]) -> Result<i32, FieldFault>
 }
 
 /// The number of a type that a text in any form stands for.
+#[cold]
 fn read_any_number(bytes: &[u8], ty: &Ty) -> Result<i64, FieldFault>
     requires numeric { IsNumeric ty.now }
     requires sized { IsSized ty.now }

@@ -15,6 +15,7 @@ use crate::power::power_of_ten;
 use crate::value::Ty;
 
 /// The number of a type that a text shows in the commonest form. None where it has another form, or shows no number of the type.
+#[inline(always)]
 pub(crate) fn short_number(bytes: &[u8], ty: &Ty) -> Option<i64>
     requires numeric { IsNumeric ty.now }
     requires sized { IsSized ty.now }
@@ -123,6 +124,7 @@ fn at_scale(whole: Digits, fraction: Digits, scale: usize) -> u64
 }
 
 /// The digits at the start of a text, up to 18 of them.
+#[inline(always)]
 fn few_digits(octets: &[u8]) -> Digits
     ensures digits { list_all is_ascii_digit (take result.count octets.now) ≡ true }
     ensures number { result.number ≡ digits_value 10 (take result.count octets.now) }

@@ -1,6 +1,8 @@
 -- Mirrors how `storage::Values` keeps the values of a column.
 use Rattle.std.specs.Prelude.{◌≡◌, ◌≤◌, ◌-◌, ℕ, pos, List, [], ◌∷◌, Bool, true, false, length, map, take, drop, if◌then◌else◌}
 use Rattle.std.specs.List.{AllByRecursion}
+use Rattle.qw_types.specs.DateText.{ShowsDate}
+use Rattle.qw_types.specs.Numeral.{IsNumberOf}
 use Rattle.qw_types.specs.declared.value.Ty.{Ty}
 use Rattle.qw_types.specs.declared.value.Ty.TheVariants as ty
 use Rattle.qw_types.specs.declared.value.Val.{Val}
@@ -37,6 +39,12 @@ plain_values (cells.Integers numbers) = map val.Num numbers.items
 plain_values (cells.Decimals numbers) = map val.Num numbers.items
 plain_values (cells.Dates numbers) = map val.Date numbers.items
 plain_values (cells.Texts texts) = map val.Text (texts_from 0 texts.ends.items texts.octets.items)
+
+-- a number or a date that a field shows
+abbrev pub IsLiteralOf : Ty → List ℕ → Val → Type 0
+IsLiteralOf type field (val.Num number) = IsNumberOf type field number
+IsLiteralOf type field (val.Date number) = (type ≡ ty.Date) × ShowsDate field number
+IsLiteralOf type field _ = ⊥
 
 -- cells of a type
 abbrev pub AreCellsOf : Ty → Cells → Type 0
