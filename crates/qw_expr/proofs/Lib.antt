@@ -1,4 +1,6 @@
 pub mod Binary
+pub mod Comparisons
+mod Constants
 mod Emitted
 pub mod Nulls
 pub mod Unary

@@ -8,4 +8,5 @@
 
 pub mod arithmetic;
 pub mod emitter;
+pub mod literal;
 pub mod operand;
