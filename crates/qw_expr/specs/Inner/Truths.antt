@@ -1,5 +1,8 @@
 -- Mirrors `src/compare.rt` and `src/truth.rt`: tests and truths of three values.
-use Rattle.std.specs.Prelude.{ℕ, Option, Some, None}
+use Rattle.std.specs.Prelude.{ℕ, Option, Some, None, List, [], ◌∷◌}
+use Rattle.qw_module.specs.declared.instruction.Op.TheVariants as o
+use Rattle.qw_low.specs.declared.step.LowStep.{LowStep}
+use Rattle.qw_low.specs.declared.step.LowStep.TheVariants as step
 use Rattle.qw_module.specs.declared.instruction.ValType.TheVariants.{I32, I64}
 use Rattle.qw_module.specs.declared.instruction.Sign.TheVariants.{Signed}
 use Rattle.qw_module.specs.declared.instruction.Const.TheVariants as const
@@ -34,3 +37,8 @@ zero_if_null (Some n) t body = conditional (local n) (assign t (i32 0)) body
 abbrev pub is_false : (value : ℕ) → Option ℕ → Expression
 is_false v None = is_zero I32 (local v)
 is_false v (Some n) = is_zero I32 (binop I32 Or (local v) (local n))
+
+-- the steps before and after what is done where no value is null
+abbrev pub before_zero : Option ℕ → (t : ℕ) → List LowStep
+before_zero None t = []
+before_zero (Some n) t = step.Op (o.LocalGet n) ∷ step.If ∷ step.Op (o.Const (const.I32 0)) ∷ step.Op (o.LocalSet t) ∷ step.Else ∷ []
