@@ -61,7 +61,7 @@ if_ok_is P r v is h = subst (λ (q : Result _ Code). IfOk q P) is h
 pub number_of_typed : (e : Expression) (row : List Val) (v : Val) → IsTyped e → IsTrue (is_number (kind_of e)) → HasColumns (HoldsIn row) e → value_of e (record { row = row }) ≡ Ok v → NumberOrNull v
 number_of_typed e row v typed is columns here = number_or_null (kind_of e) v is (if_ok_is (IsValueOf (kind_of e)) (value_of e (record { row = row })) v here (typed_value e row typed columns))
 
-joined_below : (m n : ℕ) (a b : Option ℕ) → m ≤ n → IsBelowNull m a → IsBelowNull m b → IsBelowNull (n + 1) (joined_null m a b)
+pub joined_below : (m n : ℕ) (a b : Option ℕ) → m ≤ n → IsBelowNull m a → IsBelowNull m b → IsBelowNull (n + 1) (joined_null m a b)
 joined_below m n None None le low_a low_b = tt
 joined_below m n None (Some y) le low_a low_b = omega (arith, low_b)
 joined_below m n (Some x) None le low_a low_b = omega (arith, low_a)
@@ -175,10 +175,10 @@ pub unless_typed : (types : List ValType) (null : Option ℕ) (body : Statement)
 unless_typed types None body declared typed = typed
 unless_typed types (Some n) body declared typed = (declared, tt, typed)
 
-three_long : (a b : List ValType) (x y z : ValType) → length (a ++ (b ++ (x ∷ y ∷ z ∷ []))) ≡ length a + length b + 3
+pub three_long : (a b : List ValType) (x y z : ValType) → length (a ++ (b ++ (x ∷ y ∷ z ∷ []))) ≡ length a + length b + 3
 three_long a b x y z = omega (arith, length-append a (b ++ (x ∷ y ∷ z ∷ [])), length-append b (x ∷ y ∷ z ∷ []))
 
-third : (types : List ValType) (n : ℕ) (x y z : ValType) → Declares types n (x ∷ y ∷ z ∷ []) → (slice_get types n ≡ Some x) × (slice_get types (n + 1) ≡ Some y) × (slice_get types (n + 1 + 1) ≡ Some z)
+pub third : (types : List ValType) (n : ℕ) (x y z : ValType) → Declares types n (x ∷ y ∷ z ∷ []) → (slice_get types n ≡ Some x) × (slice_get types (n + 1) ≡ Some y) × (slice_get types (n + 1 + 1) ≡ Some z)
 third types n x y z declares =
     let zeroth : n + 0 ≡ n = omega arith in
     let two : n + 2 ≡ n + 1 + 1 = omega arith in

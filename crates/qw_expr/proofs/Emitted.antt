@@ -23,7 +23,7 @@ use Rattle.qw_expr.specs.Inner.Operated.{number_at, Operated, Converted, AddsOpe
 use Rattle.qw_expr.proofs.Binary.{arithmetic_computes}
 use Rattle.qw_expr.proofs.Unary.{negative_computes, brought_computes}
 
-nil : {A : Type 0} (xs : List A) → xs ++ [] ≡ xs
+pub nil : {A : Type 0} (xs : List A) → xs ++ [] ≡ xs
 nil [] = refl
 nil (x ∷ xs) = ap (λ ys. x ∷ ys) (nil xs)
 
@@ -90,6 +90,12 @@ pub next_local : (old mid : Emitter) (ty : ValType) (x : ℕ) → x ≡ free_of 
 next_local old mid ty x is own first =
     let long : length mid.own.items ≡ length old.own.items + 1 = ap length own ∙ length-append old.own.items (ty ∷ []) in
     omega (arith, is, long, first)
+
+pub after_two : (old mid more : Emitter) (ty other : ValType) (x : ℕ) → x ≡ free_of more → mid.own.items ≡ old.own.items ++ ty ∷ [] → more.own.items ≡ mid.own.items ++ other ∷ [] → mid.first ≡ old.first → more.first ≡ mid.first → x ≡ free_of old + 2
+after_two old mid more ty other x is own own_more first first_more =
+    let long : length mid.own.items ≡ length old.own.items + 1 = ap length own ∙ length-append old.own.items (ty ∷ []) in
+    let longer : length more.own.items ≡ length mid.own.items + 1 = ap length own_more ∙ length-append mid.own.items (other ∷ []) in
+    omega (arith, is, long, longer, first, first_more)
 
 pub operated_adds : (operator : Operator) (left right out : Operand) (old new : Emitter) (c2 c3 c4 : List LowStep) (p free : ℕ) (null : Option ℕ) (f : Statement) (made : Scaled) → new.first ≡ old.first →
     new.own.items ≡ old.own.items ++ I32 ∷ I64 ∷ I64 ∷ [] → p ≡ free_of old → free ≡ free_of old + 1 → null ≡ joined_null p left.cell.null right.cell.null →

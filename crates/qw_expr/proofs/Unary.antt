@@ -35,6 +35,7 @@ use Rattle.qw_expr.specs.Computes.{Known, AreBelow, Computes}
 use Rattle.qw_expr.specs.Inner.Operated.{number_at}
 use Rattle.qw_expr.specs.Inner.Nulls.{unless_null}
 use Rattle.qw_expr.specs.Inner.Fields.{field_block}
+use Rattle.qw_expr.specs.Inner.Literals.{limit_of}
 use Rattle.qw_expr.proofs.Nulls.{below_more, null_below_more, value_says}
 use Rattle.qw_expr.proofs.Binary.{NumberOrNull, number_of_typed, if_ok_is, comes_of, comes_number, value_or_null, operand_declared}
 
@@ -84,11 +85,6 @@ brought_computes known next low_known a s o sa f owna out limit typed numeric ca
     (number_at_scale (kind_of a) s numeric) refl (λ n. refl) typed.0 numeric
 
 -- ---- fields
-abbrev pub limit_of : Field → ℕ
-limit_of Year = 9999
-limit_of Month = 99
-limit_of Day = 99
-
 field_within : (field : Field) (d : ℤ) → IsDateNumber d → unsigned_abs (field_of field d) ≤ limit_of field
 field_within Year (pos n) is = omega (arith, ints, is.1)
 field_within Month (pos n) is = omega arith
@@ -111,25 +107,25 @@ field_typed types Year n x is_x is_n = (I64, is_n, (is_x, (omega arith, refl), r
 field_typed types Month n x is_x is_n = (I64, is_n, ((is_x, (omega arith, refl), refl), (omega arith, refl), refl))
 field_typed types Day n x is_x is_n = (I64, is_n, (is_x, (omega arith, refl), refl))
 
-date_declared : (types : List ValType) (c : Cell) (k : Option Kind) → IsTrue (is_date k) → DeclaresKind types c k → slice_get types c.value ≡ Some I64
+pub date_declared : (types : List ValType) (c : Cell) (k : Option Kind) → IsTrue (is_date k) → DeclaresKind types c k → slice_get types c.value ≡ Some I64
 date_declared types c None is declared = absurd cc
 date_declared types c (Some (kind.Number s)) is declared = declared
 date_declared types c (Some kind.Date) is declared = declared
 date_declared types c (Some kind.Text) is declared = absurd cc
 
-date_of : (k : Option Kind) (d : ℤ) → IsTrue (is_date k) → IsValueOf k (val.Date d) → IsDateNumber d
+pub date_of : (k : Option Kind) (d : ℤ) → IsTrue (is_date k) → IsValueOf k (val.Date d) → IsDateNumber d
 date_of None d is of = absurd cc
 date_of (Some (kind.Number s)) d is of = absurd of
 date_of (Some kind.Date) d is of = of
 date_of (Some kind.Text) d is of = absurd of
 
-no_number : (k : Option Kind) (v : ℤ) → IsTrue (is_date k) → IsValueOf k (val.Num v) → ⊥
+pub no_number : (k : Option Kind) (v : ℤ) → IsTrue (is_date k) → IsValueOf k (val.Num v) → ⊥
 no_number None v is of = absurd cc
 no_number (Some (kind.Number s)) v is of = absurd cc
 no_number (Some kind.Date) v is of = of
 no_number (Some kind.Text) v is of = absurd cc
 
-no_text : (k : Option Kind) (t : List ℕ) → IsTrue (is_date k) → IsValueOf k (val.Text t) → ⊥
+pub no_text : (k : Option Kind) (t : List ℕ) → IsTrue (is_date k) → IsValueOf k (val.Text t) → ⊥
 no_text None t is of = absurd cc
 no_text (Some (kind.Number s)) t is of = of
 no_text (Some kind.Date) t is of = of

@@ -142,7 +142,7 @@ impl Emitter {
     }
 
     /// Adds a number at another scale, unless it is null.
-    fn scaled_to(&mut self, operand: Operand, scale: u8) -> Result<Operand, NoMemory>
+    pub(crate) fn scaled_to(&mut self, operand: Operand, scale: u8) -> Result<Operand, NoMemory>
         requires scales { (operand.scale ≤ scale) × (scale ≤ 18) }
         requires below { operand.cell.value < free_of self.old }
         ensures { IfOk result (λ out. AddsOperation (λ v. bring v operand.scale scale) scale operand self.old self.new out) }

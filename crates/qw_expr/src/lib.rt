@@ -7,5 +7,7 @@
 #![tactic(auto)]
 
 pub mod arithmetic;
+pub mod compare;
 pub mod emitter;
+pub mod literal;
 pub mod operand;

@@ -9,13 +9,16 @@ use Rattle.qw_meaning.specs.Evaluation.{applied}
 use Rattle.qw_meaning.specs.Expression.{scale_after}
 use Rattle.qw_low.specs.declared.cell.Cell.{Cell}
 use Rattle.qw_low.specs.declared.step.LowStep.{LowStep}
-use Rattle.qw_low.specs.Syntax.{Statement}
+use Rattle.std.specs.declared.cmp.Ordering.{Ordering}
+use Rattle.qw_meaning.specs.declared.query.Comparison.{Comparison}
+use Rattle.qw_low.specs.Syntax.{Statement, seq, assign}
 use Rattle.qw_low.specs.Steps.{steps_of}
 use Rattle.qw_wide.specs.declared.arithmetic.Scaled.{Scaled}
-use Rattle.qw_wide.specs.Numbers.{Operates, Converts}
+use Rattle.qw_wide.specs.Numbers.{Operates, Converts, Compares}
 use Rattle.qw_expr.specs.declared.emitter.Emitter.{Emitter}
 use Rattle.qw_expr.specs.declared.operand.Operand.{Operand}
 use Rattle.qw_expr.specs.Emits.{free_of}
+use Rattle.qw_expr.specs.Inner.Truths.{zero_test, zero_if_null}
 use Rattle.qw_expr.specs.Inner.Nulls.{join_block, joined_null, before_unless, after_unless}
 
 -- the operand of a number
@@ -52,3 +55,13 @@ pub record AddsOperation (operation : ℤ → Result ℤ Code) (scale : ℕ) (op
   pub made : Scaled
   pub code_is : new.block.code.items ≡ old.block.code.items ++ code
   pub converted : Converted operation scale (free_of old) operand out code made
+
+-- what a comparison adds to an emitter: the order of two numbers is left in the third local, and tested in the second
+pub record AddsComparison (operator : Comparison) (order : ℤ → ℤ → Ordering) (x mx y my : ℕ) (left right : Option ℕ) (old new : Emitter) (out : Cell) : Type 0 where
+  pub first_is : new.first ≡ old.first
+  pub own_is : new.own.items ≡ old.own.items ++ I32 ∷ I32 ∷ I64 ∷ []
+  pub f : Statement
+  pub code_is : new.block.code.items ≡ old.block.code.items ++ steps_of
+      (seq (join_block (free_of old) left right) (zero_if_null (joined_null (free_of old) left right) (free_of old + 1) (seq f (assign (free_of old + 1) (zero_test operator (free_of old + 2))))))
+  pub compares : Compares order x mx y my (free_of old + 2) f
+  pub out_is : out ≡ record { value = free_of old + 1; length = free_of old + 1; null = joined_null (free_of old) left right }

@@ -1,0 +1,105 @@
+-- Conditions that are emitted.
+use Rattle.std.proofs.Common.{◌≡◌, ℕ, ℤ, ◌+◌, ◌<◌, ◌≤◌, List, [], ◌∷◌, ◌++◌, length, IsTrue, Ordering, Option, Some, None, refl, sym, ap, ◌∙◌, subst, arith}
+use Rattle.qw_types.specs.Arithmetic.{order_of}
+use Rattle.qw_meaning.specs.declared.query.Comparison.{Comparison}
+use Rattle.qw_meaning.specs.Expression.{Expression, comparison, scale_of}
+use Rattle.qw_meaning.specs.Typing.{AreTyped, is_date, is_number, kind_of}
+use Rattle.qw_module.specs.declared.instruction.ValType.{ValType}
+use Rattle.qw_module.specs.declared.instruction.ValType.TheVariants.{I32, I64}
+use Rattle.qw_low.specs.declared.cell.Cell.{Cell}
+use Rattle.qw_low.specs.declared.step.LowStep.{LowStep}
+use Rattle.qw_low.specs.Syntax.{Statement, seq, assign}
+use Rattle.qw_low.specs.Steps.{steps_of}
+use Rattle.qw_low.proofs.Appended.{two, three, four}
+use Rattle.qw_wide.specs.Numbers.{Compares}
+use Rattle.qw_expr.specs.declared.emitter.Emitter.{Emitter}
+use Rattle.qw_expr.specs.declared.operand.Operand.{Operand}
+use Rattle.qw_expr.specs.Computes.{Known, AreBelow, Computes, Decides}
+use Rattle.qw_expr.specs.Emits.{Emits, EmitsTruth, free_of}
+use Rattle.qw_expr.specs.Inner.Nulls.{join_block, joined_null, after_unless}
+use Rattle.qw_expr.specs.Inner.Truths.{zero_test, zero_if_null, before_zero}
+use Rattle.qw_expr.specs.Inner.Operated.{AddsComparison}
+use Rattle.qw_expr.proofs.Emitted.{nil, free_after}
+use Rattle.qw_expr.proofs.Decisions.{numbers_decide, dates_decide}
+
+zero_steps : (null : Option ℕ) (t : ℕ) (body : Statement) → before_zero null t ++ (steps_of body ++ after_unless null) ≡ steps_of (zero_if_null null t body)
+zero_steps None t body = nil (steps_of body)
+zero_steps (Some n) t body = refl
+
+-- what the code of a comparison does to an emitter
+pub compared_adds : (operator : Comparison) (order : ℤ → ℤ → Ordering) (x mx y my : ℕ) (left right : Option ℕ) (old new : Emitter) (out : Cell) (c2 c3 c4 c5 : List LowStep) (p t n : ℕ) (null : Option ℕ) (f : Statement) → new.first ≡ old.first →
+    new.own.items ≡ old.own.items ++ I32 ∷ I32 ∷ I64 ∷ [] → p ≡ free_of old → t ≡ free_of old + 1 → n ≡ free_of old + 2 → null ≡ joined_null p left right → c2 ≡ old.block.code.items ++ steps_of (join_block p left right) →
+    c3 ≡ c2 ++ before_zero null t → c4 ≡ c3 ++ steps_of f → c5 ≡ c4 ++ steps_of (assign t (zero_test operator n)) → new.block.code.items ≡ c5 ++ after_unless null → Compares order x mx y my n f →
+    out ≡ record { value = t; length = t; null = null } → AddsComparison operator order x mx y my left right old new out
+compared_adds operator order x mx y my left right old new out c2 c3 c4 c5 p t n null f first own p_is t_is n_is null_is code2 code3 code4 code5 code6 compares out_is =
+    let m : ℕ = free_of old in
+    let J : Option ℕ = joined_null m left right in
+    let null_at : null ≡ J = null_is ∙ ap (λ k. joined_null k left right) p_is in
+    let body : Statement = seq f (assign t (zero_test operator n)) in
+    let inner : c5 ≡ c3 ++ steps_of body = two c3 c4 c5 (steps_of f) (steps_of (assign t (zero_test operator n))) code4 code5 in
+    let all : new.block.code.items ≡ old.block.code.items ++ (steps_of (join_block p left right) ++ (before_zero null t ++ (steps_of body ++ after_unless null))) =
+        four old.block.code.items c2 c3 c5 new.block.code.items (steps_of (join_block p left right)) (before_zero null t) (steps_of body) (after_unless null) code2 code3 inner code6 in
+    let whole : new.block.code.items ≡ old.block.code.items ++ steps_of (seq (join_block p left right) (zero_if_null null t body)) =
+        all ∙ ap (λ c. old.block.code.items ++ (steps_of (join_block p left right) ++ c)) (zero_steps null t body) in
+    let at_p = subst (λ k. new.block.code.items ≡ old.block.code.items ++ steps_of (seq (join_block k left right) (zero_if_null null t body))) p_is whole in
+    let at_null = subst (λ (k : Option ℕ). new.block.code.items ≡ old.block.code.items ++ steps_of (seq (join_block m left right) (zero_if_null k t body))) null_at at_p in
+    let at_t = subst (λ k. new.block.code.items ≡ old.block.code.items ++ steps_of (seq (join_block m left right) (zero_if_null J k (seq f (assign k (zero_test operator n)))))) t_is at_null in
+    record {
+      first_is = first;
+      own_is = own;
+      f = f;
+      code_is = subst (λ k. new.block.code.items ≡ old.block.code.items ++ steps_of (seq (join_block m left right) (zero_if_null J (m + 1) (seq f (assign (m + 1) (zero_test operator k)))))) n_is at_t;
+      compares = subst (λ k. Compares order x mx y my k f) n_is compares;
+      out_is = out_is ∙ ap (λ k. let c : Cell = record { value = k; length = k; null = null } in c) t_is ∙ ap (λ (k : Option ℕ). let c : Cell = record { value = m + 1; length = m + 1; null = k } in c) null_at;
+    }
+
+-- two expressions and a test of them
+module _ (known : List Known) (operator : Comparison) (order : ℤ → ℤ → Ordering) (mx my : ℕ) (a b : Expression) (start mid old new : Emitter) (left right : Operand) (out : Cell) (ea : Emits known a start mid left) (eb : Emits known b mid old right)
+    (adds : AddsComparison operator order left.cell.value mx right.cell.value my left.cell.null right.cell.null old new out) where
+  abbrev m : ℕ
+  m = free_of start + length ea.own + length eb.own
+
+  abbrev tail : ℕ → Statement
+  tail k = seq (join_block k left.cell.null right.cell.null) (zero_if_null (joined_null k left.cell.null right.cell.null) (k + 1) (seq adds.f (assign (k + 1) (zero_test operator (k + 2)))))
+
+  abbrev own : List ValType
+  own = ea.own ++ (eb.own ++ (I32 ∷ I32 ∷ I64 ∷ []))
+
+  at_mid : free_of mid ≡ free_of start + length ea.own
+  at_mid = free_after known a start mid left ea
+
+  at_old : free_of old ≡ m
+  at_old = free_after known b mid old right eb ∙ ap (λ k. k + length eb.own) at_mid
+
+  pub comparison_emits : (Computes known b (free_of start + length ea.own) right eb.statement eb.own → Compares order left.cell.value mx right.cell.value my (m + 2) adds.f →
+      Decides known (comparison operator a b) (free_of start) (record { value = m + 1; length = m + 1; null = joined_null m left.cell.null right.cell.null }) (seq ea.statement (seq eb.statement (tail m))) own) →
+      EmitsTruth known (comparison operator a b) start new out
+  comparison_emits decides =
+      let cb = subst (λ k. Computes known b k right eb.statement eb.own) at_mid eb.computes in
+      let code : new.block.code.items ≡ old.block.code.items ++ steps_of (tail m) = subst (λ k. new.block.code.items ≡ old.block.code.items ++ steps_of (tail k)) at_old adds.code_is in
+      record {
+        first_is = adds.first_is ∙ eb.first_is ∙ ea.first_is;
+        statement = seq ea.statement (seq eb.statement (tail m));
+        own = own;
+        code_is = three start.block.code.items mid.block.code.items old.block.code.items new.block.code.items (steps_of ea.statement) (steps_of eb.statement) (steps_of (tail m)) ea.code_is eb.code_is code;
+        own_is = three start.own.items mid.own.items old.own.items new.own.items ea.own eb.own (I32 ∷ I32 ∷ I64 ∷ []) ea.own_is eb.own_is adds.own_is;
+        decides = subst (λ (c : Cell). Decides known (comparison operator a b) (free_of start) c (seq ea.statement (seq eb.statement (tail m))) own)
+            (ap (λ k. let c : Cell = record { value = k + 1; length = k + 1; null = joined_null k left.cell.null right.cell.null } in c) (sym at_old) ∙ sym adds.out_is)
+            (decides cb (subst (λ k. Compares order left.cell.value mx right.cell.value my (k + 2) adds.f) at_old adds.compares));
+      }
+
+pub numbers_emit : (known : List Known) (operator : Comparison) (a b : Expression) (start mid old new : Emitter) (left right : Operand) (out : Cell) → AreTyped (comparison operator a b) → IsTrue (is_number (kind_of a)) → IsTrue (is_number (kind_of b)) →
+    AreBelow (free_of start) known → Emits known a start mid left → Emits known b mid old right →
+    AddsComparison operator (λ v w. order_of v left.scale w right.scale) left.cell.value left.most right.cell.value right.most left.cell.null right.cell.null old new out → EmitsTruth known (comparison operator a b) start new out
+numbers_emit known operator a b start mid old new left right out typed na nb low ea eb adds =
+    comparison_emits known operator (λ v w. order_of v left.scale w right.scale) left.most right.most a b start mid old new left right out ea eb adds
+    (λ cb compares. numbers_decide known (free_of start) low operator a b left right ea.statement eb.statement adds.f ea.own eb.own typed na nb ea.computes cb
+    (subst (λ k. Compares (λ v w. order_of v (scale_of a) w k) left.cell.value left.most right.cell.value right.most (free_of start + length ea.own + length eb.own + 2) adds.f) eb.computes.scale_is
+    (subst (λ k. Compares (λ v w. order_of v k w right.scale) left.cell.value left.most right.cell.value right.most (free_of start + length ea.own + length eb.own + 2) adds.f) ea.computes.scale_is compares)))
+
+pub dates_emit : (known : List Known) (operator : Comparison) (a b : Expression) (start mid old new : Emitter) (left right : Operand) (out : Cell) → AreTyped (comparison operator a b) → IsTrue (is_date (kind_of a)) → IsTrue (is_date (kind_of b)) →
+    AreBelow (free_of start) known → Emits known a start mid left → Emits known b mid old right →
+    AddsComparison operator (λ v w. order_of v 0 w 0) left.cell.value 99991231 right.cell.value 99991231 left.cell.null right.cell.null old new out → EmitsTruth known (comparison operator a b) start new out
+dates_emit known operator a b start mid old new left right out typed da db low ea eb adds =
+    comparison_emits known operator (λ v w. order_of v 0 w 0) 99991231 99991231 a b start mid old new left right out ea eb adds
+    (λ cb compares. dates_decide known (free_of start) low operator a b left right ea.statement eb.statement adds.f ea.own eb.own typed da db ea.computes cb compares)
