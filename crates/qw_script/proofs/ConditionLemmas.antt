@@ -77,7 +77,7 @@ condition_clause_is : (o : Option (Condition × List Lexeme)) (c : Condition) (r
 unfolding condition_clause
 condition_clause_is o c rest h = rw h refl
 
-the_condition_is : (c : Clause) (d : Condition) → the_condition c ≡ Some d → c ≡ condition d
+pub the_condition_is : (c : Clause) (d : Condition) → the_condition c ≡ Some d → c ≡ condition d
 the_condition_is (expression e) d h = absurd cc
 the_condition_is (condition c) d h = ap condition (some_same c d h)
 

@@ -86,7 +86,7 @@ series_front Q q _ _ _ (more xs o x ts us vs rest h between item) =
 abbrev Behind : {O A : Type 0} → (Lexeme → Option O) → (A → List Lexeme → List Lexeme → Type 0) → List A → List Lexeme → List Lexeme → Type 0
 Behind meaning Item xs ts rest = Series IsNothing (IsOperator meaning) Item appended xs ts rest
 
-module _ {O A : Type 0} (meaning : Lexeme → Option O) (n : ℕ) {Item : A → List Lexeme → List Lexeme → Type 0} {read : List Lexeme → Option (A × List Lexeme)} (reads : Exact Item (Stops n) read) where
+module _ {O A : Type 0} (meaning : Lexeme → Option O) (Ends : List Lexeme → Type 0) {Item : A → List Lexeme → List Lexeme → Type 0} {read : List Lexeme → Option (A × List Lexeme)} (reads : Exact Item Ends read) where
   pub list_takes : (ts : List Lexeme) (x : List A × List Lexeme) → series_at (given []) (token_at meaning) read append ts ≡ Some x → Behind meaning Item x.0 ts x.1
   list_takes =
       series_holds (token_at meaning) read append (Behind meaning Item)
@@ -96,13 +96,13 @@ module _ {O A : Type 0} (meaning : Lexeme → Option O) (n : ℕ) {Item : A → 
       (given [])
       (λ ts x e. let same = some_same ([], ts) x e in subst (λ (y : List A × List Lexeme). Behind meaning Item y.0 ts y.1) same (first [] ts ts (nothing ts)))
 
-  pub list_is : ((t : Lexeme) (o : O) → meaning t ≡ Some o → strength t < n) → (xs : List A) (ts rest : List Lexeme) → Behind meaning Item xs ts rest → Stops n rest → token_at meaning rest ≡ None → series_at (given []) (token_at meaning) read append ts ≡ Some (xs, rest)
-  list_is weak xs ts rest h ends none =
-      series_is (token_at meaning) read append (λ (ys : List A). ys) (λ (y : A). y) IsNothing (IsOperator meaning) Item appended (Stops n)
+  pub list_is : ((o : O) (us vs : List Lexeme) → IsOperator meaning o us vs → Ends us) → (xs : List A) (ts rest : List Lexeme) → Behind meaning Item xs ts rest → Ends rest → token_at meaning rest ≡ None → series_at (given []) (token_at meaning) read append ts ≡ Some (xs, rest)
+  list_is stops xs ts rest h ends none =
+      series_is (token_at meaning) read append (λ (ys : List A). ys) (λ (y : A). y) IsNothing (IsOperator meaning) Item appended Ends
       (λ o a c. refl)
       (operator_is meaning)
       reads.is
-      (λ o c us vs ws between item. operator_stops meaning n weak o us vs between)
+      (λ o c us vs ws between item. stops o us vs between)
       (token_shortens meaning) (exact_shortens reads)
       (given [])
       (λ ys us vs nothing_is ends. given_is ys us vs nothing_is)
@@ -136,14 +136,14 @@ no_comma s t rest h e = let is = symbol_is s t h in rw (is.0, is.1) (rw e refl)
 module _ {A : Type 0} {Item : A → List Lexeme → List Lexeme → Type 0} {read : List Lexeme → Option (A × List Lexeme)} (reads : Exact Item (Stops 1) read) where
   pub further_takes : (ts : List Lexeme) (x : List A × List Lexeme) → further_at read ts ≡ Some x → AreFurther Item x.0 ts x.1
   unfolding further_at
-  further_takes ts x e = list_takes is_comma 1 reads ts x e
+  further_takes ts x e = list_takes is_comma (Stops 1) reads ts x e
 
   pub further_is : (xs : List A) (ts rest : List Lexeme) → AreFurther Item xs ts rest → Stops 1 rest → token_at is_comma rest ≡ None → further_at read ts ≡ Some (xs, rest)
   unfolding further_at
-  further_is xs ts rest h ends none = list_is is_comma 1 reads comma_weak xs ts rest h ends none
+  further_is xs ts rest h ends none = list_is is_comma (Stops 1) reads (λ o us vs between. operator_stops is_comma 1 comma_weak o us vs between) xs ts rest h ends none
 
   pub further_shorter : (xs : List A) (ts rest : List Lexeme) → AreFurther Item xs ts rest → length rest ≤ length ts
-  further_shorter xs ts rest h = list_shorter is_comma 1 reads xs ts rest h
+  further_shorter xs ts rest h = list_shorter is_comma (Stops 1) reads xs ts rest h
 
 -- what stops an item follows the first of a list
 pub further_stops : {A : Type 0} (Item : A → List Lexeme → List Lexeme → Type 0) (xs : List A) (ts rest : List Lexeme) → AreFurther Item xs ts rest → Stops 1 rest → Stops 1 ts

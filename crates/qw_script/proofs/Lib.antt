@@ -3,5 +3,6 @@ mod ExactLemmas
 mod LoopLemmas
 mod PrimaryLemmas
 mod RankLemmas
+mod SelectLemmas
 mod SumLemmas
 mod TokenLemmas

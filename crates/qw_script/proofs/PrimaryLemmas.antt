@@ -225,14 +225,14 @@ module _ (Inner : Clause → List Lexeme → List Lexeme → Type 0) (inner : Li
 
     branches_takes : (ts : List Lexeme) (x : List Branch × List Lexeme) → branches_at inner searched ts ≡ Some x → AreBranches Inner searched x.0 ts x.1
     unfolding branches_at
-    branches_takes ts x e = list_takes is_when 1 branch_exact ts x e
+    branches_takes ts x e = list_takes is_when (Stops 1) branch_exact ts x e
 
     branches_are : (bs : List Branch) (ts rest : List Lexeme) → AreBranches Inner searched bs ts rest → Stops 1 rest → token_at is_when rest ≡ None → branches_at inner searched ts ≡ Some (bs, rest)
     unfolding branches_at
-    branches_are bs ts rest h ends none = list_is is_when 1 branch_exact when_weak bs ts rest h ends none
+    branches_are bs ts rest h ends none = list_is is_when (Stops 1) branch_exact (λ o us vs between. operator_stops is_when 1 when_weak o us vs between) bs ts rest h ends none
 
     pub branches_shorter : (bs : List Branch) (ts rest : List Lexeme) → AreBranches Inner searched bs ts rest → length rest ≤ length ts
-    branches_shorter bs ts rest h = list_shorter is_when 1 branch_exact bs ts rest h
+    branches_shorter bs ts rest h = list_shorter is_when (Stops 1) branch_exact bs ts rest h
 
     -- branches begin with WHEN
     branches_front : (b : Branch) (bs : List Branch) (ts rest : List Lexeme) → AreBranches Inner searched (b ∷ bs) ts rest → (us : List Lexeme) × Front (is_word (codes "WHEN")) ts us

@@ -299,3 +299,40 @@ clause_at inner ts = series_at (boolean_term_at inner) (token_at is_or) (boolean
 unfoldable pub nested_at : ℕ → Reader Clause
 nested_at zero ts = None
 nested_at (suc n) ts = clause_at (nested_at n) ts
+
+-- ---- queries
+
+-- a name behind AS or alone, or nothing
+unfoldable pub naming_at : Reader (Option (List ℕ))
+naming_at ts =
+    option_map_or (λ us. token_at (octets_if is_name) us >>= (λ t. Some (Some t.0, t.1))) (word_at (codes "AS") ts)
+    (option_map_or (λ t. Some (Some t.0, t.1)) (token_at (octets_if is_name) ts) (Some (None, ts)))
+
+unfoldable pub item_at : Reader Clause → Reader SelectItem
+item_at inner ts = expression_at inner ts >>= (λ e. naming_at e.1 >>= (λ n. Some (record { value = e.0; name = n.0 }, n.1)))
+
+unfoldable pub select_list_at : Reader Clause → Reader Selected
+select_list_at inner ts =
+    option_map_or (λ rest. Some (all_columns, rest)) (symbol_at (codes "*") ts)
+    (item_at inner ts >>= (λ i. further_at (item_at inner) i.1 >>= (λ others. Some (items (i.0 ∷ others.0), others.1))))
+
+-- the tokens behind ALL, or all of them
+unfoldable pub behind_all : List Lexeme → List Lexeme
+behind_all ts = option_map_or (λ rest. rest) (word_at (codes "ALL") ts) ts
+
+unfoldable pub filter_at : Reader Clause → Reader (Option Condition)
+filter_at inner ts = option_map_or (λ us. condition_at inner us >>= (λ c. Some (Some c.0, c.1))) (word_at (codes "WHERE") ts) (Some (None, ts))
+
+unfoldable pub select_at : Reader Clause → Reader Select
+select_at inner ts =
+    word_at (codes "SELECT") ts >>= (λ us. select_list_at inner (behind_all us) >>= (λ l. word_at (codes "FROM") l.1 >>= (λ vs. token_at (octets_if is_regular) vs >>= (λ t. naming_at t.1 >>= (λ alias. filter_at inner alias.1 >>= (λ f.
+    Some (record { selected = l.0; table = t.0; alias = alias.0; filter = f.0 }, f.1)))))))
+
+-- the query that all tokens are
+abbrev pub whole : Option (Select × List Lexeme) → Option Select
+whole None = None
+whole (Some (s, [])) = Some s
+whole (Some (s, t ∷ ts)) = None
+
+unfoldable pub select_of : List Lexeme → Option Select
+select_of ts = whole (select_at (nested_at 33) ts)
