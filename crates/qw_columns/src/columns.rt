@@ -54,7 +54,7 @@ pub fn place(alloc: Global, loaded: &[Loaded], memory: &mut Linear) -> Result<Co
     ensures holds { IfOk result (λ m. Holds (map_of loaded.now) memory.new.octets loaded.now) }
     ensures octets { IfOk result (λ m. AreOctets memory.new.octets) }
     ensures len { IfOk result (λ m. length memory.new.octets ≡ column_pages loaded.now * page) }
-    ensures reservation { IfOk result (λ m. memory.new.reserved ≡ memory.old.reserved) }
+    ensures reserved { IfOk result (λ m. memory.new.reserved ≡ memory.old.reserved) }
 {
     let need = pages_needed(loaded);
     if u64::from(memory.reserved()) < need {
