@@ -239,7 +239,11 @@ impl Values {
 
 impl Values {
     /// Puts the value that a field of the column stands for behind the others, or tells why it stands for none.
-    pub(crate) fn push_field(&mut self, column: &Column, field: &[u8]) -> Result<Result<(), CellFault>, NoMemory>
+    pub(crate) fn push_field(
+        &mut self,
+        column: &Column,
+        field: &[u8],
+    ) -> Result<Result<(), CellFault>, NoMemory>
         requires kept { AreKept (column_type column.now) self.old }
         requires sized { IsSized column.now.ty }
         ensures { IfOk result (λ put. MatchResult put
@@ -258,7 +262,11 @@ impl Values {
     /// The same for what is rarely met in a column of numbers or dates, as nulls and faults: kept apart, so that the rest is fast.
     #[cold]
     #[inline(never)]
-    fn push_rarer(&mut self, column: &Column, field: &[u8]) -> Result<Result<(), CellFault>, NoMemory>
+    fn push_rarer(
+        &mut self,
+        column: &Column,
+        field: &[u8],
+    ) -> Result<Result<(), CellFault>, NoMemory>
         requires kept { AreKept (column_type column.now) self.old }
         requires sized { IsSized column.now.ty }
         ensures { IfOk result (λ put. MatchResult put
@@ -270,7 +278,11 @@ impl Values {
 
     /// The same, the value read into a cell first.
     #[inline(always)]
-    fn push_read(&mut self, column: &Column, field: &[u8]) -> Result<Result<(), CellFault>, NoMemory>
+    fn push_read(
+        &mut self,
+        column: &Column,
+        field: &[u8],
+    ) -> Result<Result<(), CellFault>, NoMemory>
         requires kept { AreKept (column_type column.now) self.old }
         requires sized { IsSized column.now.ty }
         ensures { IfOk result (λ put. MatchResult put
