@@ -203,6 +203,7 @@ impl Values {
     }
 
     /// Puts a value of the column behind the others.
+    #[inline(always)]
     pub(crate) fn push(&mut self, column: ColumnType, cell: Cell<'_>) -> Result<(), NoMemory>
         requires kept { AreKept column self.old }
         requires typed { IsOfTypeOrNull column.ty column.not_null (val_of cell) }
