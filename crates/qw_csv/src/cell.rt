@@ -39,7 +39,6 @@ pub enum CellFault {
 }
 
 /// The value that a field stands for in a column.
-#[inline(always)]
 pub(crate) fn cell_of<'a>(column: &Column, field: &'a [u8]) -> Result<Cell<'a>, CellFault>
     requires { IsSized column.now.ty }
     ensures { MatchResult result (λ cell. IsFieldOf column.now field.now (val_of cell)) (IsFieldFault column.now field.now) }

@@ -203,7 +203,6 @@ impl Values {
     }
 
     /// Puts a value of the column behind the others.
-    #[inline(always)]
     pub(crate) fn push(&mut self, column: ColumnType, cell: Cell<'_>) -> Result<(), NoMemory>
         requires kept { AreKept column self.old }
         requires typed { IsOfTypeOrNull column.ty column.not_null (val_of cell) }
@@ -251,45 +250,9 @@ impl Values {
             (λ _. (value : Val) × IsFieldOf column.now field.now value × AreKept (column_type column.now) self.new × (values_in self.new ≡ values_in self.old ++ value ∷ []))
             (IsFieldFault column.now field.now)) }
     {
-        if matches!(column.ty, Ty::Varchar { .. }) {
-            return self.push_read(column, field);
-        }
         if self.push_literal(column, field)? {
             return Ok(Ok(()));
         }
-        self.push_rarer(column, field)
-    }
-
-    /// The same for what is rarely met in a column of numbers or dates, as nulls and faults: kept apart, so that the rest is fast.
-    #[cold]
-    #[inline(never)]
-    fn push_rarer(
-        &mut self,
-        column: &Column,
-        field: &[u8],
-    ) -> Result<Result<(), CellFault>, NoMemory>
-        requires kept { AreKept (column_type column.now) self.old }
-        requires sized { IsSized column.now.ty }
-        ensures { IfOk result (λ put. MatchResult put
-            (λ _. (value : Val) × IsFieldOf column.now field.now value × AreKept (column_type column.now) self.new × (values_in self.new ≡ values_in self.old ++ value ∷ []))
-            (IsFieldFault column.now field.now)) }
-    {
-        self.push_read(column, field)
-    }
-
-    /// The same, the value read into a cell first.
-    #[inline(always)]
-    fn push_read(
-        &mut self,
-        column: &Column,
-        field: &[u8],
-    ) -> Result<Result<(), CellFault>, NoMemory>
-        requires kept { AreKept (column_type column.now) self.old }
-        requires sized { IsSized column.now.ty }
-        ensures { IfOk result (λ put. MatchResult put
-            (λ _. (value : Val) × IsFieldOf column.now field.now value × AreKept (column_type column.now) self.new × (values_in self.new ≡ values_in self.old ++ value ∷ []))
-            (IsFieldFault column.now field.now)) }
-    {
         match cell_of(column, field) {
             Ok(cell) => {
                 self.push(column_type(column), cell)?;
