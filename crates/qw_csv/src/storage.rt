@@ -239,7 +239,11 @@ impl Values {
 
 impl Values {
     /// Puts the value that a field of the column stands for behind the others, or tells why it stands for none.
-    pub(crate) fn push_field(&mut self, column: &Column, field: &[u8]) -> Result<Result<(), CellFault>, NoMemory>
+    pub(crate) fn push_field(
+        &mut self,
+        column: &Column,
+        field: &[u8],
+    ) -> Result<Result<(), CellFault>, NoMemory>
         requires kept { AreKept (column_type column.now) self.old }
         requires sized { IsSized column.now.ty }
         ensures { IfOk result (λ put. MatchResult put

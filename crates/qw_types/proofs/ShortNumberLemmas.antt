@@ -79,7 +79,7 @@ pub eight_all : (xs : List ℕ) (first last : Bool) → length xs ≡ 8
     → (first && last) ≡ list_all is_ascii_digit xs
 eight_all xs first last long hf hl =
     let pass = eight_pass (is_ascii_digit (slice_index_or xs 0 0)) (is_ascii_digit (slice_index_or xs 1 0)) (is_ascii_digit (slice_index_or xs 2 0)) (is_ascii_digit (slice_index_or xs 3 0))
-        (is_ascii_digit (slice_index_or xs 4 0)) (is_ascii_digit (slice_index_or xs 5 0)) (is_ascii_digit (slice_index_or xs 6 0)) (is_ascii_digit (slice_index_or xs 7 0)) in
+    (is_ascii_digit (slice_index_or xs 4 0)) (is_ascii_digit (slice_index_or xs 5 0)) (is_ascii_digit (slice_index_or xs 6 0)) (is_ascii_digit (slice_index_or xs 7 0)) in
     rw (hf, hl) (pass ∙ sym (ap (list_all is_ascii_digit) (eight xs long)))
 
 -- one digit more
@@ -174,7 +174,7 @@ powers_small whole fraction before after scale tenfold missing ht hm hw hf few s
 pub shown : (octets : List ℕ) (count whole fraction missing scale : ℕ) → list_all is_ascii_digit (take count octets) ≡ true → whole ≡ digits_value 10 (take count octets)
     → leading_digits (drop count octets) ≡ [] → missing ≡ length (fraction_at (drop count octets)) → fraction ≡ digits_value 10 (fraction_at (drop count octets)) → missing ≤ scale
     → whole * 10 ^ scale + fraction * 10 ^ (scale - missing)
-        ≡ digits_value 10 (leading_digits octets ++ fraction_at (after_digits octets)) * 10 ^ (scale - length (fraction_at (after_digits octets)))
+    ≡ digits_value 10 (leading_digits octets ++ fraction_at (after_digits octets)) * 10 ^ (scale - length (fraction_at (after_digits octets)))
 shown octets count whole fraction missing scale digits hw none hm hf few =
     let (leading, after) = stops octets count digits none in
     rw (leading, after, hw, hf, hm) (sym (parts_value (take count octets) (fraction_at (drop count octets)) scale (omega (arith, hm, few))))

@@ -36,7 +36,10 @@ pub(crate) fn short_integer(bytes: &[u8]) -> Option<i32>
     let text = without_minus(bytes);
     let digits = few_digits(text);
     let negative = begins_with_minus(bytes);
-    if digits.count == 0 || digits.count < text.len() || digits.number > greatest(&Ty::Integer, negative) {
+    if digits.count == 0
+        || digits.count < text.len()
+        || digits.number > greatest(&Ty::Integer, negative)
+    {
         return None;
     }
     Some(signed(negative, digits.number) as i32)

@@ -43,8 +43,8 @@ loop-index-preserved c =
     let same : next.kept ≡ c.index_mut-kept.result.now = cc (next.there, found) in
     let count = sym c.len.ensures ∙ c.if-len-columns.false in
     rw add-one (pushed_field c.loop-index.index c.args.len c.args.columns.now (fields_of c.args.row.now) c.args.values.now.items c.loop-index.values.items more c.index-columns-index.result
-        c.index_mut-kept.result.now c.push_field.new.self c.field.result.now pushed (omega (arith, count, c.loop-index-test.true)) there found (rw same at next.long) c.field.ensures
-        (rw c.in-Ok.is at c.in_ok-push_field.ensures))
+    c.index_mut-kept.result.now c.push_field.new.self c.field.result.now pushed (omega (arith, count, c.loop-index-test.true)) there found (rw same at next.long) c.field.ensures
+    (rw c.in-Ok.is at c.in_ok-push_field.ensures))
 
 pub returns-clause-pushed : goal.returns-clause-pushed
 returns-clause-pushed c =

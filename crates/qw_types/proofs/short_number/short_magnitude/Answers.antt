@@ -22,6 +22,6 @@ pub returns-clause-value : goal.returns-clause-value
 returns-clause-value c =
     c.at_scale.ensures.value
     ∙ shown c.args.octets.now c.few_digits-whole.result.count c.few_digits-whole.result.number c.in_ok-fraction.fraction.number c.in_ok-fraction.fraction.count c.args.scale
-        c.few_digits-whole.ensures.digits c.few_digits-whole.ensures.number (none c)
-        (rw (rest_is c.args.octets.now c.few_digits-whole.result.count) at c.in_ok-fraction.ensures.count)
-        (rw (rest_is c.args.octets.now c.few_digits-whole.result.count) at c.in_ok-fraction.ensures.number) c.in_ok-fraction.ensures.few
+    c.few_digits-whole.ensures.digits c.few_digits-whole.ensures.number (none c)
+    (rw (rest_is c.args.octets.now c.few_digits-whole.result.count) at c.in_ok-fraction.ensures.count)
+    (rw (rest_is c.args.octets.now c.few_digits-whole.result.count) at c.in_ok-fraction.ensures.number) c.in_ok-fraction.ensures.few

@@ -10,5 +10,5 @@ returns c =
     let shown = c.in_ok-magnitude.ensures in
     rw (to_z-of_z w64 c.signed.result range, c.signed.ensures)
     (short_is c.args.ty.now c.args.bytes.now c.without_minus.result.now c.in_ok-magnitude.magnitude c.begins_with_minus-negative.result c.requires.numeric c.requires.sized
-        c.without_minus.ensures c.begins_with_minus-negative.ensures shown.some shown.rest (rw (c.from.ensures, c.scale.ensures) at shown.few)
-        (rw (c.from.ensures, c.scale.ensures) at shown.value) (rw c.greatest.ensures at c.if-magnitude-greatest.false))
+    c.without_minus.ensures c.begins_with_minus-negative.ensures shown.some shown.rest (rw (c.from.ensures, c.scale.ensures) at shown.few)
+    (rw (c.from.ensures, c.scale.ensures) at shown.value) (rw c.greatest.ensures at c.if-magnitude-greatest.false))
