@@ -16,7 +16,7 @@ use Rattle.qw_map.proofs.AreaLemmas.{all-back}
 use Rattle.qw_map.specs.Layout.{Layout, rows_at}
 use Rattle.qw_bench.specs.Bench.{AreServing, Serves, Task, end_in}
 use Rattle.qw_bench.specs.Standing.{IsBench, Standing, rows_in}
-use Rattle.qw_bench.proofs.LayoutLemmas.{there}
+use Rattle.qw_map.proofs.TurnFacts.{found-in}
 
 -- an instance that is done has returned
 pub returned : (s : State) (w : World) (ran most : ℕ) → end_at s w ran most ≡ Some Done → s ≡ Returned
@@ -59,7 +59,7 @@ done-there b i kept done = by_instance (slice_get b.shared.instances i) refl don
     by_instance None found done = absurd (none-some Done done)
     by_instance (Some instance) found done =
         let within : i < length b.tasks = omega (arith, slice_get_within b.shared.instances i instance found, kept.serving.many) in
-        let task = there b.tasks i within in
+        let task = found-in b.tasks i within in
         record { instance = instance; instance_found = found; done = done; task = task.0; task_found = task.1 }
 
 module _ (b : Standing) (i : ℕ) (kept : IsBench b) (is : IsDone b i) where
