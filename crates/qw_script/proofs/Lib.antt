@@ -6,3 +6,4 @@ mod RankLemmas
 mod SelectLemmas
 mod SumLemmas
 mod TokenLemmas
+mod WorkedLemmas
