@@ -261,8 +261,12 @@ module _ (Inner : Clause → List Lexeme → List Lexeme → Type 0) (inner : Li
   unfolding in_at
   in_is x e es negated o c vs ws rest f i j g =
       let ends = closing_ends Inner inner reads c rest g in
-      rw (one_is (is_symbol (codes "(")) o vs f, expression_is Inner inner reads e vs ws i (further_stops (IsExpressionOf Inner) es ws (c ∷ rest) j ends),
-      further_is (expression_exact Inner inner reads) es ws (c ∷ rest) j ends (no_comma (codes ")") c rest g refl), one_is (is_symbol (codes ")")) c rest g) refl
+      rw (
+        one_is (is_symbol (codes "(")) o vs f,
+        expression_is Inner inner reads e vs ws i (further_stops (IsExpressionOf Inner) es ws (c ∷ rest) j ends),
+        further_is (expression_exact Inner inner reads) es ws (c ∷ rest) j ends (no_comma (codes ")") c rest g refl),
+        one_is (is_symbol (codes ")")) c rest g,
+      ) refl
 
   ranged_between : (x : Expression) (negated : Bool) (t : Lexeme) (vs : List Lexeme) → IsTrue (is_word (codes "BETWEEN") t) → ranged_at inner negated x (t ∷ vs) ≡ Some (between_at inner negated x vs)
   unfolding ranged_at
@@ -308,8 +312,13 @@ module _ (Inner : Clause → List Lexeme → List Lexeme → Type 0) (inner : Li
   tail_alone : (x : Expression) (ts : List Lexeme) → Stops 3 ts → tail_at inner x ts ≡ Some (expression x, ts)
   unfolding tail_at ranged_at
   tail_alone x ts ends =
-      rw (no_comparison ts (stops_weaker 3 4 ts (omega arith) ends), no_strong_word (codes "IS") 3 refl refl ts ends, not_is false ts ts (not_absent ts) (no_strong_word (codes "NOT") 3 refl refl ts ends),
-      no_strong_word (codes "BETWEEN") 3 refl refl ts ends, no_strong_word (codes "IN") 3 refl refl ts ends) refl
+      rw (
+        no_comparison ts (stops_weaker 3 4 ts (omega arith) ends),
+        no_strong_word (codes "IS") 3 refl refl ts ends,
+        not_is false ts ts (not_absent ts) (no_strong_word (codes "NOT") 3 refl refl ts ends),
+        no_strong_word (codes "BETWEEN") 3 refl refl ts ends,
+        no_strong_word (codes "IN") 3 refl refl ts ends,
+      ) refl
 
   alone_is : (x : Expression) (ts rest : List Lexeme) → IsValueExpression Inner x ts rest → Stops 3 rest → predicate_at inner ts ≡ Some (expression x, rest)
   alone_is x ts rest h ends = begun x ts rest h (stops_weaker 3 5 rest (omega arith) ends) ∙ tail_alone x rest ends

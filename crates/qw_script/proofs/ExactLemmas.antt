@@ -91,8 +91,8 @@ module _ {O A : Type 0} (meaning : Lexeme → Option O) (Ends : List Lexeme → 
   list_takes =
       series_holds (token_at meaning) read append (Behind meaning Item)
       (λ xs ys o b ts us vs rest h link item joins.
-          subst (λ (y : List A). Behind meaning Item y ts rest) (some_same (appended o xs b) ys joins)
-          (more xs o b ts us vs rest h (operator_takes meaning us (o, vs) link) (reads.takes vs (b, rest) item)))
+      subst (λ (y : List A). Behind meaning Item y ts rest) (some_same (appended o xs b) ys joins)
+      (more xs o b ts us vs rest h (operator_takes meaning us (o, vs) link) (reads.takes vs (b, rest) item)))
       (given [])
       (λ ts x e. let same = some_same ([], ts) x e in subst (λ (y : List A × List Lexeme). Behind meaning Item y.0 ts y.1) same (first [] ts ts (nothing ts)))
 
@@ -293,8 +293,8 @@ unfolding date_at
 date_takes =
     series_holds interval_sign_at days_at move IsDate
     (λ d d' s o ts us vs rest h link item joins.
-        subst (λ (y : Dated). IsDate y ts rest) (some_same (moved s d o) d' joins)
-        (more d s o ts us vs rest h (sign_takes us (s, vs) link) (days_takes vs (o, rest) item)))
+    subst (λ (y : Dated). IsDate y ts rest) (some_same (moved s d o) d' joins)
+    (more d s o ts us vs rest h (sign_takes us (s, vs) link) (days_takes vs (o, rest) item)))
     date_string_at
     (λ ts x e. first x.0 ts x.1 (date_string_takes ts x e))
 

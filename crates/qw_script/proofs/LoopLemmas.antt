@@ -133,8 +133,8 @@ module _ {P O B : Type 0} (link : List Lexeme → Option (O × List Lexeme)) (op
                 let parts = step_parts p us found.0 goes in
                 let operand_is = parts.2.1 ∙ ap (λ (rest : List Lexeme). Some (parts.2.0.0, rest)) parts.2.3 in
                 within_holds most found.0.0 ts found.0.1 x
-                    (kept p found.0.0 parts.0.0 parts.2.0.0 ts us parts.0.1 found.0.1 h parts.1 operand_is parts.2.2)
-                    (sym (within_more step most p us found.0 goes) ∙ e))
+                (kept p found.0.0 parts.0.0 parts.2.0.0 ts us parts.0.1 found.0.1 h parts.1 operand_is parts.2.2)
+                (sym (within_more step most p us found.0 goes) ∙ e))
           ]
         ]
 

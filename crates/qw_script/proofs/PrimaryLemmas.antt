@@ -367,8 +367,12 @@ module _ (Inner : Clause → List Lexeme → List Lexeme → Type 0) (inner : Li
   unfolding coalesce_at
   coalesce_is e y es o c ts us rest f i h g =
       let ends = closing_ends c rest g in
-      rw (one_is (is_symbol (codes "(")) o ts f, expression_is e ts us i (further_stops (IsExpressionOf Inner) (y ∷ es) us (c ∷ rest) h ends),
-      further_is expression_exact (y ∷ es) us (c ∷ rest) h ends (no_comma (codes ")") c rest g refl), one_is (is_symbol (codes ")")) c rest g) refl
+      rw (
+        one_is (is_symbol (codes "(")) o ts f,
+        expression_is e ts us i (further_stops (IsExpressionOf Inner) (y ∷ es) us (c ∷ rest) h ends),
+        further_is expression_exact (y ∷ es) us (c ∷ rest) h ends (no_comma (codes ")") c rest g refl),
+        one_is (is_symbol (codes ")")) c rest g,
+      ) refl
 
   null_if_made : (word : Lexeme) → IsTrue (is_word (codes "NULLIF") word) → (a b : Expression) (ts us vs ws xs rest : List Lexeme)
       → Front (is_symbol (codes "(")) ts us → Inner (expression a) us vs → Front (is_symbol (codes ",")) vs ws → Inner (expression b) ws xs → Front (is_symbol (codes ")")) xs rest → IsPrimary Inner (null_if a b) (word ∷ ts) rest

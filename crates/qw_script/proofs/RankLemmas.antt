@@ -32,25 +32,25 @@ rank_exact inject meaning F joined join R S EndsR EndsS read rank reads = record
   takes =
       series_holds (token_at meaning) read join S
       (λ p q o b ts us vs rest h link operand joins.
-          let parts = rank.parts o p b q joins in
-          let left = rank.series parts.0 ts us (subst (λ y. S y ts us) parts.2 h) in
-          let right = rank.operand parts.1 vs rest (subst (λ y. R y vs rest) parts.3 (reads.takes vs (b, rest) operand)) in
-          subst (λ y. S y ts rest) (sym parts.4) (rank.whole (joined o parts.0 parts.1) ts rest (more parts.0 o parts.1 ts us vs rest left (operator_takes meaning us (o, vs) link) right)))
+      let parts = rank.parts o p b q joins in
+      let left = rank.series parts.0 ts us (subst (λ y. S y ts us) parts.2 h) in
+      let right = rank.operand parts.1 vs rest (subst (λ y. R y vs rest) parts.3 (reads.takes vs (b, rest) operand)) in
+      subst (λ y. S y ts rest) (sym parts.4) (rank.whole (joined o parts.0 parts.1) ts rest (more parts.0 o parts.1 ts us vs rest left (operator_takes meaning us (o, vs) link) right)))
       read
       (λ ts x e. rank.alone x.0 ts x.1 (reads.takes ts x e));
   is = λ p ts rest h ends.
       elim (rank.sorts p ts rest h) [
         | inr alone ↦ rw (reads.is p ts rest alone (rank.ends rest ends)) (loop_end (token_at meaning) read join p rest (rank.none rest ends))
         | inl series ↦ rw series.1
-          (series_is (token_at meaning) read join inject inject F (IsOperator meaning) F joined EndsR
-          rank.joins
-          (operator_is meaning)
-          (λ a us vs f ends. reads.is (inject a) us vs (rank.clause a us vs f) ends)
-          rank.between
-          (token_shortens meaning) (exact_shortens reads)
-          read
-          (λ a us vs f ends. reads.is (inject a) us vs (rank.clause a us vs f) ends)
-          series.0 ts rest series.2 (rank.ends rest ends) (rank.none rest ends))
+            (series_is (token_at meaning) read join inject inject F (IsOperator meaning) F joined EndsR
+            rank.joins
+            (operator_is meaning)
+            (λ a us vs f ends. reads.is (inject a) us vs (rank.clause a us vs f) ends)
+            rank.between
+            (token_shortens meaning) (exact_shortens reads)
+            read
+            (λ a us vs f ends. reads.is (inject a) us vs (rank.clause a us vs f) ends)
+            series.0 ts rest series.2 (rank.ends rest ends) (rank.none rest ends))
       ];
   shorter = λ p ts rest h.
       elim (rank.sorts p ts rest h) [

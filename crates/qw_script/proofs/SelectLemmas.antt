@@ -241,8 +241,15 @@ module _ (Inner : Clause → List Lexeme → List Lexeme → Type 0) (inner : Li
   pub select_is : (s : Select) (ts rest : List Lexeme) → IsSelect Inner s ts rest → rest ≡ [] → select_at inner ts ≡ Some (s, rest)
   unfolding select_at
   select_is _ _ _ (a_select l alias f w v t ts us vs ws rest a all h b c i j) end =
-      rw (one_is (is_word (codes "SELECT")) w ts a, all_is ts us all (select_list_no_all l us (v ∷ t ∷ vs) h), select_list_is l us (v ∷ t ∷ vs) h (from_ends v (t ∷ vs) b) (from_no_comma v (t ∷ vs) b), one_is (is_word (codes "FROM")) v (t ∷ vs) b,
-      token_is (octets_if is_regular) t vs t.octets (octets_are is_regular t c), naming_is alias vs ws i (filter_ends f ws rest j end), filter_is f ws rest j end) refl
+      rw (
+        one_is (is_word (codes "SELECT")) w ts a,
+        all_is ts us all (select_list_no_all l us (v ∷ t ∷ vs) h),
+        select_list_is l us (v ∷ t ∷ vs) h (from_ends v (t ∷ vs) b) (from_no_comma v (t ∷ vs) b),
+        one_is (is_word (codes "FROM")) v (t ∷ vs) b,
+        token_is (octets_if is_regular) t vs t.octets (octets_are is_regular t c),
+        naming_is alias vs ws i (filter_ends f ws rest j end),
+        filter_is f ws rest j end,
+      ) refl
 
 -- ---- all tokens
 

@@ -1,17 +1,26 @@
 //! Laws of the grammar, and worked cases of it.
 
-ghost use Rattle.std.specs.Prelude.{◌≡◌, List, [], ◌∷◌, codes, false};
+ghost use Rattle.std.specs.Prelude.{◌≡◌, ℕ, List, [], ◌∷◌, codes, false};
 ghost use Rattle.qw_meaning.specs.declared.expression.Operator.TheVariants.{Add, Multiply, Subtract};
 ghost use Rattle.qw_meaning.specs.declared.query.Comparison.TheVariants.{Equal, Greater};
 ghost use Rattle.qw_token.specs.Token.{Lexeme};
 ghost use Rattle.qw_ast.specs.declared.script.Sign.TheVariants.{Minus};
 ghost use Rattle.qw_ast.specs.Syntax.{Select, arithmetic, between, both, comparison, condition, either, expression, negation_of, number, signed};
 ghost use Rattle.qw_ast.specs.ScriptGrammar.{IsSelectOf};
+ghost use Rattle.qw_script.specs.declared.fault.ParseFault.{ParseFault};
+ghost use Rattle.qw_script.specs.Script.{IsScriptRefused, ReadsScript};
 ghost use Rattle.qw_script.specs.Worked.{Says, equals, n, s, the_column, w};
 
 /// Tokens are one query at most.
 pub fn one_query_specification()
     ensures { (tokens : List Lexeme) (query other : Select) → IsSelectOf tokens query → IsSelectOf tokens other → query ≡ other }
+{}
+
+/// A text is one script, or is refused for one cause, and never both.
+pub fn one_script()
+    ensures script { (text : List ℕ) (queries others : List Select) → ReadsScript text queries → ReadsScript text others → queries ≡ others }
+    ensures cause { (text : List ℕ) (fault other : ParseFault) → IsScriptRefused text fault → IsScriptRefused text other → fault ≡ other }
+    ensures either { (text : List ℕ) (queries : List Select) (fault : ParseFault) → ReadsScript text queries → IsScriptRefused text fault → ⊥ }
 {}
 
 /// NOT binds closer than AND, AND closer than OR, and BETWEEN takes the AND next to it (ISO/IEC 9075:1992, 8.12 and 8.3).
