@@ -1,5 +1,5 @@
 -- The script that a text is, or why it is none (ISO/IEC 9075:1992, 7.9). The standard leaves the limits to the implementation.
-use Rattle.std.specs.Prelude.{◌≡◌, ◌≤◌, ◌<◌, ◌+◌, ◌-◌, ◌==◌, ℕ, suc, Bool, if◌then◌else◌, List, [], ◌∷◌, length, take, drop, Option, Some, None}
+use Rattle.std.specs.Prelude.{◌≡◌, ◌≤◌, ◌<◌, ◌+◌, ◌-◌, ◌==◌, ℕ, suc, if◌then◌else◌, List, [], ◌∷◌, length, take, drop, Option, Some, None}
 use Rattle.std.specs.Str.{IsUtf8}
 use Rattle.qw_types.specs.Octets.{single_quote}
 use Rattle.qw_token.specs.Token.{Lexeme, AreTokens, StopsAt}

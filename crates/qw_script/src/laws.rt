@@ -5,10 +5,10 @@ ghost use Rattle.qw_meaning.specs.declared.expression.Operator.TheVariants.{Add,
 ghost use Rattle.qw_meaning.specs.declared.query.Comparison.TheVariants.{Equal, Greater};
 ghost use Rattle.qw_token.specs.Token.{Lexeme};
 ghost use Rattle.qw_ast.specs.declared.script.Sign.TheVariants.{Minus};
-ghost use Rattle.qw_ast.specs.Syntax.{Select, arithmetic, between, both, comparison, condition, either, expression, negation_of, number, signed};
+ghost use Rattle.qw_ast.specs.Syntax.{Select, arithmetic, between, both, comparison, condition, date, either, expression, negation_of, null, number, otherwise, searched_case, signed, text, when};
 ghost use Rattle.qw_ast.specs.ScriptGrammar.{IsSelectOf};
 ghost use Rattle.qw_script.specs.declared.fault.ParseFault.{ParseFault};
-ghost use Rattle.qw_script.specs.Script.{IsScriptRefused, ReadsScript};
+ghost use Rattle.qw_script.specs.Script.{IsScriptRefused, ReadsScript, nodes, nodes_condition, octets};
 ghost use Rattle.qw_script.specs.Worked.{Says, equals, n, s, the_column, w};
 
 /// Tokens are one query at most.
@@ -18,9 +18,9 @@ pub fn one_query_specification()
 
 /// A text is one script, or is refused for one cause, and never both.
 pub fn one_script()
-    ensures script { (text : List ℕ) (queries others : List Select) → ReadsScript text queries → ReadsScript text others → queries ≡ others }
-    ensures cause { (text : List ℕ) (fault other : ParseFault) → IsScriptRefused text fault → IsScriptRefused text other → fault ≡ other }
-    ensures either { (text : List ℕ) (queries : List Select) (fault : ParseFault) → ReadsScript text queries → IsScriptRefused text fault → ⊥ }
+    ensures script { (script : List ℕ) (queries others : List Select) → ReadsScript script queries → ReadsScript script others → queries ≡ others }
+    ensures cause { (script : List ℕ) (fault other : ParseFault) → IsScriptRefused script fault → IsScriptRefused script other → fault ≡ other }
+    ensures either { (script : List ℕ) (queries : List Select) (fault : ParseFault) → ReadsScript script queries → IsScriptRefused script fault → ⊥ }
 {}
 
 /// NOT binds closer than AND, AND closer than OR, and BETWEEN takes the AND next to it (ISO/IEC 9075:1992, 8.12 and 8.3).
@@ -42,4 +42,12 @@ pub fn worked_brackets()
     ensures predicate { Says (s (codes "(") ∷ w (codes "a") ∷ s (codes "=") ∷ n (codes "1") ∷ s (codes ")") ∷ []) (condition (equals (codes "a") (codes "1"))) }
     ensures sum { Says (s (codes "(") ∷ s (codes "(") ∷ w (codes "a") ∷ s (codes ")") ∷ s (codes "+") ∷ n (codes "1") ∷ s (codes ")") ∷ s (codes ">") ∷ n (codes "2") ∷ []) (condition (comparison Greater (arithmetic Add (the_column (codes "a")) (number (codes "1"))) (number (codes "2")))) }
     ensures nested { Says (s (codes "(") ∷ s (codes "(") ∷ w (codes "a") ∷ s (codes "=") ∷ n (codes "1") ∷ s (codes ")") ∷ w (codes "AND") ∷ w (codes "b") ∷ s (codes "=") ∷ n (codes "2") ∷ s (codes ")") ∷ []) (condition (both (equals (codes "a") (codes "1")) (equals (codes "b") (codes "2")))) }
+{}
+
+/// Nodes and literal octets: NULL as a result is no node, two quotes in a string are one octet, and a date has none.
+pub fn worked_sizes()
+    ensures condition { nodes_condition (both (equals (codes "a") (codes "1")) (negation_of (between false (the_column (codes "x")) (number (codes "1")) (number (codes "2"))))) ≡ 9 }
+    ensures case { nodes (searched_case (when (condition (equals (codes "a") (codes "1"))) null (otherwise (text (codes "'x'"))))) ≡ 5 }
+    ensures string { octets (text (codes "'it''s'")) ≡ 4 }
+    ensures date { (nodes (date (codes "'2024-01-31'") []) ≡ 1) × (octets (date (codes "'2024-01-31'") []) ≡ 0) }
 {}
