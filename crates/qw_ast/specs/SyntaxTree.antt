@@ -14,9 +14,6 @@ use Rattle.qw_ast.specs.declared.script.Statement.{Statement}
 use Rattle.qw_ast.specs.declared.script.Script.{Script}
 use Rattle.qw_ast.specs.declared.script.Expr.TheVariants.{Null, Number, Text, Date, Column, Signed', Arithmetic', Extract', Case', Match', Coalesce', NullIf'}
 use Rattle.qw_ast.specs.declared.script.Cond.TheVariants.{Compare', Between', In', IsNull', And', Or', Not', Is'}
-use Rattle.qw_ast.specs.declared.script.Phrase.TheVariants as Phrase
-use Rattle.qw_ast.specs.declared.script.Exprs.TheVariants as Exprs
-use Rattle.qw_ast.specs.declared.script.Branches.TheVariants as Branches
 use Rattle.qw_ast.specs.Syntax.{Days, Expression, null, number, text, date, column, signed, arithmetic, extract, searched_case, simple_case, coalesce, null_if, Condition, comparison, between, among, is_null, both, either, negation_of, is, Clause, condition, expression, Expressions, last, further, Branching, otherwise, when, SelectItem, Selected, all_columns, items, Select}
 
 -- octets that may be there

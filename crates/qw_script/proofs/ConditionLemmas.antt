@@ -1,19 +1,19 @@
 -- Predicates and conditions are read exactly, where what stands in brackets and in CASE is; and so is what is nested.
-use Rattle.std.proofs.Common.{◌≡◌, ℕ, zero, suc, ◌+◌, ◌<◌, ◌≤◌, Bool, true, false, cond, ◌&&◌, ◌||◌, not, List, [], ◌∷◌, ◌++◌, length, Option, Some, None, refl, sym, ap, subst, ◌∙◌, arith, inl, inr}
-use Rattle.std.specs.Prelude.{◌⊎◌, codes, IsTrue, if◌then◌else◌}
+use Rattle.std.proofs.Common.{◌≡◌, ℕ, zero, suc, ◌<◌, Bool, true, false, cond, List, ◌∷◌, length, Option, Some, None, refl, sym, ap, subst, ◌∙◌, arith, inl, inr}
+use Rattle.std.specs.Prelude.{◌⊎◌, codes, IsTrue}
 use Rattle.std.specs.Option.{option_map_or}
-use Rattle.std.proofs.lemmas.Bool.{cases_Bool, false≢true}
+use Rattle.std.proofs.lemmas.Bool.{cases_Bool}
 use Rattle.qw_types.specs.declared.truth.Truth.{Truth}
 use Rattle.qw_token.specs.Token.{Lexeme}
-use Rattle.qw_token.specs.declared.token.Kind.TheVariants.{Word, Symbol}
+use Rattle.qw_token.specs.declared.token.Kind.TheVariants.{Word}
 use Rattle.qw_meaning.specs.declared.query.Comparison.{Comparison}
 use Rattle.qw_ast.specs.Grammar.{folded}
 use Rattle.qw_ast.specs.Syntax.{Expression, Condition, comparison, between, among, is_null, both, either, negation_of, is, Clause, condition, expression}
-use Rattle.qw_ast.specs.ScriptGrammar.{is_word, is_symbol, comparison_of, truth_of, is_comma, Series, first, more, IsOperator, operator, AreFurther, IsExpressionOf, arguments, IsOptionalNot, not_absent, not_there, IsValueExpression, IsPredicate, a_comparison, a_between, an_in, a_null_test, IsBooleanPrimary, predicate, condition_brackets, IsBooleanTest, no_test, a_test, IsBooleanFactor, no_negation, a_negation, is_and, is_or, IsBooleanTerm, IsSearchCondition, IsClause, IsNested}
-use Rattle.qw_script.specs.Inner.Readers.{◌>>=◌, token_at, one_at, word_at, symbol_at, further_at, not_at, expression_at, condition_at, the_expression, the_condition, sum_at, between_at, in_at, compare_at, null_test_at, condition_clause, ranged_at, tail_at, predicate_at, truth_test_at, test_at, boolean_factor_at, join_and, join_or, boolean_term_at, clause_at, nested_at}
-use Rattle.qw_script.proofs.LoopLemmas.{bind_some, some_same, cases_option, none_not_some}
-use Rattle.qw_script.proofs.TokenLemmas.{word_is, symbol_is, Front, front, one_takes, one_is, one_not, Found, found, token_takes, token_is, token_not, choose, strength, Stops, stops_at, stops_weaker, stops_one, stops_token, strong_symbol, strong_word}
-use Rattle.qw_script.proofs.ExactLemmas.{starts, Starts, starts_at, Exact, no_comma, further_takes, further_is, further_stops, other_word, not_takes, not_is, not_shorter}
+use Rattle.qw_ast.specs.ScriptGrammar.{is_word, is_symbol, comparison_of, truth_of, first, IsOperator, operator, AreFurther, IsExpressionOf, arguments, IsOptionalNot, not_absent, not_there, IsValueExpression, IsPredicate, a_comparison, a_between, an_in, a_null_test, IsBooleanPrimary, predicate, condition_brackets, IsBooleanTest, no_test, a_test, IsBooleanFactor, no_negation, a_negation, is_and, is_or, IsBooleanTerm, IsSearchCondition, IsClause, IsNested}
+use Rattle.qw_script.specs.Inner.Readers.{token_at, word_at, symbol_at, further_at, not_at, expression_at, condition_at, the_expression, the_condition, sum_at, between_at, in_at, compare_at, null_test_at, condition_clause, ranged_at, tail_at, predicate_at, truth_test_at, test_at, boolean_factor_at, join_and, join_or, boolean_term_at, clause_at, nested_at}
+use Rattle.qw_script.proofs.LoopLemmas.{bind_some, some_same, cases_option}
+use Rattle.qw_script.proofs.TokenLemmas.{word_is, Front, front, one_takes, one_is, one_not, Found, found, token_takes, token_is, strength, Stops, stops_at, stops_weaker, stops_one, stops_token, strong_symbol, strong_word}
+use Rattle.qw_script.proofs.ExactLemmas.{Starts, starts_at, Exact, no_comma, further_takes, further_is, further_stops, other_word, not_takes, not_is, not_shorter}
 use Rattle.qw_script.proofs.PrimaryLemmas.{the_expression_is, Of, IsBracketed, bracketed, expression_takes, expression_is, expression_exact, closing_ends, further_down}
 use Rattle.qw_script.proofs.SumLemmas.{sum_exact, expression_no_not, bracketed_no_not}
 use Rattle.qw_script.proofs.RankLemmas.{rank_exact}

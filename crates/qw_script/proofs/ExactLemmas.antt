@@ -1,17 +1,15 @@
 -- A reader reads a rule exactly; and so it does for lists, results, dates and CASE, where it does for what stands inside.
-use Rattle.std.proofs.Common.{◌≡◌, ℕ, zero, suc, ◌+◌, ◌<◌, ◌≤◌, Bool, true, false, cond, ◌&&◌, ◌||◌, List, [], ◌∷◌, ◌++◌, length, Option, Some, None, refl, sym, ap, subst, ◌∙◌, arith, inl, inr}
-use Rattle.std.specs.Prelude.{◌⊎◌, codes, IsTrue, if◌then◌else◌}
-use Rattle.std.specs.Option.{option_map_or}
+use Rattle.std.proofs.Common.{◌≡◌, ℕ, ◌+◌, ◌<◌, ◌≤◌, Bool, true, false, ◌||◌, List, [], ◌∷◌, length, Option, Some, None, refl, sym, subst, ◌∙◌, arith, inl, inr}
+use Rattle.std.specs.Prelude.{◌⊎◌, codes, IsTrue}
 use Rattle.std.proofs.lemmas.Bool.{cases_Bool, false≢true}
 use Rattle.qw_token.specs.Token.{Lexeme}
 use Rattle.qw_token.specs.declared.token.Kind.TheVariants.{Word, Symbol}
 use Rattle.qw_ast.specs.Grammar.{folded}
 use Rattle.qw_ast.specs.declared.script.Sign.{Sign}
-use Rattle.qw_ast.specs.Syntax.{Days, Expression, null, Clause, condition, expression}
-use Rattle.qw_ast.specs.ScriptGrammar.{is_word, is_symbol, is_number, is_string, is_integer, is_name, sign_of, appended, is_comma, is_when, is_condition, Series, first, more, IsOperator, operator, IsNothing, nothing, AreFurther, IsOptionalNot, not_absent, not_there, IsResult, null_result, result, Branch, IsBranch, branch, AreBranches, IsElse, no_else, else_result, IsExpressionOf, IsPrecision, no_precision, precision, IsIntervalSign, interval_sign, IsDays, days, Dated, moved, IsDateString, date_string, IsDate}
-use Rattle.qw_script.specs.Inner.Readers.{◌>>=◌, token_at, given, one_at, word_at, symbol_at, octets_if, series_at, append, further_at, not_at, expression_at, the_expression, result_at, same, branch_at, branches_at, else_at, precision_at, interval_sign_at, days_at, date_string_at, move, date_at}
-use Rattle.qw_script.proofs.LoopLemmas.{bind_some, some_same, cases_option, none_not_some, Shortens, series_holds, series_is, series_shorter, series_begins}
-use Rattle.qw_script.proofs.TokenLemmas.{word_is, symbol_is, Front, front, one_takes, one_is, one_not, one_shorter, Found, found, token_takes, token_is, token_shortens, octets_found, octets_are, strength, Stops, stops_at, stops_none, stops_one, stops_token, strong_symbol, strong_word}
+use Rattle.qw_ast.specs.ScriptGrammar.{is_word, is_symbol, is_number, is_string, is_integer, is_name, sign_of, appended, is_comma, Series, first, more, IsOperator, operator, IsNothing, nothing, AreFurther, IsOptionalNot, not_absent, not_there, IsPrecision, no_precision, precision, IsIntervalSign, interval_sign, IsDays, days, Dated, moved, IsDateString, date_string, IsDate}
+use Rattle.qw_script.specs.Inner.Readers.{token_at, given, one_at, word_at, symbol_at, octets_if, series_at, append, further_at, not_at, precision_at, interval_sign_at, days_at, date_string_at, move, date_at}
+use Rattle.qw_script.proofs.LoopLemmas.{bind_some, some_same, cases_option, Shortens, series_holds, series_is, series_shorter, series_begins}
+use Rattle.qw_script.proofs.TokenLemmas.{word_is, symbol_is, Front, front, one_takes, one_is, one_not, Found, found, token_takes, token_is, token_shortens, octets_found, octets_are, strength, Stops, stops_at, strong_symbol, strong_word}
 
 -- ---- how an expression or a condition begins
 

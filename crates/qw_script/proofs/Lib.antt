@@ -3,6 +3,8 @@ mod ExactLemmas
 mod LoopLemmas
 mod PrimaryLemmas
 mod RankLemmas
+mod ScriptLemmas
 mod SelectLemmas
 mod SumLemmas
 mod TokenLemmas
+mod WorkedLemmas

@@ -1,9 +1,9 @@
 -- Loops of an operator and an operand: they end, go on, and read exactly what a series is.
-use Rattle.std.proofs.Common.{◌≡◌, ℕ, zero, suc, ◌+◌, ◌<◌, ◌≤◌, Bool, true, false, cond, ◌&&◌, List, [], ◌∷◌, length, Option, Some, None, refl, sym, ap, subst, ◌∙◌, arith, inl, inr}
+use Rattle.std.proofs.Common.{◌≡◌, ℕ, zero, suc, ◌+◌, ◌<◌, ◌≤◌, Bool, true, false, cond, List, length, Option, Some, None, refl, sym, ap, subst, ◌∙◌, arith, inl, inr}
 use Rattle.std.specs.Prelude.{◌⊎◌}
 use Rattle.qw_token.specs.Token.{Lexeme}
 use Rattle.qw_ast.specs.ScriptGrammar.{Series, first, more}
-use Rattle.qw_script.specs.Inner.Readers.{◌>>=◌, after_step, steps_within, series_step, series_from, series_at}
+use Rattle.qw_script.specs.Inner.Readers.{◌>>=◌, steps_within, series_step, series_from, series_at}
 
 -- ---- options
 

@@ -1,19 +1,18 @@
 -- Primaries are read exactly, where what stands in brackets and in CASE is.
-use Rattle.std.proofs.Common.{◌≡◌, ℕ, zero, suc, ◌+◌, ◌<◌, ◌≤◌, Bool, true, false, cond, ◌&&◌, ◌||◌, not, List, [], ◌∷◌, ◌++◌, length, Option, Some, None, refl, sym, ap, subst, ◌∙◌, arith, inl, inr}
-use Rattle.std.specs.Prelude.{◌⊎◌, codes, IsTrue, if◌then◌else◌}
-use Rattle.std.specs.Option.{option_map_or}
-use Rattle.std.proofs.lemmas.Bool.{cases_Bool, false≢true, or_left, or_right}
+use Rattle.std.proofs.Common.{◌≡◌, ℕ, ◌<◌, ◌≤◌, Bool, true, false, List, [], ◌∷◌, length, Option, Some, None, refl, sym, ap, subst, ◌∙◌, arith, inl, inr}
+use Rattle.std.specs.Prelude.{codes, IsTrue}
+use Rattle.std.proofs.lemmas.Bool.{cases_Bool, false≢true}
 use Rattle.qw_token.specs.Token.{Lexeme}
 use Rattle.qw_token.specs.declared.token.Kind.{Kind}
 use Rattle.qw_token.specs.declared.token.Kind.TheVariants.{Word, DelimitedIdentifier, CharacterString, Number, Symbol}
 use Rattle.qw_meaning.specs.declared.expression.Field.{Field}
 use Rattle.qw_ast.specs.Grammar.{folded}
-use Rattle.qw_ast.specs.Syntax.{Expression, null, number, text, date, column, extract, searched_case, simple_case, coalesce, null_if, Condition, Clause, condition, expression}
-use Rattle.qw_ast.specs.ScriptGrammar.{is_word_kind, is_string_kind, is_number_kind, is_symbol_kind, is_word, is_symbol, is_number, is_string, is_name, field_of, appended, is_comma, is_when, is_condition, Series, first, more, IsOperator, operator, IsNothing, nothing, AreFurther, IsResult, null_result, result, Branch, IsBranch, branch, AreBranches, IsElse, no_else, else_result, IsExpressionOf, Dated, IsDate, arguments, branching, IsPrimary, a_number, a_string, a_date, a_column, a_qualified_column, brackets, a_searched_case, a_simple_case, a_coalesce, a_null_if, an_extract}
-use Rattle.qw_script.specs.Inner.Readers.{◌>>=◌, token_at, one_at, word_at, symbol_at, octets_if, append, further_at, expression_at, the_expression, result_at, same, branch_at, branches_at, else_at, case_operand_at, case_of, is_absent, case_with, case_at, coalesce_of, coalesce_at, null_if_at, extract_at, brackets_at, column_at, date_at, as_clause, primary_of, primary_at, interval_sign_at}
-use Rattle.qw_script.proofs.LoopLemmas.{bind_some, some_same, cases_option, none_not_some, Shortens}
-use Rattle.qw_script.proofs.TokenLemmas.{word_is, symbol_is, Front, front, one_takes, one_is, one_not, Found, found, token_takes, token_is, token_shortens, octets_found, octets_are, choose, strength, Stops, stops_at, strong_symbol, strong_word}
-use Rattle.qw_script.proofs.ExactLemmas.{starts, Starts, starts_at, starts_not, Exact, exact_shortens, operator_stops, series_front, list_takes, list_is, list_shorter, no_comma, further_takes, further_is, further_shorter, further_stops, other_word, no_word, word_stops, symbol_stops, EndsDate, date_takes, date_is, date_shorter, date_begins}
+use Rattle.qw_ast.specs.Syntax.{Expression, null, extract, searched_case, simple_case, coalesce, null_if, Condition, Clause, condition, expression}
+use Rattle.qw_ast.specs.ScriptGrammar.{is_word_kind, is_string_kind, is_number_kind, is_symbol_kind, is_word, is_symbol, is_number, is_string, is_name, field_of, is_when, is_condition, IsOperator, operator, AreFurther, IsResult, null_result, result, Branch, IsBranch, branch, AreBranches, IsElse, no_else, else_result, IsExpressionOf, arguments, branching, IsPrimary, a_searched_case, a_simple_case, a_coalesce, a_null_if, an_extract}
+use Rattle.qw_script.specs.Inner.Readers.{token_at, one_at, word_at, symbol_at, further_at, expression_at, the_expression, result_at, same, branch_at, branches_at, else_at, case_operand_at, is_absent, case_with, case_at, coalesce_of, coalesce_at, null_if_at, extract_at, as_clause}
+use Rattle.qw_script.proofs.LoopLemmas.{bind_some, some_same, cases_option}
+use Rattle.qw_script.proofs.TokenLemmas.{word_is, Front, front, one_takes, one_is, Found, found, token_takes, token_is, choose, strength, Stops, strong_word}
+use Rattle.qw_script.proofs.ExactLemmas.{Starts, starts_not, Exact, operator_stops, series_front, list_takes, list_is, list_shorter, no_comma, further_takes, further_is, further_shorter, further_stops, other_word, word_stops, symbol_stops, EndsDate}
 
 pub the_expression_is : (c : Clause) (e : Expression) → the_expression c ≡ Some e → c ≡ expression e
 the_expression_is (condition c) e h = absurd cc

@@ -1,11 +1,11 @@
 -- Operands of one rank with operators between them are read exactly, where the operands are.
-use Rattle.std.proofs.Common.{◌≡◌, ℕ, ◌<◌, ◌≤◌, ◌+◌, List, length, Option, Some, None, refl, sym, ap, subst, ◌∙◌, arith, inl, inr}
+use Rattle.std.proofs.Common.{◌≡◌, ◌<◌, ◌≤◌, ◌+◌, List, length, Option, Some, None, sym, subst, arith, inl, inr}
 use Rattle.std.specs.Prelude.{◌⊎◌}
 use Rattle.qw_token.specs.Token.{Lexeme}
 use Rattle.qw_ast.specs.Syntax.{Clause}
-use Rattle.qw_ast.specs.ScriptGrammar.{Series, first, more, IsOperator}
+use Rattle.qw_ast.specs.ScriptGrammar.{Series, more, IsOperator}
 use Rattle.qw_script.specs.Inner.Readers.{token_at, series_at}
-use Rattle.qw_script.proofs.LoopLemmas.{Shortens, loop_end, series_holds, series_is, series_shorter, series_begins}
+use Rattle.qw_script.proofs.LoopLemmas.{loop_end, series_holds, series_is, series_shorter, series_begins}
 use Rattle.qw_script.proofs.TokenLemmas.{token_shortens}
 use Rattle.qw_script.proofs.ExactLemmas.{Starts, Exact, exact_shortens, operator_takes, operator_is, operator_shorter}
 

@@ -1,18 +1,17 @@
 -- Queries are read exactly, where expressions and conditions are; so tokens are one query at most.
-use Rattle.std.proofs.Common.{◌≡◌, ℕ, zero, suc, ◌+◌, ◌<◌, ◌≤◌, Bool, true, false, cond, ◌&&◌, ◌||◌, not, List, [], ◌∷◌, ◌++◌, length, Option, Some, None, refl, sym, ap, subst, ◌∙◌, arith, inl, inr}
-use Rattle.std.specs.Prelude.{◌⊎◌, codes, IsTrue, if◌then◌else◌}
-use Rattle.std.specs.Option.{option_map_or}
+use Rattle.std.proofs.Common.{◌≡◌, ℕ, ◌<◌, ◌≤◌, false, List, [], ◌∷◌, length, Option, Some, None, refl, sym, ap, subst, ◌∙◌, arith, inl, inr}
+use Rattle.std.specs.Prelude.{codes, IsTrue}
 use Rattle.std.proofs.lemmas.Bool.{cases_Bool, false≢true}
 use Rattle.qw_token.specs.Token.{Lexeme}
-use Rattle.qw_token.specs.declared.token.Kind.TheVariants.{Word, Symbol}
+use Rattle.qw_token.specs.declared.token.Kind.TheVariants.{Word}
 use Rattle.qw_ast.specs.Grammar.{folded}
-use Rattle.qw_ast.specs.Syntax.{Expression, Condition, Clause, condition, expression, SelectItem, Selected, all_columns, items, Select}
+use Rattle.qw_ast.specs.Syntax.{Condition, Clause, condition, expression, SelectItem, Selected, all_columns, items, Select}
 use Rattle.qw_ast.specs.ScriptGrammar.{is_word, is_symbol, is_name, is_regular, is_comma, IsOperator, operator, AreFurther, IsNested, IsNaming, unnamed, named, named_as, IsItem, item, IsSelectList, asterisk, some_items, IsOptionalAll, all_absent, all_there, IsFilter, unfiltered, filtered, IsSelect, a_select, IsSelectOf}
-use Rattle.qw_script.specs.Inner.Readers.{◌>>=◌, token_at, one_at, word_at, symbol_at, octets_if, further_at, expression_at, condition_at, the_condition, nested_at, naming_at, item_at, select_list_at, behind_all, filter_at, select_at, whole, select_of}
-use Rattle.qw_script.proofs.LoopLemmas.{bind_some, some_same, cases_option, none_not_some}
+use Rattle.qw_script.specs.Inner.Readers.{token_at, word_at, symbol_at, octets_if, further_at, expression_at, condition_at, the_condition, nested_at, naming_at, item_at, select_list_at, behind_all, filter_at, select_at, whole, select_of}
+use Rattle.qw_script.proofs.LoopLemmas.{bind_some, some_same, cases_option}
 use Rattle.qw_script.proofs.TokenLemmas.{word_is, symbol_is, Front, front, one_takes, one_is, one_not, one_none, Found, found, token_takes, token_is, token_not, token_none, octets_found, octets_are, strength, Stops, stops_at, stops_none}
-use Rattle.qw_script.proofs.ExactLemmas.{starts, Starts, starts_not, Exact, operator_stops, comma_weak, series_front, list_takes, list_is, list_shorter, other_word, no_word, no_comma, word_stops, symbol_stops}
-use Rattle.qw_script.proofs.PrimaryLemmas.{name_no_word, name_no_symbol, expression_takes, expression_is}
+use Rattle.qw_script.proofs.ExactLemmas.{starts, Starts, starts_not, Exact, series_front, list_takes, list_is, other_word, no_word, word_stops, symbol_stops}
+use Rattle.qw_script.proofs.PrimaryLemmas.{name_no_word, expression_takes, expression_is}
 use Rattle.qw_script.proofs.ConditionLemmas.{nested_exact, the_condition_is}
 
 -- ---- what ends a name

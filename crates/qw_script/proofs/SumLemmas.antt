@@ -1,22 +1,20 @@
 -- Primaries, factors, terms and sums are read exactly, where what stands in brackets and in CASE is.
-use Rattle.std.proofs.Common.{◌≡◌, ℕ, zero, suc, ◌+◌, ◌<◌, ◌≤◌, Bool, true, false, cond, ◌&&◌, ◌||◌, not, List, [], ◌∷◌, ◌++◌, length, Option, Some, None, refl, sym, ap, subst, ◌∙◌, arith, inl, inr}
-use Rattle.std.specs.Prelude.{◌⊎◌, codes, IsTrue, if◌then◌else◌}
-use Rattle.std.specs.Option.{option_map_or}
-use Rattle.std.proofs.lemmas.Bool.{cases_Bool, false≢true, or_left, or_right}
+use Rattle.std.proofs.Common.{◌≡◌, ℕ, ◌<◌, ◌≤◌, true, false, ◌||◌, List, [], ◌∷◌, length, Option, Some, None, refl, sym, subst, ◌∙◌, arith, inl, inr}
+use Rattle.std.specs.Prelude.{◌⊎◌, codes, IsTrue}
+use Rattle.std.proofs.lemmas.Bool.{cases_Bool, or_left, or_right}
 use Rattle.qw_token.specs.Token.{Lexeme}
-use Rattle.qw_token.specs.declared.token.Kind.TheVariants.{Word, DelimitedIdentifier, CharacterString, Number, Symbol}
+use Rattle.qw_token.specs.declared.token.Kind.TheVariants.{Word, Symbol}
 use Rattle.qw_meaning.specs.declared.expression.Operator.{Operator}
 use Rattle.qw_ast.specs.declared.script.Sign.{Sign}
-use Rattle.qw_ast.specs.declared.script.Sign.TheVariants.{Plus, Minus}
 use Rattle.qw_ast.specs.Grammar.{folded}
 use Rattle.qw_ast.specs.Syntax.{Expression, number, text, date, column, signed, arithmetic, Condition, Clause, condition, expression}
-use Rattle.qw_ast.specs.ScriptGrammar.{is_word, is_symbol, is_number, is_string, is_name, sign_of, addition_of, multiplication_of, Series, first, more, IsOperator, operator, IsIntervalSign, interval_sign, Dated, IsDate, IsPrimary, a_number, a_string, a_date, a_column, a_qualified_column, brackets, a_searched_case, a_simple_case, a_coalesce, a_null_if, an_extract, IsFactor, unsigned_factor, signed_factor, IsTerm, IsValueExpression}
-use Rattle.qw_script.specs.Inner.Readers.{◌>>=◌, token_at, one_at, word_at, symbol_at, octets_if, series_at, the_expression, case_at, coalesce_at, null_if_at, extract_at, brackets_at, column_at, date_at, as_clause, primary_of, primary_at, interval_sign_at, factor_at, join_arithmetic, term_at, sum_at}
-use Rattle.qw_script.proofs.LoopLemmas.{bind_some, some_same, cases_option, none_not_some, Shortens, series_holds, series_is, series_shorter, series_begins}
-use Rattle.qw_script.proofs.TokenLemmas.{word_is, symbol_is, Front, front, one_takes, one_is, one_not, Found, found, token_takes, token_is, token_not, token_shortens, octets_found, octets_are, choose, strength, Stops, stops_at, stops_weaker, stops_one, stops_token, strong_symbol, strong_word}
+use Rattle.qw_ast.specs.ScriptGrammar.{is_word, is_symbol, is_number, is_string, is_name, sign_of, addition_of, multiplication_of, Series, first, IsOperator, operator, Dated, IsPrimary, a_number, a_string, a_date, a_column, a_qualified_column, brackets, a_searched_case, a_simple_case, a_coalesce, a_null_if, an_extract, IsFactor, unsigned_factor, signed_factor, IsTerm, IsValueExpression}
+use Rattle.qw_script.specs.Inner.Readers.{◌>>=◌, token_at, word_at, symbol_at, octets_if, the_expression, case_at, coalesce_at, null_if_at, extract_at, brackets_at, column_at, date_at, as_clause, primary_of, primary_at, interval_sign_at, factor_at, join_arithmetic, term_at, sum_at}
+use Rattle.qw_script.proofs.LoopLemmas.{bind_some, some_same, cases_option, series_begins}
+use Rattle.qw_script.proofs.TokenLemmas.{word_is, symbol_is, Front, front, one_takes, one_is, one_not, Found, found, token_takes, token_is, token_not, octets_found, octets_are, choose, strength, Stops, stops_at, stops_weaker, stops_one, stops_token, strong_symbol}
 use Rattle.qw_script.proofs.RankLemmas.{rank_exact}
-use Rattle.qw_script.proofs.ExactLemmas.{starts, Starts, starts_at, starts_not, Exact, exact_shortens, operator_takes, operator_is, operator_shorter, other_word, EndsDate, BeginsDate, date_takes, date_is, date_shorter, date_begins}
-use Rattle.qw_script.proofs.PrimaryLemmas.{the_expression_is, string_no_number, name_kind, name_no_symbol, name_no_word, number_no_symbol, string_no_symbol, number_no_word, string_no_word, front_is, Of, IsBracketed, bracketed, EndsPrimary, as_clause_some, as_clause_is, expression_is, case_takes, searched_is, simple_is, coalesce_takes, coalesce_is, null_if_takes, null_if_is, extract_takes, extract_is, closing_ends, branches_shorter, else_shorter, further_down}
+use Rattle.qw_script.proofs.ExactLemmas.{starts, Starts, starts_at, starts_not, Exact, other_word, date_takes, date_is, date_shorter, date_begins}
+use Rattle.qw_script.proofs.PrimaryLemmas.{the_expression_is, string_no_number, name_kind, name_no_symbol, name_no_word, number_no_symbol, string_no_symbol, number_no_word, string_no_word, Of, IsBracketed, bracketed, EndsPrimary, as_clause_some, as_clause_is, case_takes, searched_is, simple_is, coalesce_takes, coalesce_is, null_if_takes, null_if_is, extract_takes, extract_is, closing_ends, branches_shorter, else_shorter, further_down}
 
 -- ---- what the operators are
 

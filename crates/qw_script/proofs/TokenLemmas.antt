@@ -1,20 +1,15 @@
 -- What tokens are, and which go on with an expression or a condition.
-use Rattle.std.proofs.Common.{◌≡◌, ℕ, zero, suc, ◌<◌, ◌≤◌, Bool, true, false, cond, ◌&&◌, ◌||◌, List, [], ◌∷◌, length, Option, Some, None, refl, sym, ap, subst, ◌∙◌, arith, inl, inr}
+use Rattle.std.proofs.Common.{◌≡◌, ℕ, ◌<◌, ◌≤◌, Bool, true, false, cond, ◌||◌, List, [], ◌∷◌, length, Option, Some, None, refl, subst, arith, inl, inr}
 use Rattle.std.specs.Prelude.{◌⊎◌, codes, IsTrue, if◌then◌else◌}
 use Rattle.std.specs.Str.{bytes_eq}
-use Rattle.std.proofs.lemmas.Bool.{and_parts, cases_Bool, false≢true}
+use Rattle.std.proofs.lemmas.Bool.{and_parts, cases_Bool}
 use Rattle.std.proofs.lemmas.Slice.Eq.{bytes_eq-Decides}
-use Rattle.qw_types.specs.declared.truth.Truth.{Truth}
-use Rattle.qw_meaning.specs.declared.expression.Operator.{Operator}
-use Rattle.qw_meaning.specs.declared.expression.Field.{Field}
-use Rattle.qw_meaning.specs.declared.query.Comparison.{Comparison}
 use Rattle.qw_token.specs.declared.token.Kind.{Kind}
 use Rattle.qw_token.specs.declared.token.Kind.TheVariants.{Word, DelimitedIdentifier, CharacterString, Number, Symbol}
 use Rattle.qw_token.specs.Token.{Lexeme}
 use Rattle.qw_ast.specs.Grammar.{folded}
-use Rattle.qw_ast.specs.declared.script.Sign.{Sign}
-use Rattle.qw_ast.specs.ScriptGrammar.{is_word_kind, is_symbol_kind, is_word, is_symbol, is_number, is_string, is_integer, is_regular, is_name, sign_of, addition_of, multiplication_of, comparison_of, is_comma, is_when, is_and, is_or}
-use Rattle.qw_script.specs.Inner.Readers.{◌>>=◌, token_at, one_at, word_at, symbol_at, octets_if}
+use Rattle.qw_ast.specs.ScriptGrammar.{is_word_kind, is_symbol_kind, is_word, is_symbol, is_name}
+use Rattle.qw_script.specs.Inner.Readers.{token_at, one_at, octets_if}
 use Rattle.qw_script.proofs.LoopLemmas.{bind_some, some_same, Shortens}
 
 -- ---- kinds

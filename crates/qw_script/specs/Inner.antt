@@ -1,3 +1,2 @@
 -- What restates code for proofs. No public clause rests on it.
 pub mod Readers
-pub mod Trees

@@ -1,5 +1,3 @@
 //! The script that a text says.
 
-mod make;
-mod read;
 mod word;

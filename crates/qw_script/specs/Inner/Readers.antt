@@ -1,14 +1,12 @@
 -- Mirrors the readers of src/script. A reader answers what it found and the tokens behind that. `inner` reads what
 -- stands in brackets and in CASE.
-use Rattle.std.specs.Prelude.{ℕ, zero, suc, Bool, true, false, ◌&&◌, ◌||◌, not, if◌then◌else◌, List, [], ◌∷◌, ◌++◌, length, Option, Some, None, codes}
+use Rattle.std.specs.Prelude.{ℕ, zero, suc, Bool, true, false, not, if◌then◌else◌, List, [], ◌∷◌, length, Option, Some, None, codes}
 use Rattle.std.specs.Option.{option_map_or}
-use Rattle.qw_types.specs.declared.truth.Truth.{Truth}
 use Rattle.qw_meaning.specs.declared.expression.Operator.{Operator}
-use Rattle.qw_meaning.specs.declared.expression.Field.{Field}
 use Rattle.qw_meaning.specs.declared.query.Comparison.{Comparison}
 use Rattle.qw_token.specs.Token.{Lexeme}
 use Rattle.qw_ast.specs.declared.script.Sign.{Sign}
-use Rattle.qw_ast.specs.Syntax.{Days, Expression, null, number, text, date, column, signed, arithmetic, extract, searched_case, simple_case, coalesce, null_if, Condition, comparison, between, among, is_null, both, either, negation_of, is, Clause, condition, expression, Expressions, Branching, SelectItem, Selected, all_columns, items, Select}
+use Rattle.qw_ast.specs.Syntax.{Expression, null, number, text, date, column, signed, arithmetic, extract, searched_case, simple_case, coalesce, null_if, Condition, comparison, between, among, is_null, both, either, negation_of, is, Clause, condition, expression, Branching, SelectItem, Selected, all_columns, items, Select}
 use Rattle.qw_ast.specs.ScriptGrammar.{is_word, is_symbol, is_number, is_string, is_integer, is_regular, is_name, sign_of, addition_of, multiplication_of, comparison_of, field_of, truth_of, appended, is_comma, Dated, moved, arguments, Branch, is_condition, is_when, branching, is_and, is_or}
 
 abbrev pub Reader : Type 0 → Type 0

@@ -1,0 +1,43 @@
+//! Why a text is no script.
+
+use thiserror::Error;
+
+/// What there may be too many of.
+#[derive(Clone, Copy, Debug, PartialEq, Eq)]
+pub enum Count {
+    Statements,
+    SelectItems,
+    Nodes,
+    LiteralOctets,
+}
+
+/// Why a text is no script. Statements are counted from 1.
+#[derive(Clone, Copy, Debug, PartialEq, Eq, Error)]
+pub enum ParseFault {
+    #[error("the text is not UTF-8")]
+    NotUtf8,
+    /// No token begins at this octet, counted from 0 at the start of the text.
+    #[error("no token begins at octet {at}")]
+    NotToken {
+        at: usize,
+    },
+    /// The statement is no query, or there is none.
+    #[error("statement {statement} is no query")]
+    NotGrammar {
+        statement: usize,
+    },
+    /// More brackets are open behind a token of the statement than are taken.
+    #[error("statement {statement} is nested too deeply")]
+    TooDeep {
+        statement: usize,
+    },
+    /// More than `limit` of something; of statements at statement 1.
+    #[error("there are too many of {what:?} in statement {statement}, more than {limit}")]
+    TooMany {
+        statement: usize,
+        what: Count,
+        limit: usize,
+    },
+    #[error("want of memory")]
+    NoMemory,
+}

@@ -1,1 +1,0 @@
-//! Readers of expressions and conditions.
