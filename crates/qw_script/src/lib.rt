@@ -2,9 +2,7 @@
 //!
 //! - [`fault::ParseFault`]: why a text is no script.
 //! - [`laws`]: tokens are one query at most, and worked cases of the grammar.
-//! - `script`: what single tokens are, for the readers of scripts.
 #![tactic(auto)]
 
 pub mod fault;
 pub mod laws;
-mod script;

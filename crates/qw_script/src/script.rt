@@ -1,3 +1,0 @@
-//! The script that a text says.
-
-mod word;
