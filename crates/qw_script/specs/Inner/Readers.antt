@@ -1,5 +1,5 @@
--- Mirrors the readers of src/script. A reader answers what it found and the tokens behind that. `inner` reads what
--- stands in brackets and in CASE.
+-- Readers of the grammar on lists of tokens, by which its laws are proved. They mirror no function yet. A reader answers what it
+-- found and the tokens behind that. `inner` reads what stands in brackets and in CASE.
 use Rattle.std.specs.Prelude.{ℕ, zero, suc, Bool, true, false, not, if◌then◌else◌, List, [], ◌∷◌, length, Option, Some, None, codes}
 use Rattle.std.specs.Option.{option_map_or}
 use Rattle.qw_meaning.specs.declared.expression.Operator.{Operator}
