@@ -38,8 +38,8 @@ abbrev pub sure : ℕ → Cell
 sure x = record { value = x; length = x; null = None }
 
 sure_holds : (x : ℕ) (g : Bool) (s : LowState) → slice_get s.locals x ≡ Some (Number (truth g)) → HoldsTruth (sure x) (truth_if g) s
-sure_holds x true s is = (is, tt)
-sure_holds x false s is = (is, tt)
+sure_holds x true s word = (word, tt)
+sure_holds x false s word = (word, tt)
 
 -- whether a truth is false, in a word
 false_is : (v : ℕ) (n : Option ℕ) (t : Truth) (s : LowState) → HoldsTruth (record { value = v; length = v; null = n }) t s → value s (is_false v n) ≡ Some (Number (truth (same_truth t False)))
@@ -82,7 +82,7 @@ module _ (known : List Known) (next : ℕ) (c : Condition) (cell : Cell) (sc : S
           subst (λ (r : Result Truth Code). Comes pages fuel more (λ t w. Kept next s w × HoldsTruth (record { value = m; length = m; null = null }) t w) r (seq sc (assign m (is_false cell.value cell.null))) s) (sym same.0)
           (comes_then pages fuel more (λ t u. Kept next s u × HoldsTruth cell t u) (λ t w. Kept next s w × HoldsTruth (record { value = m; length = m; null = null }) t w) (truth_of c env) (λ t. Ok (g t)) sc (assign m (is_false cell.value cell.null)) s
           (dc.runs pages fuel more row s (omega (arith, enough, same.1)) within held (columns row has) (omega (arith, room, long)))
-          (λ t u is left.
+          (λ t u found left.
           let word : ℕ = truth (same_truth t False) in
           comes_assign pages fuel more (omega (arith, enough)) (λ v w. Kept next s w × HoldsTruth (record { value = m; length = m; null = null }) v w) (g t) m (is_false cell.value cell.null) (Number word) u
           (false_is cell.value cell.null t u (same_cell cell t u left.1)) (omega (arith, room, long, left.0.many))
@@ -113,9 +113,9 @@ module _ (known : List Known) (next : ℕ) (c : Condition) (cell : Cell) (sc : S
       says_null (Some x) u w kept low says = kept.below x low ∙ says
 
       leaves : (t : Truth) (u w : LowState) → HoldsTruth cell t u → Kept m u w → slice_get w.locals m ≡ Some (Number (truth (same_truth t False))) → HoldsTruth (record { value = m; length = m; null = cell.null }) (negation t) w
-      leaves True u w holds kept is = (is, value_says m u w cell.null kept dc.below.2 holds.1)
-      leaves False u w holds kept is = (is, value_says m u w cell.null kept dc.below.2 holds.1)
-      leaves Unknown u w holds kept is = (is, says_null cell.null u w kept dc.below.2 holds.1)
+      leaves True u w holds kept word = (word, value_says m u w cell.null kept dc.below.2 holds.1)
+      leaves False u w holds kept word = (word, value_says m u w cell.null kept dc.below.2 holds.1)
+      leaves Unknown u w holds kept word = (word, says_null cell.null u w kept dc.below.2 holds.1)
 
   -- IS FALSE
   pub is_false_decides : Decides known (is c False) next (sure m) (seq sc (assign m (is_false cell.value cell.null))) (ownc ++ I32 ∷ [])
