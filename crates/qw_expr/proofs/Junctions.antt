@@ -29,7 +29,7 @@ use Rattle.qw_expr.proofs.Nulls.{truth_kept, known_kept, below_more}
 use Rattle.qw_expr.proofs.Binary.{declares_first, declares_rest}
 
 -- ---- the words of a truth
-true_word : (c : Cell) (t : Truth) (s : LowState) → HoldsTruth c t s → slice_get s.locals c.value ≡ Some (Number (truth (same_truth t True)))
+pub true_word : (c : Cell) (t : Truth) (s : LowState) → HoldsTruth c t s → slice_get s.locals c.value ≡ Some (Number (truth (same_truth t True)))
 true_word c True s holds = holds.0
 true_word c False s holds = holds.0
 true_word c Unknown s holds = holds.0
@@ -42,7 +42,7 @@ unknown_is v (Some n) True s holds = holds.1
 unknown_is v (Some n) False s holds = holds.1
 unknown_is v (Some n) Unknown s holds = holds.1
 
-may_is : (v : ℕ) (n : Option ℕ) (t : Truth) (s : LowState) → HoldsTruth (record { value = v; length = v; null = n }) t s → value s (may_hold v n) ≡ Some (Number (truth (not (same_truth t False))))
+pub may_is : (v : ℕ) (n : Option ℕ) (t : Truth) (s : LowState) → HoldsTruth (record { value = v; length = v; null = n }) t s → value s (may_hold v n) ≡ Some (Number (truth (not (same_truth t False))))
 may_is v None True s holds = holds.0
 may_is v None False s holds = holds.0
 may_is v None Unknown s holds = absurd (holds.1)
@@ -50,7 +50,7 @@ may_is v (Some n) True s holds = rw (holds.0, holds.1) refl
 may_is v (Some n) False s holds = rw (holds.0, holds.1) refl
 may_is v (Some n) Unknown s holds = rw (holds.0, holds.1) refl
 
-same_cell : (c : Cell) (t : Truth) (s : LowState) → HoldsTruth c t s → HoldsTruth (record { value = c.value; length = c.value; null = c.null }) t s
+pub same_cell : (c : Cell) (t : Truth) (s : LowState) → HoldsTruth c t s → HoldsTruth (record { value = c.value; length = c.value; null = c.null }) t s
 same_cell c True s holds = holds
 same_cell c False s holds = holds
 same_cell c Unknown s holds = holds
@@ -68,7 +68,7 @@ or_is s e f true false one other = rw (one, other) refl
 or_is s e f false true one other = rw (one, other) refl
 or_is s e f false false one other = rw (one, other) refl
 
-not_is : (s : LowState) (e : Expression) (p : Bool) → value s e ≡ Some (Number (truth p)) → value s (is_zero I32 e) ≡ Some (Number (truth (not p)))
+pub not_is : (s : LowState) (e : Expression) (p : Bool) → value s e ≡ Some (Number (truth p)) → value s (is_zero I32 e) ≡ Some (Number (truth (not p)))
 not_is s e true one = rw one refl
 not_is s e false one = rw one refl
 
@@ -124,6 +124,11 @@ known_truth v True s holds = refl
 known_truth v False s holds = refl
 known_truth v Unknown s holds = absurd (holds.1)
 
+pub null_cases : (m : ℕ) (a b : Option ℕ) → (junction_null (m + 1) a b ≡ None) ⊎ (junction_null (m + 1) a b ≡ Some (m + 1))
+null_cases m None None = inl refl
+null_cases m None (Some n) = inr refl
+null_cases m (Some k) n = inr refl
+
 module _ (most fuel N : ℕ) (some : 1 ≤ N) (m : ℕ) where
   -- the null word of a junction is the local behind the truth's, if there is one
   sets : (s u : LowState) (null : Option ℕ) → (null ≡ None) ⊎ (null ≡ Some (m + 1)) → (r : Truth) (e f : Expression) → Kept m s u → m + 1 < length u.locals → (null ≡ None → same_truth r Unknown ≡ false) →
@@ -149,11 +154,6 @@ module _ (most fuel N : ℕ) (some : 1 ≤ N) (m : ℕ) where
     abbrev null : Option ℕ
     null = junction_null (m + 1) c.null d.null
 
-    pub null_cases : (a b : Option ℕ) → (junction_null (m + 1) a b ≡ None) ⊎ (junction_null (m + 1) a b ≡ Some (m + 1))
-    null_cases None None = inl refl
-    null_cases None (Some n) = inr refl
-    null_cases (Some k) n = inr refl
-
     sure_both : (a b : Option ℕ) (va vb : ℕ) (x y : Truth) (s : LowState) → junction_null (m + 1) a b ≡ None → HoldsTruth (record { value = va; length = va; null = a }) x s → HoldsTruth (record { value = vb; length = vb; null = b }) y s →
         (same_truth x Unknown ≡ false) × (same_truth y Unknown ≡ false)
     sure_both None None va vb x y s none one other = (known_truth va x s one, known_truth vb y s other)
@@ -174,7 +174,7 @@ module _ (most fuel N : ℕ) (some : 1 ≤ N) (m : ℕ) where
         Comes most fuel N (λ v w. Kept m s w × HoldsTruth (record { value = m; length = m; null = null }) v w) (Ok (conjunction x y))
         (set_truth null m (binop I32 And (local c.value) (local d.value)) (binop I32 And (binop I32 Or (unknown_word c.null) (unknown_word d.null)) (may_hold d.value d.null))) u
     sets_and s u x y kept room other one two =
-        sets s u null (null_cases c.null d.null) (conjunction x y) (binop I32 And (local c.value) (local d.value)) (binop I32 And (binop I32 Or (unknown_word c.null) (unknown_word d.null)) (may_hold d.value d.null)) kept room
+        sets s u null (null_cases m c.null d.null) (conjunction x y) (binop I32 And (local c.value) (local d.value)) (binop I32 And (binop I32 Or (unknown_word c.null) (unknown_word d.null)) (may_hold d.value d.null)) kept room
         (λ none. let known = sure_both c.null d.null c.value d.value x y u none (same_cell c x u one) (same_cell d y u two) in sure_and x y known.0 known.1)
         (λ w step.
         let first = truth_kept m u w c x step low_c one in
@@ -188,7 +188,7 @@ module _ (most fuel N : ℕ) (some : 1 ≤ N) (m : ℕ) where
         Comes most fuel N (λ v w. Kept m s w × HoldsTruth (record { value = m; length = m; null = null }) v w) (Ok (disjunction x y))
         (set_truth null m (local d.value) (binop I32 And (binop I32 Or (unknown_word c.null) (unknown_word d.null)) (is_zero I32 (local d.value)))) u
     sets_or s u x y kept room other one two =
-        sets s u null (null_cases c.null d.null) (disjunction x y) (local d.value) (binop I32 And (binop I32 Or (unknown_word c.null) (unknown_word d.null)) (is_zero I32 (local d.value))) kept room
+        sets s u null (null_cases m c.null d.null) (disjunction x y) (local d.value) (binop I32 And (binop I32 Or (unknown_word c.null) (unknown_word d.null)) (is_zero I32 (local d.value))) kept room
         (λ none. let known = sure_both c.null d.null c.value d.value x y u none (same_cell c x u one) (same_cell d y u two) in sure_or x y known.0 known.1)
         (λ w step.
         let first = truth_kept m u w c x step low_c one in
@@ -200,7 +200,7 @@ module _ (most fuel N : ℕ) (some : 1 ≤ N) (m : ℕ) where
 
     -- what is skipped
     pub sets_false : (s u : LowState) → Kept m s u → m + 1 < length u.locals → Comes most fuel N (λ v w. Kept m s w × HoldsTruth (record { value = m; length = m; null = null }) v w) (Ok False) (set_truth null m (i32 0) (i32 0)) u
-    sets_false s u kept room = sets s u null (null_cases c.null d.null) False (i32 0) (i32 0) kept room (λ none. refl) (λ w step. (refl, refl))
+    sets_false s u kept room = sets s u null (null_cases m c.null d.null) False (i32 0) (i32 0) kept room (λ none. refl) (λ w step. (refl, refl))
 
     pub sets_true : (s u : LowState) → Kept m s u → m + 1 < length u.locals → Comes most fuel N (λ v w. Kept m s w × HoldsTruth (record { value = m; length = m; null = null }) v w) (Ok True) (set_truth null m (i32 1) (i32 0)) u
-    sets_true s u kept room = sets s u null (null_cases c.null d.null) True (i32 1) (i32 0) kept room (λ none. refl) (λ w step. (refl, refl))
+    sets_true s u kept room = sets s u null (null_cases m c.null d.null) True (i32 1) (i32 0) kept room (λ none. refl) (λ w step. (refl, refl))

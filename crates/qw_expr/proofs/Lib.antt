@@ -5,6 +5,7 @@ mod Constants
 pub mod Decisions
 mod Emitted
 pub mod Junctions
+pub mod JunctionsDecide
 pub mod Nulls
 mod TruthsEmitted
 pub mod Unary

@@ -11,3 +11,4 @@ pub mod compare;
 pub mod emitter;
 pub mod literal;
 pub mod operand;
+pub mod truth;

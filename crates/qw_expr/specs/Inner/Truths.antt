@@ -1,5 +1,5 @@
 -- Mirrors `src/compare.rt` and `src/truth.rt`: tests and truths of three values.
-use Rattle.std.specs.Prelude.{ℕ, ◌+◌, Option, Some, None, List, [], ◌∷◌}
+use Rattle.std.specs.Prelude.{◌≡◌, ℕ, ◌+◌, ◌++◌, Option, Some, None, List, [], ◌∷◌}
 use Rattle.qw_module.specs.declared.instruction.Op.TheVariants as o
 use Rattle.qw_low.specs.declared.cell.Cell.{Cell}
 use Rattle.qw_low.specs.declared.step.LowStep.{LowStep}
@@ -12,6 +12,9 @@ use Rattle.qw_module.specs.declared.instruction.Relation.{Relation}
 use Rattle.qw_module.specs.declared.instruction.Relation.TheVariants.{Eq, Ne, Lt, Gt, Le, Ge}
 use Rattle.qw_meaning.specs.declared.query.Comparison.{Comparison}
 use Rattle.qw_meaning.specs.declared.query.Comparison.TheVariants.{Equal, NotEqual, Less, LessOrEqual, Greater, GreaterOrEqual}
+use Rattle.qw_low.specs.Steps.{steps_of}
+use Rattle.qw_expr.specs.declared.emitter.Emitter.{Emitter}
+use Rattle.qw_expr.specs.Emits.{free_of}
 use Rattle.qw_low.specs.Syntax.{Expression, constant_of, local, binop, is_zero, relop, Statement, skip, seq, assign, conditional}
 
 abbrev pub i32 : ℕ → Expression
@@ -75,3 +78,10 @@ or_block c d m second =
     conditional (is_zero I32 (local c.value))
     (seq second (set_truth (junction_null (m + 1) c.null d.null) m (local d.value) (binop I32 And (binop I32 Or (unknown_word c.null) (unknown_word d.null)) (is_zero I32 (local d.value)))))
     (set_truth (junction_null (m + 1) c.null d.null) m (i32 1) (i32 0))
+
+-- what a test in a local of its own adds to an emitter
+pub record AddsTest (e : Expression) (old new : Emitter) (t : ℕ) : Type 0 where
+  pub first_is : new.first ≡ old.first
+  pub own_is : new.own.items ≡ old.own.items ++ I32 ∷ []
+  pub local_is : t ≡ free_of old
+  pub code_is : new.block.code.items ≡ old.block.code.items ++ steps_of (assign t e)
