@@ -105,8 +105,10 @@ module _ (most fuel N : ℕ) (some : 1 ≤ N) where
         let second = value_kept m u t ob.cell (val.Num b) left.0 low_b other.0 in
         unless most fuel N some Post (as_number (operation a b)) null false f t left.1 (λ bad. absurd cc)
         (λ value_there. comes_number (λ v w. Kept (m + 1) t w × HasNumber out limit v w) Post (operation a b) f t
-        (λ v w has. (Kept-then m (m + 1) u t w (omega arith) left.0 has.0,
-        ((has.1.0, has.1.1, value_says (m + 1) t w null has.0 (joined_below m m oa.cell.null ob.cell.null (omega arith) low_a.2 low_b.2) left.1), has.1.2)))
+        (λ v w has. (
+          Kept-then m (m + 1) u t w (omega arith) left.0 has.0,
+          ((has.1.0, has.1.1, value_says (m + 1) t w null has.0 (joined_below m m oa.cell.null ob.cell.null (omega arith) low_a.2 low_b.2) left.1), has.1.2),
+        ))
         (comes_of (λ v w. Kept (m + 1) t w × HasNumber out limit v w) (operation a b) f t
         (operates.runs most fuel t a b (first.0, first.1, one.1) (second.0, second.1, other.1) (omega (arith, room, left.0.many))))))
 
@@ -232,9 +234,12 @@ module _ (known : List Known) (next : ℕ) (low : AreBelow next known) (operator
       scale_is = refl;
       below =
           let long = three_long owna ownb I32 I64 I64 in
-          let most : next + length own ≡ m + 2 + 1 = omega (arith, long) in
-          (omega (arith, low_out, long), omega (arith, low_out, long), subst (λ k. IsBelowNull k (joined_null m oa.cell.null ob.cell.null)) (sym most)
-          (joined_below m (m + 2) oa.cell.null ob.cell.null (omega arith) (below_more (next + length owna) m oa.cell (omega arith) ca.below).2 cb.below.2));
+          let most : next + length own ≡ m + 2 + 1 = omega (arith, long) in (
+            omega (arith, low_out, long),
+            omega (arith, low_out, long),
+            subst (λ k. IsBelowNull k (joined_null m oa.cell.null ob.cell.null)) (sym most)
+                (joined_below m (m + 2) oa.cell.null ob.cell.null (omega arith) (below_more (next + length owna) m oa.cell (omega arith) ca.below).2 cb.below.2),
+          );
       runs = runs;
       typed = λ types declared declares.
           let rest = declares_rest types next owna (ownb ++ (I32 ∷ I64 ∷ I64 ∷ [])) declares in
@@ -267,9 +272,11 @@ value_or_null known next low e a g o result sa f owna null_is kind_is scale_is l
   kind_is = kind_is;
   scale_is = scale_is;
   below =
-      let long = one_long owna I64 in
-      (omega (arith, long, low_value), omega (arith, long, low_length),
-      subst (λ (n : Option ℕ). IsBelowNull (next + length (owna ++ I64 ∷ [])) n) (sym null_is) (below_more (next + length owna) (next + length (owna ++ I64 ∷ [])) o.cell (omega (arith, long)) ca.below).2);
+      let long = one_long owna I64 in (
+        omega (arith, long, low_value),
+        omega (arith, long, low_length),
+        subst (λ (n : Option ℕ). IsBelowNull (next + length (owna ++ I64 ∷ [])) n) (sym null_is) (below_more (next + length owna) (next + length (owna ++ I64 ∷ [])) o.cell (omega (arith, long)) ca.below).2,
+      );
   runs = λ pages fuel more row s enough within held has room.
       let env : Environment = record { row = row } in
       let some : 1 ≤ more = omega (arith, enough) in

@@ -116,9 +116,13 @@ module _ (most fuel N : ℕ) (some : 1 ≤ N) (u : LowState) (m : ℕ) (oa ob : 
   zeroed (Some n) t is kept says =
       let after : LowState = record t { locals = slice_set t.locals (m + 1) (Number 0) } in
       comes_choose most fuel N some Post (Ok Unknown) (local n) true (assign (m + 1) (i32 0)) body t says
-      (λ there. comes_assign most fuel N some Post Unknown (m + 1) (i32 0) (Number 0) t refl (omega (arith, room, kept.many))
-      (Kept-set m u t (m + 1) (Number 0) kept (omega arith), (slice_get-set_same t.locals (m + 1) (Number 0) (omega (arith, room, kept.many)),
-      subst (SaysNull after) (sym is) ((Kept-one t (m + 1) (Number 0)).below n (subst (IsBelowNull (m + 1)) is null_low) ∙ says))))
+      (λ there. comes_assign most fuel N some Post Unknown (m + 1) (i32 0) (Number 0) t refl (omega (arith, room, kept.many)) (
+        Kept-set m u t (m + 1) (Number 0) kept (omega arith),
+        (
+          slice_get-set_same t.locals (m + 1) (Number 0) (omega (arith, room, kept.many)),
+          subst (SaysNull after) (sym is) ((Kept-one t (m + 1) (Number 0)).below n (subst (IsBelowNull (m + 1)) is null_low) ∙ says),
+        ),
+      ))
       (λ bad. absurd cc)
 
   unzeroed : (n : Option ℕ) (t : LowState) (r : Result Truth Code) → SaysValue t n → Comes most fuel N Post r body t → Comes most fuel N Post r (zero_if_null n (m + 1) body) t
@@ -145,10 +149,11 @@ module _ (most fuel N : ℕ) (some : 1 ≤ N) (u : LowState) (m : ℕ) (oa ob : 
       let after : LowState = record w { locals = slice_set w.locals (m + 1) (Number (truth g)) } in
       let kept_w : Kept m u w = Kept-then m (m + 2) u t w (omega arith) kept left.0 in
       let at : m + 1 < length w.locals = omega (arith, room, kept_w.many) in
-      comes_assign most fuel N some Post v (m + 1) (zero_test o (m + 2)) (Number (truth g)) w (rw (held_word w (m + 2) z left.2) (ap (λ (n : ℕ). Some (Number n)) (test_is o z (order a b) fit left.3))) at
-      (Kept-set m u w (m + 1) (Number (truth g)) kept_w (omega arith),
-      truth_held truth_cell g after (slice_get-set_same w.locals (m + 1) (Number (truth g)) at)
-      (value_says (m + 1) w after null (Kept-one w (m + 1) (Number (truth g))) null_low (value_says (m + 2) t w null left.0 (null_below_more (m + 1) (m + 2) null (omega arith) null_low) says))))))
+      comes_assign most fuel N some Post v (m + 1) (zero_test o (m + 2)) (Number (truth g)) w (rw (held_word w (m + 2) z left.2) (ap (λ (n : ℕ). Some (Number n)) (test_is o z (order a b) fit left.3))) at (
+        Kept-set m u w (m + 1) (Number (truth g)) kept_w (omega arith),
+        truth_held truth_cell g after (slice_get-set_same w.locals (m + 1) (Number (truth g)) at)
+            (value_says (m + 1) w after null (Kept-one w (m + 1) (Number (truth g))) null_low (value_says (m + 2) t w null left.0 (null_below_more (m + 1) (m + 2) null (omega arith) null_low) says)),
+      ))))
 
   -- a comparison of two values, which is unknown where one is null
   pub decided : (x y : Val) (r : Truth) → (x ≡ val.Null → r ≡ Unknown) → (y ≡ val.Null → r ≡ Unknown) →

@@ -85,9 +85,11 @@ module _ (known : List Known) (next : ℕ) (c : Condition) (cell : Cell) (sc : S
           (λ t u found left.
           let word : ℕ = truth (same_truth t False) in
           comes_assign pages fuel more (omega (arith, enough)) (λ v w. Kept next s w × HoldsTruth (record { value = m; length = m; null = null }) v w) (g t) m (is_false cell.value cell.null) (Number word) u
-          (false_is cell.value cell.null t u (same_cell cell t u left.1)) (omega (arith, room, long, left.0.many))
-          (Kept-set next s u m (Number word) left.0 (omega arith), leaves t u (record u { locals = slice_set u.locals m (Number word) }) left.1 (Kept-one u m (Number word))
-          (slice_get-set_same u.locals m (Number word) (omega (arith, room, long, left.0.many))))));
+          (false_is cell.value cell.null t u (same_cell cell t u left.1)) (omega (arith, room, long, left.0.many)) (
+            Kept-set next s u m (Number word) left.0 (omega arith),
+            leaves t u (record u { locals = slice_set u.locals m (Number word) }) left.1 (Kept-one u m (Number word))
+                (slice_get-set_same u.locals m (Number word) (omega (arith, room, long, left.0.many))),
+          )));
       typed = λ types declared declares.
           let first = dc.typed types declared (declares_first types next ownc (I32 ∷ []) declares) in
           let free = first_declared types m I32 (declares_rest types next ownc (I32 ∷ []) declares) in

@@ -55,9 +55,11 @@ module _ (known : List Known) (e : Expression) (next : ℕ) (out : Operand) (z :
     below = (omega (arith, value_is), omega (arith, length_is), subst (λ (n : Option ℕ). IsBelowNull (next + 1) n) (sym null_is) tt);
     runs = λ pages fuel more row s enough within held has room.
         subst (λ (r : Result Val Code). Comes pages fuel more (λ w t. Kept next s t × Holds out w t) r block s) (sym (means (record { row = row })))
-        (comes_assign pages fuel more (omega (arith, enough)) (λ w t. Kept next s t × Holds out w t) v next (constant_of (const.I64 (word z))) (Number (word z)) s refl (omega (arith, room))
-        (Kept-one s next (Number (word z)), holds (record s { locals = slice_set s.locals next (Number (word z)) })
-        (word_held (record s { locals = slice_set s.locals next (Number (word z)) }) next z fit (slice_get-set_same s.locals next (Number (word z)) (omega (arith, room))))));
+        (comes_assign pages fuel more (omega (arith, enough)) (λ w t. Kept next s t × Holds out w t) v next (constant_of (const.I64 (word z))) (Number (word z)) s refl (omega (arith, room)) (
+          Kept-one s next (Number (word z)),
+          holds (record s { locals = slice_set s.locals next (Number (word z)) })
+              (word_held (record s { locals = slice_set s.locals next (Number (word z)) }) next z fit (slice_get-set_same s.locals next (Number (word z)) (omega (arith, room)))),
+        ));
     typed = λ types declared all. ((I64, first_declared types next I64 all, (word_below z fit, refl)), declares types (first_declared types next I64 all));
   }
 

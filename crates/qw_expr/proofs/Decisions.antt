@@ -98,9 +98,12 @@ module _ (known : List Known) (next : ℕ) (low_known : AreBelow next known) (o 
     comparison_decides = record {
       below =
           let long = three_long owna ownb I32 I32 I64 in
-          let most : next + length own ≡ m + 2 + 1 = omega (arith, long) in
-          (omega (arith, long), omega (arith, long), subst (λ k. IsBelowNull k null) (sym most)
-          (joined_below m (m + 2) oa.cell.null ob.cell.null (omega arith) (below_more (next + length owna) m oa.cell (omega arith) ca.below).2 cb.below.2));
+          let most : next + length own ≡ m + 2 + 1 = omega (arith, long) in (
+            omega (arith, long),
+            omega (arith, long),
+            subst (λ k. IsBelowNull k null) (sym most)
+                (joined_below m (m + 2) oa.cell.null ob.cell.null (omega arith) (below_more (next + length owna) m oa.cell (omega arith) ca.below).2 cb.below.2),
+          );
       runs = runs;
       typed = λ types declared declares.
           let rest = declares_rest types next owna (ownb ++ (I32 ∷ I32 ∷ I64 ∷ [])) declares in

@@ -47,7 +47,7 @@ operated_emits known operator a b start mid old new left right out code made typ
     let one : Operated operator (scale_of a) right.scale (free_of old) left right out code made = subst (λ k. Operated operator k right.scale (free_of old) left right out code made) ea.computes.scale_is done in
     let both : Operated operator (scale_of a) (scale_of b) (free_of old) left right out code made = subst (λ k. Operated operator (scale_of a) k (free_of old) left right out code made) eb.computes.scale_is one in
     let all : Operated operator (scale_of a) (scale_of b) (free_of start + length ea.own + length eb.own) left right out code made =
-        subst (λ k. Operated operator (scale_of a) (scale_of b) k left right out code made) at_old both in
+    subst (λ k. Operated operator (scale_of a) (scale_of b) k left right out code made) at_old both in
     let m : ℕ = free_of start + length ea.own + length eb.own in
     let null : Option ℕ = joined_null m left.cell.null right.cell.null in
     record {
@@ -106,7 +106,7 @@ operated_adds operator left right out old new c2 c3 c4 p free null f made first 
     let m : ℕ = free_of old in
     let null_at : null ≡ joined_null m left.cell.null right.cell.null = null_is ∙ ap (λ k. joined_null k left.cell.null right.cell.null) p_is in
     let all : new.block.code.items ≡ old.block.code.items ++ (steps_of (join_block p left.cell.null right.cell.null) ++ (before_unless null ++ (steps_of f ++ after_unless null))) =
-        four old.block.code.items c2 c3 c4 new.block.code.items (steps_of (join_block p left.cell.null right.cell.null)) (before_unless null) (steps_of f) (after_unless null) code2 code3 code4 code5 in
+    four old.block.code.items c2 c3 c4 new.block.code.items (steps_of (join_block p left.cell.null right.cell.null)) (before_unless null) (steps_of f) (after_unless null) code2 code3 code4 code5 in
     let placed = subst (λ k. new.block.code.items ≡ old.block.code.items ++ (steps_of (join_block k left.cell.null right.cell.null) ++ (before_unless null ++ (steps_of f ++ after_unless null)))) p_is all in
     record {
       first_is = first;

@@ -136,19 +136,21 @@ module _ (most fuel N : ℕ) (some : 1 ≤ N) (m : ℕ) where
       Comes most fuel N (λ v w. Kept m s w × HoldsTruth (record { value = m; length = m; null = null }) v w) (Ok r) (set_truth null m e f) u
   sets s u null (inl none) r e f kept room sure values =
       rw none
-      (comes_assign most fuel N some (λ v w. Kept m s w × HoldsTruth (record { value = m; length = m; null = None }) v w) r m e (Number (truth (same_truth r True))) u (values u (Kept-same m u)).0 (omega (arith, room))
-      (Kept-set m s u m (Number (truth (same_truth r True))) kept (omega arith),
-      from_word m r (record u { locals = slice_set u.locals m (Number (truth (same_truth r True))) }) (sure none) (slice_get-set_same u.locals m (Number (truth (same_truth r True))) (omega (arith, room)))))
+      (comes_assign most fuel N some (λ v w. Kept m s w × HoldsTruth (record { value = m; length = m; null = None }) v w) r m e (Number (truth (same_truth r True))) u (values u (Kept-same m u)).0 (omega (arith, room)) (
+        Kept-set m s u m (Number (truth (same_truth r True))) kept (omega arith),
+        from_word m r (record u { locals = slice_set u.locals m (Number (truth (same_truth r True))) }) (sure none) (slice_get-set_same u.locals m (Number (truth (same_truth r True))) (omega (arith, room))),
+      ))
   sets s u null (inr there) r e f kept room sure values =
       let one : LowState = record u { locals = slice_set u.locals m (Number (truth (same_truth r True))) } in
       let other : LowState = record one { locals = slice_set one.locals (m + 1) (Number (truth (same_truth r Unknown))) } in
       let step : Kept m u one = Kept-one u m (Number (truth (same_truth r True))) in
       rw there
       (comes_set most fuel N some (λ v w. Kept m s w × HoldsTruth (record { value = m; length = m; null = Some (m + 1) }) v w) (Ok r) m e (Number (truth (same_truth r True))) (assign (m + 1) f) u (values u (Kept-same m u)).0 (omega (arith, room))
-      (comes_assign most fuel N some (λ v w. Kept m s w × HoldsTruth (record { value = m; length = m; null = Some (m + 1) }) v w) r (m + 1) f (Number (truth (same_truth r Unknown))) one (values one step).1 (omega (arith, room, step.many))
-      (Kept-set m s one (m + 1) (Number (truth (same_truth r Unknown))) (Kept-then m m s u one (omega arith) kept step) (omega arith),
-      from_words m (m + 1) r other ((Kept-one one (m + 1) (Number (truth (same_truth r Unknown)))).below m (omega arith) ∙ slice_get-set_same u.locals m (Number (truth (same_truth r True))) (omega (arith, room)))
-      (slice_get-set_same one.locals (m + 1) (Number (truth (same_truth r Unknown))) (omega (arith, room, step.many))))))
+      (comes_assign most fuel N some (λ v w. Kept m s w × HoldsTruth (record { value = m; length = m; null = Some (m + 1) }) v w) r (m + 1) f (Number (truth (same_truth r Unknown))) one (values one step).1 (omega (arith, room, step.many)) (
+        Kept-set m s one (m + 1) (Number (truth (same_truth r Unknown))) (Kept-then m m s u one (omega arith) kept step) (omega arith),
+        from_words m (m + 1) r other ((Kept-one one (m + 1) (Number (truth (same_truth r Unknown)))).below m (omega arith) ∙ slice_get-set_same u.locals m (Number (truth (same_truth r True))) (omega (arith, room)))
+            (slice_get-set_same one.locals (m + 1) (Number (truth (same_truth r Unknown))) (omega (arith, room, step.many))),
+      )))
 
   module _ (c d : Cell) (low_c : IsBelow m c) (low_d : IsBelow m d) where
     abbrev null : Option ℕ
@@ -178,11 +180,12 @@ module _ (most fuel N : ℕ) (some : 1 ≤ N) (m : ℕ) where
         (λ none. let known = sure_both c.null d.null c.value d.value x y u none (same_cell c x u one) (same_cell d y u two) in sure_and x y known.0 known.1)
         (λ w step.
         let first = truth_kept m u w c x step low_c one in
-        let second = truth_kept m u w d y step low_d two in
-        (and_is w (local c.value) (local d.value) (same_truth x True) (same_truth y True) (true_word c x w first) (true_word d y w second) ∙ ap (λ g. Some (Number (truth g))) (and_true x y),
-        and_is w (binop I32 Or (unknown_word c.null) (unknown_word d.null)) (may_hold d.value d.null) (same_truth x Unknown || same_truth y Unknown) (not (same_truth y False))
-        (or_is w (unknown_word c.null) (unknown_word d.null) (same_truth x Unknown) (same_truth y Unknown) (unknown_is c.value c.null x w (same_cell c x w first)) (unknown_is d.value d.null y w (same_cell d y w second)))
-        (may_is d.value d.null y w (same_cell d y w second)) ∙ ap (λ g. Some (Number (truth g))) (and_unknown x y other)))
+        let second = truth_kept m u w d y step low_d two in (
+          and_is w (local c.value) (local d.value) (same_truth x True) (same_truth y True) (true_word c x w first) (true_word d y w second) ∙ ap (λ g. Some (Number (truth g))) (and_true x y),
+          and_is w (binop I32 Or (unknown_word c.null) (unknown_word d.null)) (may_hold d.value d.null) (same_truth x Unknown || same_truth y Unknown) (not (same_truth y False))
+              (or_is w (unknown_word c.null) (unknown_word d.null) (same_truth x Unknown) (same_truth y Unknown) (unknown_is c.value c.null x w (same_cell c x w first)) (unknown_is d.value d.null y w (same_cell d y w second)))
+              (may_is d.value d.null y w (same_cell d y w second)) ∙ ap (λ g. Some (Number (truth g))) (and_unknown x y other),
+        ))
 
     pub sets_or : (s u : LowState) (x y : Truth) → Kept m s u → m + 1 < length u.locals → same_truth x True ≡ false → HoldsTruth c x u → HoldsTruth d y u →
         Comes most fuel N (λ v w. Kept m s w × HoldsTruth (record { value = m; length = m; null = null }) v w) (Ok (disjunction x y))
@@ -192,11 +195,12 @@ module _ (most fuel N : ℕ) (some : 1 ≤ N) (m : ℕ) where
         (λ none. let known = sure_both c.null d.null c.value d.value x y u none (same_cell c x u one) (same_cell d y u two) in sure_or x y known.0 known.1)
         (λ w step.
         let first = truth_kept m u w c x step low_c one in
-        let second = truth_kept m u w d y step low_d two in
-        (true_word d y w second ∙ ap (λ g. Some (Number (truth g))) (or_true x y other),
-        and_is w (binop I32 Or (unknown_word c.null) (unknown_word d.null)) (is_zero I32 (local d.value)) (same_truth x Unknown || same_truth y Unknown) (not (same_truth y True))
-        (or_is w (unknown_word c.null) (unknown_word d.null) (same_truth x Unknown) (same_truth y Unknown) (unknown_is c.value c.null x w (same_cell c x w first)) (unknown_is d.value d.null y w (same_cell d y w second)))
-        (not_is w (local d.value) (same_truth y True) (true_word d y w second)) ∙ ap (λ g. Some (Number (truth g))) (or_unknown x y other)))
+        let second = truth_kept m u w d y step low_d two in (
+          true_word d y w second ∙ ap (λ g. Some (Number (truth g))) (or_true x y other),
+          and_is w (binop I32 Or (unknown_word c.null) (unknown_word d.null)) (is_zero I32 (local d.value)) (same_truth x Unknown || same_truth y Unknown) (not (same_truth y True))
+              (or_is w (unknown_word c.null) (unknown_word d.null) (same_truth x Unknown) (same_truth y Unknown) (unknown_is c.value c.null x w (same_cell c x w first)) (unknown_is d.value d.null y w (same_cell d y w second)))
+              (not_is w (local d.value) (same_truth y True) (true_word d y w second)) ∙ ap (λ g. Some (Number (truth g))) (or_unknown x y other),
+        ))
 
     -- what is skipped
     pub sets_false : (s u : LowState) → Kept m s u → m + 1 < length u.locals → Comes most fuel N (λ v w. Kept m s w × HoldsTruth (record { value = m; length = m; null = null }) v w) (Ok False) (set_truth null m (i32 0) (i32 0)) u

@@ -179,7 +179,7 @@ module _ (known : List Known) (next : ℕ) (low_known : AreBelow next known) (c 
         let one = dc.typed types declared (declares_first types next ownc (ownd ++ (I32 ∷ I32 ∷ [])) declares) in
         let two = dd.typed types declared (declares_first types (next + length ownc) ownd (I32 ∷ I32 ∷ []) rest) in
         let set = set_typed types m null (binop I32 And (local cc'.value) (local cd.value)) (binop I32 And (binop I32 Or (unknown_word cc'.null) (unknown_word cd.null)) (may_hold cd.value cd.null)) cases mine.0 mine.1
-            (one.1.0, two.1.0, refl) ((unknown_typed types cc'.null one.1.1, unknown_typed types cd.null two.1.1, refl), may_typed types cd.value cd.null two.1.0 two.1.1, refl) in
+        (one.1.0, two.1.0, refl) ((unknown_typed types cc'.null one.1.1, unknown_typed types cd.null two.1.1, refl), may_typed types cd.value cd.null two.1.0 two.1.1, refl) in
         let skip' = set_typed types m null (i32 0) (i32 0) cases mine.0 mine.1 (omega arith, refl) (omega arith, refl) in
         ((one.0, (may_typed types cc'.value cc'.null one.1.0 one.1.1, (two.0, set.0), skip'.0)), (mine.0, set.1));
   }
@@ -194,7 +194,7 @@ module _ (known : List Known) (next : ℕ) (low_known : AreBelow next known) (c 
         let one = dc.typed types declared (declares_first types next ownc (ownd ++ (I32 ∷ I32 ∷ [])) declares) in
         let two = dd.typed types declared (declares_first types (next + length ownc) ownd (I32 ∷ I32 ∷ []) rest) in
         let set = set_typed types m null (local cd.value) (binop I32 And (binop I32 Or (unknown_word cc'.null) (unknown_word cd.null)) (is_zero I32 (local cd.value))) cases mine.0 mine.1
-            two.1.0 ((unknown_typed types cc'.null one.1.1, unknown_typed types cd.null two.1.1, refl), (two.1.0, refl), refl) in
+        two.1.0 ((unknown_typed types cc'.null one.1.1, unknown_typed types cd.null two.1.1, refl), (two.1.0, refl), refl) in
         let skip' = set_typed types m null (i32 1) (i32 0) cases mine.0 mine.1 (omega arith, refl) (omega arith, refl) in
         ((one.0, ((one.1.0, refl), (two.0, set.0), skip'.0)), (mine.0, set.1));
   }

@@ -6,6 +6,7 @@ pub mod Decisions
 mod Emitted
 pub mod Junctions
 pub mod JunctionsDecide
+mod NullTests
 pub mod Nulls
 mod TruthsEmitted
 pub mod Unary

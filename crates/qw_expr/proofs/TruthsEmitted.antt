@@ -40,9 +40,9 @@ compared_adds operator order x mx y my left right old new out c2 c3 c4 c5 p t n 
     let body : Statement = seq f (assign t (zero_test operator n)) in
     let inner : c5 ≡ c3 ++ steps_of body = two c3 c4 c5 (steps_of f) (steps_of (assign t (zero_test operator n))) code4 code5 in
     let all : new.block.code.items ≡ old.block.code.items ++ (steps_of (join_block p left right) ++ (before_zero null t ++ (steps_of body ++ after_unless null))) =
-        four old.block.code.items c2 c3 c5 new.block.code.items (steps_of (join_block p left right)) (before_zero null t) (steps_of body) (after_unless null) code2 code3 inner code6 in
+    four old.block.code.items c2 c3 c5 new.block.code.items (steps_of (join_block p left right)) (before_zero null t) (steps_of body) (after_unless null) code2 code3 inner code6 in
     let whole : new.block.code.items ≡ old.block.code.items ++ steps_of (seq (join_block p left right) (zero_if_null null t body)) =
-        all ∙ ap (λ c. old.block.code.items ++ (steps_of (join_block p left right) ++ c)) (zero_steps null t body) in
+    all ∙ ap (λ c. old.block.code.items ++ (steps_of (join_block p left right) ++ c)) (zero_steps null t body) in
     let at_p = subst (λ k. new.block.code.items ≡ old.block.code.items ++ steps_of (seq (join_block k left right) (zero_if_null null t body))) p_is whole in
     let at_null = subst (λ (k : Option ℕ). new.block.code.items ≡ old.block.code.items ++ steps_of (seq (join_block m left right) (zero_if_null k t body))) null_at at_p in
     let at_t = subst (λ k. new.block.code.items ≡ old.block.code.items ++ steps_of (seq (join_block m left right) (zero_if_null J k (seq f (assign k (zero_test operator n)))))) t_is at_null in

@@ -158,9 +158,17 @@ module _ (known : List Known) (next : ℕ) (low_known : AreBelow next known) (fi
           let within : unsigned_abs z ≤ limit_of field = field_within field d date in
           let size : unsigned_abs z < 10 ^ 18 = omega (arith, within, limit_small field) in
           let after : LowState = record t { locals = slice_set t.locals n (Number (word z)) } in
-          rw (block.1) (comes_assign pages fuel more some (λ w u. Kept n t u × Holds field_result w u) (val.Num z) n block.0 (Number (word z)) t block.2 room
-          (Kept-one t n (Number (word z)), ((word_held after n z (small z (omega (arith, size))) (slice_get-set_same t.locals n (Number (word z)) room), below_fits z size,
-          value_says n t after o.cell.null (Kept-one t n (Number (word z))) ca.below.2 holds.0.1), within)))
+          rw (block.1) (comes_assign pages fuel more some (λ w u. Kept n t u × Holds field_result w u) (val.Num z) n block.0 (Number (word z)) t block.2 room (
+            Kept-one t n (Number (word z)),
+            (
+              (
+                word_held after n z (small z (omega (arith, size))) (slice_get-set_same t.locals n (Number (word z)) room),
+                below_fits z size,
+                value_says n t after o.cell.null (Kept-one t n (Number (word z))) ca.below.2 holds.0.1,
+              ),
+              within,
+            ),
+          ))
 
   pub extract_computes : Computes known (extract field a) next field_result (seq sa (unless_null o.cell.null (field_block field n o.cell.value))) (owna ++ I64 ∷ [])
   extract_computes = value_or_null known next low_known (extract field a) a (λ x. Ok (extracted field x)) o field_result sa (field_block field n o.cell.value) owna refl refl refl (omega arith) (omega arith) refl

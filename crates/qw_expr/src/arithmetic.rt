@@ -13,13 +13,11 @@ ghost use Rattle.qw_expr.specs.declared.emitter.Emitter.{Emitter};
 ghost use Rattle.qw_expr.specs.Computes.{Known, AreBelow};
 ghost use Rattle.qw_expr.specs.Emits.{Emits, free_of};
 
-
 use crate::emitter::Emitter;
 use crate::operand::Operand;
 use qw_low::block::Block;
 use qw_low::cell::{Cell, Local};
 use qw_meaning::expression::Operator;
-
 use qw_module::instruction::ValType;
 use qw_types::{Kind, NoMemory};
 use qw_wide::arithmetic::{Scaled, add, bring, divide, multiply, negate, subtract};
@@ -37,7 +35,7 @@ impl Operand {
     }
 
     /// The operand of a number that may be null where the local says so.
-    pub fn number(made: Scaled, null: Option<Local>) -> Operand
+    pub(crate) fn number(made: Scaled, null: Option<Local>) -> Operand
         ensures { result ≡ number_at made.local null made.scale made.most }
     {
         Operand {

@@ -22,6 +22,7 @@ use qw_types::{Kind, NoMemory};
 
 /// A divisor and the remainder's, by which a field of a date is found.
 const YEAR: u64 = 10_000;
+
 const MONTH: u64 = 100;
 
 impl Emitter {

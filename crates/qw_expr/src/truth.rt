@@ -1,21 +1,20 @@
-//! Conditions of conditions (ISO/IEC 9075:1992, 8.12): NOT, IS, and AND and OR, which skip their right sides.
+//! Conditions of one operand (ISO/IEC 9075:1992, 8.12): NOT, IS TRUE, IS FALSE, and IS NULL (8.6).
 
-ghost use Rattle.std.specs.Prelude.{◌≡◌, [], ◌∷◌, ◌++◌, List, None, IfOk, OnOk};
+ghost use Rattle.std.specs.Prelude.{◌≡◌, ◌++◌, List, None, IfOk, OnOk};
 ghost use Rattle.qw_types.specs.declared.truth.Truth.TheVariants.{True, False};
-ghost use Rattle.qw_meaning.specs.Expression.{Condition, both, either, negation_of, is};
-ghost use Rattle.qw_low.specs.declared.step.LowStep.TheVariants as step;
-ghost use Rattle.qw_low.specs.Syntax.{assign, is_zero, local};
-ghost use Rattle.qw_low.specs.Steps.{expression_steps, steps_of};
-ghost use Rattle.qw_module.specs.declared.instruction.ValType.TheVariants.{I32};
+ghost use Rattle.qw_meaning.specs.Expression.{Expression, Condition, is_null, negation_of, is};
+ghost use Rattle.qw_low.specs.Syntax.{assign};
+ghost use Rattle.qw_low.specs.Steps.{steps_of};
 ghost use Rattle.qw_expr.specs.declared.emitter.Emitter.{Emitter};
-ghost use Rattle.qw_expr.specs.Computes.{Known, AreBelow};
-ghost use Rattle.qw_expr.specs.Emits.{EmitsTruth, free_of};
-ghost use Rattle.qw_expr.specs.Inner.Truths.{is_false, AddsTest};
+ghost use Rattle.qw_expr.specs.Computes.{Known};
+ghost use Rattle.qw_expr.specs.Emits.{Emits, EmitsTruth};
+ghost use Rattle.qw_expr.specs.Inner.Truths.{i32, is_false, AddsTest};
 
 use crate::emitter::Emitter;
+use crate::operand::Operand;
 use qw_low::cell::{Cell, Local};
 use qw_low::step::LowStep;
-use qw_module::instruction::{Binary, Op, ValType};
+use qw_module::instruction::{Binary, Const, Op, ValType};
 use qw_types::NoMemory;
 
 /// The truth of a condition's being true, where the condition's own is: it has the same word, and is never unknown.
@@ -86,5 +85,30 @@ impl Emitter {
     {
         let t = self.test_false(operand)?;
         Ok(sure(t))
+    }
+
+    /// Adds 0 in a local of its own.
+    fn zero_word(&mut self) -> Result<Local, NoMemory>
+        ensures { IfOk result (λ t. AddsTest (i32 0) self.old self.new t) }
+    {
+        let t = self.fresh(ValType::I32)?;
+        self.block.code.extend_from_slice(&[
+            LowStep::Op(Op::Const(Const::I32(0))),
+            LowStep::Op(Op::LocalSet(t)),
+        ])?;
+        Ok(t)
+    }
+
+    /// Adds IS NULL of an expression that was emitted before (8.6): its null word, and 0 where it has none.
+    pub fn is_null(&mut self, operand: Operand) -> Result<Cell, NoMemory>
+        ensures { IfOk result (λ out. (known : List Known) (a : Expression) (start : Emitter) → Emits known a start self.old operand → EmitsTruth known (is_null a) start self.new out) }
+    {
+        match operand.cell.null {
+            Some(n) => Ok(sure(n)),
+            None => {
+                let t = self.zero_word()?;
+                Ok(sure(t))
+            }
+        }
     }
 }

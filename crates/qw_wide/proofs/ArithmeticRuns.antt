@@ -95,9 +95,11 @@ unturned_is z h = grind (arith, ints)
 module _ (most fuel N : ℕ) (some : 1 ≤ N) where
   -- an expression's number into the first free local
   pub sets : (s0 s : LowState) (n : ℕ) (e : Expression) (v : ℤ) → Kept n s0 s → value s e ≡ Some (Number (word v)) → IsTrue (fits v) → n < length s.locals → Comes most fuel N (Given n s0 n) (Ok v) (assign n e) s
-  sets s0 s n e v kept is fit room = comes_assign most fuel N some (Given n s0 n) v n e (Number (word v)) s is room
-      (Kept-set n s0 s n (Number (word v)) kept (omega arith),
-      word_held (record s { locals = slice_set s.locals n (Number (word v)) }) n v (fits_small v fit) (slice_get-set_same s.locals n (Number (word v)) room), fit)
+  sets s0 s n e v kept is fit room = comes_assign most fuel N some (Given n s0 n) v n e (Number (word v)) s is room (
+    Kept-set n s0 s n (Number (word v)) kept (omega arith),
+    word_held (record s { locals = slice_set s.locals n (Number (word v)) }) n v (fits_small v fit) (slice_get-set_same s.locals n (Number (word v)) room),
+    fit,
+  )
 
   -- ---- the range
   past : (s : LowState) (limit x : ℕ) (z : ℤ) → HoldsNumber s x z → unsigned_abs z < 2 ^ 62 → limit < 2 ^ 62 →

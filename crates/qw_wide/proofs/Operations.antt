@@ -128,9 +128,16 @@ module _ (operator : Binary) (made : ℤ → ℤ → ℤ)
         (λ r t is given. (given.0, (given.1, given.2, bounded a b r has_a.2 has_b.2 is)))
         (combines pages fuel 1 (omega arith) operator made makes s (is_past (mx * 10 ^ ka)) (is_past (my * 10 ^ kb)) (is_past (ma + mb)) ka kb n x y a b has_a.0 has_b.0 has_a.1 has_b.1 below_x below_y low_a low_b room
         (unchecked (unsigned_abs a) mx ka has_a.2) (unchecked (unsigned_abs b) my kb has_b.2) (λ past v w is_v is_w small_v small_w. within a b v w has_a.2 has_b.2 is_v is_w past small_v small_w)));
-    typed = λ types is_x is_y is_n is_m.
-        ((bring_typed types (is_past (mx * 10 ^ ka)) ka n x low_a is_x is_n, (bring_typed types (is_past (my * 10 ^ kb)) kb (n + 1) y low_b is_y is_m,
-        ((I64, is_n, (brought_typed types ka n x is_x is_n, brought_typed types kb (n + 1) y is_y is_m, refl)), check_typed types (is_past (ma + mb)) (10 ^ 18 - 1) n (omega arith) is_n))), is_n);
+    typed = λ types is_x is_y is_n is_m. (
+      (
+        bring_typed types (is_past (mx * 10 ^ ka)) ka n x low_a is_x is_n,
+        (
+          bring_typed types (is_past (my * 10 ^ kb)) kb (n + 1) y low_b is_y is_m,
+          ((I64, is_n, (brought_typed types ka n x is_x is_n, brought_typed types kb (n + 1) y is_y is_m, refl)), check_typed types (is_past (ma + mb)) (10 ^ 18 - 1) n (omega arith) is_n),
+        ),
+      ),
+      is_n,
+    );
   }
 
 add_makes : (v w : ℤ) → unsigned_abs v < 10 ^ 18 → unsigned_abs w < 10 ^ 18 → (binary I64 Add (word v) (word w) ≡ word (v +ℤ w)) × (unsigned_abs (v +ℤ w) < 2 ^ 62)
@@ -182,12 +189,20 @@ opposite_converts x m n = record {
 -- ---- products
 product_typed : (types : List ValType) (c : Bool) (n x y : ℕ) → slice_get types x ≡ Some I64 → slice_get types y ≡ Some I64 → slice_get types n ≡ Some I64 → IsTyped types (product_block c n x y)
 product_typed types false n x y is_x is_y is_n = (I64, is_n, (is_x, is_y, refl))
-product_typed types true n x y is_x is_y is_n =
-    ((is_x, refl), (I64, is_n, (omega arith, refl)),
-    ((I64, is_n, ((omega arith, refl), is_x, refl)),
-    (((is_n, (omega arith, refl), refl), (I64, is_n, ((omega arith, refl), is_n, refl)), tt),
-    ((((is_y, is_n, refl), (is_n, is_n, refl), refl), omega arith, tt),
-    (I64, is_n, (is_x, is_y, refl))))))
+product_typed types true n x y is_x is_y is_n = (
+  (is_x, refl),
+  (I64, is_n, (omega arith, refl)),
+  (
+    (I64, is_n, ((omega arith, refl), is_x, refl)),
+    (
+      ((is_n, (omega arith, refl), refl), (I64, is_n, ((omega arith, refl), is_n, refl)), tt),
+      (
+        (((is_y, is_n, refl), (is_n, is_n, refl), refl), omega arith, tt),
+        (I64, is_n, (is_x, is_y, refl)),
+      ),
+    ),
+  ),
+)
 
 pub product_operates : (x mx y my n : ℕ) → x < n → y < n → Operates product_of x mx y my n n (capped (mx * my)) (product_block (is_past (mx * my)) n x y)
 product_operates x mx y my n below_x below_y = record {

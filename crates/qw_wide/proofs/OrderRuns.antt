@@ -134,8 +134,13 @@ module _ (most fuel N : ℕ) (some : 1 ≤ N) (s : LowState) (n x y k : ℕ) (a 
   power = small (pos p) (omega (arith, power_small k low))
 
   leaves : (t : LowState) (z : ℤ) (order : Ordering) → Kept n s t → unsigned_abs z < 2 ^ 62 → int_cmp z (pos 0) ≡ order → n < length t.locals → Ordered n s order (record t { locals = slice_set t.locals n (Number (word z)) })
-  leaves t z order kept size is room_t = (Kept-set n s t n (Number (word z)) kept (omega arith), z,
-      word_held (record t { locals = slice_set t.locals n (Number (word z)) }) n z (small z (omega (arith, size))) (slice_get-set_same t.locals n (Number (word z)) room_t), size, is)
+  leaves t z order kept size is room_t = (
+    Kept-set n s t n (Number (word z)) kept (omega arith),
+    z,
+    word_held (record t { locals = slice_set t.locals n (Number (word z)) }) n z (small z (omega (arith, size))) (slice_get-set_same t.locals n (Number (word z)) room_t),
+    size,
+    is,
+  )
 
   pub orders_left : Comes most fuel N (Ordered n s) (Ok (int_cmp (a *ℤ pos (10 ^ k)) b)) (left_brought k n x y) s
   orders_left =

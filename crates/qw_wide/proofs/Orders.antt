@@ -39,9 +39,13 @@ even_compares s x mx y my n = record {
       let size_z : unsigned_abs z < 2 ^ 62 = omega (arith, ints, fits_below a has_a.1, fits_below b has_b.1) in
       compared pages fuel n u (int_cmp a b) (order_of a s b s) (difference_block n x y) (same_scale a b s)
       (comes_assign pages fuel 1 (omega arith) (Ordered n u) (int_cmp a b) n (binop I64 Sub (local x) (local y)) (Number (word z)) u
-      (rw (held_word u x a has_a.0, held_word u y b has_b.0) (ap (λ (m : ℕ). Some (Number m)) (word-sub a b (fits_small a has_a.1) (fits_small b has_b.1) (small z (omega (arith, size_z)))))) room
-      (Kept-one u n (Number (word z)), z,
-      word_held (record u { locals = slice_set u.locals n (Number (word z)) }) n z (small z (omega (arith, size_z))) (slice_get-set_same u.locals n (Number (word z)) room), size_z, differs a b));
+      (rw (held_word u x a has_a.0, held_word u y b has_b.0) (ap (λ (m : ℕ). Some (Number m)) (word-sub a b (fits_small a has_a.1) (fits_small b has_b.1) (small z (omega (arith, size_z)))))) room (
+        Kept-one u n (Number (word z)),
+        z,
+        word_held (record u { locals = slice_set u.locals n (Number (word z)) }) n z (small z (omega (arith, size_z))) (slice_get-set_same u.locals n (Number (word z)) room),
+        size_z,
+        differs a b,
+      ));
   typed = λ types is_x is_y is_n. (I64, is_n, (is_x, is_y, refl));
 }
 

@@ -72,12 +72,7 @@ fn push_range_check(block: &mut Block, limit: u64, x: Local) -> Result<(), NoMem
 }
 
 /// The same, where it is wanted.
-fn push_check_if(
-    block: &mut Block,
-    wanted: bool,
-    limit: u64,
-    x: Local,
-) -> Result<(), NoMemory>
+fn push_check_if(block: &mut Block, wanted: bool, limit: u64, x: Local) -> Result<(), NoMemory>
     requires { limit < 10 ^ 18 }
     ensures { OnOk result (block.new.code.items ≡ block.old.code.items ++ steps_of (check_if wanted limit x)) }
 {
@@ -122,12 +117,7 @@ fn push_scale(block: &mut Block, k: u8, n: Local, x: Local) -> Result<(), NoMemo
 }
 
 /// Adds the steps that bring a number to another scale, into the first free local where they change it.
-fn push_bring(
-    block: &mut Block,
-    operand: Scaled,
-    k: u8,
-    n: Local,
-) -> Result<Scaled, NoMemory>
+fn push_bring(block: &mut Block, operand: Scaled, k: u8, n: Local) -> Result<Scaled, NoMemory>
     requires scale { operand.scale + k ≤ 36 }
     requires small { k ≤ 18 }
     ensures { IfOk result (λ out. (block.new.code.items ≡ block.old.code.items ++ steps_of (bring_block (is_past (operand.most * 10 ^ k)) k n operand.local))
@@ -172,12 +162,7 @@ fn push_sum(
 }
 
 /// Adds the sum of two numbers, of the larger scale.
-pub fn add(
-    block: &mut Block,
-    left: Scaled,
-    right: Scaled,
-    free: Local,
-) -> Result<Scaled, NoMemory>
+pub fn add(block: &mut Block, left: Scaled, right: Scaled, free: Local) -> Result<Scaled, NoMemory>
     requires scales { (left.scale ≤ 18) × (right.scale ≤ 18) }
     requires below { (left.local < free) × (right.local < free) }
     requires room { free + 1 < 2 ^ 32 }
@@ -249,12 +234,7 @@ fn push_magnitude(block: &mut Block, n: Local) -> Result<(), NoMemory>
 }
 
 /// Adds the steps that multiply where the right factor is at most what the quotient in `n` says, and else raise 2.
-fn push_tested_product(
-    block: &mut Block,
-    n: Local,
-    x: Local,
-    y: Local,
-) -> Result<(), NoMemory>
+fn push_tested_product(block: &mut Block, n: Local, x: Local, y: Local) -> Result<(), NoMemory>
     ensures { OnOk result (block.new.code.items ≡ block.old.code.items ++ steps_of (tested_product n x y)) }
 {
     block.code.extend_from_slice(&[
@@ -274,12 +254,7 @@ fn push_tested_product(
 }
 
 /// Adds the steps of a product whose range is checked: 10^18 - 1 over the left factor tells how large the right one may be.
-fn push_checked_product(
-    block: &mut Block,
-    n: Local,
-    x: Local,
-    y: Local,
-) -> Result<(), NoMemory>
+fn push_checked_product(block: &mut Block, n: Local, x: Local, y: Local) -> Result<(), NoMemory>
     ensures { OnOk result (block.new.code.items ≡ block.old.code.items ++ steps_of (checked_product n x y)) }
 {
     block.code.extend_from_slice(&[
@@ -387,12 +362,7 @@ fn push_quotient(
 }
 
 /// Adds the steps of a division.
-fn push_quotient_of(
-    block: &mut Block,
-    x: Local,
-    y: Local,
-    out: Local,
-) -> Result<(), NoMemory>
+fn push_quotient_of(block: &mut Block, x: Local, y: Local, out: Local) -> Result<(), NoMemory>
     ensures { OnOk result (block.new.code.items ≡ block.old.code.items ++ steps_of (assign out (divop I64 (Div Signed) (local x) (local y)))) }
 {
     block.code.extend_from_slice(&[
@@ -421,12 +391,7 @@ pub fn divide(
 }
 
 /// Adds a number at another scale that is no smaller.
-pub fn bring(
-    block: &mut Block,
-    operand: Scaled,
-    to: u8,
-    free: Local,
-) -> Result<Scaled, NoMemory>
+pub fn bring(block: &mut Block, operand: Scaled, to: u8, free: Local) -> Result<Scaled, NoMemory>
     requires scales { (operand.scale ≤ to) × (to ≤ 18) }
     requires below { operand.local < free }
     ensures block { IfOk result (λ out. (a : Statement) × (block.new.code.items ≡ block.old.code.items ++ steps_of a)

@@ -29,13 +29,7 @@ fn push_difference(block: &mut Block, n: Local, x: Local, y: Local) -> Result<()
 
 /// Adds the steps for a left operand whose scale is k below the right one's: against the quotient of the right one by 10^k, and where they
 /// are the same against its remainder.
-fn push_left_brought(
-    block: &mut Block,
-    k: u8,
-    n: Local,
-    x: Local,
-    y: Local,
-) -> Result<(), NoMemory>
+fn push_left_brought(block: &mut Block, k: u8, n: Local, x: Local, y: Local) -> Result<(), NoMemory>
     requires { k ≤ 18 }
     ensures { OnOk result (block.new.code.items ≡ block.old.code.items ++ steps_of (left_brought k n x y)) }
 {
@@ -95,12 +89,7 @@ fn push_right_brought(
 }
 
 /// Adds the steps of an order.
-fn push_order(
-    block: &mut Block,
-    left: Scaled,
-    right: Scaled,
-    n: Local,
-) -> Result<(), NoMemory>
+fn push_order(block: &mut Block, left: Scaled, right: Scaled, n: Local) -> Result<(), NoMemory>
     requires scales { (left.scale ≤ 18) × (right.scale ≤ 18) }
     ensures { OnOk result (block.new.code.items ≡ block.old.code.items ++ steps_of (order_block left.scale right.scale n left.local right.local)) }
 {
