@@ -1,37 +1,34 @@
 -- NOT, IS and IS NULL.
-use Rattle.std.proofs.Common.{◌≡◌, ℕ, zero, suc, ◌+◌, ◌*◌, ◌<◌, ◌≤◌, Bool, true, false, IsTrue, List, [], ◌∷◌, ◌++◌, length, length-append, Option, Some, None, Result, Ok, Err, slice_get, slice_set, refl, sym, ap, ◌∙◌, subst, inl, inr, ◌⊎◌, arith}
+use Rattle.std.proofs.Common.{◌≡◌, ℕ, ◌+◌, ◌*◌, Bool, true, false, List, [], ◌∷◌, ◌++◌, length, Option, Some, None, Result, Ok, Err, slice_get, slice_set, refl, sym, ◌∙◌, subst, inl, inr, ◌⊎◌, arith}
 use Rattle.qw_types.specs.Arithmetic.{◌>>=◌}
 use Rattle.qw_types.specs.Truth.{negation}
 use Rattle.qw_types.specs.declared.code.Code.{Code}
 use Rattle.qw_types.specs.declared.truth.Truth.{Truth}
 use Rattle.qw_types.specs.declared.truth.Truth.TheVariants.{True, False, Unknown}
 use Rattle.qw_types.specs.declared.value.Val.{Val}
-use Rattle.qw_types.specs.declared.value.Val.TheVariants as val
-use Rattle.qw_meaning.specs.Columns.{HasColumns, HaveColumns, HoldsIn}
-use Rattle.qw_meaning.specs.Evaluation.{Environment, same_truth, tested_null, truth_if, value_of, truth_of}
-use Rattle.qw_meaning.specs.Expression.{Expression, Condition, is_null, negation_of, is}
+use Rattle.qw_meaning.specs.Columns.{HaveColumns, HoldsIn}
+use Rattle.qw_meaning.specs.Evaluation.{Environment, same_truth, truth_if, truth_of}
+use Rattle.qw_meaning.specs.Expression.{Condition, negation_of, is}
 use Rattle.qw_map.proofs.TurnFacts.{slice_get-set_same}
 use Rattle.qw_module.specs.declared.instruction.ValType.{ValType}
 use Rattle.qw_module.specs.declared.instruction.ValType.TheVariants.{I32}
 use Rattle.qw_module.specs.Numbers.{truth}
 use Rattle.qw_low.specs.declared.cell.Cell.{Cell}
 use Rattle.qw_low.specs.Typing as low
-use Rattle.qw_low.specs.Syntax.{Expression as LowExpression, Statement, skip, seq, assign}
+use Rattle.qw_low.specs.Syntax.{Statement, seq, assign}
 use Rattle.qw_low.specs.State.{Number, LowState}
 use Rattle.qw_low.specs.Meaning.{value, meaning}
 use Rattle.qw_low.specs.Size.{size}
 use Rattle.qw_low.proofs.Promises.{Ends-weaker}
 use Rattle.qw_low.specs.Raising.{Kept}
-use Rattle.qw_low.specs.Held.{SaysNull, SaysValue}
-use Rattle.qw_low.proofs.Results.{Kept-set, Kept-one, Kept-then, Comes, comes_weaker, comes_then, comes_assign}
-use Rattle.qw_expr.specs.declared.operand.Operand.{Operand}
-use Rattle.qw_expr.specs.Cells.{HoldsValue, HoldsTruth, Holds, IsBelow, IsBelowNull, DeclaresNull, DeclaresValue, DeclaresTruth, Declares}
-use Rattle.qw_expr.specs.Units.{units, units_of}
-use Rattle.qw_expr.specs.Computes.{Known, AreHeld, AreBelow, Computes, Decides}
-use Rattle.qw_expr.specs.Inner.Truths.{i32, is_false}
-use Rattle.qw_expr.proofs.Nulls.{value_says, null_below_more, below_more}
+use Rattle.qw_low.specs.Held.{SaysNull}
+use Rattle.qw_low.proofs.Results.{Kept-set, Kept-one, Comes, comes_then, comes_assign}
+use Rattle.qw_expr.specs.Cells.{HoldsTruth, IsBelowNull, DeclaresNull, DeclaresTruth}
+use Rattle.qw_expr.specs.Units.{units_of}
+use Rattle.qw_expr.specs.Computes.{Known, Decides}
+use Rattle.qw_expr.specs.Inner.Truths.{is_false}
+use Rattle.qw_expr.proofs.Nulls.{value_says, null_below_more}
 use Rattle.qw_expr.proofs.Binary.{one_long, first_declared, declares_first, declares_rest}
-use Rattle.qw_expr.proofs.Comparisons.{null_or_not, null_says, other_says}
 
 -- a cell of a truth that is never unknown
 abbrev pub sure : ℕ → Cell

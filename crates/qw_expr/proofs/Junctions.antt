@@ -1,32 +1,22 @@
 -- AND and OR, which skip their right sides.
-use Rattle.std.proofs.Common.{◌≡◌, ℕ, zero, suc, ◌+◌, ◌*◌, ◌<◌, ◌≤◌, Bool, true, false, not, ◌&&◌, ◌||◌, List, [], ◌∷◌, ◌++◌, length, length-append, Option, Some, None, Result, Ok, Err, slice_get, slice_set, refl, sym, ap, ◌∙◌, subst, inl, inr, ◌⊎◌, arith}
-use Rattle.qw_types.specs.Arithmetic.{◌>>=◌}
+use Rattle.std.proofs.Common.{◌≡◌, ℕ, ◌+◌, ◌<◌, ◌≤◌, Bool, true, false, not, ◌&&◌, ◌||◌, length, Option, Some, None, Ok, slice_get, slice_set, refl, ap, ◌∙◌, inl, inr, ◌⊎◌, arith}
 use Rattle.qw_types.specs.Truth.{conjunction, disjunction}
-use Rattle.qw_types.specs.declared.code.Code.{Code}
 use Rattle.qw_types.specs.declared.truth.Truth.{Truth}
 use Rattle.qw_types.specs.declared.truth.Truth.TheVariants.{True, False, Unknown}
-use Rattle.qw_types.specs.declared.value.Val.{Val}
-use Rattle.qw_meaning.specs.Columns.{HaveColumns, HoldsIn}
-use Rattle.qw_meaning.specs.Evaluation.{Environment, and_then, or_else, same_truth, truth_of}
-use Rattle.qw_meaning.specs.Expression.{Condition, both, either}
+use Rattle.qw_meaning.specs.Evaluation.{same_truth}
 use Rattle.qw_map.proofs.TurnFacts.{slice_get-set_same}
-use Rattle.qw_module.specs.declared.instruction.ValType.{ValType}
 use Rattle.qw_module.specs.declared.instruction.ValType.TheVariants.{I32}
 use Rattle.qw_module.specs.declared.instruction.Binary.TheVariants.{And, Or}
 use Rattle.qw_module.specs.Numbers.{truth}
 use Rattle.qw_low.specs.declared.cell.Cell.{Cell}
-use Rattle.qw_low.specs.Typing as low
-use Rattle.qw_low.specs.Syntax.{Expression, local, binop, is_zero, Statement, seq, assign}
+use Rattle.qw_low.specs.Syntax.{Expression, local, binop, is_zero, assign}
 use Rattle.qw_low.specs.State.{Number, LowState}
 use Rattle.qw_low.specs.Meaning.{value}
 use Rattle.qw_low.specs.Raising.{Kept}
-use Rattle.qw_low.proofs.Results.{Kept-same, Kept-set, Kept-one, Kept-then, Comes, comes_weaker, comes_then, comes_set, comes_assign, comes_choose}
-use Rattle.qw_expr.specs.Cells.{HoldsTruth, IsBelow, IsBelowNull, DeclaresNull, DeclaresTruth, Declares}
-use Rattle.qw_expr.specs.Units.{units_of}
-use Rattle.qw_expr.specs.Computes.{Known, AreHeld, AreBelow, Decides}
-use Rattle.qw_expr.specs.Inner.Truths.{i32, may_hold, unknown_word, junction_null, set_truth, and_block, or_block}
-use Rattle.qw_expr.proofs.Nulls.{truth_kept, known_kept, below_more}
-use Rattle.qw_expr.proofs.Binary.{declares_first, declares_rest}
+use Rattle.qw_low.proofs.Results.{Kept-same, Kept-set, Kept-one, Kept-then, Comes, comes_set, comes_assign}
+use Rattle.qw_expr.specs.Cells.{HoldsTruth, IsBelow}
+use Rattle.qw_expr.specs.Inner.Truths.{i32, may_hold, unknown_word, junction_null, set_truth}
+use Rattle.qw_expr.proofs.Nulls.{truth_kept}
 
 -- ---- the words of a truth
 pub true_word : (c : Cell) (t : Truth) (s : LowState) → HoldsTruth c t s → slice_get s.locals c.value ≡ Some (Number (truth (same_truth t True)))

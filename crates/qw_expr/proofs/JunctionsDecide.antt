@@ -1,5 +1,5 @@
 -- The blocks of AND and OR decide.
-use Rattle.std.proofs.Common.{◌≡◌, ℕ, zero, suc, ◌+◌, ◌*◌, ◌<◌, ◌≤◌, Bool, true, false, not, List, [], ◌∷◌, ◌++◌, length, length-append, Option, Some, None, Result, Ok, Err, slice_get, refl, sym, ap, ◌∙◌, subst, inl, inr, ◌⊎◌, arith}
+use Rattle.std.proofs.Common.{◌≡◌, ℕ, ◌+◌, ◌<◌, ◌≤◌, true, false, not, List, [], ◌∷◌, ◌++◌, length, length-append, Option, Some, None, Result, Ok, slice_get, refl, sym, subst, inl, inr, ◌⊎◌, arith}
 use Rattle.qw_types.specs.Arithmetic.{◌>>=◌}
 use Rattle.qw_types.specs.Truth.{conjunction, disjunction}
 use Rattle.qw_types.specs.declared.code.Code.{Code}
@@ -12,14 +12,13 @@ use Rattle.qw_meaning.specs.Expression.{Condition, both, either}
 use Rattle.qw_module.specs.declared.instruction.ValType.{ValType}
 use Rattle.qw_module.specs.declared.instruction.ValType.TheVariants.{I32}
 use Rattle.qw_module.specs.declared.instruction.Binary.TheVariants.{And, Or}
-use Rattle.qw_module.specs.Numbers.{truth}
 use Rattle.qw_low.specs.declared.cell.Cell.{Cell}
 use Rattle.qw_low.specs.Typing as low
 use Rattle.qw_low.specs.Syntax.{Expression, local, binop, is_zero, Statement, seq}
 use Rattle.qw_low.specs.State.{LowState}
 use Rattle.qw_low.specs.Raising.{Kept}
 use Rattle.qw_low.proofs.Results.{Kept-same, Kept-then, Comes, comes_weaker, comes_then, comes_choose}
-use Rattle.qw_expr.specs.Cells.{HoldsTruth, IsBelow, IsBelowNull, DeclaresNull, DeclaresTruth, Declares}
+use Rattle.qw_expr.specs.Cells.{HoldsTruth, IsBelow, IsBelowNull, DeclaresNull, Declares}
 use Rattle.qw_expr.specs.Units.{units_of}
 use Rattle.qw_expr.specs.Computes.{Known, AreHeld, AreBelow, Decides}
 use Rattle.qw_expr.specs.Inner.Truths.{i32, may_hold, unknown_word, junction_null, set_truth, and_block, or_block}

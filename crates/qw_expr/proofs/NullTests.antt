@@ -1,9 +1,8 @@
 -- IS NULL.
-use Rattle.std.proofs.Common.{◌≡◌, ℕ, ◌+◌, ◌*◌, ◌<◌, ◌≤◌, List, [], ◌∷◌, ◌++◌, length, length-append, Option, Some, None, Result, Ok, Err, slice_get, slice_set, refl, sym, ap, ◌∙◌, subst, arith}
+use Rattle.std.proofs.Common.{◌≡◌, ℕ, ◌+◌, ◌*◌, ◌<◌, List, [], ◌∷◌, ◌++◌, length, Some, None, Result, Ok, Err, slice_set, refl, sym, ◌∙◌, subst, arith}
 use Rattle.qw_types.specs.Arithmetic.{◌>>=◌}
 use Rattle.qw_types.specs.declared.code.Code.{Code}
-use Rattle.qw_types.specs.declared.truth.Truth.{Truth}
-use Rattle.qw_types.specs.declared.truth.Truth.TheVariants.{True, False}
+use Rattle.qw_types.specs.declared.truth.Truth.TheVariants.{False}
 use Rattle.qw_types.specs.declared.value.Val.{Val}
 use Rattle.qw_types.specs.declared.value.Val.TheVariants as val
 use Rattle.qw_meaning.specs.Evaluation.{tested_null, value_of}
@@ -11,7 +10,6 @@ use Rattle.qw_meaning.specs.Expression.{Expression, is_null}
 use Rattle.qw_map.proofs.TurnFacts.{slice_get-set_same}
 use Rattle.qw_module.specs.declared.instruction.ValType.{ValType}
 use Rattle.qw_module.specs.declared.instruction.ValType.TheVariants.{I32}
-use Rattle.qw_low.specs.declared.cell.Cell.{Cell}
 use Rattle.qw_low.specs.Syntax.{Statement, seq, assign}
 use Rattle.qw_low.specs.State.{Number, LowState}
 use Rattle.qw_low.specs.Meaning.{meaning}

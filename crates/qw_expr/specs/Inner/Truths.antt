@@ -15,7 +15,7 @@ use Rattle.qw_meaning.specs.declared.query.Comparison.TheVariants.{Equal, NotEqu
 use Rattle.qw_low.specs.Steps.{steps_of}
 use Rattle.qw_expr.specs.declared.emitter.Emitter.{Emitter}
 use Rattle.qw_expr.specs.Emits.{free_of}
-use Rattle.qw_low.specs.Syntax.{Expression, constant_of, local, binop, is_zero, relop, Statement, skip, seq, assign, conditional}
+use Rattle.qw_low.specs.Syntax.{Expression, constant_of, local, binop, is_zero, relop, Statement, seq, assign, conditional}
 
 abbrev pub i32 : ℕ → Expression
 i32 n = constant_of (const.I32 n)
