@@ -1,7 +1,6 @@
 -- Operators on numbers, with null.
-use Rattle.std.proofs.Common.{◌≡◌, ℕ, zero, suc, ℤ, ◌+◌, ◌*◌, ◌<◌, ◌≤◌, ◌||◌, Bool, true, false, IsTrue, unsigned_abs, List, [], ◌∷◌, ◌++◌, length, length-append, Option, Some, None, Result, Ok, Err, IfOk, slice_get, refl, sym, ap, ◌∙◌, subst, arith}
-use Rattle.qw_types.specs.Arithmetic.{◌>>=◌, fits}
-use Rattle.qw_types.specs.Kind.{IsOfKind}
+use Rattle.std.proofs.Common.{◌≡◌, ℕ, zero, suc, ℤ, ◌+◌, ◌*◌, ◌<◌, ◌≤◌, ◌||◌, Bool, true, false, IsTrue, List, [], ◌∷◌, ◌++◌, length, length-append, Option, Some, None, Result, Ok, Err, IfOk, slice_get, refl, sym, subst, arith}
+use Rattle.qw_types.specs.Arithmetic.{◌>>=◌}
 use Rattle.qw_types.specs.declared.code.Code.{Code}
 use Rattle.qw_types.specs.declared.kind.Kind.{Kind}
 use Rattle.qw_types.specs.declared.kind.Kind.TheVariants as kind
@@ -9,28 +8,28 @@ use Rattle.qw_types.specs.declared.value.Val.{Val}
 use Rattle.qw_types.specs.declared.value.Val.TheVariants as val
 use Rattle.qw_meaning.specs.declared.expression.Operator.{Operator}
 use Rattle.qw_meaning.specs.Columns.{HasColumns, HoldsIn}
-use Rattle.qw_meaning.specs.Evaluation.{Environment, applied, as_number, combined, negated, value_of}
-use Rattle.qw_meaning.specs.Expression.{Expression, arithmetic, negative, scale_of, scale_after}
+use Rattle.qw_meaning.specs.Evaluation.{Environment, applied, as_number, combined, value_of}
+use Rattle.qw_meaning.specs.Expression.{Expression, arithmetic, scale_of, scale_after}
 use Rattle.qw_meaning.specs.Typing.{IsTyped, IsValueOf, is_number, kind_of}
 use Rattle.qw_meaning.proofs.TypingLemmas.{typed_value}
 use Rattle.qw_module.specs.declared.instruction.ValType.{ValType}
 use Rattle.qw_module.specs.declared.instruction.ValType.TheVariants.{I32, I64}
 use Rattle.qw_low.specs.declared.cell.Cell.{Cell}
 use Rattle.qw_low.specs.Typing as low
-use Rattle.qw_low.specs.Syntax.{Statement, skip, seq}
+use Rattle.qw_low.specs.Syntax.{Statement, seq}
 use Rattle.qw_low.specs.State.{LowState}
 use Rattle.qw_low.specs.Meaning.{meaning}
 use Rattle.qw_low.specs.Size.{size}
 use Rattle.qw_low.specs.Promise.{Ends}
 use Rattle.qw_low.specs.Raising.{Kept, Leaves, Raises}
-use Rattle.qw_low.specs.Held.{HoldsNumber, SaysNull, SaysValue}
+use Rattle.qw_low.specs.Held.{SaysNull}
 use Rattle.qw_low.proofs.Promises.{Ends-more, Ends-weaker}
-use Rattle.qw_low.proofs.Results.{Kept-same, Kept-then, at_least, Comes, comes_weaker, comes_then, comes_skip}
-use Rattle.qw_wide.specs.Numbers.{HasNumber, Operates, Converts}
+use Rattle.qw_low.proofs.Results.{Kept-then, at_least, Comes, comes_weaker, comes_then, comes_skip}
+use Rattle.qw_wide.specs.Numbers.{HasNumber, Operates}
 use Rattle.qw_expr.specs.declared.operand.Operand.{Operand}
-use Rattle.qw_expr.specs.Cells.{HoldsValue, Holds, IsWithin, IsBelow, IsBelowNull, DeclaresNull, DeclaresKind, DeclaresValue, Declares}
+use Rattle.qw_expr.specs.Cells.{Holds, IsBelow, IsBelowNull, DeclaresNull, DeclaresKind, DeclaresValue, Declares}
 use Rattle.qw_expr.specs.Units.{units}
-use Rattle.qw_expr.specs.Computes.{Known, AreHeld, AreBelow, AreDeclared, Computes}
+use Rattle.qw_expr.specs.Computes.{Known, AreHeld, AreBelow, Computes}
 use Rattle.qw_expr.specs.Inner.Operated.{number_at}
 use Rattle.qw_expr.specs.Inner.Nulls.{join_block, joined_null, unless_null}
 use Rattle.qw_expr.proofs.Nulls.{Says, value_says, value_kept, known_kept, below_more, joins, unless}

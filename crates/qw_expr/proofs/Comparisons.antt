@@ -1,31 +1,31 @@
 -- What comparisons come to.
-use Rattle.std.proofs.Common.{◌≡◌, ◌≢◌, ℕ, ℤ, zero, suc, pos, negsuc, ◌+◌, ◌*◌, ◌^◌, ◌<◌, ◌≤◌, ◌<ℤ◌, ◌==◌, ◌||◌, int_lt, int_le, int_cmp, Ordering, Bool, true, false, not, IsTrue, FitsSigned, unsigned_abs, List, [], ◌∷◌, ◌++◌, length, length-append, Option, Some, None, Result, Ok, Err, slice_get, slice_set, refl, sym, ap, ◌∙◌, subst, ⊎_elim, inl, inr, ◌⊎◌, arith, w64}
+use Rattle.std.proofs.Common.{◌≡◌, ℕ, ℤ, pos, ◌+◌, ◌*◌, ◌^◌, ◌<◌, ◌≤◌, ◌<ℤ◌, ◌==◌, ◌||◌, int_lt, int_le, int_cmp, Ordering, Bool, true, false, FitsSigned, unsigned_abs, length, Option, Some, None, Result, Ok, slice_get, slice_set, refl, sym, ap, ◌∙◌, subst, ⊎_elim, inl, inr, ◌⊎◌, arith, w64}
 use Rattle.std.specs.Ordering.{MatchOrdering, is_eq, is_lt, is_le, is_gt, is_ge}
 use Rattle.std.specs.declared.cmp.Ordering.TheVariants.{Less, Equal, Greater}
 use Rattle.std.specs.Cmp.{int_ranks}
 use Rattle.std.specs.Int.{cast_signed}
-use Rattle.std.proofs.lemmas.Bool.{eq-eqb, ne_eqb}
+use Rattle.std.proofs.lemmas.Bool.{ne_eqb}
 use Rattle.std.proofs.lemmas.Int.{ints}
 use Rattle.qw_types.specs.declared.code.Code.{Code}
 use Rattle.qw_types.specs.declared.truth.Truth.{Truth}
-use Rattle.qw_types.specs.declared.truth.Truth.TheVariants.{True, False, Unknown}
+use Rattle.qw_types.specs.declared.truth.Truth.TheVariants.{Unknown}
 use Rattle.qw_types.specs.declared.value.Val.{Val}
 use Rattle.qw_types.specs.declared.value.Val.TheVariants as val
 use Rattle.qw_meaning.specs.declared.query.Comparison.{Comparison}
 use Rattle.qw_meaning.specs.declared.query.Comparison.TheVariants as op
 use Rattle.qw_meaning.specs.Evaluation.{answers, truth_if}
 use Rattle.qw_map.proofs.TurnFacts.{slice_get-set_same}
-use Rattle.qw_module.specs.declared.instruction.ValType.TheVariants.{I32, I64}
+use Rattle.qw_module.specs.declared.instruction.ValType.TheVariants.{I64}
 use Rattle.qw_module.specs.Numbers.{relation, truth}
 use Rattle.qw_low.specs.declared.cell.Cell.{Cell}
 use Rattle.qw_low.specs.Syntax.{Statement, local, seq, assign}
 use Rattle.qw_low.specs.State.{Number, LowState}
-use Rattle.qw_low.specs.Meaning.{value, meaning}
+use Rattle.qw_low.specs.Meaning.{meaning}
 use Rattle.qw_low.specs.Size.{size}
 use Rattle.qw_low.specs.Raising.{Kept}
 use Rattle.qw_low.specs.Held.{HoldsNumber, SaysNull, SaysValue}
-use Rattle.qw_low.proofs.Results.{Kept-same, Kept-set, Kept-one, Kept-then, at_least, Comes, comes_weaker, comes_then, comes_assign, comes_choose}
-use Rattle.qw_low.proofs.Promises.{Ends-weaker, Ends-more}
+use Rattle.qw_low.proofs.Results.{Kept-set, Kept-one, Kept-then, at_least, Comes, comes_then, comes_assign, comes_choose}
+use Rattle.qw_low.proofs.Promises.{Ends-more}
 use Rattle.qw_wide.specs.Numbers.{HasNumber, Compares}
 use Rattle.qw_wide.proofs.Words.{word, word_back, word_zero, held_word}
 use Rattle.qw_wide.proofs.ArithmeticRuns.{held_kept}

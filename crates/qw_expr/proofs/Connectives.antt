@@ -1,45 +1,42 @@
 -- NOT, IS and IS NULL.
-use Rattle.std.proofs.Common.{◌≡◌, ℕ, zero, suc, ◌+◌, ◌*◌, ◌<◌, ◌≤◌, Bool, true, false, IsTrue, List, [], ◌∷◌, ◌++◌, length, length-append, Option, Some, None, Result, Ok, Err, slice_get, slice_set, refl, sym, ap, ◌∙◌, subst, inl, inr, ◌⊎◌, arith}
+use Rattle.std.proofs.Common.{◌≡◌, ℕ, ◌+◌, ◌*◌, Bool, true, false, List, [], ◌∷◌, ◌++◌, length, Option, Some, None, Result, Ok, Err, slice_get, slice_set, refl, sym, ◌∙◌, subst, inl, inr, ◌⊎◌, arith}
 use Rattle.qw_types.specs.Arithmetic.{◌>>=◌}
 use Rattle.qw_types.specs.Truth.{negation}
 use Rattle.qw_types.specs.declared.code.Code.{Code}
 use Rattle.qw_types.specs.declared.truth.Truth.{Truth}
 use Rattle.qw_types.specs.declared.truth.Truth.TheVariants.{True, False, Unknown}
 use Rattle.qw_types.specs.declared.value.Val.{Val}
-use Rattle.qw_types.specs.declared.value.Val.TheVariants as val
-use Rattle.qw_meaning.specs.Columns.{HasColumns, HaveColumns, HoldsIn}
-use Rattle.qw_meaning.specs.Evaluation.{Environment, same_truth, tested_null, truth_if, value_of, truth_of}
-use Rattle.qw_meaning.specs.Expression.{Expression, Condition, is_null, negation_of, is}
+use Rattle.qw_meaning.specs.Columns.{HaveColumns, HoldsIn}
+use Rattle.qw_meaning.specs.Evaluation.{Environment, same_truth, truth_if, truth_of}
+use Rattle.qw_meaning.specs.Expression.{Condition, negation_of, is}
 use Rattle.qw_map.proofs.TurnFacts.{slice_get-set_same}
 use Rattle.qw_module.specs.declared.instruction.ValType.{ValType}
 use Rattle.qw_module.specs.declared.instruction.ValType.TheVariants.{I32}
 use Rattle.qw_module.specs.Numbers.{truth}
 use Rattle.qw_low.specs.declared.cell.Cell.{Cell}
 use Rattle.qw_low.specs.Typing as low
-use Rattle.qw_low.specs.Syntax.{Expression as LowExpression, Statement, skip, seq, assign}
+use Rattle.qw_low.specs.Syntax.{Statement, seq, assign}
 use Rattle.qw_low.specs.State.{Number, LowState}
 use Rattle.qw_low.specs.Meaning.{value, meaning}
 use Rattle.qw_low.specs.Size.{size}
 use Rattle.qw_low.proofs.Promises.{Ends-weaker}
 use Rattle.qw_low.specs.Raising.{Kept}
-use Rattle.qw_low.specs.Held.{SaysNull, SaysValue}
-use Rattle.qw_low.proofs.Results.{Kept-set, Kept-one, Kept-then, Comes, comes_weaker, comes_then, comes_assign}
-use Rattle.qw_expr.specs.declared.operand.Operand.{Operand}
-use Rattle.qw_expr.specs.Cells.{HoldsValue, HoldsTruth, Holds, IsBelow, IsBelowNull, DeclaresNull, DeclaresValue, DeclaresTruth, Declares}
-use Rattle.qw_expr.specs.Units.{units, units_of}
-use Rattle.qw_expr.specs.Computes.{Known, AreHeld, AreBelow, Computes, Decides}
-use Rattle.qw_expr.specs.Inner.Truths.{i32, is_false}
-use Rattle.qw_expr.proofs.Nulls.{value_says, null_below_more, below_more}
+use Rattle.qw_low.specs.Held.{SaysNull}
+use Rattle.qw_low.proofs.Results.{Kept-set, Kept-one, Comes, comes_then, comes_assign}
+use Rattle.qw_expr.specs.Cells.{HoldsTruth, IsBelowNull, DeclaresNull, DeclaresTruth}
+use Rattle.qw_expr.specs.Units.{units_of}
+use Rattle.qw_expr.specs.Computes.{Known, Decides}
+use Rattle.qw_expr.specs.Inner.Truths.{is_false}
+use Rattle.qw_expr.proofs.Nulls.{value_says, null_below_more}
 use Rattle.qw_expr.proofs.Binary.{one_long, first_declared, declares_first, declares_rest}
-use Rattle.qw_expr.proofs.Comparisons.{null_or_not, null_says, other_says}
 
 -- a cell of a truth that is never unknown
 abbrev pub sure : ℕ → Cell
 sure x = record { value = x; length = x; null = None }
 
 sure_holds : (x : ℕ) (g : Bool) (s : LowState) → slice_get s.locals x ≡ Some (Number (truth g)) → HoldsTruth (sure x) (truth_if g) s
-sure_holds x true s is = (is, tt)
-sure_holds x false s is = (is, tt)
+sure_holds x true s word = (word, tt)
+sure_holds x false s word = (word, tt)
 
 -- whether a truth is false, in a word
 false_is : (v : ℕ) (n : Option ℕ) (t : Truth) (s : LowState) → HoldsTruth (record { value = v; length = v; null = n }) t s → value s (is_false v n) ≡ Some (Number (truth (same_truth t False)))
@@ -82,7 +79,7 @@ module _ (known : List Known) (next : ℕ) (c : Condition) (cell : Cell) (sc : S
           subst (λ (r : Result Truth Code). Comes pages fuel more (λ t w. Kept next s w × HoldsTruth (record { value = m; length = m; null = null }) t w) r (seq sc (assign m (is_false cell.value cell.null))) s) (sym same.0)
           (comes_then pages fuel more (λ t u. Kept next s u × HoldsTruth cell t u) (λ t w. Kept next s w × HoldsTruth (record { value = m; length = m; null = null }) t w) (truth_of c env) (λ t. Ok (g t)) sc (assign m (is_false cell.value cell.null)) s
           (dc.runs pages fuel more row s (omega (arith, enough, same.1)) within held (columns row has) (omega (arith, room, long)))
-          (λ t u is left.
+          (λ t u found left.
           let word : ℕ = truth (same_truth t False) in
           comes_assign pages fuel more (omega (arith, enough)) (λ v w. Kept next s w × HoldsTruth (record { value = m; length = m; null = null }) v w) (g t) m (is_false cell.value cell.null) (Number word) u
           (false_is cell.value cell.null t u (same_cell cell t u left.1)) (omega (arith, room, long, left.0.many)) (
@@ -115,9 +112,9 @@ module _ (known : List Known) (next : ℕ) (c : Condition) (cell : Cell) (sc : S
       says_null (Some x) u w kept low says = kept.below x low ∙ says
 
       leaves : (t : Truth) (u w : LowState) → HoldsTruth cell t u → Kept m u w → slice_get w.locals m ≡ Some (Number (truth (same_truth t False))) → HoldsTruth (record { value = m; length = m; null = cell.null }) (negation t) w
-      leaves True u w holds kept is = (is, value_says m u w cell.null kept dc.below.2 holds.1)
-      leaves False u w holds kept is = (is, value_says m u w cell.null kept dc.below.2 holds.1)
-      leaves Unknown u w holds kept is = (is, says_null cell.null u w kept dc.below.2 holds.1)
+      leaves True u w holds kept word = (word, value_says m u w cell.null kept dc.below.2 holds.1)
+      leaves False u w holds kept word = (word, value_says m u w cell.null kept dc.below.2 holds.1)
+      leaves Unknown u w holds kept word = (word, says_null cell.null u w kept dc.below.2 holds.1)
 
   -- IS FALSE
   pub is_false_decides : Decides known (is c False) next (sure m) (seq sc (assign m (is_false cell.value cell.null))) (ownc ++ I32 ∷ [])

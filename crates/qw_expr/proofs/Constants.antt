@@ -1,8 +1,7 @@
 -- Literals, what is known, and what stays at every scale.
-use Rattle.std.proofs.Common.{◌≡◌, ℕ, ℤ, pos, negsuc, ◌+◌, ◌*◌, ◌^◌, ◌<◌, ◌≤◌, List, [], ◌∷◌, ◌++◌, length, IsTrue, FitsSigned, unsigned_abs, Option, Some, None, Result, Ok, Err, Bool, true, false, slice_get, slice_set, refl, sym, ap, ◌∙◌, subst, arith, rules, w64}
-use Rattle.std.specs.Int.{cast_unsigned}
+use Rattle.std.proofs.Common.{◌≡◌, ℕ, ℤ, pos, negsuc, ◌+◌, List, [], ◌∷◌, ◌++◌, length, FitsSigned, unsigned_abs, Option, Some, None, Result, Ok, Err, false, slice_get, slice_set, refl, sym, ap, ◌∙◌, subst, arith, w64}
 use Rattle.std.proofs.lemmas.Int.{ints}
-use Rattle.qw_types.specs.Arithmetic.{◌>>=◌, fits}
+use Rattle.qw_types.specs.Arithmetic.{◌>>=◌}
 use Rattle.qw_types.specs.Kind.{IsDateNumber}
 use Rattle.qw_types.specs.declared.code.Code.{Code}
 use Rattle.qw_types.specs.declared.kind.Kind.{Kind}
@@ -10,7 +9,6 @@ use Rattle.qw_types.specs.declared.kind.Kind.TheVariants as kind
 use Rattle.qw_types.specs.declared.value.Val.{Val}
 use Rattle.qw_types.specs.declared.value.Val.TheVariants as val
 use Rattle.qw_meaning.specs.declared.expression.Field.{Field}
-use Rattle.qw_meaning.specs.Columns.{HasColumns, HoldsIn}
 use Rattle.qw_meaning.specs.Evaluation.{Environment, raised, value_of}
 use Rattle.qw_meaning.specs.Expression.{Expression, number, date, extract, brought, scale_of}
 use Rattle.qw_meaning.specs.Typing.{IsTyped, IsValueOf, at_scale, is_number, kind_of}
@@ -25,12 +23,11 @@ use Rattle.qw_low.specs.Raising.{Kept}
 use Rattle.qw_low.specs.Held.{HoldsNumber}
 use Rattle.qw_low.specs.Steps.{steps_of}
 use Rattle.qw_low.proofs.Appended.{two}
-use Rattle.qw_low.proofs.Results.{Kept-one, Comes, comes_assign, comes_weaker, comes_then}
-use Rattle.qw_wide.proofs.Words.{word, word_below, small, fits_below, fits_small, word_held}
+use Rattle.qw_low.proofs.Results.{Kept-one, Comes, comes_assign}
+use Rattle.qw_wide.proofs.Words.{word, word_below, small, fits_small, word_held}
 use Rattle.qw_expr.specs.declared.emitter.Emitter.{Emitter}
 use Rattle.qw_expr.specs.declared.operand.Operand.{Operand}
-use Rattle.qw_expr.specs.Cells.{Holds, IsBelow, IsBelowNull, DeclaresKind, DeclaresValue}
-use Rattle.qw_expr.specs.Units.{units}
+use Rattle.qw_expr.specs.Cells.{Holds, IsBelowNull, DeclaresValue}
 use Rattle.qw_expr.specs.Computes.{Known, AreBelow, Computes}
 use Rattle.qw_expr.specs.Emits.{Emits, free_of}
 use Rattle.qw_expr.specs.Inner.Nulls.{unless_null}

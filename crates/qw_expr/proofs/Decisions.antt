@@ -1,11 +1,8 @@
 -- Comparisons of emitted expressions.
-use Rattle.std.proofs.Common.{◌≡◌, ℕ, ℤ, zero, suc, pos, negsuc, ◌+◌, ◌*◌, ◌<◌, ◌≤◌, int_cmp, Ordering, Bool, true, false, IsTrue, unsigned_abs, List, [], ◌∷◌, ◌++◌, length, length-append, Option, Some, None, Result, Ok, Err, slice_get, refl, sym, ap, ◌∙◌, subst, arith}
+use Rattle.std.proofs.Common.{◌≡◌, ℕ, ℤ, pos, negsuc, ◌+◌, ◌≤◌, Ordering, IsTrue, unsigned_abs, List, [], ◌∷◌, ◌++◌, length, Option, Some, None, Ok, slice_get, refl, sym, ap, subst, arith}
 use Rattle.std.proofs.lemmas.Int.{ints}
-use Rattle.qw_types.specs.Arithmetic.{◌>>=◌, order_of, fits}
+use Rattle.qw_types.specs.Arithmetic.{◌>>=◌, order_of}
 use Rattle.qw_types.specs.Kind.{IsDateNumber}
-use Rattle.qw_types.specs.declared.code.Code.{Code}
-use Rattle.qw_types.specs.declared.kind.Kind.{Kind}
-use Rattle.qw_types.specs.declared.kind.Kind.TheVariants as kind
 use Rattle.qw_types.specs.declared.truth.Truth.{Truth}
 use Rattle.qw_types.specs.declared.truth.Truth.TheVariants.{Unknown}
 use Rattle.qw_types.specs.declared.value.Val.{Val}
@@ -28,11 +25,11 @@ use Rattle.qw_wide.specs.Numbers.{HasNumber, Compares}
 use Rattle.qw_wide.proofs.OrderRuns.{same_scale}
 use Rattle.qw_wide.proofs.Words.{below_fits}
 use Rattle.qw_expr.specs.declared.operand.Operand.{Operand}
-use Rattle.qw_expr.specs.Cells.{Holds, HoldsTruth, IsBelow, IsBelowNull, DeclaresNull, DeclaresKind, DeclaresValue, DeclaresTruth, Declares}
-use Rattle.qw_expr.specs.Units.{units, units_of}
-use Rattle.qw_expr.specs.Computes.{Known, AreHeld, AreBelow, AreDeclared, Computes, Decides}
+use Rattle.qw_expr.specs.Cells.{Holds, HoldsTruth, IsBelowNull, DeclaresNull, DeclaresKind, DeclaresValue}
+use Rattle.qw_expr.specs.Units.{units_of}
+use Rattle.qw_expr.specs.Computes.{Known, AreHeld, AreBelow, Computes, Decides}
 use Rattle.qw_expr.specs.Inner.Nulls.{join_block, joined_null}
-use Rattle.qw_expr.specs.Inner.Truths.{i32, zero_test, zero_if_null}
+use Rattle.qw_expr.specs.Inner.Truths.{zero_test, zero_if_null}
 use Rattle.qw_expr.proofs.Nulls.{value_kept, known_kept, below_more}
 use Rattle.qw_expr.proofs.Binary.{NumberOrNull, number_of_typed, if_ok_is, joined_below, three_long, third, declares_first, declares_rest, join_typed, operand_declared}
 use Rattle.qw_expr.proofs.Unary.{date_of, no_number, no_text, date_declared}

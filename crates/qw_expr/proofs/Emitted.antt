@@ -1,5 +1,5 @@
 -- Expressions that are emitted one after another.
-use Rattle.std.proofs.Common.{◌≡◌, ℕ, ℤ, neg_ℤ, ◌+◌, ◌<◌, ◌≤◌, List, [], ◌∷◌, ◌++◌, length, length-append, IsTrue, Option, Some, None, Result, Ok, refl, sym, ap, ◌∙◌, subst, arith}
+use Rattle.std.proofs.Common.{◌≡◌, ℕ, ℤ, neg_ℤ, ◌+◌, List, [], ◌∷◌, ◌++◌, length, length-append, IsTrue, Option, Some, None, Result, Ok, refl, sym, ap, ◌∙◌, subst, arith}
 use Rattle.qw_types.specs.Arithmetic.{bring}
 use Rattle.qw_types.specs.declared.code.Code.{Code}
 use Rattle.qw_meaning.specs.declared.expression.Operator.{Operator}

@@ -1,7 +1,5 @@
 -- Null words, and values that are kept.
-use Rattle.std.proofs.Common.{◌≡◌, ℕ, suc, ℤ, ◌+◌, ◌*◌, ◌<◌, ◌≤◌, ◌||◌, Bool, true, false, List, [], ◌∷◌, length, Option, Some, None, Result, Ok, Err, slice_get, slice_set, refl, sym, ap, ◌∙◌, subst, arith}
-use Rattle.std.proofs.lemmas.Nat.{mul-le}
-use Rattle.std.specs.List.{AllByRecursion}
+use Rattle.std.proofs.Common.{◌≡◌, ℕ, ℤ, ◌+◌, ◌<◌, ◌≤◌, ◌||◌, Bool, true, false, List, [], ◌∷◌, length, Option, Some, None, Result, Ok, slice_get, slice_set, refl, sym, ap, ◌∙◌, subst, arith}
 use Rattle.qw_types.specs.declared.code.Code.{Code}
 use Rattle.qw_types.specs.declared.truth.Truth.{Truth}
 use Rattle.qw_types.specs.declared.truth.Truth.TheVariants.{True, False, Unknown}
@@ -12,14 +10,13 @@ use Rattle.qw_module.specs.declared.instruction.ValType.TheVariants.{I32}
 use Rattle.qw_module.specs.declared.instruction.Binary.TheVariants.{Or}
 use Rattle.qw_module.specs.Numbers.{truth}
 use Rattle.qw_low.specs.declared.cell.Cell.{Cell}
-use Rattle.qw_low.specs.Syntax.{Statement, local, binop, skip, assign, conditional}
+use Rattle.qw_low.specs.Syntax.{Statement, local, binop, skip}
 use Rattle.qw_low.specs.State.{Part, Column, Own, Number, LowState, size_of}
 use Rattle.qw_low.specs.Meaning.{value}
-use Rattle.qw_low.specs.Raising.{Kept, Leaves, Raises}
-use Rattle.qw_low.specs.Held.{HoldsNumber, HoldsText, LiesAt, SaysNull, SaysValue}
-use Rattle.qw_low.proofs.Results.{Kept-same, Kept-one, Kept-then, Comes, comes_weaker, comes_skip, comes_assign, comes_choose}
-use Rattle.qw_expr.specs.declared.operand.Operand.{Operand}
-use Rattle.qw_expr.specs.Cells.{HoldsValue, HoldsTruth, Holds, IsBelow, IsBelowNull}
+use Rattle.qw_low.specs.Raising.{Kept}
+use Rattle.qw_low.specs.Held.{HoldsNumber, HoldsText, SaysNull, SaysValue}
+use Rattle.qw_low.proofs.Results.{Kept-same, Kept-one, Comes, comes_skip, comes_assign, comes_choose}
+use Rattle.qw_expr.specs.Cells.{HoldsValue, HoldsTruth, IsBelow, IsBelowNull}
 use Rattle.qw_expr.specs.Computes.{Known, AreHeld, AreBelow}
 use Rattle.qw_expr.specs.Inner.Nulls.{join_block, joined_null, unless_null}
 

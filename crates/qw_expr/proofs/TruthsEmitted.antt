@@ -1,8 +1,8 @@
 -- Conditions that are emitted.
-use Rattle.std.proofs.Common.{◌≡◌, ℕ, ℤ, ◌+◌, ◌<◌, ◌≤◌, List, [], ◌∷◌, ◌++◌, length, IsTrue, Ordering, Option, Some, None, refl, sym, ap, ◌∙◌, subst, arith}
+use Rattle.std.proofs.Common.{◌≡◌, ℕ, ℤ, ◌+◌, List, [], ◌∷◌, ◌++◌, length, length-append, IsTrue, Ordering, Option, Some, None, refl, sym, ap, ◌∙◌, subst, arith}
 use Rattle.qw_types.specs.Arithmetic.{order_of}
 use Rattle.qw_meaning.specs.declared.query.Comparison.{Comparison}
-use Rattle.qw_meaning.specs.Expression.{Expression, comparison, scale_of}
+use Rattle.qw_meaning.specs.Expression.{Expression, Condition, comparison, negation_of, is, scale_of}
 use Rattle.qw_meaning.specs.Typing.{AreTyped, is_date, is_number, kind_of}
 use Rattle.qw_module.specs.declared.instruction.ValType.{ValType}
 use Rattle.qw_module.specs.declared.instruction.ValType.TheVariants.{I32, I64}
@@ -17,9 +17,11 @@ use Rattle.qw_expr.specs.declared.operand.Operand.{Operand}
 use Rattle.qw_expr.specs.Computes.{Known, AreBelow, Computes, Decides}
 use Rattle.qw_expr.specs.Emits.{Emits, EmitsTruth, free_of}
 use Rattle.qw_expr.specs.Inner.Nulls.{join_block, joined_null, after_unless}
-use Rattle.qw_expr.specs.Inner.Truths.{zero_test, zero_if_null, before_zero}
+use Rattle.qw_expr.specs.Inner.Truths.{zero_test, zero_if_null, before_zero, is_false, AddsTest}
 use Rattle.qw_expr.specs.Inner.Operated.{AddsComparison}
 use Rattle.qw_expr.proofs.Emitted.{nil, free_after}
+use Rattle.qw_types.specs.declared.truth.Truth.TheVariants.{True, False}
+use Rattle.qw_expr.proofs.Connectives.{negation_decides, is_false_decides, is_true_decides}
 use Rattle.qw_expr.proofs.Decisions.{numbers_decide, dates_decide}
 
 zero_steps : (null : Option ℕ) (t : ℕ) (body : Statement) → before_zero null t ++ (steps_of body ++ after_unless null) ≡ steps_of (zero_if_null null t body)
@@ -103,3 +105,45 @@ pub dates_emit : (known : List Known) (operator : Comparison) (a b : Expression)
 dates_emit known operator a b start mid old new left right out typed da db low ea eb adds =
     comparison_emits known operator (λ v w. order_of v 0 w 0) 99991231 99991231 a b start mid old new left right out ea eb adds
     (λ cb compares. dates_decide known (free_of start) low operator a b left right ea.statement eb.statement adds.f ea.own eb.own typed da db ea.computes cb compares)
+
+-- ---- conditions of one condition
+truth_after : (known : List Known) (c : Condition) (old new : Emitter) (out : Cell) (h : EmitsTruth known c old new out) → free_of new ≡ free_of old + length h.own
+truth_after known c old new out h =
+    let long : length new.own.items ≡ length old.own.items + length h.own = ap length h.own_is ∙ length-append old.own.items h.own in
+    omega (arith, h.first_is, long)
+
+-- a test of a condition's truth, in a local of its own
+tested_emits : (known : List Known) (c d : Condition) (start old new : Emitter) (cell : Cell) (null : Option ℕ) (t : ℕ) (ec : EmitsTruth known c start old cell) → AddsTest (is_false cell.value cell.null) old new t →
+    Decides known d (free_of start) (record { value = free_of start + length ec.own; length = free_of start + length ec.own; null = null }) (seq ec.statement (assign (free_of start + length ec.own) (is_false cell.value cell.null))) (ec.own ++ I32 ∷ []) →
+    EmitsTruth known d start new (record { value = t; length = t; null = null })
+tested_emits known c d start old new cell null t ec adds decides =
+    let m : ℕ = free_of start + length ec.own in
+    let place : t ≡ m = adds.local_is ∙ truth_after known c start old cell ec in
+    let e = is_false cell.value cell.null in
+    record {
+      first_is = adds.first_is ∙ ec.first_is;
+      statement = seq ec.statement (assign m e);
+      own = ec.own ++ I32 ∷ [];
+      code_is = two start.block.code.items old.block.code.items new.block.code.items (steps_of ec.statement) (steps_of (assign m e)) ec.code_is
+          (subst (λ k. new.block.code.items ≡ old.block.code.items ++ steps_of (assign k e)) place adds.code_is);
+      own_is = two start.own.items old.own.items new.own.items ec.own (I32 ∷ []) ec.own_is adds.own_is;
+      decides = subst (λ k. Decides known d (free_of start) (record { value = k; length = k; null = null }) (seq ec.statement (assign m e)) (ec.own ++ I32 ∷ [])) (sym place) decides;
+    }
+
+pub negation_emits : (known : List Known) (c : Condition) (start old new : Emitter) (cell : Cell) (t : ℕ) → EmitsTruth known c start old cell → AddsTest (is_false cell.value cell.null) old new t →
+    EmitsTruth known (negation_of c) start new (record { value = t; length = t; null = cell.null })
+negation_emits known c start old new cell t ec adds = tested_emits known c (negation_of c) start old new cell cell.null t ec adds (negation_decides known (free_of start) c cell ec.statement ec.own ec.decides)
+
+pub is_false_emits : (known : List Known) (c : Condition) (start old new : Emitter) (cell : Cell) (t : ℕ) → EmitsTruth known c start old cell → AddsTest (is_false cell.value cell.null) old new t →
+    EmitsTruth known (is c False) start new (record { value = t; length = t; null = None })
+is_false_emits known c start old new cell t ec adds = tested_emits known c (is c False) start old new cell None t ec adds (is_false_decides known (free_of start) c cell ec.statement ec.own ec.decides)
+
+pub is_true_emits : (known : List Known) (c : Condition) (start now : Emitter) (cell : Cell) → EmitsTruth known c start now cell → EmitsTruth known (is c True) start now (record { value = cell.value; length = cell.value; null = None })
+is_true_emits known c start now cell ec = record {
+  first_is = ec.first_is;
+  statement = ec.statement;
+  own = ec.own;
+  code_is = ec.code_is;
+  own_is = ec.own_is;
+  decides = is_true_decides known (free_of start) c cell ec.statement ec.own ec.decides;
+}

@@ -1,8 +1,8 @@
 -- Expressions of one operand: opposites, numbers at another scale, fields of dates.
-use Rattle.std.proofs.Common.{◌≡◌, ℕ, zero, suc, ℤ, pos, negsuc, neg_ℤ, int_div, int_rem, ◌+◌, ◌*◌, ◌^◌, ◌<◌, ◌≤◌, IsTrue, FitsSigned, unsigned_abs, List, [], ◌∷◌, ◌++◌, length, Option, Some, None, Result, Ok, Err, slice_get, slice_set, refl, sym, ap, ◌∙◌, subst, arith, w64}
+use Rattle.std.proofs.Common.{◌≡◌, ℕ, ℤ, pos, negsuc, neg_ℤ, int_div, ◌+◌, ◌^◌, ◌<◌, ◌≤◌, IsTrue, unsigned_abs, List, [], ◌∷◌, ◌++◌, length, Option, Some, None, Result, Ok, slice_get, slice_set, refl, subst, arith}
 use Rattle.std.proofs.lemmas.Int.{ints}
-use Rattle.qw_types.specs.Arithmetic.{◌>>=◌, bring, fits}
-use Rattle.qw_types.specs.Kind.{IsDateNumber, IsOfKind}
+use Rattle.qw_types.specs.Arithmetic.{◌>>=◌, bring}
+use Rattle.qw_types.specs.Kind.{IsDateNumber}
 use Rattle.qw_types.specs.declared.code.Code.{Code}
 use Rattle.qw_types.specs.declared.kind.Kind.{Kind}
 use Rattle.qw_types.specs.declared.kind.Kind.TheVariants as kind
@@ -24,19 +24,19 @@ use Rattle.qw_low.specs.Syntax.{Expression as LowExpression, Statement, seq, ass
 use Rattle.qw_low.specs.State.{Number, LowState}
 use Rattle.qw_low.specs.Meaning.{value}
 use Rattle.qw_low.specs.Raising.{Kept}
-use Rattle.qw_low.specs.Held.{HoldsNumber, SaysValue}
+use Rattle.qw_low.specs.Held.{HoldsNumber}
 use Rattle.qw_low.proofs.Results.{Kept-one, Comes, comes_assign}
 use Rattle.qw_wide.specs.Numbers.{HasNumber, Converts}
 use Rattle.qw_wide.proofs.Words.{word, small, word_back, below_fits, quotient_below, word-div, held_word, word_held}
 use Rattle.qw_expr.specs.declared.operand.Operand.{Operand}
-use Rattle.qw_expr.specs.Cells.{Holds, IsBelow, DeclaresKind, DeclaresValue}
+use Rattle.qw_expr.specs.Cells.{Holds, DeclaresKind}
 use Rattle.qw_expr.specs.Units.{units}
 use Rattle.qw_expr.specs.Computes.{Known, AreBelow, Computes}
 use Rattle.qw_expr.specs.Inner.Operated.{number_at}
 use Rattle.qw_expr.specs.Inner.Nulls.{unless_null}
 use Rattle.qw_expr.specs.Inner.Fields.{field_block}
 use Rattle.qw_expr.specs.Inner.Literals.{limit_of}
-use Rattle.qw_expr.proofs.Nulls.{below_more, null_below_more, value_says}
+use Rattle.qw_expr.proofs.Nulls.{value_says}
 use Rattle.qw_expr.proofs.Binary.{NumberOrNull, number_of_typed, if_ok_is, comes_of, comes_number, value_or_null, operand_declared}
 
 -- an operation on one number, with null

@@ -35,7 +35,7 @@ impl Operand {
     }
 
     /// The operand of a number that may be null where the local says so.
-    pub fn number(made: Scaled, null: Option<Local>) -> Operand
+    pub(crate) fn number(made: Scaled, null: Option<Local>) -> Operand
         ensures { result ≡ number_at made.local null made.scale made.most }
     {
         Operand {

@@ -2,8 +2,10 @@
 //!
 //! - [`emitter::Emitter`]: what is emitted so far.
 //! - [`operand`]: where the value of an expression is.
+//! - [`arithmetic`], [`literal`], [`compare`], [`truth`]: what is emitted, an operator at a time.
+//! - [`worked_laws`]: cases with numbers.
 //! - `specs/Cells`: what the locals of a value hold.
-//! - `specs/Computes`: what the block of an expression promises.
+//! - `specs/Computes`, `specs/Emits`: what the block of an expression promises, and what emitting it does.
 #![tactic(auto)]
 
 pub mod arithmetic;
@@ -11,3 +13,5 @@ pub mod compare;
 pub mod emitter;
 pub mod literal;
 pub mod operand;
+pub mod truth;
+pub mod worked_laws;

@@ -1,5 +1,5 @@
 -- Steps added one after another, and what holds of a result.
-use Rattle.std.proofs.Common.{◌≡◌, List, ◌++◌, Result, Ok, Err, IfOk, OnOk, refl, sym, ap, ◌∙◌}
+use Rattle.std.proofs.Common.{◌≡◌, List, ◌++◌, Result, Ok, Err, IfOk, OnOk, ap, ◌∙◌}
 use Rattle.std.proofs.lemmas.List.{append_assoc}
 
 pub two : {A : Type 0} (c0 c1 c2 a b : List A) → c1 ≡ c0 ++ a → c2 ≡ c1 ++ b → c2 ≡ c0 ++ (a ++ b)

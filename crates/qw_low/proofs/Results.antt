@@ -1,14 +1,14 @@
 -- Blocks that come to a result: within so many times their size they leave a value, or raise an exception.
-use Rattle.std.proofs.Common.{◌≡◌, ℕ, zero, suc, ◌+◌, ◌*◌, ◌<◌, ◌≤◌, Bool, true, false, List, length, length-set, suc-mul, inl, inr, if◌then◌else◌, Option, Some, None, Result, Ok, Err, slice_get, slice_set, refl, sym, ap, ◌∙◌, subst, arith}
+use Rattle.std.proofs.Common.{◌≡◌, ℕ, zero, suc, ◌+◌, ◌*◌, ◌<◌, ◌≤◌, Bool, true, false, length, length-set, suc-mul, inl, inr, if◌then◌else◌, Some, Result, Ok, Err, slice_set, refl, sym, ap, ◌∙◌, subst, arith}
 use Rattle.std.proofs.lemmas.Nat.{mul-le}
 use Rattle.qw_types.specs.Arithmetic.{◌>>=◌}
 use Rattle.qw_types.specs.declared.code.Code.{Code}
 use Rattle.qw_types.specs.declared.code.Code.TheVariants.{DivZero, OutOfRange}
-use Rattle.qw_map.proofs.TurnFacts.{slice_get-set_same, slice_get-set_other}
+use Rattle.qw_map.proofs.TurnFacts.{slice_get-set_other}
 use Rattle.qw_module.specs.Numbers.{truth}
 use Rattle.qw_low.specs.Syntax.{Expression, Statement, skip, seq, assign, conditional, raise}
 use Rattle.qw_low.specs.State.{Value, Number, LowState}
-use Rattle.qw_low.specs.Meaning.{value, cost, Outcome, meaning}
+use Rattle.qw_low.specs.Meaning.{value, cost, meaning}
 use Rattle.qw_low.specs.Size.{size}
 use Rattle.qw_low.specs.Promise.{Ends}
 use Rattle.qw_low.specs.Raising.{code_of, Leaves, Raises, Kept}

@@ -1,5 +1,5 @@
 -- What the steps that were added are blocks of.
-use Rattle.std.proofs.Common.{◌≡◌, ℕ, ◌+◌, ◌-◌, ◌*◌, ◌^◌, ◌<◌, ◌≤◌, ℤ, neg_ℤ, List, ◌++◌, Result, Ok, arith}
+use Rattle.std.proofs.Common.{◌≡◌, ℕ, ◌+◌, ◌-◌, ◌*◌, ◌^◌, ◌<◌, ◌≤◌, ℤ, List, ◌++◌, Result, arith}
 use Rattle.qw_types.specs.declared.code.Code.{Code}
 use Rattle.qw_types.specs.Arithmetic.{bring, sum_of, difference_of, product_of, quotient_of}
 use Rattle.qw_module.specs.declared.instruction.Binary.TheVariants.{Add, Sub}
@@ -8,7 +8,7 @@ use Rattle.qw_low.specs.Steps.{steps_of}
 use Rattle.qw_low.specs.Syntax.{Statement}
 use Rattle.qw_wide.specs.declared.arithmetic.Scaled.{Scaled}
 use Rattle.qw_wide.specs.Numbers.{Operates, Converts}
-use Rattle.qw_wide.specs.Inner.Blocks.{is_past, capped, bring_block, brought_in, product_block, quotient_block, Sums, Products, Quotients}
+use Rattle.qw_wide.specs.Inner.Blocks.{is_past, capped, bring_block, brought_in, Sums, Products, Quotients}
 use Rattle.qw_wide.proofs.Operations.{bring_converts, add_operates, sub_operates, product_operates, quotient_operates}
 
 -- a block that operates was added

@@ -1,29 +1,28 @@
 -- What the blocks of arithmetic come to.
-use Rattle.std.proofs.Common.{◌≡◌, ◌≢◌, ℕ, zero, suc, ◌+◌, ◌-◌, ◌*◌, ◌/◌, ◌%◌, ◌^◌, ◌<◌, ◌≤◌, ◌==◌, nat_lt, Bool, true, false, ℤ, pos, negsuc, ◌+ℤ◌, ◌-ℤ◌, ◌*ℤ◌, int_lt, int_div, unsigned_abs, FitsSigned, neg_ℤ, IsTrue, if◌then◌else◌, length, length-set, Option, Some, None, Result, Ok, Err, slice_get, slice_set, refl, sym, ap, ap₂, ◌∙◌, subst, ⊎_elim, arith, w64}
-use Rattle.std.proofs.lemmas.Bool.{cases_Bool, eqb-true, eq-eqb, ne_eqb, cases_eq, lt-ltb, le-ltb, ltb-true, ltb-false, cases_lt}
-use Rattle.std.proofs.lemmas.Bool.Decides.{nat_tests}
+use Rattle.std.proofs.Common.{◌≡◌, ℕ, zero, suc, ◌+◌, ◌-◌, ◌*◌, ◌/◌, ◌%◌, ◌^◌, ◌<◌, ◌≤◌, ◌==◌, nat_lt, Bool, true, false, ℤ, pos, negsuc, ◌-ℤ◌, ◌*ℤ◌, int_lt, int_div, unsigned_abs, FitsSigned, neg_ℤ, IsTrue, if◌then◌else◌, length, length-set, Some, Result, Ok, Err, slice_set, refl, sym, ap, ◌∙◌, subst, ⊎_elim, arith, w64}
+use Rattle.std.proofs.lemmas.Bool.{eqb-true, eq-eqb, cases_eq, lt-ltb, le-ltb, ltb-true, ltb-false, cases_lt}
 use Rattle.std.proofs.lemmas.Int.{ints, unsigned_abs-mul}
 use Rattle.std.proofs.lemmas.Nat.{mul-le, le-div}
 use Rattle.std.proofs.Math.Nat.{div-le_self, div-mul-le_self, pow-le-pow_right, mul_comm}
 use Rattle.qw_types.specs.declared.code.Code.{Code}
 use Rattle.qw_types.specs.declared.code.Code.TheVariants.{DivZero, OutOfRange}
-use Rattle.qw_types.specs.Arithmetic.{◌>>=◌, fits, checked, bring, sum_of, difference_of, product_of, quotient_of}
+use Rattle.qw_types.specs.Arithmetic.{◌>>=◌, fits, checked, product_of}
 use Rattle.qw_map.proofs.TurnFacts.{slice_get-set_same}
 use Rattle.qw_module.specs.declared.instruction.ValType.TheVariants.{I64}
 use Rattle.qw_module.specs.declared.instruction.Sign.TheVariants.{Signed, Unsigned}
 use Rattle.qw_module.specs.declared.instruction.Binary.{Binary}
 use Rattle.qw_module.specs.declared.instruction.Binary.TheVariants.{Add, Sub, Mul}
-use Rattle.qw_module.specs.declared.instruction.Division.TheVariants.{Div, Rem}
+use Rattle.qw_module.specs.declared.instruction.Division.TheVariants.{Div}
 use Rattle.qw_module.specs.declared.instruction.Relation.TheVariants.{Lt, Gt}
 use Rattle.qw_module.specs.Numbers.{binary, truth}
 use Rattle.qw_low.specs.Syntax.{Expression, local, binop, divop, is_zero, relop, Statement, skip, seq, assign, conditional, raise}
-use Rattle.qw_low.specs.State.{Value, Number, LowState}
+use Rattle.qw_low.specs.State.{Number, LowState}
 use Rattle.qw_low.specs.Meaning.{value}
 use Rattle.qw_low.specs.Raising.{Kept}
 use Rattle.qw_low.specs.Held.{HoldsNumber}
-use Rattle.qw_low.proofs.Results.{Kept-same, Kept-set, Kept-then, Kept-one, Comes, comes_weaker, comes_then, comes_skip, comes_assign, comes_set, comes_raise, comes_choose, comes_unless}
-use Rattle.qw_wide.specs.Inner.Blocks.{i64, range_check, check_if, raise_scale, bring_block, brought_in, sum_block, opposite_block, checked_product, product_block, quotient_block}
-use Rattle.qw_wide.proofs.Words.{word, small, word_below, word_back, fits_below, below_fits, fits_small, word-add, word-sub, word-mul, word_zero, negated, quotient_below, word-div, past_limit, held_word, word_held}
+use Rattle.qw_low.proofs.Results.{Kept-same, Kept-set, Kept-then, Kept-one, Comes, comes_then, comes_skip, comes_assign, comes_set, comes_raise, comes_choose, comes_unless}
+use Rattle.qw_wide.specs.Inner.Blocks.{i64, check_if, raise_scale, bring_block, brought_in, sum_block, opposite_block, checked_product, product_block, quotient_block}
+use Rattle.qw_wide.proofs.Words.{word, small, word_back, fits_below, below_fits, fits_small, word-sub, word-mul, word_zero, negated, quotient_below, word-div, past_limit, held_word, word_held}
 
 -- ---- what is given
 pub held_kept : (n : ℕ) (s t : LowState) (x : ℕ) (v : ℤ) → Kept n s t → x < n → HoldsNumber s x v → HoldsNumber t x v

@@ -1,12 +1,12 @@
 -- The blocks of arithmetic keep what `Numbers` says of them.
-use Rattle.std.proofs.Common.{◌≡◌, ◌≢◌, ℕ, zero, suc, ◌+◌, ◌-◌, ◌*◌, ◌/◌, ◌%◌, ◌^◌, ◌<◌, ◌≤◌, ◌==◌, min, max, nat_lt, Bool, true, false, ℤ, pos, negsuc, ◌+ℤ◌, ◌-ℤ◌, ◌*ℤ◌, int_div, unsigned_abs, FitsSigned, neg_ℤ, IsTrue, if◌then◌else◌, List, length, Some, Result, Ok, Err, slice_get, refl, sym, ap, ◌∙◌, subst, ⊎_elim, arith, w64}
+use Rattle.std.proofs.Common.{◌≡◌, ◌≢◌, ℕ, zero, suc, ◌+◌, ◌-◌, ◌*◌, ◌/◌, ◌^◌, ◌<◌, ◌≤◌, ◌==◌, max, Bool, true, false, ℤ, pos, ◌+ℤ◌, ◌-ℤ◌, ◌*ℤ◌, int_div, unsigned_abs, neg_ℤ, if◌then◌else◌, List, Some, Result, Ok, Err, slice_get, refl, sym, ap, ◌∙◌, subst, ⊎_elim, arith}
 use Rattle.std.proofs.lemmas.Bool.{ltb-false, cases_lt, cases_eq, eq-eqb, ne_eqb}
 use Rattle.std.proofs.lemmas.Int.{ints, unsigned_abs-mul}
 use Rattle.std.proofs.lemmas.Nat.{mul-le}
 use Rattle.std.proofs.Math.Nat.{div-le_self}
 use Rattle.qw_types.specs.declared.code.Code.{Code}
-use Rattle.qw_types.specs.declared.code.Code.TheVariants.{DivZero, OutOfRange}
-use Rattle.qw_types.specs.Arithmetic.{◌>>=◌, fits, checked, bring, sum_of, difference_of, product_of, quotient_of}
+use Rattle.qw_types.specs.declared.code.Code.TheVariants.{DivZero}
+use Rattle.qw_types.specs.Arithmetic.{◌>>=◌, checked, sum_of, difference_of, product_of, quotient_of}
 use Rattle.qw_module.specs.declared.instruction.ValType.{ValType}
 use Rattle.qw_module.specs.declared.instruction.ValType.TheVariants.{I64}
 use Rattle.qw_module.specs.declared.instruction.Binary.{Binary}
@@ -19,12 +19,11 @@ use Rattle.qw_low.specs.Size.{size}
 use Rattle.qw_low.specs.Typing.{IsTyped}
 use Rattle.qw_low.specs.Promise.{Ends}
 use Rattle.qw_low.specs.Raising.{Kept, Leaves, Raises}
-use Rattle.qw_low.specs.Held.{HoldsNumber}
 use Rattle.qw_low.proofs.Promises.{Ends-more}
 use Rattle.qw_low.proofs.Results.{Kept-same, Comes, comes_weaker}
 use Rattle.qw_wide.specs.Numbers.{HasNumber, Operates, Converts}
-use Rattle.qw_wide.specs.Inner.Blocks.{i64, is_past, capped, check_if, bring_block, brought_in, raise_scale, sum_block, opposite_block, checked_product, product_block, quotient_block}
-use Rattle.qw_wide.proofs.Words.{word, small, fits_below, word-add, word-sub, quotient_below}
+use Rattle.qw_wide.specs.Inner.Blocks.{is_past, capped, check_if, bring_block, brought_in, sum_block, opposite_block, product_block, quotient_block}
+use Rattle.qw_wide.proofs.Words.{word, small, word-add, word-sub, quotient_below}
 use Rattle.qw_wide.proofs.ArithmeticRuns.{Given, checked_in, checked_past, same_ok, no_ok, scaled_abs, power_small, brings, combines, opposes, multiplies_both, divides}
 
 -- a block that comes to a result at its own size

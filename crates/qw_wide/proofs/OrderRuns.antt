@@ -1,28 +1,26 @@
 -- What the comparison of numbers at unlike scales comes to.
-use Rattle.std.proofs.Common.{◌≡◌, ◌≢◌, ℕ, zero, suc, ◌+◌, ◌-◌, ◌*◌, ◌/◌, ◌%◌, ◌^◌, ◌<◌, ◌≤◌, ◌==◌, Bool, true, false, ℤ, pos, negsuc, ◌+ℤ◌, ◌-ℤ◌, ◌*ℤ◌, ◌<ℤ◌, int_cmp, int_div, int_rem, unsigned_abs, FitsSigned, neg_ℤ, IsTrue, Ordering, length, length-set, Some, Result, Ok, slice_get, slice_set, refl, sym, ap, ap₂, ◌∙◌, subst, ⊎_elim, arith, w64}
+use Rattle.std.proofs.Common.{◌≡◌, ◌≢◌, ℕ, zero, suc, ◌+◌, ◌*◌, ◌^◌, ◌<◌, ◌≤◌, ◌==◌, Bool, true, false, ℤ, pos, negsuc, ◌+ℤ◌, ◌-ℤ◌, ◌*ℤ◌, ◌<ℤ◌, int_cmp, int_div, int_rem, unsigned_abs, FitsSigned, neg_ℤ, IsTrue, Ordering, length, length-set, Some, Ok, slice_set, refl, sym, ap, ◌∙◌, arith, w64}
 use Rattle.std.specs.Ordering.{MatchOrdering}
 use Rattle.std.specs.declared.cmp.Ordering.TheVariants.{Less, Equal, Greater}
 use Rattle.std.specs.Cmp.{int_cmp_is, int_ranks}
-use Rattle.std.proofs.lemmas.Bool.{eqb-true, eq-eqb, cases_eq}
+use Rattle.std.proofs.lemmas.Bool.{eqb-true, eq-eqb}
 use Rattle.std.proofs.lemmas.Int.{ints, quot-rem, rem_below}
 use Rattle.std.proofs.lemmas.Nat.{mul-le, pow-add}
-use Rattle.std.proofs.Math.Nat.{mul_assoc, mul_comm, mul-lt-mul_of_pos_right, pow-le-pow_right}
+use Rattle.std.proofs.Math.Nat.{mul_assoc, mul-lt-mul_of_pos_right}
 use borrow.Author.Differences.{up, down, product_is}
 use Rattle.qw_types.specs.Arithmetic.{fits, order_of}
-use Rattle.qw_types.specs.declared.code.Code.{Code}
 use Rattle.qw_map.proofs.TurnFacts.{slice_get-set_same}
 use Rattle.qw_module.specs.declared.instruction.ValType.TheVariants.{I64}
 use Rattle.qw_module.specs.declared.instruction.Sign.TheVariants.{Signed}
 use Rattle.qw_module.specs.declared.instruction.Binary.TheVariants.{Sub}
 use Rattle.qw_module.specs.declared.instruction.Division.TheVariants.{Div, Rem}
-use Rattle.qw_low.specs.Syntax.{local, binop, divop, is_zero, Statement, skip, seq, assign, conditional}
+use Rattle.qw_low.specs.Syntax.{local, binop, divop, is_zero, skip, assign, conditional}
 use Rattle.qw_low.specs.State.{Number, LowState}
-use Rattle.qw_low.specs.Meaning.{value}
 use Rattle.qw_low.specs.Raising.{Kept}
 use Rattle.qw_low.specs.Held.{HoldsNumber}
 use Rattle.qw_low.proofs.Results.{Kept-same, Kept-set, Kept-one, Comes, comes_skip, comes_assign, comes_set, comes_choose}
 use Rattle.qw_wide.specs.Inner.Blocks.{i64, left_brought, right_brought}
-use Rattle.qw_wide.proofs.Words.{word, small, word_back, fits_below, fits_small, word-sub, word_zero, quotient_below, word-div, word-rem, held_word, word_held}
+use Rattle.qw_wide.proofs.Words.{word, small, fits_below, fits_small, word-sub, word_zero, quotient_below, word-div, word-rem, held_word, word_held}
 use Rattle.qw_wide.proofs.ArithmeticRuns.{held_kept, power_small, power_some}
 
 -- ---- numbers and quotients

@@ -1,10 +1,9 @@
 -- The blocks of comparison keep what `Numbers` says of them.
-use Rattle.std.proofs.Common.{◌≡◌, ℕ, ◌+◌, ◌-◌, ◌*◌, ◌^◌, ◌<◌, ◌≤◌, ◌==◌, nat_lt, Bool, true, false, ℤ, pos, ◌-ℤ◌, ◌*ℤ◌, ◌<ℤ◌, int_cmp, unsigned_abs, Ordering, List, length, Some, Result, Ok, slice_get, slice_set, refl, sym, ap, ◌∙◌, subst, ⊎_elim, arith}
-use Rattle.std.proofs.lemmas.Bool.{cases_Bool, cases_eq, cases_lt, eq-eqb, ne_eqb, lt-ltb, le-ltb}
+use Rattle.std.proofs.Common.{◌≡◌, ℕ, ◌+◌, ◌-◌, ◌*◌, ◌^◌, ◌<◌, ◌≤◌, ℤ, pos, ◌-ℤ◌, ◌*ℤ◌, int_cmp, unsigned_abs, Ordering, Some, Ok, slice_set, refl, ap, ◌∙◌, subst, ⊎_elim, arith}
+use Rattle.std.proofs.lemmas.Bool.{cases_eq, cases_lt, eq-eqb, ne_eqb, lt-ltb, le-ltb}
 use Rattle.std.proofs.lemmas.Int.{ints}
 use Rattle.qw_types.specs.Arithmetic.{order_of}
 use Rattle.qw_map.proofs.TurnFacts.{slice_get-set_same}
-use Rattle.qw_module.specs.declared.instruction.ValType.{ValType}
 use Rattle.qw_module.specs.declared.instruction.ValType.TheVariants.{I64}
 use Rattle.qw_module.specs.declared.instruction.Binary.TheVariants.{Sub}
 use Rattle.qw_low.specs.Syntax.{Statement, local, binop}
@@ -12,12 +11,12 @@ use Rattle.qw_low.specs.State.{Number, LowState}
 use Rattle.qw_low.specs.Meaning.{meaning}
 use Rattle.qw_low.specs.Size.{size}
 use Rattle.qw_low.specs.Promise.{Ends}
-use Rattle.qw_low.specs.Raising.{Kept, Leaves, Raises}
+use Rattle.qw_low.specs.Raising.{Kept}
 use Rattle.qw_low.specs.Held.{HoldsNumber}
 use Rattle.qw_low.proofs.Promises.{Ends-weaker}
 use Rattle.qw_low.proofs.Results.{Kept-one, Comes, comes_assign}
-use Rattle.qw_wide.specs.Numbers.{HasNumber, Compares}
-use Rattle.qw_wide.specs.Inner.Blocks.{i64, difference_block, left_brought, right_brought, order_block}
+use Rattle.qw_wide.specs.Numbers.{Compares}
+use Rattle.qw_wide.specs.Inner.Blocks.{difference_block, left_brought, right_brought, order_block}
 use Rattle.qw_wide.proofs.Words.{word, small, fits_below, fits_small, word-sub, held_word, word_held}
 use Rattle.qw_wide.proofs.ArithmeticRuns.{power_small}
 use Rattle.qw_wide.proofs.OrderRuns.{same_order, left_order, right_order, same_scale, Ordered, orders_left, orders_right}

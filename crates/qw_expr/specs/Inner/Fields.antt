@@ -6,7 +6,7 @@ use Rattle.qw_module.specs.declared.instruction.Const.TheVariants as const
 use Rattle.qw_module.specs.declared.instruction.Division.TheVariants.{Div, Rem}
 use Rattle.qw_meaning.specs.declared.expression.Field.{Field}
 use Rattle.qw_meaning.specs.declared.expression.Field.TheVariants.{Year, Month, Day}
-use Rattle.qw_low.specs.Syntax.{Expression, constant_of, local, divop, Statement, assign}
+use Rattle.qw_low.specs.Syntax.{constant_of, local, divop, Statement, assign}
 
 abbrev pub field_block : Field → (n x : ℕ) → Statement
 field_block Year n x = assign n (divop I64 (Div Signed) (local x) (constant_of (const.I64 10000)))

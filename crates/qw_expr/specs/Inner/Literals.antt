@@ -1,5 +1,5 @@
 -- Mirrors `src/literal.rt`: what literals and fields of dates add to an emitter.
-use Rattle.std.specs.Prelude.{◌≡◌, ℕ, ℤ, ◌++◌, [], ◌∷◌, Some}
+use Rattle.std.specs.Prelude.{◌≡◌, ℕ, ℤ, ◌++◌, [], ◌∷◌}
 use Rattle.std.specs.Int.{w64, cast_unsigned}
 use Rattle.qw_module.specs.declared.instruction.ValType.TheVariants.{I64}
 use Rattle.qw_module.specs.declared.instruction.Const.TheVariants as const

@@ -1,8 +1,7 @@
 -- Mirrors `src/arithmetic.rt`: the steps that an operator on operands adds, and the operand that it makes.
-use Rattle.std.specs.Prelude.{◌≡◌, ℕ, ℤ, ◌+◌, ◌++◌, [], ◌∷◌, List, length, Option, Some, Result}
+use Rattle.std.specs.Prelude.{◌≡◌, ℕ, ℤ, ◌+◌, ◌++◌, [], ◌∷◌, List, Option, Some, Result}
 use Rattle.qw_types.specs.declared.code.Code.{Code}
 use Rattle.qw_types.specs.declared.kind.Kind.TheVariants as kind
-use Rattle.qw_module.specs.declared.instruction.ValType.{ValType}
 use Rattle.qw_module.specs.declared.instruction.ValType.TheVariants.{I32, I64}
 use Rattle.qw_meaning.specs.declared.expression.Operator.{Operator}
 use Rattle.qw_meaning.specs.Evaluation.{applied}

@@ -1,4 +1,3 @@
-use Rattle.std.proofs.Common.{arith}
 use Rattle.qw_low.proofs.Appended.{if_ok}
 use Rattle.qw_wide.proofs.Added.{product_added}
 use Rattle.qw_wide.proofs.arithmetic.multiply.Goals as goal
