@@ -1,6 +1,6 @@
 //! One field of a table's file, as a value of its column.
 
-ghost use Rattle.std.specs.Prelude.{◌≡◌, MatchResult, chars, length};
+ghost use Rattle.std.specs.Prelude.{◌≡◌, ◌<◌, ◌↔◌, IsTrue, MatchResult, chars, length};
 ghost use Rattle.qw_types.specs.Value.{IsSized};
 ghost use Rattle.qw_types.specs.declared.value.Ty.TheVariants.{Varchar};
 ghost use Rattle.qw_csv.specs.Field.{IsFieldFault, IsFieldOf, IsTypedFault, IsTypedFieldOf, val_of};
@@ -77,9 +77,16 @@ fn text_cell<'a>(length: u16, field: &'a [u8]) -> Result<Cell<'a>, CellFault>
 {
     match std::str::from_utf8(field) {
         Err(_) => Err(CellFault::NotUtf8),
-        Ok(text) if characters(text) > usize::from(length) => Err(CellFault::TextTooLong),
+        Ok(text) if is_longer(text, usize::from(length)) => Err(CellFault::TextTooLong),
         Ok(_) => Ok(Cell::Text(field)),
     }
+}
+
+/// Whether a text has more characters than this. Where it has no more octets, they need not be counted.
+fn is_longer(text: &str, limit: usize) -> bool
+    ensures { IsTrue result ↔ (limit < length (chars text.now)) }
+{
+    text.len() > limit && characters(text) > limit
 }
 
 /// How many characters a text has: Unicode scalar values.

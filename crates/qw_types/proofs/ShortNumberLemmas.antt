@@ -1,5 +1,5 @@
 -- The first digits of a text, eight at once, and the number that a text of digits and a point shows.
-use Rattle.std.proofs.Common.{◌≡◌, ◌≢◌, ◌==◌, ◌+◌, ◌-◌, ◌*◌, ◌<◌, ◌≤◌, ◌^◌, ◌∙◌, ◌&&◌, ◌⊎◌, nat_lt, min, not, ℕ, zero, suc, Bool, true, false, List, [], ◌∷◌, ◌++◌, length, take, drop, get_or, refl, sym, ap, subst, inl, inr, take_all, append-nil, mul-le-mul_right, IsTrue, arith}
+use Rattle.std.proofs.Common.{◌≡◌, ◌==◌, ◌+◌, ◌-◌, ◌*◌, ◌<◌, ◌≤◌, ◌^◌, ◌∙◌, ◌&&◌, ◌⊎◌, nat_lt, ℕ, zero, suc, Bool, true, false, List, [], ◌∷◌, ◌++◌, length, take, drop, get_or, refl, sym, ap, subst, inl, inr, take_all, append-nil, mul-le-mul_right, arith}
 use Rattle.std.specs.Char.{digit_value, is_ascii_digit}
 use Rattle.std.specs.List.{list_all}
 use Rattle.std.specs.Str.Parse.{digits_value, digits_value_after, starts_with_minus, without_leading_sign}
@@ -14,7 +14,7 @@ use Rattle.std.proofs.Math.Nat.{one-le-pow, pow-le-pow_right, pow-suc}
 use Rattle.qw_types.proofs.DateLemmas.{few_digits}
 use Rattle.qw_types.proofs.NumeralLemmas.{EndsAt, all_are_digits, greatest_small, number_read, value_append}
 use Rattle.qw_types.specs.Inner.Numeral.{greatest}
-use Rattle.qw_types.specs.Numeral.{IsNumberOf, after_digits, after_fraction, are_spaces, fraction_at, is_fine, is_negative, is_number, leading_digits, magnitude, signed, without_spaces}
+use Rattle.qw_types.specs.Numeral.{IsNumberOf, after_digits, after_fraction, fraction_at, is_fine, is_number, leading_digits, magnitude, signed, without_spaces}
 use Rattle.qw_types.specs.Value.{IsNumeric, IsSized, type_scale}
 use Rattle.qw_types.specs.declared.value.Ty.{Ty}
 use Rattle.qw_types.specs.declared.value.Ty.TheVariants as ty
@@ -224,11 +224,8 @@ short_is type bytes unsigned m negative numeric sized hu hn some rest few value 
     there n lt = grind (arith, nat_tests)
 
 -- and so does a text of digits alone for an INTEGER
-pub integer_is : (bytes text : List ℕ) (count m : ℕ) (negative : Bool) → text ≡ (if starts_with_minus bytes then drop 1 bytes else bytes) → negative ≡ starts_with_minus bytes
-    → list_all is_ascii_digit (take count text) ≡ true → m ≡ digits_value 10 (take count text) → 1 ≤ count → count ≤ length text → length text ≤ count
-    → m ≤ greatest ty.Integer negative → IsNumberOf ty.Integer bytes (signed negative m)
-integer_is bytes text count m negative hu hn digits hm some within long small =
-    let (leading, after) = all_of text count digits long in
-    let value : m ≡ digits_value 10 text = hm ∙ ap (digits_value 10) (take_all count text long) in
-    short_is ty.Integer bytes text m negative tt tt hu hn (rw leading (omega (arith, some, within))) (rw after refl) (rw after (omega arith))
-    (rw (leading, after, append-nil text) (omega (arith, value))) small
+pub integer_is : (bytes text : List ℕ) (m : ℕ) (negative : Bool) → text ≡ (if starts_with_minus bytes then drop 1 bytes else bytes) → negative ≡ starts_with_minus bytes
+    → list_all is_ascii_digit text ≡ true → m ≡ digits_value 10 text → 0 < length text → m ≤ greatest ty.Integer negative → IsNumberOf ty.Integer bytes (signed negative m)
+integer_is bytes text m negative hu hn digits value some small =
+    let (leading, after) = all_are_digits text digits in
+    short_is ty.Integer bytes text m negative tt tt hu hn (rw leading some) (rw after refl) (rw after (omega arith)) (rw (leading, after, append-nil text) (omega (arith, value))) small

@@ -16,7 +16,6 @@ use jiff::civil::Date;
 /// # Errors
 ///
 /// `NotDate` where the text isn't `YYYY-MM-DD`, or the calendar has no such day, or the year is 0.
-#[inline(always)]
 pub fn read_date(bytes: &[u8]) -> Result<i32, FieldFault>
     ensures { MatchResult result (λ number. ShowsDate bytes.now number)
         (λ e. (e ≡ FieldFault.NotDate) × ((number : ℤ) → ShowsDate bytes.now number → ⊥)) }
@@ -43,6 +42,7 @@ fn packed(year: u16, month: u8, day: u8) -> i32
 }
 
 /// The year, the month and the day that a text of ten octets shows, if it is `YYYY-MM-DD`.
+#[inline(always)]
 fn parts_of(text: &[u8]) -> Option<(u16, u8, u8)>
     requires { length text.now ≡ 10 }
     ensures { MatchOption result (IsDateForm text.now → ⊥)

@@ -30,19 +30,52 @@ pub(crate) fn short_number(bytes: &[u8], ty: &Ty) -> Option<i64>
 }
 
 /// The INTEGER that a text of digits shows, a minus sign before them or none. None where it has another form, or shows no INTEGER.
+#[inline(always)]
 pub(crate) fn short_integer(bytes: &[u8]) -> Option<i32>
     ensures { IfSome result (IsNumberOf Integer bytes.now) }
 {
-    let text = without_minus(bytes);
-    let digits = few_digits(text);
-    let negative = begins_with_minus(bytes);
-    if digits.count == 0
-        || digits.count < text.len()
-        || digits.number > greatest(&Ty::Integer, negative)
-    {
+    if begins_with_minus(bytes) {
+        return negative_integer(bytes);
+    }
+    let number = digits_alone(bytes)?;
+    if number > 2_147_483_647 {
         return None;
     }
-    Some(signed(negative, digits.number) as i32)
+    Some(number as i32)
+}
+
+/// The INTEGER that a minus sign and digits show. None where the text has another form, or shows no INTEGER.
+fn negative_integer(bytes: &[u8]) -> Option<i32>
+    requires { starts_with_minus bytes.now ≡ true }
+    ensures { IfSome result (IsNumberOf Integer bytes.now) }
+{
+    let magnitude = digits_alone(without_minus(bytes))?;
+    if magnitude > 2_147_483_648 {
+        return None;
+    }
+    Some(signed(true, magnitude) as i32)
+}
+
+/// The number that a text of digits alone shows. None where there is something else, no digit, or more than 18.
+#[inline(always)]
+fn digits_alone(text: &[u8]) -> Option<u64>
+    ensures some { IfSome result (λ n. 0 < length text.now) }
+    ensures digits { IfSome result (λ n. list_all is_ascii_digit text.now ≡ true) }
+    ensures number { IfSome result (λ n. n ≡ digits_value 10 text.now) }
+{
+    if text.is_empty() || text.len() > 18 {
+        return None;
+    }
+    let first = eight_digits(text);
+    let mut number = first.number;
+    for index in first.count..text.len() {
+        let octet = text[index];
+        if !octet.is_ascii_digit() {
+            return None;
+        }
+        number = digit_behind(number, octet);
+    }
+    Some(number)
 }
 
 /// A text without the minus sign at its start, if it has one.

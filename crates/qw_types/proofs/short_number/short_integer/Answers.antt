@@ -1,14 +1,12 @@
-use Rattle.std.proofs.Common.{rules, w32, w64, arith}
-use Rattle.std.specs.Prelude.{FitsSigned}
-use Rattle.std.proofs.lemmas.Int.{to_z-of_z}
+use Rattle.std.proofs.Common.{◌≡◌, ◌∙◌, false, refl, sym, w32, arith}
+use Rattle.std.specs.Str.Parse.{starts_with_minus}
+use Rattle.std.proofs.lemmas.Int.{to_z_pos}
 use Rattle.qw_types.proofs.ShortNumberLemmas.{integer_is}
 use Rattle.qw_types.proofs.short_number.short_integer.Goals as goal
 
 pub returns : goal.returns
 returns c =
-    let long : FitsSigned w64 c.signed.result = search rules in
-    let short : FitsSigned w32 c.signed.result = search rules in
-    rw (to_z-of_z w64 c.signed.result long, to_z-of_z w32 c.signed.result short, c.signed.ensures)
-    (integer_is c.args.bytes.now c.without_minus-text.result.now c.few_digits-digits.result.count c.few_digits-digits.result.number c.begins_with_minus-negative.result
-    c.without_minus-text.ensures c.begins_with_minus-negative.ensures c.few_digits-digits.ensures.digits c.few_digits-digits.ensures.number (omega (arith, c.if-digits-eq0.false))
-    c.few_digits-digits.ensures.within c.if-digits-text.false (rw c.greatest.ensures at c.if-digits-greatest.false))
+    let sign : starts_with_minus c.args.bytes.now ≡ false = sym c.begins_with_minus.ensures ∙ c.if-begins_with_minus.false in
+    rw (to_z_pos w32 c.in_ok-number.number (omega (arith, c.if-number-gt2147483647.false)))
+    (integer_is c.args.bytes.now c.args.bytes.now c.in_ok-number.number false (rw sign refl) (sym sign) c.in_ok-number.ensures.digits c.in_ok-number.ensures.number c.in_ok-number.ensures.some
+    (omega (arith, c.if-number-gt2147483647.false)))

@@ -1,5 +1,5 @@
-use Rattle.std.proofs.Common.{◌≡◌, ◌∙◌, [], drop, take, arith}
-use Rattle.qw_types.specs.Numeral.{after_digits, fraction_at, leading_digits}
+use Rattle.std.proofs.Common.{◌≡◌, ◌∙◌, [], drop, arith}
+use Rattle.qw_types.specs.Numeral.{leading_digits}
 use Rattle.qw_types.proofs.NumeralLemmas.{rest_is}
 use Rattle.qw_types.proofs.ShortNumberLemmas.{shown, stops}
 use Rattle.qw_types.proofs.short_number.short_magnitude.Goals as goal
