@@ -1,5 +1,6 @@
 mod ColumnIndices
 mod Comparisons
+pub mod CompiledLemmas
 mod Nesting
 mod OwnWeights
 mod Pieces

@@ -1,5 +1,5 @@
 -- What a memory that is ready for a statement's module has: where the values of the used columns start, and what stands there.
-use Rattle.std.proofs.Common.{◌≡◌, ℕ, zero, suc, ◌+◌, ◌*◌, ◌/◌, ◌<◌, ◌≤◌, true, List, [], ◌∷◌, ◌++◌, length, map, get_or, Option, Some, None, refl, sym, ap, ◌∙◌, subst, arith, w32}
+use Rattle.std.proofs.Common.{◌≡◌, ℕ, zero, suc, ◌+◌, ◌*◌, ◌<◌, ◌≤◌, true, List, [], ◌∷◌, length, map, get_or, Some, refl, sym, ap, ◌∙◌, subst, arith, w32}
 use Rattle.std.specs.Prelude.{slice_get, slice_index, slice_index_or}
 use Rattle.std.specs.Int.{cast_signed}
 use Rattle.std.specs.List.{AllByRecursion}
@@ -14,12 +14,12 @@ use Rattle.qw_linear.specs.Memory.{page, most_pages, pages_of, number_at, AreOct
 use Rattle.qw_meaning.specs.Flow.{rows_of}
 use Rattle.qw_meaning.specs.Statement.{Statement}
 use Rattle.qw_map.specs.Areas.{Area, are_covered, lies_in_one}
-use Rattle.qw_map.specs.Columns.{areas_of, column_values, nulls_size, values_size}
-use Rattle.qw_map.specs.Layout.{HasEntry, IsReady, IsReadyColumn, column_areas, descriptor_size, entry_offset}
+use Rattle.qw_map.specs.Columns.{areas_of, column_values}
+use Rattle.qw_map.specs.Layout.{IsReady, IsReadyColumn, column_areas, descriptor_size, entry_offset}
 use Rattle.qw_map.specs.declared.layout.Placed.{Placed}
 use Rattle.qw_map.specs.declared.layout.Used.{Used}
-use Rattle.qw_map.proofs.AccessLemmas.{covered-after, covered-before, covered-first, lies-within}
-use Rattle.qw_map.proofs.AreaLemmas.{all-append}
+use Rattle.qw_map.proofs.AccessLemmas.{covered-first, lies-within}
+use Rattle.qw_map.proofs.LayoutLemmas.{area-covered, ready-between}
 use Rattle.qw_emit.specs.ScanLayout.{layout_for, used}
 use Rattle.qw_emit.proofs.ScanShapeLemmas.{length-used}
 
@@ -72,32 +72,13 @@ all-from P (x ∷ xs) each = (each 0 x refl, all-from P xs (λ k y there. each (
 mapped-there : {A B : Type 0} (f : A → B) (xs : List A) (k : ℕ) (x : A) → slice_get xs k ≡ Some x → slice_get (map f xs) k ≡ Some (f x)
 mapped-there f xs k x there = slice_get-map f xs k ∙ ap (option_map f) there
 
--- ---- the areas of columns
-
--- the values of a column lie in its first area
-values-inside : (columns : List Used) (placed : List Placed) (k : ℕ) (used : Used) (one : Placed) → slice_get columns k ≡ Some used → slice_get placed k ≡ Some one →
-    (at width : ℕ) → one.values ≤ at → at + width ≤ one.values + values_size used.ty one.rows → are_covered (column_areas columns placed) at width ≡ true
-values-inside [] placed k used one there stands at width low high = absurd (none-some used there)
-values-inside (first ∷ columns) [] k used one there stands at width low high = absurd (none-some one stands)
-values-inside (first ∷ columns) (place ∷ placed) zero used one there stands at width low high =
-    let is : first ≡ used = same_Some first used there in
-    let at_is : place ≡ one = same_Some place one stands in
-    rw (is, at_is) (covered-before (areas_of used.ty used.not_null one) (column_areas columns placed) at width (covered-first (record { start = one.values; size = values_size used.ty one.rows })
-    (record { start = one.octets; size = one.size } ∷ record { start = one.nulls; size = nulls_size used.not_null one.rows } ∷ []) at width low high))
-values-inside (first ∷ columns) (place ∷ placed) (suc k) used one there stands at width low high =
-    covered-after (areas_of first.ty first.not_null place) (column_areas columns placed) at width (values-inside columns placed k used one there stands at width low high)
-
-areas-below : (columns : List Used) (placed : List Placed) (d : ℕ) →
-    ((k : ℕ) (used : Used) (one : Placed) → slice_get columns k ≡ Some used → slice_get placed k ≡ Some one →
-    AllByRecursion (λ (area : Area). (64 ≤ area.start) × (area.start + area.size ≤ d)) (areas_of used.ty used.not_null one)) →
-    AllByRecursion (λ (area : Area). (64 ≤ area.start) × (area.start + area.size ≤ d)) (column_areas columns placed)
-areas-below [] placed d each = tt
-areas-below (used ∷ columns) [] d each = tt
-areas-below (used ∷ columns) (one ∷ placed) d each =
-    all-append (λ (area : Area). (64 ≤ area.start) × (area.start + area.size ≤ d)) (areas_of used.ty used.not_null one) (column_areas columns placed)
-    (each 0 used one refl refl) (areas-below columns placed d (λ k other place there stands. each (suc k) other place there stands))
-
 -- ---- a memory that is ready
+
+-- the values of an INTEGER column lie in the first of its areas
+integer-covered : (one : Placed) (at width : ℕ) → one.values ≤ at → at + width ≤ one.values + 4 * one.rows → are_covered (areas_of Integer true one) at width ≡ true
+integer-covered one at width low high =
+    covered-first (record { start = one.values; size = 4 * one.rows })
+    (record { start = one.octets; size = one.size } ∷ record { start = one.nulls; size = 0 } ∷ []) at width low high
 
 abbrev used_integer : Statement → ℕ → Used
 used_integer statement column = record { table = statement.table; column = column; ty = Integer; not_null = true }
@@ -192,9 +173,9 @@ module _ (statement : Statement) (placed : List Placed) (tables : List (List (Li
     from = λ k below. let c = (column-below k below).1 in rw c.start_is c.is.between.0.0;
     below = λ k below. let c = (column-below k below).1 in omega (arith, c.start_is, c.rows_are, c.is.between.0.1);
     inside = λ k i below within. let c = (column-below k below).1 in
-        rw c.start_is (values-inside (layout_for statement).columns placed k _ c.one c.column_there c.placed_there (c.one.values + 4 * i) 4 (omega arith) (omega (arith, c.rows_are)));
-    mapped_below = λ k inside. (lies-within the_areas 64 d (areas-below (layout_for statement).columns placed d
-        (λ k used one there stands. (ready.columns k used one there stands).between)) k inside).1;
+        rw c.start_is (area-covered (layout_for statement).columns placed k _ c.one c.column_there c.placed_there (c.one.values + 4 * i) 4
+        (integer-covered c.one (c.one.values + 4 * i) 4 (omega arith) (omega (arith, c.rows_are))));
+    mapped_below = λ k inside. (lies-within the_areas 64 d (ready-between (layout_for statement) placed tables d limit memory ready) k inside).1;
     room = ready.inside;
     free = omega (arith, ready.fresh.free, size-of-descriptor statement, starts-many);
     page_end = ready.fresh.page_end;

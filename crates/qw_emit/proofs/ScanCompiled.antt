@@ -1,7 +1,7 @@
 -- The emitted module is the compiled form of its statement: every run over tables that are ready gives the statement's result.
-use Rattle.std.proofs.Common.{◌≡◌, ⊎_elim, true, ℕ, ◌+◌, ◌-◌, ◌*◌, ◌/◌, ◌<◌, ◌≤◌, List, [], ◌∷◌, length, map, replicate, Some, IsSome, refl, sym, ap, ◌∙◌, subst, arith, w64, SFits}
+use Rattle.std.proofs.Common.{◌≡◌, ⊎_elim, true, ℕ, ◌+◌, ◌-◌, ◌*◌, ◌/◌, ◌<◌, ◌≤◌, List, [], ◌∷◌, length, map, replicate, Some, IsSome, refl, sym, ap, subst, arith, w64, SFits}
 use Rattle.std.specs.Prelude.{◌==◌, slice_get, slice_index}
-use Rattle.std.specs.List.{AllByRecursion, Contains, range_with_len}
+use Rattle.std.specs.List.{AllByRecursion, range_with_len}
 use Rattle.std.proofs.lemmas.Bool.{eqb-true, or_cases}
 use Rattle.std.proofs.lemmas.List.{length-map, length-replicate}
 use Rattle.std.proofs.lemmas.Option.{none-some}
@@ -15,25 +15,25 @@ use Rattle.qw_module.specs.Start.{weight}
 use Rattle.qw_module.specs.declared.module.Module.{Module}
 use Rattle.qw_meaning.specs.Columns.{IsColumnOf}
 use Rattle.qw_meaning.specs.Expression.{column}
-use Rattle.qw_meaning.specs.Flow.{flow, rows_of}
+use Rattle.qw_meaning.specs.Flow.{rows_of}
 use Rattle.qw_meaning.specs.Meaning.{results}
 use Rattle.qw_meaning.specs.Outcome.{Outcome, Rows, outcome}
-use Rattle.qw_meaning.specs.Select.{Entry, Specification}
+use Rattle.qw_meaning.specs.Select.{Specification}
 use Rattle.qw_meaning.specs.Simple.{HasIntegers, HasSelected, simple}
 use Rattle.qw_meaning.specs.Statement.{Statement, IsStatement}
 use Rattle.qw_meaning.specs.Typing.{kind_of}
-use Rattle.qw_meaning.proofs.SimpleLemmas.{simple-outcome, simple-rows}
+use Rattle.qw_meaning.proofs.SimpleLemmas.{simple-outcome}
 use Rattle.qw_map.specs.Areas.{Area, World}
 use Rattle.qw_map.specs.Layout.{IsReady, Layout, column_areas, entry_offset, first_world, row_size}
 use Rattle.qw_map.specs.Runs.{Moment, Behaves}
 use Rattle.qw_map.specs.Turns.{Done, End, Pages}
 use Rattle.qw_map.specs.declared.layout.Placed.{Placed}
-use Rattle.qw_map.specs.declared.layout.Used.{Used}
 use Rattle.qw_map.proofs.Chains.{Chain}
 use Rattle.qw_map.proofs.OpenRuns.{Within-now, Within-then, behaves_within}
 use Rattle.qw_emit.specs.Compiled.{AnswersAt, GoesWith, IsCompiled, IsUsedOf, end_at_state, Answers, page_bound, units}
 use Rattle.qw_emit.specs.Inner.Emit.{Scan, IsScan, index_in, scan_of, scan_code, local_of}
 use Rattle.qw_emit.specs.ScanLayout.{is_used, layout_for, used}
+use Rattle.qw_emit.proofs.CompiledLemmas.{statement-pages, statement-units}
 use Rattle.qw_emit.proofs.ColumnIndices.{all-among, columns-used, got-filter, index-there, is_among}
 use Rattle.qw_emit.proofs.Ready.{Stands, all-from, ready-stands, starts_of}
 use Rattle.qw_emit.proofs.ScanBegun.{weight_is, begun_is}
@@ -193,18 +193,11 @@ module _ (types : List Ty) (statement : Statement) (is : IsStatement statement) 
   stands : Stands statement (rows_of tables statement.table) (starts_of placed) (column_areas (layout_for statement).columns placed) d memory
   stands = ready-stands statement placed tables d limit memory ready
 
-  rows-are : (flow query tables).rows ≡ results statement (rows_of tables statement.table)
-  rows-are = simple-rows types statement tables (has-selected statement is (rows_of tables statement.table) (starts_of placed) _ d memory stands)
+  all-selected : AllByRecursion (HasSelected statement) (rows_of tables statement.table)
+  all-selected = has-selected statement is (rows_of tables statement.table) (starts_of placed) _ d memory stands
 
   outcome-is : outcome query tables ≡ Rows (results statement (rows_of tables statement.table))
-  outcome-is = simple-outcome types statement tables (has-selected statement is (rows_of tables statement.table) (starts_of placed) _ d memory stands)
-
-  units-are : units query tables ≡ length (rows_of tables statement.table) + length (results statement (rows_of tables statement.table))
-  units-are = rw rows-are (omega arith)
-
-  pages-are : page_bound query tables
-      ≡ 2 + length (results statement (rows_of tables statement.table)) * row_size (length statement.columns) / (page - row_size (length statement.columns))
-  pages-are = rw (rows-are, length-map statement.columns (λ (place : ℕ). column place Integer)) refl
+  outcome-is = simple-outcome types statement tables all-selected
 
   -- what a run ends with answers
   ends-answer : (most pages : ℕ) (b : Moment) (state : State) →
@@ -225,8 +218,8 @@ module _ (types : List Ty) (statement : Statement) (is : IsStatement statement) 
       })
   runs most =
       let pages : ℕ = page_bound query tables in
-      rw units-are (behaves statement is (rows_of tables statement.table) (starts_of placed) (column_areas (layout_for statement).columns placed) d limit memory stands fits
-      (AnswersAt (outcome query tables) (layout_for statement) most pages d) pages (omega (arith, pages-are))
+      rw (statement-units types statement tables all-selected) (behaves statement is (rows_of tables statement.table) (starts_of placed) (column_areas (layout_for statement).columns placed) d limit memory stands fits
+      (AnswersAt (outcome query tables) (layout_for statement) most pages d) pages (omega (arith, statement-pages types statement tables all-selected))
       (λ b ended. ends-answer most pages b b.state ended)
       (λ b answers. answers-over (outcome query tables) (layout_for statement) most pages d b.world b.memory b.state answers))
 

@@ -1,5 +1,5 @@
 -- The rows that the emitted code keeps are the statement's result.
-use Rattle.std.proofs.Common.{◌≡◌, ℕ, ℤ, zero, suc, inl, inr, ◌+◌, ◌*◌, ◌<◌, ◌≤◌, ⊎_elim, Bool, true, false, List, [], ◌∷◌, length, map, Some, refl, sym, ap, ap₂, ◌∙◌, arith, add-zero, w64, SFits}
+use Rattle.std.proofs.Common.{◌≡◌, ℕ, ℤ, suc, inl, inr, ◌+◌, ⊎_elim, Bool, true, false, List, [], ◌∷◌, length, map, Some, refl, sym, ap, ap₂, ◌∙◌, arith, add-zero, w64, SFits}
 use Rattle.std.specs.Prelude.{◌==◌, if◌then◌else◌, slice_get}
 use Rattle.std.specs.Int.{cast_signed}
 use Rattle.std.specs.List.{AllByRecursion, filter_map}

@@ -1,5 +1,5 @@
 -- What the code of a scan knows of the table and of its own locals.
-use Rattle.std.proofs.Common.{◌≡◌, ◌≢◌, ℕ, ℤ, pos, negsuc, ⊎_elim, sym, subst, length-set, get_or-set_same, get_or-set_other, SFits, suc, ◌+◌, ◌-◌, ◌*◌, ◌%◌, ◌^◌, ◌<◌, ◌≤◌, ◌⊎◌, true, List, [], ◌∷◌, length, get_or, set, Some, refl, ◌∙◌, arith, w32, w64}
+use Rattle.std.proofs.Common.{◌≡◌, ◌≢◌, ℕ, ℤ, pos, negsuc, ⊎_elim, sym, subst, length-set, get_or-set_same, get_or-set_other, SFits, suc, ◌+◌, ◌-◌, ◌*◌, ◌%◌, ◌^◌, ◌<◌, ◌≤◌, ◌⊎◌, true, List, [], ◌∷◌, length, get_or, set, Some, ◌∙◌, arith, w32, w64}
 use Rattle.std.specs.Prelude.{slice_get}
 use Rattle.std.specs.Int.{cast_signed}
 use Rattle.std.proofs.lemmas.Bool.{lt-ltb, cases_eq}

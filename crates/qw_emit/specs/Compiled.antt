@@ -1,10 +1,8 @@
 -- When a module is the compiled form of a query specification: what its runs do, whatever shares the memory with them.
-use Rattle.std.specs.Prelude.{◌≡◌, ◌≢◌, ℕ, ◌+◌, ◌-◌, ◌*◌, ◌/◌, ◌^◌, ◌<◌, ◌≤◌, List, [], ◌∷◌, length, map, Option, Some, None, Contains, slice_get, sum_by}
+use Rattle.std.specs.Prelude.{◌≡◌, ℕ, ◌+◌, ◌-◌, ◌*◌, ◌/◌, ◌^◌, ◌<◌, ◌≤◌, List, length, map, Option, Some, None, Contains, slice_get, sum_by}
 use Rattle.std.specs.List.{AllByRecursion}
 use Rattle.qw_types.specs.declared.code.Code.{Code}
 use Rattle.qw_types.specs.declared.code.Code.TheVariants.{DivZero, OutOfRange}
-use Rattle.qw_types.specs.declared.kind.Kind.{Kind}
-use Rattle.qw_types.specs.declared.value.Ty.{Ty}
 use Rattle.qw_types.specs.declared.value.Val.{Val}
 use Rattle.qw_linear.specs.Memory.{page}
 use Rattle.qw_module.specs.declared.module.Function.{Function}

@@ -1,6 +1,7 @@
 pub mod Compiled
 pub mod Inner
 pub mod ScanLayout
+pub mod WorkedQueries
 pub use Rattle.qw_module.specs.Execution
 pub use Rattle.qw_module.specs.Start
 pub use Rattle.qw_module.specs.Syntax

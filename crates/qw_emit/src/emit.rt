@@ -129,7 +129,7 @@ fn scan_module(alloc: Global, query: &Query) -> Result<Module, NoMemory>
 ///
 /// # Errors
 ///
-/// [`NoMemory`] where the module does not fit memory, and nowhere else.
+/// [`NoMemory`] where the module does not fit memory.
 pub fn module_of(alloc: Global, query: &Query) -> Result<Module, NoMemory>
     ensures { IfOk result (λ m. (types : List Ty) → HasIntegers types query.now → IsCompiled (simple types query.now) (layout_for query.now) m) }
 {

@@ -56,11 +56,7 @@ fn integer_kind(_column: usize) -> Kind
 }
 
 /// INTEGER columns of a table.
-fn used_integers(
-    alloc: Global,
-    table: usize,
-    columns: &[usize],
-) -> Result<Vec<Used>, NoMemory>
+fn used_integers(alloc: Global, table: usize, columns: &[usize]) -> Result<Vec<Used>, NoMemory>
     ensures { IfOk result (λ used. used.items ≡ map (λ column. record { table = table; column = column; ty = ty.Integer; not_null = true }) columns.now) }
 {
     let used = columns
@@ -83,7 +79,7 @@ fn integer_kinds(alloc: Global, columns: &[usize]) -> Result<Vec<Kind>, NoMemory
 ///
 /// # Errors
 ///
-/// [`NoMemory`] where the layout does not fit memory, and nowhere else.
+/// [`NoMemory`] where the layout does not fit memory.
 pub fn layout_of(alloc: Global, query: &Query) -> Result<Layout, NoMemory>
     ensures { IfOk result (λ made. made ≡ scan.layout_for query.now) }
 {

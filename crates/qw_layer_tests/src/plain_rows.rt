@@ -10,7 +10,7 @@ fn pair(alloc: Global, number: i64, tens: i64) -> Result<Row, NoMemory> {
 
 /// The tens of the rows 4, 5 and 6 that compare with 5.
 fn kept(alloc: Global, comparison: Comparison) -> Result<Vec<i64>, NoMemory> {
-    let query = Query::new(vec![in alloc; 1]?, 0, comparison, 5);
+    let query = Query::new(0, vec![in alloc; 1]?, 0, comparison, 5);
     let rows = vec![in alloc;
         pair(alloc, 4, 40)?,
         pair(alloc, 5, 50)?,

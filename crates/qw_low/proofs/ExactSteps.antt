@@ -4,7 +4,7 @@ use Rattle.std.proofs.lemmas.Bool.{le-leb, and_from, and_left}
 use Rattle.qw_module.specs.Execution.{Config, State, Running, Returned, Raised, Trapped, Raises, refusal}
 use Rattle.qw_linear.specs.Memory.{page, most_pages, number_at, with_number, grown_by, pages_of}
 use Rattle.qw_module.specs.Step.{Goes, Asks, Puts, AsksPages, Signals, wants, Next, next}
-use Rattle.qw_map.specs.Areas.{World, lies_in_one, IsFine, GoesOn, grants}
+use Rattle.qw_map.specs.Areas.{World, are_covered, IsFine, GoesOn, grants}
 use Rattle.qw_map.specs.Runs.{Moment}
 use Rattle.qw_map.specs.Inner.Steps.{OnStep, OnRunning, Within}
 use Rattle.qw_map.proofs.OpenRuns.{room-granted}
@@ -28,7 +28,7 @@ module _ (pages : ℕ) (Q : Moment → Type 0) (w : World) (M : List ℕ → Typ
   }
 
   pub loads : IsKept w M → (P : ℕ → Type 0) (n : ℕ) (c : Config) (address width : ℕ) (make : ℕ → State) →
-      wants c ≡ Asks address width make → lies_in_one (w.mapped ++ w.own) address width ≡ true →
+      wants c ≡ Asks address width make → are_covered (w.mapped ++ w.own) address width ≡ true →
       ((memory : List ℕ) → M memory → (address + width ≤ length memory) × P (number_at memory address width)) →
       ((found : ℕ) → P found → Comes pages Q w M n (make found)) → Comes pages Q w M (suc n) (Running c)
   loads kept P n c address width make wanted inside found comes = record {
@@ -39,7 +39,7 @@ module _ (pages : ℕ) (Q : Moment → Type 0) (w : World) (M : List ℕ → Typ
   }
 
   pub stores : IsKept w M → (M' : List ℕ → Type 0) (n : ℕ) (c : Config) (address width value : ℕ) (s : State) →
-      wants c ≡ Puts address width value s → lies_in_one w.own address width ≡ true →
+      wants c ≡ Puts address width value s → are_covered w.own address width ≡ true →
       ((memory : List ℕ) → M memory → (address + width ≤ length memory) × M' (with_number memory address width value)) →
       Comes pages Q w M' n s → Comes pages Q w M (suc n) (Running c)
   stores kept M' n c address width value s wanted inside put comes = record {
@@ -55,11 +55,11 @@ module _ (pages : ℕ) (Q : Moment → Type 0) (w : World) (M : List ℕ → Typ
   }
 
   pub grow_granted : IsKept w M → (S : ℕ → Type 0) (M' : ℕ → List ℕ → Type 0) (n : ℕ) (c : Config) (asked : ℕ) (make : ℕ → State) →
-      wants c ≡ AsksPages asked make → 1 ≤ asked → w.held + asked ≤ pages → ((found : ℕ) → GoesOn (make found)) → w.held + asked ≤ w.limit →
+      wants c ≡ AsksPages asked make → w.held + asked ≤ pages → ((found : ℕ) → GoesOn (make found)) → w.held + asked ≤ w.limit →
       ((memory : List ℕ) → M memory → length memory + asked * page ≤ most_pages * page → S (length memory) × M' (length memory) (grown_by asked memory)) →
       ((start : ℕ) → S start → Comes pages Q (with_granted w start asked) (M' start) n (make (start / page))) →
       Comes pages Q w M (suc n) (Running c)
-  grow_granted kept S M' n c asked make wanted some within on fits grown comes = record {
+  grow_granted kept S M' n c asked make wanted within on fits grown comes = record {
     steps = λ memory h before others.
         let now = kept.keeps memory before others h in
         let is : grants w asked ≡ true = le-leb (w.held + asked) w.limit fits in
@@ -67,16 +67,16 @@ module _ (pages : ℕ) (Q : Moment → Type 0) (w : World) (M : List ℕ → Typ
         let both = and_from (grants w asked) (nat_le (pages_of before + asked) most_pages) is room in
         let space : length before + (w.limit - w.held) * page ≤ most_pages * page = others.room in
         let after = grown before now (omega arith) in
-        rw (wanted, both) ((some, within, on (pages_of before)), (comes (length before) after.0).steps (grown_by asked before) after.1);
+        rw (wanted, both) ((within, on (pages_of before)), (comes (length before) after.0).steps (grown_by asked before) after.1);
   }
 
   pub grow_refused : IsKept w M → (n : ℕ) (c : Config) (asked : ℕ) (make : ℕ → State) →
-      wants c ≡ AsksPages asked make → 1 ≤ asked → w.held + asked ≤ pages → ((found : ℕ) → GoesOn (make found)) → (nat_le (w.held + asked) w.limit ≡ false) →
+      wants c ≡ AsksPages asked make → w.held + asked ≤ pages → ((found : ℕ) → GoesOn (make found)) → (nat_le (w.held + asked) w.limit ≡ false) →
       Comes pages Q (with_refused w asked) M n (make refusal) → Comes pages Q w M (suc n) (Running c)
-  grow_refused kept n c asked make wanted some within on is_not comes = record {
+  grow_refused kept n c asked make wanted within on is_not comes = record {
     steps = λ memory h before others.
         rw (wanted, and_left (grants w asked) (nat_le (pages_of before + asked) most_pages) is_not)
-        ((some, within, on refusal), comes.steps before (kept.keeps memory before others h));
+        ((within, on refusal), comes.steps before (kept.keeps memory before others h));
   }
 
 -- ---- what it says of open runs

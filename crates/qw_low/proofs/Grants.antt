@@ -32,7 +32,11 @@ map-more : (xs : List Area) (a : Area) → map (λ (x : Area). x.size) (xs ++ a 
 map-more [] a = refl
 map-more (x ∷ xs) a = ap (λ (sizes : List ℕ). x.size ∷ sizes) (map-more xs a)
 
-module _ (w : World) (s : LowState) (count start : ℕ) where
+-- so many pages, one at least
+module _ (w : World) (s : LowState) (less start : ℕ) where
+  abbrev pub count : ℕ
+  count = suc less
+
   abbrev pub new : Area
   new = record { start = start; size = count * page }
 

@@ -1,3 +1,4 @@
+pub mod BeginLemmas
 pub mod BlockSteps
 pub mod CellLemmas
 mod CodeSize

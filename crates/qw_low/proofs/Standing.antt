@@ -1,15 +1,15 @@
 -- What stands for a state of LowState, and what others leave of it.
-use Rattle.std.proofs.Common.{◌≡◌, ℕ, zero, suc, ◌+◌, ◌-◌, ◌*◌, ◌≤◌, true, nat_le, List, [], ◌∷◌, ◌++◌, length, map, Some, slice_get, slice_set, get_or, drop, refl, sym, ap, ◌∙◌, subst, ⊎_elim, arith}
+use Rattle.std.proofs.Common.{◌≡◌, ℕ, zero, suc, ◌+◌, ◌-◌, ◌*◌, ◌≤◌, true, List, [], ◌∷◌, ◌++◌, length, map, Some, slice_get, slice_set, get_or, drop, refl, sym, ap, ◌∙◌, subst, arith}
 use Rattle.std.specs.List.{AllByRecursion}
-use Rattle.std.proofs.lemmas.Bool.{le-leb, and_from, or_left, or_right, or_cases}
 use Rattle.std.proofs.lemmas.Option.{same_Some, none-some}
 use Rattle.qw_linear.specs.Memory.{page, most_pages}
-use Rattle.qw_map.specs.Areas.{Area, World, Others, SameIn, lies_in, lies_in_one}
-use Rattle.qw_map.proofs.RunRules.{IsKept, number_at-kept}
+use Rattle.qw_map.specs.Areas.{Area, World, Others, SameIn, are_covered}
+use Rattle.qw_map.proofs.AccessLemmas.{covered-first, covered-before, covered-after, kept-same, number-kept}
+use Rattle.qw_map.proofs.RunRules.{IsKept}
 use Rattle.qw_low.specs.State.{Part, Column, Own, Value, LowState, size_of}
 use Rattle.qw_low.specs.Places.{area_of, Means, AreMeant, Fits, StandsFor}
 
-all-at : (P : Area → Type 0) (areas : List Area) (k : ℕ) (a : Area) → AllByRecursion P areas → slice_get areas k ≡ Some a → P a
+pub all-at : (P : Area → Type 0) (areas : List Area) (k : ℕ) (a : Area) → AllByRecursion P areas → slice_get areas k ≡ Some a → P a
 all-at P [] k a all found = absurd (none-some a found)
 all-at P (b ∷ areas) zero a all found = subst P (same_Some b a found) all.0
 all-at P (b ∷ areas) (suc k) a all found = all-at P areas k a all.1 found
@@ -38,35 +38,26 @@ stable w s = record {
               is = there.is;
               inside = there.inside;
               means = subst (λ (n : ℕ). Means w v n)
-                  (sym (number_at-kept before after there.area (there.area.start + offset) width (area-kept w before after others p there.area there.is) (omega arith) (omega (arith, there.inside))))
+                  (sym (number-kept before after (there.area ∷ [])
+                  (kept-same before after (there.area ∷ []) (area-kept w before after others p there.area there.is, tt)) (there.area.start + offset) width
+                  (covered-first there.area [] (there.area.start + offset) width (omega arith) (omega (arith, there.inside)))))
                   there.means;
             };
       };
 }
 
--- an access in an area lies in one of several
-pub lies-at : (areas : List Area) (k : ℕ) (a : Area) (offset width : ℕ) → slice_get areas k ≡ Some a → offset + width ≤ a.size → lies_in_one areas (a.start + offset) width ≡ true
+-- an access in a part is covered by the areas
+pub lies-at : (areas : List Area) (k : ℕ) (a : Area) (offset width : ℕ) → slice_get areas k ≡ Some a → offset + width ≤ a.size →
+    are_covered areas (a.start + offset) width ≡ true
 lies-at [] k a offset width found inside = absurd (none-some a found)
-lies-at (b ∷ areas) zero a offset width found inside =
-    let same : b ≡ a = same_Some b a found in
-    or_left _ _ (subst (λ (x : Area). lies_in (a.start + offset) width x ≡ true) (sym same)
-    (and_from (nat_le a.start (a.start + offset)) (nat_le (a.start + offset + width) (a.start + a.size)) (le-leb a.start (a.start + offset) (omega arith)) (le-leb (a.start + offset + width) (a.start + a.size) (omega arith))))
-lies-at (b ∷ areas) (suc k) a offset width found inside = or_right _ _ (lies-at areas k a offset width found inside)
+lies-at (b ∷ areas) zero a offset width found inside = subst (λ (x : Area). are_covered (x ∷ areas) (a.start + offset) width ≡ true)
+    (sym (same_Some b a found)) (covered-first a areas (a.start + offset) width (omega arith) (omega arith))
+lies-at (b ∷ areas) (suc k) a offset width found inside =
+    covered-after (b ∷ []) areas (a.start + offset) width (lies-at areas k a offset width found inside)
 
-lies-first : (areas more : List Area) (at width : ℕ) → lies_in_one areas at width ≡ true → lies_in_one (areas ++ more) at width ≡ true
-lies-first [] more at width inside = cc
-lies-first (area ∷ areas) more at width inside = ⊎_elim
-    (λ here. or_left _ _ here)
-    (λ further. or_right _ _ (lies-first areas more at width further))
-    (or_cases (lies_in at width area) (lies_in_one areas at width) inside)
-
-lies-second : (areas more : List Area) (at width : ℕ) → lies_in_one more at width ≡ true → lies_in_one (areas ++ more) at width ≡ true
-lies-second [] more at width inside = inside
-lies-second (area ∷ areas) more at width inside = or_right _ _ (lies-second areas more at width inside)
-
-pub lies : (w : World) (p : Part) (a : Area) (offset width : ℕ) → area_of w p ≡ Some a → offset + width ≤ a.size → lies_in_one (w.mapped ++ w.own) (a.start + offset) width ≡ true
-lies w (Column k) a offset width is inside = lies-first w.mapped w.own (a.start + offset) width (lies-at w.mapped k a offset width is inside)
-lies w (Own k) a offset width is inside = lies-second w.mapped w.own (a.start + offset) width (lies-at w.own k a offset width is inside)
+pub lies : (w : World) (p : Part) (a : Area) (offset width : ℕ) → area_of w p ≡ Some a → offset + width ≤ a.size → are_covered (w.mapped ++ w.own) (a.start + offset) width ≡ true
+lies w (Column k) a offset width is inside = covered-before w.mapped w.own (a.start + offset) width (lies-at w.mapped k a offset width is inside)
+lies w (Own k) a offset width is inside = covered-after w.mapped w.own (a.start + offset) width (lies-at w.own k a offset width is inside)
 
 -- a part's area
 sized : (areas : List Area) (sizes : List ℕ) → map (λ (a : Area). a.size) areas ≡ sizes → (k n : ℕ) → slice_get sizes k ≡ Some n →

@@ -261,21 +261,22 @@ module _ (pages : ℕ) (Q : Moment → Type 0) (module_store : Store) where
     granted_runs : (e : Expression) (count x : ℕ) (k : Code) → value s e ≡ Some (Number count) → nat_lt x (length s.locals) ≡ true → 1 ≤ count → w.held + count ≤ pages → w.held + count ≤ w.limit →
         RunsTo (Completed (cost e + 9) (record (with_pages s count) { locals = slice_set s.locals x (Address (Own (length s.own)) 0) })) w (StandsFor w s)
         (standing module_store (statement_code (request e x) k) [] xs contexts) (λ ys. standing module_store k [] ys contexts)
-    granted_runs e count x k is room some within fits = λ j onward.
+    granted_runs e zero x k is room some within fits = absurd (omega arith)
+    granted_runs e (suc less) x k is room some within fits = λ j onward.
         let room_here : nat_lt x (length xs) ≡ true = rw (length-meant w s.locals xs are) room in
         let below : x < length xs = ltb-true x (length xs) room_here in
         let after_grow : Code = on_answer x k in
         knowing pages Q w (StandsFor w s) (cost e + 9 + j) _ (λ memory0 h0.
         counted pages Q w (StandsFor w s) (cost e + suc (8 + j)) (cost e + 9 + j) _ (omega arith)
-        (asks_for e count x k is memory0 h0 (suc (8 + j))
-        (subst (λ (state : State). Comes pages Q w (StandsFor w s) (suc (8 + j)) state) (sym (settled-unfinished module_store contexts (op o.MemoryGrow after_grow) (count ∷ []) xs (λ e. cc)))
-        (grow_granted pages Q w (StandsFor w s) (stable w s) (λ start. (start ≡ start / page * page) × (start + count * page ≤ most_pages * page)) (λ start. StandsFor (with_granted w start count) (with_pages s count)) (8 + j)
-        (config module_store (op o.MemoryGrow after_grow) (count ∷ []) xs contexts) count (λ n. standing module_store after_grow (n ∷ []) xs contexts) refl some within
+        (asks_for e (suc less) x k is memory0 h0 (suc (8 + j))
+        (subst (λ (state : State). Comes pages Q w (StandsFor w s) (suc (8 + j)) state) (sym (settled-unfinished module_store contexts (op o.MemoryGrow after_grow) ((suc less) ∷ []) xs (λ e. cc)))
+        (grow_granted pages Q w (StandsFor w s) (stable w s) (λ start. (start ≡ start / page * page) × (start + (suc less) * page ≤ most_pages * page)) (λ start. StandsFor (with_granted w start (suc less)) (with_pages s (suc less))) (8 + j)
+        (config module_store (op o.MemoryGrow after_grow) ((suc less) ∷ []) xs contexts) (suc less) (λ n. standing module_store after_grow (n ∷ []) xs contexts) refl within
         (λ found. runs_on after_grow (found ∷ []) xs (λ e. cc)) fits
-        (λ m h space. ((h.whole, space), stands-more w s count (length m) m h refl space))
+        (λ m h space. ((h.whole, space), stands-more w s less (length m) m h refl space))
         (λ start is.
-        let w' : World = with_granted w start count in
-        let t : LowState = with_pages s count in
+        let w' : World = with_granted w start (suc less) in
+        let t : LowState = with_pages s (suc less) in
         let n : ℕ = start / page in
         let ys : List ℕ = slice_set xs x n in
         let there : slice_get ys x ≡ Some n = slice_get-set_same xs x n below in
@@ -292,12 +293,12 @@ module _ (pages : ℕ) (Q : Moment → Type 0) (module_store : Store) where
         (op_goes pages Q module_store contexts w' t ys (o.LocalSet x) k (start ∷ []) [] (slice_set xs x start) j (rw (length-set xs x n, room_here, again) refl)
         (weaker pages Q w' (StandsFor w' t) (StandsFor w' (record t { locals = slice_set s.locals x v })) j (standing module_store k [] (slice_set xs x start) contexts)
         (λ memory h. relocated w' t (slice_set s.locals x v) memory h)
-        (onward w' (slice_set xs x start) (set-meant w' s.locals xs (AreMeant-more w s count start s.locals xs are) x v start
-        (new w s count start, new-there w s count start h0.fits, omega arith, omega arith)))))))))))))))
+        (onward w' (slice_set xs x start) (set-meant w' s.locals xs (AreMeant-more w s less start s.locals xs are) x v start
+        (new w s less start, new-there w s less start h0.fits, omega arith, omega arith)))))))))))))))
 
-    refused_runs : HasRaise module_store → (e : Expression) (count x : ℕ) (k : Code) → value s e ≡ Some (Number count) → nat_lt x (length s.locals) ≡ true → 1 ≤ count → w.held + count ≤ pages → nat_le (w.held + count) w.limit ≡ false →
+    refused_runs : HasRaise module_store → (e : Expression) (count x : ℕ) (k : Code) → value s e ≡ Some (Number count) → nat_lt x (length s.locals) ≡ true → w.held + count ≤ pages → nat_le (w.held + count) w.limit ≡ false →
         RunsTo (Stopped 3 (cost e + 7) (record s { refused = Some count })) w (StandsFor w s) (standing module_store (statement_code (request e x) k) [] xs contexts) (λ ys. standing module_store k [] ys contexts)
-    refused_runs imported e count x k is room some within past = λ j onward.
+    refused_runs imported e count x k is room within past = λ j onward.
         let room_here : nat_lt x (length xs) ≡ true = rw (length-meant w s.locals xs are) room in
         let after_grow : Code = on_answer x k in
         let w' : World = with_refused w count in
@@ -308,7 +309,7 @@ module _ (pages : ℕ) (Q : Moment → Type 0) (module_store : Store) where
         counted pages Q w (StandsFor w s) (cost e + suc (6 + j)) (cost e + 7 + j) _ (omega arith)
         (asks_for e count x k is memory0 h0 (suc (6 + j))
         (subst (λ (state : State). Comes pages Q w (StandsFor w s) (suc (6 + j)) state) (sym (settled-unfinished module_store contexts (op o.MemoryGrow after_grow) (count ∷ []) xs (λ e. cc)))
-        (grow_refused pages Q w (StandsFor w s) (stable w s) (6 + j) (config module_store (op o.MemoryGrow after_grow) (count ∷ []) xs contexts) count (λ n. standing module_store after_grow (n ∷ []) xs contexts) refl some within
+        (grow_refused pages Q w (StandsFor w s) (stable w s) (6 + j) (config module_store (op o.MemoryGrow after_grow) (count ∷ []) xs contexts) count (λ n. standing module_store after_grow (n ∷ []) xs contexts) refl within
         (λ found. runs_on after_grow (found ∷ []) xs (λ e. cc)) past
         (weaker pages Q w' (StandsFor w s) (StandsFor w' t) (6 + j) (standing module_store after_grow (refusal ∷ []) xs contexts) (λ m h. stands-refused w s count m h)
         (counted pages Q w' (StandsFor w' t) (suc (suc (suc (suc (suc (suc j)))))) (6 + j) _ (omega arith)
@@ -334,7 +335,7 @@ module _ (pages : ℕ) (Q : Moment → Type 0) (module_store : Store) where
         let held_is : w.held ≡ s.held = h.fits.held in
         granted_runs e count x k is parts.0 some (omega arith) (let le = leb-true (s.held + count) s.limit fits in omega arith) j onward)))
         (λ past. rw past (λ j onward. knowing pages Q w (StandsFor w s) (cost e + 7 + j) _ (λ m h.
-        refused_runs imported e count x k is parts.0 some (omega (arith, h.fits.held)) (rw (h.fits.limit, h.fits.held) past) j onward)))
+        refused_runs imported e count x k is parts.0 (omega (arith, h.fits.held)) (rw (h.fits.limit, h.fits.held) past) j onward)))
         (cases_Bool (nat_le (s.held + count) s.limit))))
         (λ unsound. rw unsound tt)
         (cases_Bool (nat_lt x (length s.locals) && (nat_le 1 count && nat_le (s.held + count) pages)))

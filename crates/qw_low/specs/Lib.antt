@@ -4,6 +4,7 @@ pub mod Meaning
 pub mod Translation
 pub mod Places
 pub mod Typing
+pub mod Begin
 pub mod Promise
 pub mod Size
 pub mod Steps

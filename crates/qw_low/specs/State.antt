@@ -8,8 +8,9 @@ use Rattle.qw_module.specs.declared.instruction.Store.TheVariants as store
 use Rattle.qw_linear.specs.Memory.{page}
 use Rattle.qw_module.specs.Numbers.{loaded_value, store_width}
 
--- A part of the memory: a part of a column, by its place in the layout; or one of an instance's own, the first page, and
--- then each grant.
+-- A part of the memory: a part of a column that the layout uses, or one of an instance's own: the first page, and then each grant.
+-- Of the layout's column k, `Column (3 * k)` is its values, `Column (3 * k + 1)` the octets of its texts, and `Column (3 * k + 2)` its
+-- null bits.
 pub data Part : Type 0 where
   Column : ℕ → Part
   Own : ℕ → Part

@@ -1,8 +1,7 @@
 -- Columns depend on the octets of their parts alone; and where the columns of tables lie.
-use Rattle.std.proofs.Common.{◌≡◌, ℕ, zero, suc, ◌+◌, ◌-◌, ◌*◌, ◌/◌, ◌%◌, ◌<◌, ◌≤◌, Bool, true, false, List, [], ◌∷◌, ◌++◌, length, map, take, drop, Option, Some, None, slice_get, refl, sym, ap, ap₂, ◌∙◌, subst, ⊎_elim, arith}
-use Rattle.std.specs.Prelude.{◌==◌, ◌&&◌, not, if◌then◌else◌, slice_index}
+use Rattle.std.proofs.Common.{◌≡◌, ℕ, zero, suc, ◌+◌, ◌-◌, ◌*◌, ◌/◌, ◌<◌, ◌≤◌, Bool, true, false, List, [], ◌∷◌, length, take, drop, Some, slice_get, refl, sym, ap, ◌∙◌, arith}
+use Rattle.std.specs.Prelude.{slice_index}
 use Rattle.std.specs.List.{AllByRecursion}
-use Rattle.std.proofs.lemmas.Bool.{cases_lt}
 use Rattle.std.proofs.lemmas.Option.{same_Some, none-some, slice_get_within}
 use Rattle.qw_types.specs.Contents.{Contents}
 use Rattle.qw_types.specs.Value.{text_octets}
@@ -12,10 +11,10 @@ use Rattle.qw_types.specs.declared.value.Ty.TheVariants.{Integer, Decimal, Date,
 use Rattle.qw_types.specs.declared.value.Val.{Val}
 use Rattle.qw_types.specs.declared.value.Val.TheVariants as val
 use Rattle.qw_linear.specs.Memory.{page, number_at}
-use Rattle.qw_map.specs.Areas.{Area, lies_in_one, are_covered}
-use Rattle.qw_map.specs.Columns.{values_size, nulls_size, areas_of, null_bit, is_null_at, text_offset, text_at, stored_at, value_at, HasOffsets, HoldsColumn, to_eight, column_values, placed_at, column_end, columns_start, column_pages, placed_columns, columns_end, placed_tables, tables_end, map_of, HoldsTable, Holds}
+use Rattle.qw_map.specs.Areas.{Area}
+use Rattle.qw_map.specs.Columns.{values_size, nulls_size, areas_of, is_null_at, text_offset, stored_at, HasOffsets, HoldsColumn, to_eight, column_values, placed_at, column_end, columns_start, column_pages, placed_columns, columns_end, placed_tables, tables_end, map_of, Holds}
 use Rattle.qw_map.specs.declared.layout.Placed.{Placed}
-use Rattle.qw_map.proofs.AccessLemmas.{AreKept, lies-first, lies-after, lies-within, covered-first, covered-after, number-kept, octets-kept}
+use Rattle.qw_map.proofs.AccessLemmas.{AreKept, lies-within, covered-first, covered-after, number-kept, octets-kept}
 use Rattle.qw_map.proofs.AreaLemmas.{all-weaker}
 
 -- ---- texts one after another

@@ -2,6 +2,7 @@ pub mod AccessLemmas
 pub mod AreaLemmas
 pub mod Chains
 pub mod ColumnLemmas
+pub mod LayoutLemmas
 pub mod NoTrap
 pub mod OpenRuns
 pub mod ResultLemmas
@@ -11,3 +12,4 @@ pub mod Separate
 pub mod SharedCode
 pub mod TurnFacts
 pub mod TurnSteps
+mod WorkedColumns

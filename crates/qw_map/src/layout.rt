@@ -147,7 +147,9 @@ impl Layout {
     pub fn descriptor_size(&self) -> u32
         ensures { result ≡ layout.descriptor_size self.now }
     {
-        let end = HEAD_SIZE as usize + ENTRY_SIZE as usize * self.columns.len() + self.literals.len();
+        let end = HEAD_SIZE as usize
+            + ENTRY_SIZE as usize * self.columns.len()
+            + self.literals.len();
         (end.div_ceil(COLUMN_ALIGNMENT) * COLUMN_ALIGNMENT) as u32
     }
 }

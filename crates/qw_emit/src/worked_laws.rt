@@ -1,0 +1,221 @@
+//! Worked cases of the definitions, with numbers, stated as contracts: `SELECT A FROM T WHERE A > 5` over the rows (4), (1), (7),
+//! weights of modules, and ends. No function here computes anything.
+
+ghost use Rattle.std.specs.Prelude.{◌≡◌, ◌≤◌, ℕ, pos, true, List, [], ◌∷◌, replicate, Some, None};
+ghost use Rattle.qw_types.specs.declared.code.Code.TheVariants.{DivZero, OutOfRange};
+ghost use Rattle.qw_types.specs.declared.kind.Kind.TheVariants as kind;
+ghost use Rattle.qw_types.specs.declared.value.Ty.TheVariants.{Integer, Date};
+ghost use Rattle.qw_types.specs.declared.value.Val.{Val};
+ghost use Rattle.qw_types.specs.declared.value.Val.TheVariants.{Num};
+ghost use Rattle.qw_module.specs.declared.instruction.Instr.TheVariants as i;
+ghost use Rattle.qw_module.specs.declared.instruction.Op.TheVariants as o;
+ghost use Rattle.qw_module.specs.declared.module.Function.{Function};
+ghost use Rattle.qw_module.specs.declared.module.Import.TheVariants as import;
+ghost use Rattle.qw_module.specs.declared.module.Module.{Module};
+ghost use Rattle.qw_module.specs.declared.trap.Trap.{Trap};
+ghost use Rattle.qw_module.specs.Execution.{Config, Running, Returned, Raised, Trapped};
+ghost use Rattle.qw_module.specs.Start.{weight};
+ghost use Rattle.qw_module.specs.Syntax.{done, op, call};
+ghost use Rattle.qw_module.specs.Validity.{code_of_body, sequences_of};
+ghost use Rattle.qw_meaning.specs.declared.expression.Operator.TheVariants as operator;
+ghost use Rattle.qw_meaning.specs.declared.query.Comparison.TheVariants.{Equal};
+ghost use Rattle.qw_meaning.specs.Expression.{arithmetic, column, number};
+ghost use Rattle.qw_meaning.specs.Outcome.{Outcome, Rows, Raises};
+ghost use Rattle.qw_map.specs.Areas.{World};
+ghost use Rattle.qw_map.specs.Layout.{Layout, rows_at};
+ghost use Rattle.qw_map.specs.Runs.{Moment};
+ghost use Rattle.qw_map.specs.Turns as turns;
+ghost use Rattle.qw_map.specs.Turns.{Done, Exception, Pages, Steps};
+ghost use Rattle.qw_emit.specs.Compiled.{units, module_weight, weight_of, bound, page_bound, raised_for, Answers, AnswersAt, GoesWith};
+ghost use Rattle.qw_emit.specs.ScanLayout.{layout_for};
+ghost use Rattle.qw_emit.specs.WorkedQueries.{above, three_rows};
+
+/// The layout of `SELECT C, A FROM T WHERE B = 5`, T being table 3: its columns are A, B and C, in the order of the table, and a result
+/// row has two cells. A column that is compared and selected twice is used once.
+#[tactic(auto, unfolding(crate::specs::ScanLayout::used))]
+pub fn layouts_of_statements()
+    ensures three_columns { layout_for (record { table = 3; columns = 2 ∷ 0 ∷ []; tested = 1; comparison = Equal; literal = pos 5 }) ≡ record {
+      columns = record { table = 3; column = 0; ty = Integer; not_null = true }
+          ∷ record { table = 3; column = 1; ty = Integer; not_null = true }
+          ∷ record { table = 3; column = 2; ty = Integer; not_null = true } ∷ [];
+      literals = [];
+      cells = kind.Number 0 ∷ kind.Number 0 ∷ [];
+    } }
+    ensures one_column { layout_for (record { table = 0; columns = 63 ∷ 63 ∷ []; tested = 63; comparison = Equal; literal = pos 5 }) ≡ record {
+      columns = record { table = 0; column = 63; ty = Integer; not_null = true } ∷ [];
+      literals = [];
+      cells = kind.Number 0 ∷ kind.Number 0 ∷ [];
+    } }
+{}
+
+/// With `SELECT A FROM T WHERE A > 5`, T being table 0, goes a layout of its column A and one whole number, and one that uses no column;
+/// not one with a column of another table, of another type, or that T hasn't, nor one whose cells are a date, two numbers or a number of
+/// another scale.
+pub fn layouts_that_go_with_a_query()
+    ensures goes { GoesWith (above (0 ∷ []) (pos 5)) (record { columns = record { table = 0; column = 0; ty = Integer; not_null = true } ∷ []; literals = []; cells = kind.Number 0 ∷ [] }) }
+    ensures no_column { GoesWith (above (0 ∷ []) (pos 5)) (record { columns = []; literals = []; cells = kind.Number 0 ∷ [] }) }
+    ensures other_table { GoesWith (above (0 ∷ []) (pos 5)) (record { columns = record { table = 1; column = 0; ty = Integer; not_null = true } ∷ []; literals = []; cells = kind.Number 0 ∷ [] }) → ⊥ }
+    ensures other_type { GoesWith (above (0 ∷ []) (pos 5)) (record { columns = record { table = 0; column = 0; ty = Date; not_null = true } ∷ []; literals = []; cells = kind.Number 0 ∷ [] }) → ⊥ }
+    ensures past_the_table { GoesWith (above (0 ∷ []) (pos 5)) (record { columns = record { table = 0; column = 1; ty = Integer; not_null = true } ∷ []; literals = []; cells = kind.Number 0 ∷ [] }) → ⊥ }
+    ensures other_kind { GoesWith (above (0 ∷ []) (pos 5)) (record { columns = []; literals = []; cells = kind.Date ∷ [] }) → ⊥ }
+    ensures two_cells { GoesWith (above (0 ∷ []) (pos 5)) (record { columns = []; literals = []; cells = kind.Number 0 ∷ kind.Number 0 ∷ [] }) → ⊥ }
+    ensures other_scale { GoesWith (above (0 ∷ []) (pos 5)) (record { columns = []; literals = []; cells = kind.Number 2 ∷ [] }) → ⊥ }
+{}
+
+/// Three rows and the one that is kept are 4 units; where all three are kept there are 6, and of no rows none. Two tables of 2 and 3 rows
+/// without a WHERE have 5 rows and 6 result rows, a row that raises makes none, and a table that comes twice counts twice.
+pub fn units_of_tables()
+    ensures one_kept { units (above (0 ∷ []) (pos 5)) three_rows ≡ 4 }
+    ensures all_kept { units (above (0 ∷ []) (pos 0)) three_rows ≡ 6 }
+    ensures no_rows { units (above (0 ∷ []) (pos 5)) ([] ∷ []) ≡ 0 }
+    ensures no_table { units (above (0 ∷ []) (pos 5)) [] ≡ 0 }
+    ensures two_tables { (a b c d e : Val) → units (record {
+      entries = record { table = 0; types = Integer ∷ [] } ∷ record { table = 1; types = Integer ∷ [] } ∷ [];
+      conjuncts = [];
+      items = column 0 Integer ∷ [];
+    })
+        (((a ∷ []) ∷ (b ∷ []) ∷ []) ∷ ((c ∷ []) ∷ (d ∷ []) ∷ (e ∷ []) ∷ []) ∷ []) ≡ 11 }
+    ensures twice { (a b : Val) → units (record {
+      entries = record { table = 0; types = Integer ∷ [] } ∷ record { table = 0; types = Integer ∷ [] } ∷ [];
+      conjuncts = [];
+      items = column 0 Integer ∷ [];
+    })
+        (((a ∷ []) ∷ (b ∷ []) ∷ []) ∷ []) ≡ 8 }
+    ensures raises { units (record {
+      entries = record { table = 0; types = Integer ∷ [] } ∷ [];
+      conjuncts = [];
+      items = arithmetic operator.Divide (number (pos 8) 0) (arithmetic operator.Subtract (column 0 Integer) (number (pos 1) 0)) ∷ [];
+    }) three_rows ≡ 5 }
+{}
+
+/// A function of 87 instructions executes at most 87 * (1 + 4) = 435 over these rows, 87 * (1 + 6) = 609 where all are kept,
+/// and 87 over none.
+pub fn bound_of_three_rows()
+    ensures one_kept { (m : Module) (number : ℕ) → weight_of m number ≡ 87 → bound (above (0 ∷ []) (pos 5)) three_rows m number ≡ 435 }
+    ensures all_kept { (m : Module) (number : ℕ) → weight_of m number ≡ 87 → bound (above (0 ∷ []) (pos 0)) three_rows m number ≡ 609 }
+    ensures no_rows { (m : Module) (number : ℕ) → weight_of m number ≡ 87 → bound (above (0 ∷ []) (pos 5)) [] m number ≡ 87 }
+{}
+
+/// A result row of one cell has 24 octets, so the bound is 2 + N * 24 / 65,512 pages for N result rows: 2 for one row, for 2,728
+/// and for 2,729, and 3 for 2,730. Rows that are rejected don't count.
+pub fn page_bound_of_narrow_rows()
+    ensures one { page_bound (above (0 ∷ []) (pos 5)) three_rows ≡ 2 }
+    ensures past_the_first_page { page_bound (above (0 ∷ []) (pos 5)) (replicate 2728 (Num (pos 7) ∷ []) ∷ []) ≡ 2 }
+    ensures last_of_two { page_bound (above (0 ∷ []) (pos 5)) (replicate 2729 (Num (pos 7) ∷ []) ∷ []) ≡ 2 }
+    ensures first_of_three { page_bound (above (0 ∷ []) (pos 5)) (replicate 2730 (Num (pos 7) ∷ []) ∷ []) ≡ 3 }
+    ensures rejected { page_bound (above (0 ∷ []) (pos 5)) (replicate 2730 (Num (pos 5) ∷ []) ∷ []) ≡ 2 }
+{}
+
+/// A result row of 64 cells has 1,032 octets, so the bound is 2 + N * 1,032 / 64,504 pages: 2 for 62 rows, and 3 for 63.
+pub fn page_bound_of_wide_rows()
+    ensures last_of_two { page_bound (above (replicate 64 0) (pos 5)) (replicate 62 (Num (pos 7) ∷ []) ∷ []) ≡ 2 }
+    ensures first_of_three { page_bound (above (replicate 64 0) (pos 5)) (replicate 63 (Num (pos 7) ∷ []) ∷ []) ≡ 3 }
+{}
+
+/// A numbered body counts as the code that it stands for: a block around a loop of two instructions, and a branch, are 5; a
+/// choice whose arms are one sequence of two instructions counts it twice.
+pub fn weights_of_bodies()
+    ensures around { (m : Module) (f : Function) → m.functions.items ≡ f ∷ [] →
+        sequences_of f.body ≡ record {
+          each = (i.Op (o.LocalGet 0) ∷ i.BrIf 0 ∷ []) ∷ (i.Loop None 0 ∷ []) ∷ (i.Block None 1 ∷ i.Br 0 ∷ []) ∷ [];
+          labels = [];
+        } → weight_of m 0 ≡ 5 }
+    ensures twice { (m : Module) (f : Function) → m.functions.items ≡ f ∷ [] →
+        sequences_of f.body ≡ record {
+          each = (i.Op (o.LocalGet 0) ∷ i.Br 0 ∷ []) ∷ (i.Op (o.LocalGet 0) ∷ i.If None 0 (Some 0) ∷ []) ∷ [];
+          labels = [];
+        } → weight_of m 0 ≡ 6 }
+{}
+
+/// A module's functions count together. Each has its own number, and counts with the functions that it calls, as often as it
+/// calls them: the imported one counts nothing, so the first function has 3 instructions, and the second, which calls the first
+/// twice, has 4 + 2 * 3 = 10 with it.
+pub fn weight_of_two_functions()
+    ensures together { (m : Module) (f g : Function) → m.functions.items ≡ f ∷ g ∷ [] →
+        weight (code_of_body f.body) ≡ 3 → weight (code_of_body g.body) ≡ 4 → module_weight m ≡ 7 }
+    ensures first { (m : Module) (f g : Function) → m.imports.items ≡ import.Raise 0 ∷ [] → m.functions.items ≡ f ∷ g ∷ [] →
+        code_of_body f.body ≡ op (o.LocalGet 0) (op (o.LocalGet 0) (call 0 done)) → weight_of m 0 ≡ 3 }
+    ensures second { (m : Module) (f g : Function) → m.imports.items ≡ import.Raise 0 ∷ [] → m.functions.items ≡ f ∷ g ∷ [] →
+        code_of_body f.body ≡ op (o.LocalGet 0) (op (o.LocalGet 0) (call 0 done)) →
+        code_of_body g.body ≡ op (o.LocalGet 0) (call 1 (op (o.LocalGet 0) (call 1 done))) → weight_of m 1 ≡ 10 }
+    ensures no_third { (m : Module) (f g : Function) → m.functions.items ≡ f ∷ g ∷ [] → weight_of m 2 ≡ 0 }
+{}
+
+/// "Division by zero" is raised as 1, "numeric value out of range" as 2.
+pub fn codes_that_are_raised()
+    ensures division { raised_for DivZero ≡ 1 }
+    ensures range { raised_for OutOfRange ≡ 2 }
+{}
+
+/// Done answers where no request was refused and the result rows are those of the outcome; not with other rows, or with none that can be
+/// read, not after a refused request, and not where the outcome is an exception.
+pub fn returns_that_answer()
+    ensures answer { (layout : Layout) (most pages descriptor : ℕ) (w : World) (memory : List ℕ) → w.refused ≡ None →
+        rows_at layout w memory descriptor ≡ Some ((Num (pos 7) ∷ []) ∷ []) →
+        Answers (Rows ((Num (pos 7) ∷ []) ∷ [])) layout most pages descriptor w memory Done }
+    ensures other_rows { (layout : Layout) (most pages descriptor : ℕ) (w : World) (memory : List ℕ) →
+        rows_at layout w memory descriptor ≡ Some ((Num (pos 4) ∷ []) ∷ []) →
+        Answers (Rows ((Num (pos 7) ∷ []) ∷ [])) layout most pages descriptor w memory Done → ⊥ }
+    ensures no_rows { (layout : Layout) (most pages descriptor : ℕ) (w : World) (memory : List ℕ) →
+        rows_at layout w memory descriptor ≡ None →
+        Answers (Rows ((Num (pos 7) ∷ []) ∷ [])) layout most pages descriptor w memory Done → ⊥ }
+    ensures refused { (layout : Layout) (most pages descriptor : ℕ) (w : World) (memory : List ℕ) → w.refused ≡ Some 1 →
+        Answers (Rows ((Num (pos 7) ∷ []) ∷ [])) layout most pages descriptor w memory Done → ⊥ }
+    ensures raised { (layout : Layout) (most pages descriptor : ℕ) (w : World) (memory : List ℕ) →
+        Answers (Raises (DivZero ∷ [])) layout most pages descriptor w memory Done → ⊥ }
+{}
+
+/// An exception answers where the outcome has it, whichever it is of several; not another one, and not where the outcome is rows.
+pub fn exceptions_that_answer()
+    ensures first { (layout : Layout) (most pages descriptor : ℕ) (w : World) (memory : List ℕ) →
+        Answers (Raises (DivZero ∷ OutOfRange ∷ [])) layout most pages descriptor w memory (Exception 1) }
+    ensures second { (layout : Layout) (most pages descriptor : ℕ) (w : World) (memory : List ℕ) →
+        Answers (Raises (DivZero ∷ OutOfRange ∷ [])) layout most pages descriptor w memory (Exception 2) }
+    ensures other { (layout : Layout) (most pages descriptor : ℕ) (w : World) (memory : List ℕ) →
+        Answers (Raises (DivZero ∷ [])) layout most pages descriptor w memory (Exception 2) → ⊥ }
+    ensures none { (layout : Layout) (most pages descriptor : ℕ) (w : World) (memory : List ℕ) →
+        Answers (Raises []) layout most pages descriptor w memory (Exception 1) → ⊥ }
+    ensures no_code { (layout : Layout) (most pages descriptor code : ℕ) (w : World) (memory : List ℕ) → 3 ≤ code →
+        Answers (Raises (DivZero ∷ OutOfRange ∷ [])) layout most pages descriptor w memory (Exception code) → ⊥ }
+    ensures rows { (layout : Layout) (most pages descriptor code : ℕ) (w : World) (memory : List ℕ) (bag : List (List Val)) →
+        Answers (Rows bag) layout most pages descriptor w memory (Exception code) → ⊥ }
+{}
+
+/// Where the limit is one page, held, and one more was refused, this end answers; not where the page was within the limit, where it would
+/// have led past the page bound of 2, or where other pages are told. A limit of instructions below the bound of 435 answers, whatever
+/// the outcome, and one at the bound doesn't. A trap never answers.
+pub fn limits_that_answer()
+    ensures past_the_limit { (out : Outcome) (layout : Layout) (most descriptor : ℕ) (w : World) (memory : List ℕ) → w.held ≡ 1 → w.limit ≡ 1 →
+        Answers out layout most 2 descriptor w memory (Pages 1 1 1) }
+    ensures within_the_limit { (out : Outcome) (layout : Layout) (most descriptor : ℕ) (w : World) (memory : List ℕ) →
+        Answers out layout most 2 descriptor w memory (Pages 1 1 2) → ⊥ }
+    ensures past_the_bound { (out : Outcome) (layout : Layout) (most descriptor limit : ℕ) (w : World) (memory : List ℕ) →
+        Answers out layout most 2 descriptor w memory (Pages 2 1 limit) → ⊥ }
+    ensures other_pages { (out : Outcome) (layout : Layout) (most descriptor : ℕ) (w : World) (memory : List ℕ) → w.held ≡ 2 →
+        Answers out layout most 2 descriptor w memory (Pages 1 1 1) → ⊥ }
+    ensures other_limit { (out : Outcome) (layout : Layout) (most descriptor : ℕ) (w : World) (memory : List ℕ) → w.limit ≡ 2 →
+        Answers out layout most 2 descriptor w memory (Pages 1 1 1) → ⊥ }
+    ensures steps { (out : Outcome) (layout : Layout) (pages descriptor : ℕ) (w : World) (memory : List ℕ) →
+        Answers out layout 435 pages descriptor w memory (Steps 434) }
+    ensures steps_at_the_bound { (out : Outcome) (layout : Layout) (pages descriptor : ℕ) (w : World) (memory : List ℕ) →
+        Answers out layout 435 pages descriptor w memory (Steps 435) → ⊥ }
+    ensures traps { (out : Outcome) (layout : Layout) (most pages descriptor : ℕ) (w : World) (memory : List ℕ) →
+        Answers out layout most pages descriptor w memory turns.Trap → ⊥ }
+{}
+
+/// A run that raised 3 answers as the last refused request says, and doesn't where none was refused; nor does one that raised another code
+/// than 1, 2 and 3, one that trapped, or one that isn't over.
+pub fn states_that_answer()
+    ensures past_the_limit { (out : Outcome) (layout : Layout) (most descriptor : ℕ) (b : Moment) → b.state ≡ Raised 3 → b.world.refused ≡ Some 1 →
+        b.world.held ≡ 1 → b.world.limit ≡ 1 → AnswersAt out layout most 2 descriptor b }
+    ensures not_asked { (out : Outcome) (layout : Layout) (most pages descriptor : ℕ) (b : Moment) → b.state ≡ Raised 3 → b.world.refused ≡ None →
+        AnswersAt out layout most pages descriptor b → ⊥ }
+    ensures raised { (layout : Layout) (most pages descriptor : ℕ) (b : Moment) → b.state ≡ Raised 2 →
+        AnswersAt (Raises (OutOfRange ∷ [])) layout most pages descriptor b }
+    ensures other_code { (out : Outcome) (layout : Layout) (most pages descriptor : ℕ) (b : Moment) → b.state ≡ Raised 4 →
+        AnswersAt out layout most pages descriptor b → ⊥ }
+    ensures trapped { (out : Outcome) (layout : Layout) (most pages descriptor : ℕ) (b : Moment) (why : Trap) → b.state ≡ Trapped why →
+        AnswersAt out layout most pages descriptor b → ⊥ }
+    ensures running { (out : Outcome) (layout : Layout) (most pages descriptor : ℕ) (b : Moment) (c : Config) → b.state ≡ Running c →
+        AnswersAt out layout most pages descriptor b → ⊥ }
+{}

@@ -1,0 +1,72 @@
+//! Descriptors and result rows. No function here computes anything.
+
+ghost use Rattle.std.specs.Prelude.{◌≡◌, ℕ, List, [], ◌∷◌, length, Some, None, true, false, pos, negsuc};
+ghost use Rattle.qw_types.specs.declared.kind.Kind.{Kind};
+ghost use Rattle.qw_types.specs.declared.kind.Kind.TheVariants as kind;
+ghost use Rattle.qw_types.specs.declared.value.Ty.TheVariants.{Integer, Varchar};
+ghost use Rattle.qw_types.specs.declared.value.Val.{Val};
+ghost use Rattle.qw_types.specs.declared.value.Val.TheVariants as val;
+ghost use Rattle.qw_map.specs.Areas.{Area, World};
+ghost use Rattle.qw_map.specs.Columns.{areas_of};
+ghost use Rattle.qw_map.specs.Layout.{Layout, entry_offset, descriptor_size, column_areas, first_world, is_date_number, row_size, text_cell, cell_at, rows_at};
+ghost use Rattle.qw_map.specs.Worked.{at_start, one_column, one_text, two_rows, with_own};
+
+/// Entries of 16 octets follow a head of 64, and the octets of texts the entries; the whole is brought to a multiple of 8. A result
+/// row has 8 octets and 16 for each cell.
+pub fn parts_of_a_page()
+    ensures entries { (entry_offset 0 ≡ 64) × (entry_offset 1 ≡ 80) × (entry_offset 64 ≡ 1088) }
+    ensures rows { (row_size 1 ≡ 24) × (row_size 2 ≡ 40) × (row_size 64 ≡ 1032) }
+    ensures nothing { descriptor_size (record { columns = []; literals = []; cells = [] }) ≡ 64 }
+    ensures columns { descriptor_size one_column ≡ 80 }
+    ensures literals { descriptor_size (record one_column { literals = 112 ∷ 101 ∷ 110 ∷ [] }) ≡ 88 }
+    ensures eight { descriptor_size (record one_column { literals = 112 ∷ 101 ∷ 110 ∷ 105 ∷ 110 ∷ 107 ∷ 97 ∷ 98 ∷ [] }) ≡ 88 }
+    ensures nine { descriptor_size (record one_column { literals = 112 ∷ 101 ∷ 110 ∷ 105 ∷ 110 ∷ 107 ∷ 97 ∷ 98 ∷ 99 ∷ [] }) ≡ 96 }
+{}
+
+/// What an instance begins with: the three parts of its column, of which two are empty, and its first page.
+pub fn first_areas()
+    ensures mapped { at_start.mapped ≡ record { start = 64; size = 12 } ∷ record { start = 80; size = 0 } ∷ record { start = 80; size = 0 } ∷ [] }
+    ensures own { (at_start.own ≡ record { start = 65536; size = 65536 } ∷ []) × (at_start.held ≡ 1) × (at_start.limit ≡ 128) × (at_start.refused ≡ None) }
+{}
+
+/// A cell's octet behind its value is 1 where it is null and 0 where it isn't, and nothing else. A number has at most 18 digits;
+/// a date is from 0001-01-01 to 9999-12-31.
+#[tactic(auto, unfolding(qw_linear::specs::Memory::number_at))]
+pub fn cells_of_octets()
+    ensures null { (cell_at [] (7 ∷ 0 ∷ 0 ∷ 0 ∷ 0 ∷ 0 ∷ 0 ∷ 0 ∷ 1 ∷ 0 ∷ 0 ∷ 0 ∷ 0 ∷ 0 ∷ 0 ∷ 0 ∷ []) 0 (kind.Number 0) ≡ Some val.Null)
+        × (cell_at [] (7 ∷ 0 ∷ 0 ∷ 0 ∷ 0 ∷ 0 ∷ 0 ∷ 0 ∷ 2 ∷ 0 ∷ 0 ∷ 0 ∷ 0 ∷ 0 ∷ 0 ∷ 0 ∷ []) 0 (kind.Number 0) ≡ None) }
+    ensures numbers { (cell_at [] (255 ∷ 255 ∷ 99 ∷ 167 ∷ 179 ∷ 182 ∷ 224 ∷ 13 ∷ 0 ∷ 0 ∷ 0 ∷ 0 ∷ 0 ∷ 0 ∷ 0 ∷ 0 ∷ []) 0 (kind.Number 2) ≡ Some (val.Num (pos 999999999999999999)))
+        × (cell_at [] (0 ∷ 0 ∷ 100 ∷ 167 ∷ 179 ∷ 182 ∷ 224 ∷ 13 ∷ 0 ∷ 0 ∷ 0 ∷ 0 ∷ 0 ∷ 0 ∷ 0 ∷ 0 ∷ []) 0 (kind.Number 2) ≡ None)
+        × (cell_at [] (1 ∷ 0 ∷ 156 ∷ 88 ∷ 76 ∷ 73 ∷ 31 ∷ 242 ∷ 0 ∷ 0 ∷ 0 ∷ 0 ∷ 0 ∷ 0 ∷ 0 ∷ 0 ∷ []) 0 (kind.Number 0) ≡ Some (val.Num (negsuc 999999999999999998))) }
+    ensures dates { (cell_at [] (15 ∷ 226 ∷ 48 ∷ 1 ∷ 0 ∷ 0 ∷ 0 ∷ 0 ∷ 0 ∷ 0 ∷ 0 ∷ 0 ∷ 0 ∷ 0 ∷ 0 ∷ 0 ∷ []) 0 kind.Date ≡ Some (val.Date (pos 19980815)))
+        × (cell_at [] (192 ∷ 190 ∷ 245 ∷ 5 ∷ 0 ∷ 0 ∷ 0 ∷ 0 ∷ 0 ∷ 0 ∷ 0 ∷ 0 ∷ 0 ∷ 0 ∷ 0 ∷ 0 ∷ []) 0 kind.Date ≡ None) }
+    ensures days { (is_date_number (pos 10101) ≡ true) × (is_date_number (pos 10100) ≡ false) × (is_date_number (pos 99991231) ≡ true)
+        × (is_date_number (pos 99991232) ≡ false) × (is_date_number (negsuc 10100) ≡ false) }
+{}
+
+/// A text of three octets is read where the areas have all of them: in an area of its own, or over the border of two. A text with an
+/// octet outside, one that ends behind the memory, and one that isn't UTF-8 are not.
+pub fn texts_of_areas()
+    ensures there { text_cell (record { start = 1; size = 3 } ∷ []) (9 ∷ 112 ∷ 101 ∷ 110 ∷ 9 ∷ []) 1 3 ≡ Some (val.Text (112 ∷ 101 ∷ 110 ∷ [])) }
+    ensures border { text_cell (record { start = 1; size = 1 } ∷ record { start = 2; size = 2 } ∷ []) (9 ∷ 112 ∷ 101 ∷ 110 ∷ 9 ∷ []) 1 3 ≡ Some (val.Text (112 ∷ 101 ∷ 110 ∷ [])) }
+    ensures outside { text_cell (record { start = 1; size = 2 } ∷ []) (9 ∷ 112 ∷ 101 ∷ 110 ∷ 9 ∷ []) 1 3 ≡ None }
+    ensures behind { text_cell (record { start = 1; size = 3 } ∷ []) (9 ∷ 112 ∷ 101 ∷ []) 1 3 ≡ None }
+    ensures not_text { text_cell (record { start = 1; size = 3 } ∷ []) (9 ∷ 112 ∷ 255 ∷ 110 ∷ []) 1 3 ≡ None }
+    ensures empty { text_cell [] (9 ∷ []) 0 0 ≡ Some (val.Text []) }
+{}
+
+/// Two result rows, of which the first has a null and the descriptor's text, the second a null and a text of the column. They lie in
+/// own areas, in one or over the border of two. Where an octet of the last row isn't the instance's own, where the descriptor isn't, or
+/// where a text lies neither in the columns nor in the descriptor, there are none.
+pub fn result_rows()
+    ensures one { rows_at one_text (with_own (record { start = 8; size = 184 } ∷ [])) (two_rows 0) 8 ≡
+        Some ((val.Null ∷ val.Date (pos 19980815) ∷ val.Text (112 ∷ 101 ∷ 110 ∷ []) ∷ [])
+        ∷ (val.Num (negsuc 6) ∷ val.Null ∷ val.Text (105 ∷ 110 ∷ 107 ∷ []) ∷ []) ∷ []) }
+    ensures border { rows_at one_text (with_own (record { start = 8; size = 100 } ∷ record { start = 108; size = 84 } ∷ [])) (two_rows 0) 8 ≡
+        Some ((val.Null ∷ val.Date (pos 19980815) ∷ val.Text (112 ∷ 101 ∷ 110 ∷ []) ∷ [])
+        ∷ (val.Num (negsuc 6) ∷ val.Null ∷ val.Text (105 ∷ 110 ∷ 107 ∷ []) ∷ []) ∷ []) }
+    ensures last { rows_at one_text (with_own (record { start = 8; size = 183 } ∷ [])) (two_rows 0) 8 ≡ None }
+    ensures head { rows_at one_text (with_own (record { start = 9; size = 183 } ∷ [])) (two_rows 0) 8 ≡ None }
+    ensures text { (rows_at one_text (with_own (record { start = 8; size = 184 } ∷ [])) (two_rows 1) 8 ≡ None)
+        × (rows_at one_text (with_own (record { start = 8; size = 184 } ∷ [])) (two_rows 80) 8 ≡ None) }
+{}
