@@ -48,6 +48,11 @@ next-cell texts memory kinds cells k values d within read =
     parts_of (cell_at texts memory (cells + 16 * k) (get_or kinds k d)) (cells_at texts memory (cells + 16 * (k + 1)) (drop (k + 1) kinds)) read.rest
     (subst (λ (at : ℕ). before (cell_at texts memory (cells + 16 * k) (get_or kinds k d)) (cells_at texts memory at (drop (k + 1) kinds)) ≡ Some read.rest) behind all)
 
+-- it is there
+pub cell-there : (texts : List Area) (memory : List ℕ) (kinds : List Kind) (cells k : ℕ) (values : List Val) (d : Kind) → k < length kinds →
+    AreCells texts memory kinds cells k values → IsSome (cell_at texts memory (cells + 16 * k) (get_or kinds k d))
+cell-there texts memory kinds cells k values d within read = rw (next-cell texts memory kinds cells k values d within read).first_is refl
+
 pub cells-more : (texts : List Area) (memory : List ℕ) (kinds : List Kind) (cells k : ℕ) (values : List Val) (value : Val) (d : Kind) → k < length kinds →
     cell_at texts memory (cells + 16 * k) (get_or kinds k d) ≡ Some value → AreCells texts memory kinds cells k values → AreCells texts memory kinds cells (k + 1) (values ++ value ∷ [])
 cells-more texts memory kinds cells k values value d within is read =

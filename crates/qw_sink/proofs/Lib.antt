@@ -1,3 +1,4 @@
+mod CellLemmas
 mod LineLemmas
 mod Received
 mod SinkLemmas

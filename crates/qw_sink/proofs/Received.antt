@@ -87,9 +87,9 @@ module _ (b : Standing) (i : ℕ) (kept : IsBench b) (is : IsDone b i) where
 
   pub leads : (layout : Layout) (memory : List ℕ) (descriptor : ℕ) → IfSome (slice_get b.tasks i) (λ (task : Task). layout ≡ task.program.layout) →
       memory ≡ b.shared.common.memory → IfSome (slice_get b.tasks i) (λ (task : Task). descriptor ≡ task.descriptor) → Leads layout memory descriptor
-  leads layout memory descriptor laid memory_is begins =
+  leads layout memory descriptor laid memory_is first =
       let layout_is : layout ≡ is.task.program.layout = rw is.task_found at laid in
-      let descriptor_is : descriptor ≡ is.task.descriptor = rw is.task_found at begins in
+      let descriptor_is : descriptor ≡ is.task.descriptor = rw is.task_found at first in
       rw (layout_is, memory_is, descriptor_is) (record {
         room = omega (arith, kept.serving.safe.separate.room);
         inside = inside;

@@ -3,4 +3,3 @@ pub mod Sink
 pub use Rattle.qw_bench.specs.Bench
 pub use Rattle.qw_bench.specs.Standing
 pub use Rattle.qw_map.specs.Turns
-pub use Rattle.qw_meaning.specs.Meaning

@@ -52,9 +52,13 @@ line_of fields = row_text default_writer fields
 abbrev pub text_of_rows : List Head → List (List Val) → List ℕ
 text_of_rows header rows = line_of (map (λ (h : Head). h.name) header) ++ flat_map (λ row. line_of (printed_row header row)) rows
 
--- what the report says of the query of a number, counted from 1, that gave these rows
+-- the line before so many rows of the query of a number, counted from 1
+abbrev pub rows_line : (number count : ℕ) → List ℕ
+rows_line number count = codes "QUERY " ++ decimal number ++ codes " ROWS " ++ decimal count ++ codes "\n"
+
+-- what the report says of the query of a number that gave these rows
 abbrev pub report_of_rows : ℕ → List Head → List (List Val) → List ℕ
-report_of_rows number header rows = codes "QUERY " ++ decimal number ++ codes " ROWS " ++ decimal (length rows) ++ codes "\n" ++ text_of_rows header rows
+report_of_rows number header rows = rows_line number (length rows) ++ text_of_rows header rows
 
 -- what the report says of the query of a number whose request for pages beside those held was past its limit
 abbrev pub report_of_pages : (number held asked limit : ℕ) → List ℕ

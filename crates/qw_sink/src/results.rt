@@ -87,6 +87,7 @@ fn row_at(alloc: Global, memory: &Linear, cells: u64, kinds: &[Kind]) -> Result<
 
 /// The value of a cell.
 fn value_at(alloc: Global, memory: &Linear, cell: u64, kind: Kind) -> Result<Val, NoMemory>
+    requires room { length memory.now.octets < 2 ^ 32 }
     requires inside { cell + 16 ≤ length memory.now.octets }
     requires there { (texts : List Area) × IsSome (cell_at texts memory.now.octets cell kind) }
     ensures { IfOk result (λ value. (texts : List Area) → IsSome (cell_at texts memory.now.octets cell kind)
@@ -100,6 +101,7 @@ fn value_at(alloc: Global, memory: &Linear, cell: u64, kind: Kind) -> Result<Val
 
 /// The value of a cell that isn't null.
 fn plain_value(alloc: Global, memory: &Linear, cell: u64, kind: Kind) -> Result<Val, NoMemory>
+    requires room { length memory.now.octets < 2 ^ 32 }
     requires inside { cell + 16 ≤ length memory.now.octets }
     requires there { (texts : List Area) × IsSome (plain_cell texts memory.now.octets cell kind) }
     ensures { IfOk result (λ value. (texts : List Area) → IsSome (plain_cell texts memory.now.octets cell kind)
@@ -111,9 +113,7 @@ fn plain_value(alloc: Global, memory: &Linear, cell: u64, kind: Kind) -> Result<
         Kind::Date => Ok(Val::Date(number as i32)),
         Kind::Text => {
             let address = memory.load32(cell).unwrap();
-            let size = memory
-                .load32(cell + u64::from(CELL_LENGTH_OFFSET))
-                .unwrap();
+            let size = memory.load32(cell + u64::from(CELL_LENGTH_OFFSET)).unwrap();
             Ok(Val::Text(text_at(alloc, memory, address, size)?))
         }
     }

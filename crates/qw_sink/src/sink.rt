@@ -2,7 +2,7 @@
 
 ghost use Rattle.std.specs.Prelude.{◌≡◌, ◌≤◌, ◌<◌, ◌-◌, ◌^◌, ◌++◌, ◌∷◌, [], List, ℕ, length, map, IfOk, OnOk};
 ghost use Rattle.std.specs.String.{string_bytes};
-ghost use Rattle.qw_sink.specs.Sink.{date_text, line_of, printed, printed_row, kind_scale, report_of_exception, report_of_pages, report_of_rows, report_of_steps, sqlstate, text_of_rows, with_digit, with_two};
+ghost use Rattle.qw_sink.specs.Sink.{date_text, line_of, printed, printed_row, kind_scale, report_of_exception, report_of_pages, report_of_rows, report_of_steps, rows_line, sqlstate, text_of_rows, with_digit, with_two};
 ghost use Rattle.qw_sink.specs.Inner.Sink.{HasBegun, HasWritten};
 
 use csv::{Writer, WriterBuilder};
@@ -61,10 +61,16 @@ pub fn with_rows_of(
 ) -> Result<Vec<u8>, NoMemory>
     ensures { IfOk result (λ text. text.items ≡ report.items ++ report_of_rows number header.now rows.now) }
 {
-    let count = rows.len();
-    let headline = format!(in alloc; "QUERY {number} ROWS {count}\n")?;
+    let headline = headline(alloc, number, rows.len())?;
     let report = with_line(report, headline.as_str())?;
     with_rows(alloc, report, header, rows)
+}
+
+/// The line before the header of so many rows.
+fn headline(alloc: Global, number: usize, count: usize) -> Result<String, NoMemory>
+    ensures { IfOk result (λ line. string_bytes line ≡ rows_line number count) }
+{
+    Ok(format!(in alloc; "QUERY {number} ROWS {count}\n")?)
 }
 
 /// A report with the part of a query that raised an exception: `QUERY k SQLSTATE c`.
@@ -76,9 +82,16 @@ pub fn with_exception(
 ) -> Result<Vec<u8>, NoMemory>
     ensures { IfOk result (λ text. text.items ≡ report.items ++ report_of_exception number code) }
 {
-    let state = sqlstate(code);
-    let line = format!(in alloc; "QUERY {number} SQLSTATE {state}\n")?;
+    let line = exception_line(alloc, number, code)?;
     with_line(report, line.as_str())
+}
+
+/// The line on a query that raised an exception.
+fn exception_line(alloc: Global, number: usize, code: Code) -> Result<String, NoMemory>
+    ensures { IfOk result (λ line. string_bytes line ≡ report_of_exception number code) }
+{
+    let state = sqlstate(code);
+    Ok(format!(in alloc; "QUERY {number} SQLSTATE {state}\n")?)
 }
 
 /// The SQLSTATE of an exception (ISO/IEC 9075:1992, 22.1).
@@ -103,8 +116,21 @@ pub fn with_pages(
 ) -> Result<Vec<u8>, NoMemory>
     ensures { IfOk result (λ text. text.items ≡ report.items ++ report_of_pages number held asked limit) }
 {
-    let line = format!(in alloc; "QUERY {number} PAGES {held} {asked} {limit}\n")?;
+    let line = pages_line(alloc, number, held, asked, limit)?;
     with_line(report, line.as_str())
+}
+
+/// The line on a query whose request for pages was past its limit.
+fn pages_line(
+    alloc: Global,
+    number: usize,
+    held: u32,
+    asked: u32,
+    limit: u32,
+) -> Result<String, NoMemory>
+    ensures { IfOk result (λ line. string_bytes line ≡ report_of_pages number held asked limit) }
+{
+    Ok(format!(in alloc; "QUERY {number} PAGES {held} {asked} {limit}\n")?)
 }
 
 /// A report with the part of a query that ran as many instructions as its limit says: `QUERY k STEPS limit`.
@@ -116,8 +142,15 @@ pub fn with_steps(
 ) -> Result<Vec<u8>, NoMemory>
     ensures { IfOk result (λ text. text.items ≡ report.items ++ report_of_steps number limit) }
 {
-    let line = format!(in alloc; "QUERY {number} STEPS {limit}\n")?;
+    let line = steps_line(alloc, number, limit)?;
     with_line(report, line.as_str())
+}
+
+/// The line on a query that ran as many instructions as its limit says.
+fn steps_line(alloc: Global, number: usize, limit: u64) -> Result<String, NoMemory>
+    ensures { IfOk result (λ line. string_bytes line ≡ report_of_steps number limit) }
+{
+    Ok(format!(in alloc; "QUERY {number} STEPS {limit}\n")?)
 }
 
 /// A text, and after it a line.
@@ -192,8 +225,8 @@ fn write_values(
     ensures { OnOk result ((text : List ℕ) → HasWritten writer.old text
         → HasWritten writer.new (text ++ line_of (printed_row header.now values.now))) }
 {
-    for (head, value) in header.iter().zip(values) {
-        print(digits, head.kind, value)?;
+    for index in 0..header.len().min(values.len()) {
+        print(digits, header[index].kind, &values[index])?;
         write_field(writer, digits.as_bytes())?;
     }
     end_line(writer)
