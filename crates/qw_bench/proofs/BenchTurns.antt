@@ -81,7 +81,7 @@ module _ {memory : Octets} {seats : List Seat} {i : ℕ} {seat : Seat} (sits : S
         omega (arith, kept.bench.room, asks)
 
     pub seat-told : IsTold (instance_of seat) (common_of memory)
-    seat-told = serving-told kept.bench.table (map task_of seats) (standing_of memory seats).shared kept.bench.serving i (task_of seat) (instance_of seat)
+    seat-told = serving-told kept.bench.tables (map task_of seats) (standing_of memory seats).shared kept.bench.serving i (task_of seat) (instance_of seat)
         task_there instance_there
 
     -- what the seats may ask for after a turn of one
@@ -102,10 +102,10 @@ module _ {memory : Octets} {seats : List Seat} {i : ℕ} {seat : Seat} (sits : S
         AreSeats after (slice_set seats i new)
     turned-bench quantum new after is same granted reserved asks = record {
       bench = record {
-        table = kept.bench.table;
+        tables = kept.bench.tables;
         serving = rw (turned-tasks new same)
-            (subst (AreServing kept.bench.table (map task_of seats)) (sym (turned-shared quantum new after is))
-            (turns-serving kept.bench.table (map task_of seats) (standing_of memory seats).shared (turn i quantum ∷ []) kept.bench.serving));
+            (subst (AreServing kept.bench.tables (map task_of seats)) (sym (turned-shared quantum new after is))
+            (turns-serving kept.bench.tables (map task_of seats) (standing_of memory seats).shared kept.bench.serving (turn i quantum ∷ [])));
         room = turned-room new after reserved asks;
       };
       grants = All-set HasGrants seats i new granted kept.grants;
@@ -119,5 +119,6 @@ module _ {memory : Octets} {seats : List Seat} {i : ℕ} {seat : Seat} (sits : S
       by_end : (o : Option Ended) → (IsSome o → result ≡ 0) → (o ≡ None → 1 ≤ result) → (result ≡ 0) ↔ IsSome (end_of o)
       by_end None over progress = (λ none. absurd (omega (arith, progress refl, none)), λ h. absurd (cc h))
       by_end (Some ended.Done) over progress = (λ none. refl, λ h. over refl)
+      by_end (Some (ended.Raised one)) over progress = (λ none. refl, λ h. over refl)
       by_end (Some (ended.Pages held asked limit)) over progress = (λ none. refl, λ h. over refl)
       by_end (Some (ended.Steps limit)) over progress = (λ none. refl, λ h. over refl)

@@ -1,7 +1,8 @@
-mod BenchStart
 mod BenchTurns
-pub mod FirstPages
+mod FirstPages
+mod LayoutLemmas
 mod Rounds
 mod SeatRuns
 mod SeatSteps
-pub mod Serving
+mod Serving
+mod Starting

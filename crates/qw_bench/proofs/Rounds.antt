@@ -16,7 +16,8 @@ use Rattle.qw_bench.specs.Bench.{AreRounds, end_in, ran_in, round, unended_below
 use Rattle.qw_bench.specs.Inner.Rounds.{steps_left}
 use Rattle.qw_bench.specs.Bench as rounds
 use Rattle.qw_bench.proofs.SeatSteps.{is_some-end_of}
-use Rattle.qw_bench.proofs.Serving.{each-whole, there}
+use Rattle.qw_bench.proofs.LayoutLemmas.{there}
+use Rattle.qw_bench.proofs.Serving.{each-whole}
 use Rattle.qw_bench.specs.Standing.{IsBench, Standing, end_of}
 use Rattle.qw_bench.specs.Inner.Seats.{instance_of}
 
@@ -88,7 +89,7 @@ rounding-turn quantum s k now i found below unended more so_far =
 
 -- the instances of a bench are whole, whatever turns they were given
 pub whole-now : (b : Standing) → IsBench b → (acts : List Act) (now : Shared) → now ≡ turns acts b.shared → EachInstance IsWhole now
-whole-now b kept acts now is = subst (EachInstance IsWhole) (sym is) (turns-whole b.shared acts (each-whole kept.table b.tasks b.shared kept.serving))
+whole-now b kept acts now is = subst (EachInstance IsWhole) (sym is) (turns-whole b.shared acts (each-whole kept.tables b.tasks b.shared kept.serving))
 
 pub next-below : (b : Standing) → IsBench b → (quantum k : ℕ) (now : Shared) (i : Instance) → IsRounding quantum b.shared k now → slice_get now.instances k ≡ Some i →
     is_some (end_in now k) ≡ false → i.ran < i.most_steps

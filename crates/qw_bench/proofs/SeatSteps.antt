@@ -13,8 +13,8 @@ use Rattle.qw_machine.specs.Instance.{Called, IsAnswer, IsNoRequest, Went}
 use Rattle.qw_module.specs.declared.trap.Trap.{Trap}
 use Rattle.qw_module.specs.Execution.{Config, State, Running, Returned, Raised, Trapped, Event, Silent, Loads, Stores, Grows, Raises, Traps, pages_gained}
 use Rattle.qw_module.specs.Step.{Next, next, Want, Stuck, Goes, Asks, Puts, Measures, AsksPages, Signals, Fails, answered, wants}
-use Rattle.qw_map.specs.Areas.{Area, World, grants, world_after}
-use Rattle.qw_map.specs.Turns.{Done, Common, IsWhole, steps_of, moved, end_at}
+use Rattle.qw_map.specs.Areas.{Area, World, granted_area, grants, world_after}
+use Rattle.qw_map.specs.Turns.{Done, Common, IsWhole, steps_of, moved, end_at, end_of_raise, end_of_refusal}
 use Rattle.qw_map.specs.Turns as t
 use Rattle.qw_module.proofs.Outcomes.{Outcome, outcome, went, read, read_outside, put, put_outside, measured, was_granted, was_refused, raised, failed}
 use Rattle.qw_module.proofs.Sound.{length_grows}
@@ -24,7 +24,8 @@ use Rattle.qw_bench.specs.declared.bench.Ended.TheVariants as ended
 use Rattle.qw_bench.specs.declared.bench.Grant.{Grant}
 use Rattle.qw_bench.specs.declared.bench.Seat.{Seat}
 use Rattle.qw_bench.specs.Standing.{end_of}
-use Rattle.qw_bench.specs.Inner.Seats.{CanBeTold, HasGrants, IsEndOf, IsTold, StaysSeated, area_of, common_of, counting, instance_of, state_in, world_of}
+use Rattle.qw_bench.specs.Inner.Seats.{CanBeTold, HasGrants, IsEndOf, IsRaised, IsTold, StaysSeated, area_of, common_of, counting, instance_of, state_in, world_of}
+use Rattle.qw_types.specs.declared.code.Code.TheVariants.{DivZero, OutOfRange}
 
 -- ---- what a step can be told to have done
 -- tests that agree grant the same requests
@@ -82,15 +83,15 @@ ends-without : (w : World) (e : Event) → CanBeTold w e Returned → IsNoReques
 ends-without w Silent told = tt
 ends-without w (Loads address width) told = tt
 ends-without w (Stores address width) told = tt
-ends-without w (Grows pages given) told = absurd told.1
+ends-without w (Grows pages given) told = absurd told
 ends-without w (Raises code) told = tt
 ends-without w (Traps why) told = tt
 
-raises-after : (w : World) (e : Event) (code : ℕ) → CanBeTold w e (Raised code) → IsNoRequest e × ((code ≡ 3) × ((asked : ℕ) × (w.refused ≡ Some asked)))
+raises-after : (w : World) (e : Event) (code : ℕ) → CanBeTold w e (Raised code) → IsNoRequest e × IsRaised w.refused code
 raises-after w Silent code told = (tt, told)
 raises-after w (Loads address width) code told = (tt, told)
 raises-after w (Stores address width) code told = (tt, told)
-raises-after w (Grows pages given) code told = absurd told.1
+raises-after w (Grows pages given) code told = absurd told
 raises-after w (Raises raised') code told = (tt, told)
 raises-after w (Traps why) code told = (tt, told)
 
@@ -98,9 +99,19 @@ never-trapped : (w : World) (e : Event) (why : Trap) → CanBeTold w e (Trapped 
 never-trapped w Silent why told = told
 never-trapped w (Loads address width) why told = told
 never-trapped w (Stores address width) why told = told
-never-trapped w (Grows pages given) why told = told.1
+never-trapped w (Grows pages given) why told = told
 never-trapped w (Raises code) why told = told
 never-trapped w (Traps because) why told = told
+
+-- an instance that raised a code has ended
+raise-ends : (w : World) (code : ℕ) → IsRaised w.refused code → IsSome (end_of_raise code w)
+raise-ends w code (inl is) = rw is refl
+raise-ends w code (inr (inl is)) = rw is refl
+raise-ends w code (inr (inr (is, some))) = rw is (refused-ends w.refused some)
+  where
+    refused-ends : (refused : Option ℕ) → IsSome refused → IsSome (end_of_refusal refused w)
+    refused-ends None some = absurd (cc some)
+    refused-ends (Some asked) some = refl
 
 -- ---- one step more
 -- an instance whose end is the one at its state
@@ -250,7 +261,6 @@ module _ {before : Seat} {m0 : Octets} {k : ℕ} {now : Seat} {memory : Octets} 
   pub record HasGrown (pages : ℕ) : Type 0 where
     pub event_is : step.event ≡ Grows pages true
     pub goes_on : (c : Config) × (new_state ≡ Running c)
-    pub some : 1 ≤ pages
     pub fits : now.held + pages ≤ now.limits.pages
     pub longer : length after.octets ≡ length memory.octets + pages * page
 
@@ -261,25 +271,21 @@ module _ {before : Seat} {m0 : Octets} {k : ℕ} {now : Seat} {memory : Octets} 
       let given : IsGranted (grants (world_of now)) (Grows pages true) = subst (IsGranted (grants (world_of now))) asked.0 step.given in
       let longer : length after.octets ≡ length memory.octets + pages_gained (Grows pages true) * page =
       subst (λ (e : Event). length after.octets ≡ length memory.octets + pages_gained e * page) asked.0 step.longer in
-      record { event_is = asked.0; goes_on = asked.1; some = told.0; fits = leb-true (now.held + pages) now.limits.pages given; longer = longer }
+      record { event_is = asked.0; goes_on = asked.1; fits = leb-true (now.held + pages) now.limits.pages given; longer = longer }
 
-  pub grew-on : (at pages first : ℕ) (got : Vec Grant Global) (final : Seat) → answer ≡ Grew at pages → i.program ≡ now.instance.program → after.reserved ≡ memory.reserved →
-      final ≡ record now { instance = i; granted = got; held = now.held + pages } → length after.octets ≡ (first + pages) * page →
-      got.items ≡ now.granted.items ++ record { at = first; pages = pages } ∷ [] → vec_capacity got ≡ vec_capacity now.granted →
-      HasRun before m0 (k + 1) final after
-  grew-on at pages first got final is same_program reserved final_is last_pages items capacity =
+  pub grew-on : (at pages : ℕ) (got : Vec Grant Global) (final : Seat) → answer ≡ Grew at pages → i.program ≡ now.instance.program → after.reserved ≡ memory.reserved →
+      final ≡ record now { instance = i; granted = got; held = now.held + pages } →
+      ((start : ℕ) → length after.octets ≡ start + pages * page → map area_of got.items ≡ map area_of now.granted.items ++ granted_area start pages) →
+      length got.items ≤ length now.granted.items + pages → vec_capacity got ≡ vec_capacity now.granted → HasRun before m0 (k + 1) final after
+  grew-on at pages got final is same_program reserved final_is grown many capacity =
       let it = has-grown at pages is in
-      let begins : first * page ≡ length memory.octets = omega (arith, it.longer, last_pages) in
       let seat : Seat = record now { instance = i; granted = got; held = now.held + pages } in
-      let areas : map area_of got.items ≡ map area_of now.granted.items ++ record { start = length memory.octets; size = pages * page } ∷ [] =
-      ap (map area_of) items ∙ map-append area_of now.granted.items (record { at = first; pages = pages } ∷ [])
-      ∙ ap (λ (start : ℕ). map area_of now.granted.items ++ record { start = start; size = pages * page } ∷ []) begins in
+      let areas : map area_of got.items ≡ map area_of now.granted.items ++ granted_area (length memory.octets) pages = grown (length memory.octets) it.longer in
       let first_page : Area = record { start = now.descriptor; size = page } in
       let world : world_of seat ≡ world_after (world_of now) memory.octets (Grows pages true) =
       ap (λ (own : List Area). record (world_of now) { own = first_page ∷ own; held = now.held + pages }) areas in
       let world_is : world_of seat ≡ world_after (world_of now) memory.octets step.event =
       world ∙ ap (world_after (world_of now) memory.octets) (sym it.event_is) in
-      let many : length got.items ≡ length now.granted.items + 1 = ap length items ∙ length_push now.granted.items (record { at = first; pages = pages }) in
       subst (λ (x : Seat). HasRun before m0 (k + 1) x after) (sym final_is) (record {
         ran = more seat refl world_is refl refl;
         seated = ap (λ (x : Seat). record x { instance = i; granted = got; held = now.held + pages }) taken.has.seated;
@@ -287,7 +293,7 @@ module _ {before : Seat} {m0 : Octets} {k : ℕ} {now : Seat} {memory : Octets} 
         runs = rw it.goes_on.1 tt;
         unended = taken.has.unended;
         grants = record {
-          counted = omega (arith, taken.has.grants.counted, many, it.some);
+          counted = omega (arith, taken.has.grants.counted, many);
           held = it.fits;
           room = omega (arith, taken.has.grants.room, capacity);
         };
@@ -343,24 +349,23 @@ module _ {before : Seat} {m0 : Octets} {k : ℕ} {now : Seat} {memory : Octets} 
       by_state (Raised code) s_is h = absurd h
       by_state (Trapped why) s_is h = absurd h
 
-  -- 3 was raised after a refused request
-  pub record HasRaised (budget : ℕ) : Type 0 where
+  -- a code was raised
+  pub record HasRaised (budget code : ℕ) : Type 0 where
     pub ended : HasEnded budget
-    pub state_is : new_state ≡ Raised 3
-    pub asked : ℕ
-    pub refused_is : now.refused ≡ Some asked
+    pub state_is : new_state ≡ Raised code
+    pub raised : IsRaised now.refused code
 
-  pub raises : (budget code : ℕ) → k < budget → answer ≡ came.Raised code → HasRaised budget
+  pub raises : (budget code : ℕ) → k < budget → answer ≡ came.Raised code → HasRaised budget code
   raises budget code within is = by_state new_state refl (subst (λ (a : Stepped). IsAnswer a memory.octets step.event new_state) is step.answered)
     where
-      by_state : (s : State) → new_state ≡ s → IsAnswer (came.Raised code) memory.octets step.event s → HasRaised budget
+      by_state : (s : State) → new_state ≡ s → IsAnswer (came.Raised code) memory.octets step.event s → HasRaised budget code
       by_state (Running c) s_is h = absurd h
       by_state Returned s_is h = absurd h
       by_state (Raised other) s_is h =
           let told = raises-after (world_of now) step.event other (subst (CanBeTold (world_of now) step.event) s_is step.told) in
-          let three : new_state ≡ Raised 3 = s_is ∙ ap Raised told.1.0 in
-          let refused_is : now.refused ≡ Some told.1.1.0 = told.1.1.1 in
-          record { ended = ended-at budget within told.0 (rw (three, refused_is) refl); state_is = three; asked = told.1.1.0; refused_is = refused_is }
+          let state_is : new_state ≡ Raised code = s_is ∙ ap Raised (sym h) in
+          let raised : IsRaised now.refused code = subst (IsRaised now.refused) (sym h) told.1 in
+          record { ended = ended-at budget within told.0 (rw state_is (raise-ends (world_of now) code raised)); state_is = state_is; raised = raised }
       by_state (Trapped why) s_is h = absurd h
 
   -- and none traps
@@ -373,12 +378,25 @@ module _ {before : Seat} {m0 : Octets} {k : ℕ} {now : Seat} {memory : Octets} 
       by_state (Raised code) s_is h = h
       by_state (Trapped because) s_is h = never-trapped (world_of now) step.event because (subst (CanBeTold (world_of now) step.event) s_is step.told)
 
--- the end that tells of a refused request is the one at the raised code
-pub raised-end : (seat : Seat) (s : State) (asked : ℕ) (e : Ended) → s ≡ Raised 3 → seat.refused ≡ Some asked →
-    IfSome seat.refused (λ (a : ℕ). e ≡ ended.Pages seat.held a seat.limits.pages) → IsEndOf seat s (Some e)
-raised-end seat s asked e state_is refused_is told =
-    let told_is : e ≡ ended.Pages seat.held asked seat.limits.pages = rw refused_is at told in
-    rw (state_is, told_is) (refl, refused_is, refl, refl)
+-- the end of a seat depends on what it holds and may hold
+pub end-kept : (seat after : Seat) (s s' : State) (o : Option Ended) → seat.refused ≡ after.refused → seat.held ≡ after.held → seat.limits.pages ≡ after.limits.pages →
+    s ≡ s' → IsEndOf seat s o → IsEndOf after s' o
+end-kept seat after s s' o refused held limit same h = subst (λ (x : State). IsEndOf after x o) same (by_end s o h)
+  where
+    by_end : (x : State) (e : Option Ended) → IsEndOf seat x e → IsEndOf after x e
+    by_end (Running c) None h = h
+    by_end (Running c) (Some e) h = absurd h
+    by_end Returned None h = absurd h
+    by_end Returned (Some ended.Done) h = h
+    by_end Returned (Some (ended.Raised one)) h = absurd h
+    by_end Returned (Some (ended.Pages held asked limit)) h = absurd h
+    by_end Returned (Some (ended.Steps limit)) h = absurd h
+    by_end (Raised code) None h = absurd h
+    by_end (Raised code) (Some ended.Done) h = absurd h
+    by_end (Raised code) (Some (ended.Raised one)) h = h
+    by_end (Raised code) (Some (ended.Pages most asked few)) h = (h.0, sym refused ∙ h.1, h.2 ∙ held, h.3 ∙ limit)
+    by_end (Raised code) (Some (ended.Steps limit)) h = absurd h
+    by_end (Trapped why) o h = absurd h
 
 -- ---- a turn
 -- a whole instance counts from what it ran
@@ -390,6 +408,7 @@ counting-none seat whole =
 pub is_some-end_of : (o : Option Ended) → is_some (end_of o) ≡ is_some o
 is_some-end_of None = refl
 is_some-end_of (Some ended.Done) = refl
+is_some-end_of (Some (ended.Raised one)) = refl
 is_some-end_of (Some (ended.Pages held asked limit)) = refl
 is_some-end_of (Some (ended.Steps limit)) = refl
 
@@ -407,15 +426,19 @@ unended-seat seat whole none =
 end-set : (seat : Seat) (s : State) (o : Option Ended) (ran most : ℕ) → IsEndOf seat s o → is_some o ≡ true →
     (end_of o ≡ end_at s (world_of seat) ran most) × (is_some (end_at s (world_of seat) ran most) ≡ true)
 end-set seat (Running c) (Some ended.Done) ran most h some = absurd h
+end-set seat (Running c) (Some (ended.Raised one)) ran most h some = absurd h
 end-set seat (Running c) (Some (ended.Pages held asked limit)) ran most h some = absurd h
 end-set seat (Running c) (Some (ended.Steps limit)) ran most h some = absurd h
 end-set seat (Running c) None ran most h some = cc
 end-set seat Returned None ran most h some = absurd h
 end-set seat Returned (Some ended.Done) ran most h some = (refl, refl)
+end-set seat Returned (Some (ended.Raised one)) ran most h some = absurd h
 end-set seat Returned (Some (ended.Pages held asked limit)) ran most h some = absurd h
 end-set seat Returned (Some (ended.Steps limit)) ran most h some = absurd h
 end-set seat (Raised code) None ran most h some = absurd h
 end-set seat (Raised code) (Some ended.Done) ran most h some = absurd h
+end-set seat (Raised code) (Some (ended.Raised DivZero)) ran most h some = rw h (refl, refl)
+end-set seat (Raised code) (Some (ended.Raised OutOfRange)) ran most h some = rw h (refl, refl)
 end-set seat (Raised code) (Some (ended.Pages held asked limit)) ran most h some = rw (h.0, h.1, h.2, h.3) (refl, refl)
 end-set seat (Raised code) (Some (ended.Steps limit)) ran most h some = absurd h
 end-set seat (Trapped why) o ran most h some = absurd h

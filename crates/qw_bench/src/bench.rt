@@ -219,8 +219,8 @@ impl Seat {
         requires fits { self.old.held + pages < 2 ^ 32 }
         requires there { pages * page ≤ length memory.now.octets }
         ensures seat { self.new ≡ record self.old { granted = self.new.granted; held = self.old.held + pages } }
-        ensures granted { (before : List ℕ) → length before + pages * page ≡ length memory.now.octets →
-            map area_of self.new.granted.items ≡ map area_of self.old.granted.items ++ granted_area before pages }
+        ensures granted { (start : ℕ) → length memory.now.octets ≡ start + pages * page →
+            map area_of self.new.granted.items ≡ map area_of self.old.granted.items ++ granted_area start pages }
         ensures counted { length self.new.granted.items ≤ length self.old.granted.items + pages }
         ensures capacity { vec_capacity self.new.granted ≡ vec_capacity self.old.granted }
     {

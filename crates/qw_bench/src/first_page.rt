@@ -47,8 +47,9 @@ fn write_entries(memory: &mut Linear, entries: u32, columns: &[Used], placed: &[
     ensures len { length memory.new.octets ≡ length memory.old.octets }
     ensures reserved { memory.new.reserved ≡ memory.old.reserved }
 {
-    for (index, (used, one)) in columns.iter().zip(placed).enumerate() {
-        write_entry(memory, entries + ENTRY_SIZE * index as u32, used, one);
+    for (index, used) in columns.iter().enumerate() {
+        let entry = entries + ENTRY_SIZE * index as u32;
+        write_entry(memory, entry, used, &placed[index]);
     }
 }
 

@@ -24,7 +24,7 @@ loaded-means w (load.From16 type sign) (Address p off) v n means is = absurd (no
 loaded-means w (load.I64From32 sign) (Address p off) v n means is = absurd (none-some v is)
 
 -- what an optional value gives is given by a value that is there
-pub given-there : (f : Value → Option Value) (found : Option Value) (v : Value) → option_and_then f found ≡ Some v → (u : Value) × (found ≡ Some u) × (f u ≡ Some v)
+pub given-there : {S T : Type 0} (f : S → Option T) (found : Option S) (v : T) → option_and_then f found ≡ Some v → (u : S) × (found ≡ Some u) × (f u ≡ Some v)
 given-there f None v is = absurd (none-some v is)
 given-there f (Some u) v is = (u, refl, is)
 

@@ -1,7 +1,9 @@
 -- What the worked cases run in.
-use Rattle.std.specs.Prelude.{ℕ, [], ◌∷◌, None}
+use Rattle.std.specs.Prelude.{ℕ, true, false, [], ◌∷◌, None}
+use Rattle.qw_types.specs.declared.value.Ty.TheVariants as ty
 use Rattle.qw_module.specs.declared.instruction.Const.TheVariants as const
 use Rattle.qw_map.specs.Areas.{World}
+use Rattle.qw_map.specs.Layout.{Layout}
 use Rattle.qw_low.specs.Syntax.{Expression, constant_of}
 use Rattle.qw_low.specs.State.{Column, Own, Number, Address, LowState}
 
@@ -34,4 +36,12 @@ world = record {
   held = 1;
   limit = 128;
   refused = None;
+}
+
+-- a layout of an INTEGER NOT NULL and of a VARCHAR(5) that may be null
+abbrev pub two_columns : Layout
+two_columns = record {
+  columns = record { table = 0; column = 0; ty = ty.Integer; not_null = true } ∷ record { table = 0; column = 1; ty = ty.Varchar 5; not_null = false } ∷ [];
+  literals = [];
+  cells = [];
 }

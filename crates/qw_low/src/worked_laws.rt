@@ -18,7 +18,8 @@ ghost use Rattle.qw_low.specs.State.{Column, Own, Value, Number, Address, with_c
 ghost use Rattle.qw_low.specs.Meaning.{value, Completed, Exited, Stopped, Wrong, Unfinished, meaning};
 ghost use Rattle.qw_low.specs.Translation.{statement_code};
 ghost use Rattle.qw_low.specs.Places.{Means, AreMeant, Holds, Fits, StandsFor, IsOutcome, EndsAfter, HasRaise, beginning};
-ghost use Rattle.qw_low.specs.Worked.{i32, state, nearly_full, world};
+ghost use Rattle.qw_low.specs.Begin.{descriptor_address};
+ghost use Rattle.qw_low.specs.Worked.{i32, state, nearly_full, world, two_columns};
 
 /// Addresses stay within their part, and a number is no address.
 pub fn values_of_addresses()
@@ -133,4 +134,16 @@ pub fn memories_that_stand()
 pub fn open_runs_of_a_choice()
     ensures { (store : Store) (memory locals : List ℕ) → HasRaise store → StandsFor world state memory → AreMeant world state.locals locals →
         EndsAfter 4 128 (IsOutcome (Stopped 1 4 state)) (beginning store world (conditional (local 0) (raise 1) skip) locals memory) }
+{}
+
+/// Where the descriptor of a layout of two columns has addresses, the second column a VARCHAR that may be null: the first free address,
+/// the end of the page, and of each column the parts that it has.
+pub fn addresses_of_a_descriptor()
+    ensures head { (descriptor_address two_columns 0 ≡ Some (Address (Own 0) 96)) × (descriptor_address two_columns 4 ≡ Some (Address (Own 0) 65536))
+        × (descriptor_address two_columns 8 ≡ None) × (descriptor_address two_columns 16 ≡ None) }
+    ensures first { (descriptor_address two_columns 64 ≡ Some (Address (Column 0) 0)) × (descriptor_address two_columns 68 ≡ None)
+        × (descriptor_address two_columns 72 ≡ None) × (descriptor_address two_columns 76 ≡ None) }
+    ensures second { (descriptor_address two_columns 80 ≡ Some (Address (Column 3) 0)) × (descriptor_address two_columns 84 ≡ Some (Address (Column 5) 0))
+        × (descriptor_address two_columns 88 ≡ Some (Address (Column 4) 0)) × (descriptor_address two_columns 92 ≡ None) }
+    ensures behind { (descriptor_address two_columns 96 ≡ None) × (descriptor_address two_columns 82 ≡ None) }
 {}

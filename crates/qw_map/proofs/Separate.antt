@@ -15,7 +15,7 @@ use Rattle.qw_map.proofs.OpenRuns.{answered-rightly}
 use Rattle.qw_module.proofs.Outcomes.{outcome}
 use Rattle.qw_module.proofs.Sound.{octets_stay, length_grows}
 use Rattle.qw_module.proofs.Steps.{rule_from_next}
-use Rattle.qw_map.proofs.TurnFacts.{slice_get-set_same, slice_get-set_other, after_step, each-step, turns-keep}
+use Rattle.qw_map.proofs.TurnFacts.{found-in, slice_get-set_same, slice_get-set_other, after_step, each-step, turns-keep}
 
 -- ---- what others may do, one after another
 pub Others-then : (w : World) (a b c : List ℕ) → Others w a b → Others w b c → Others w a c
@@ -274,11 +274,6 @@ record Follows (s now : Shared) : Type 0 where
   reached : EachAfter (IsReached s now) s now
   worlds : EachAfter (λ i later. (later.world.mapped ≡ i.world.mapped) × (later.world.limit ≡ i.world.limit)) s now
   columns : EachInstance (λ i. AllByRecursion (SameIn s.common.memory now.common.memory) i.world.mapped) s
-
-found-in : {A : Type 0} (xs : List A) (k : ℕ) → k < length xs → (x : A) × (slice_get xs k ≡ Some x)
-found-in [] k inside = absurd (omega arith)
-found-in (x ∷ xs) zero inside = (x, refl)
-found-in (x ∷ xs) (suc k) inside = found-in xs k (omega arith)
 
 follows-step : (s : Shared) → AreSafe s → (now : Shared) (j : ℕ) (one : Instance) (c : Config) (t : Next) → slice_get now.instances j ≡ Some one →
     one.state ≡ Running c → next (grants one.world) c now.common.memory ≡ Some t → Follows s now → Follows s (after_step now j one t)

@@ -26,6 +26,12 @@ slice_set-unchanged [] k x found = absurd (none-some x found)
 slice_set-unchanged (y ∷ xs) zero x found = ap (λ z. z ∷ xs) (sym (same_Some y x found))
 slice_set-unchanged (y ∷ xs) (suc k) x found = ap (λ zs. y ∷ zs) (slice_set-unchanged xs k x found)
 
+-- an element that is there
+pub found-in : {A : Type 0} (xs : List A) (k : ℕ) → k < length xs → (x : A) × (slice_get xs k ≡ Some x)
+found-in [] k inside = absurd (omega arith)
+found-in (x ∷ xs) zero inside = (x, refl)
+found-in (x ∷ xs) (suc k) inside = found-in xs k (omega arith)
+
 -- ---- one instance of several
 pub unchanged : (s : Shared) (j : ℕ) (i : Instance) → slice_get s.instances j ≡ Some i → with_instance s j (i, s.common) ≡ s
 unchanged s j i found = ap (λ (instances : List Instance). record { common = s.common; instances = instances }) (slice_set-unchanged s.instances j i found)

@@ -3,6 +3,7 @@ use Rattle.std.specs.Prelude.{ℕ, true, false, pos, List, [], ◌∷◌, None, 
 use Rattle.qw_types.specs.Contents.{Contents}
 use Rattle.qw_types.specs.declared.kind.Kind.TheVariants as kind
 use Rattle.qw_types.specs.declared.value.Ty.TheVariants.{Integer, Decimal, Date, Varchar}
+use Rattle.qw_types.specs.declared.value.Val.{Val}
 use Rattle.qw_types.specs.declared.value.Val.TheVariants as val
 use Rattle.qw_map.specs.Areas.{Area, World}
 use Rattle.qw_map.specs.Layout.{Layout, first_world}
@@ -77,3 +78,23 @@ two_rows text =
 -- an instance that maps the column, and has some areas of its own
 abbrev pub with_own : List Area → World
 with_own own = record { mapped = record { start = 0; size = 3 } ∷ []; own = own; held = 1; limit = 1; refused = None }
+
+-- A column of three texts, of three octets, null, and of none, from octet 0 on: four offsets, of which the last is given; the octets; and
+-- the null bits, as an octet.
+abbrev pub labels : Placed
+labels = record { values = 0; octets = 16; size = 3; nulls = 24; rows = 3 }
+
+abbrev pub label_octets : (last nulls : ℕ) → List ℕ
+label_octets last nulls =
+    0 ∷ 0 ∷ 0 ∷ 0 ∷ 3 ∷ 0 ∷ 0 ∷ 0 ∷ 3 ∷ 0 ∷ 0 ∷ 0 ∷ last ∷ 0 ∷ 0 ∷ 0
+    ∷ 112 ∷ 101 ∷ 110 ∷ 0 ∷ 0 ∷ 0 ∷ 0 ∷ 0 ∷ nulls ∷ []
+
+abbrev pub label_values : List Val
+label_values = val.Text (112 ∷ 101 ∷ 110 ∷ []) ∷ val.Null ∷ val.Text [] ∷ []
+
+-- a column of two INTEGERs, 5 and null, with a number in the null's place
+abbrev pub numbers : Placed
+numbers = record { values = 0; octets = 8; size = 0; nulls = 8; rows = 2 }
+
+abbrev pub number_octets : (blank : ℕ) → List ℕ
+number_octets blank = 5 ∷ 0 ∷ 0 ∷ 0 ∷ blank ∷ 0 ∷ 0 ∷ 0 ∷ 2 ∷ []

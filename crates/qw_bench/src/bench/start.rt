@@ -77,8 +77,9 @@ pub(super) fn first_seats(
     ensures reserved { memory.new.reserved ≡ memory.old.reserved }
 {
     let mut seats = Vec::with_capacity(alloc, jobs.len())?;
-    for (job, one) in jobs.into_iter().zip(limits) {
-        seats.push(first_seat(alloc, job, *one, map, memory)?)?;
+    for job in jobs {
+        let one = limits[seats.len()];
+        seats.push(first_seat(alloc, job, one, map, memory)?)?;
     }
     Ok(seats)
 }

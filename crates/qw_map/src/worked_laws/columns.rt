@@ -1,11 +1,11 @@
 //! Where columns of tables stand, and the values that are read there. No function here computes anything.
 
-ghost use Rattle.std.specs.Prelude.{◌≡◌, ℕ, List, [], ◌∷◌, length, replicate, Some, None, true, false, pos, negsuc};
+ghost use Rattle.std.specs.Prelude.{◌≡◌, ℕ, List, [], ◌∷◌, length, replicate, take, Some, None, true, false, pos, negsuc};
 ghost use Rattle.qw_types.specs.Contents.{Contents, AreLoaded};
 ghost use Rattle.qw_types.specs.declared.value.Ty.TheVariants.{Integer, Decimal, Date, Varchar};
 ghost use Rattle.qw_types.specs.declared.value.Val.TheVariants as val;
-ghost use Rattle.qw_map.specs.Columns.{values_size, nulls_size, areas_of, null_bit, text_offset, stored_at, value_at, to_eight, column_values, tables_end, map_of, column_pages};
-ghost use Rattle.qw_map.specs.Worked.{items, no_shops, nulls_only};
+ghost use Rattle.qw_map.specs.Columns.{values_size, nulls_size, areas_of, null_bit, text_offset, stored_at, value_at, to_eight, tables_end, map_of, column_pages, HoldsColumn};
+ghost use Rattle.qw_map.specs.Worked.{items, no_shops, nulls_only, labels, label_octets, label_values, numbers, number_octets};
 ghost use Rattle.qw_map.specs.declared.layout.Placed.{Placed};
 
 /// The octets of a column's values and of its null bits, of 0, 1, 8 and 9 rows.
@@ -89,4 +89,22 @@ pub fn texts_of_octets()
         → memory ≡ 0 ∷ 0 ∷ 0 ∷ 0 ∷ 3 ∷ 0 ∷ 0 ∷ 0 ∷ 3 ∷ 0 ∷ 0 ∷ 0 ∷ 0 ∷ 0 ∷ 0 ∷ 0 ∷ 112 ∷ 101 ∷ 110 ∷ 0 ∷ 0 ∷ 0 ∷ 0 ∷ 0 ∷ []
         → (value_at memory (Varchar 10) true placed 0 ≡ val.Text (112 ∷ 101 ∷ 110 ∷ [])) × (value_at memory (Varchar 10) true placed 1 ≡ val.Text [])
         × (text_offset memory placed 2 ≡ 3) }
+{}
+
+/// A memory holds a column of texts where the values, all offsets and the null bits are the column's, and its parts lie in the
+/// memory. Where the last text would end an octet later, where another row is null, or where the null bits lie behind the memory, it
+/// doesn't.
+pub fn a_column_of_texts()
+    ensures held { HoldsColumn (label_octets 3 2) (Varchar 10) false labels label_values }
+    ensures last { HoldsColumn (label_octets 4 2) (Varchar 10) false labels label_values → ⊥ }
+    ensures null { HoldsColumn (label_octets 3 4) (Varchar 10) false labels label_values → ⊥ }
+    ensures behind { HoldsColumn (take 24 (label_octets 3 2)) (Varchar 10) false labels label_values → ⊥ }
+    ensures size { HoldsColumn (label_octets 3 2) (Varchar 10) false (record labels { size = 4 }) label_values → ⊥ }
+    ensures rows { HoldsColumn (label_octets 3 2) (Varchar 10) false labels (val.Text (112 ∷ 101 ∷ 110 ∷ []) ∷ val.Null ∷ []) → ⊥ }
+{}
+
+/// In a null's place stands 0.
+pub fn a_column_with_a_null()
+    ensures held { HoldsColumn (number_octets 0) Integer false numbers (val.Num (pos 5) ∷ val.Null ∷ []) }
+    ensures blank { HoldsColumn (number_octets 7) Integer false numbers (val.Num (pos 5) ∷ val.Null ∷ []) → ⊥ }
 {}

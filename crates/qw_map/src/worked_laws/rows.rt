@@ -1,15 +1,11 @@
 //! Descriptors and result rows. No function here computes anything.
 
 ghost use Rattle.std.specs.Prelude.{◌≡◌, ℕ, List, [], ◌∷◌, length, Some, None, true, false, pos, negsuc};
-ghost use Rattle.qw_types.specs.declared.kind.Kind.{Kind};
 ghost use Rattle.qw_types.specs.declared.kind.Kind.TheVariants as kind;
 ghost use Rattle.qw_types.specs.declared.value.Ty.TheVariants.{Integer, Varchar};
-ghost use Rattle.qw_types.specs.declared.value.Val.{Val};
 ghost use Rattle.qw_types.specs.declared.value.Val.TheVariants as val;
-ghost use Rattle.qw_map.specs.Areas.{Area, World};
-ghost use Rattle.qw_map.specs.Columns.{areas_of};
-ghost use Rattle.qw_map.specs.Layout.{Layout, entry_offset, descriptor_size, column_areas, first_world, is_date_number, row_size, text_cell, cell_at, rows_at};
-ghost use Rattle.qw_map.specs.Worked.{at_start, one_column, one_text, two_rows, with_own};
+ghost use Rattle.qw_map.specs.Layout.{entry_offset, descriptor_size, HasEntry, is_date_number, row_size, text_cell, cell_at, rows_at};
+ghost use Rattle.qw_map.specs.Worked.{at_start, one_column, one_text, three, two_rows, with_own};
 
 /// Entries of 16 octets follow a head of 64, and the octets of texts the entries; the whole is brought to a multiple of 8. A result
 /// row has 8 octets and 16 for each cell.
@@ -69,4 +65,22 @@ pub fn result_rows()
     ensures head { rows_at one_text (with_own (record { start = 9; size = 183 } ∷ [])) (two_rows 0) 8 ≡ None }
     ensures text { (rows_at one_text (with_own (record { start = 8; size = 184 } ∷ [])) (two_rows 1) 8 ≡ None)
         × (rows_at one_text (with_own (record { start = 8; size = 184 } ∷ [])) (two_rows 80) 8 ≡ None) }
+{}
+
+/// An entry has the addresses of a column's values, of its null bits and of the octets of its texts, and its rows: here from octet 64
+/// on, 80, 80 and 3 rows. Where the column has no null bits, or no texts, 0 stands in their place, and where it has, it doesn't.
+#[tactic(auto, unfolding(qw_linear::specs::Memory::number_at))]
+pub fn entries_of_columns()
+    ensures whole { HasEntry (64 ∷ 0 ∷ 0 ∷ 0 ∷ 0 ∷ 0 ∷ 0 ∷ 0 ∷ 0 ∷ 0 ∷ 0 ∷ 0 ∷ 3 ∷ 0 ∷ 0 ∷ 0 ∷ []) 0
+        (record { table = 0; column = 0; ty = Integer; not_null = true }) three }
+    ensures nullable { HasEntry (64 ∷ 0 ∷ 0 ∷ 0 ∷ 80 ∷ 0 ∷ 0 ∷ 0 ∷ 0 ∷ 0 ∷ 0 ∷ 0 ∷ 3 ∷ 0 ∷ 0 ∷ 0 ∷ []) 0
+        (record { table = 0; column = 0; ty = Integer; not_null = false }) three }
+    ensures texts { HasEntry (64 ∷ 0 ∷ 0 ∷ 0 ∷ 0 ∷ 0 ∷ 0 ∷ 0 ∷ 80 ∷ 0 ∷ 0 ∷ 0 ∷ 3 ∷ 0 ∷ 0 ∷ 0 ∷ []) 0
+        (record { table = 0; column = 0; ty = Varchar 5; not_null = true }) three }
+    ensures no_nulls { HasEntry (64 ∷ 0 ∷ 0 ∷ 0 ∷ 0 ∷ 0 ∷ 0 ∷ 0 ∷ 0 ∷ 0 ∷ 0 ∷ 0 ∷ 3 ∷ 0 ∷ 0 ∷ 0 ∷ []) 0
+        (record { table = 0; column = 0; ty = Integer; not_null = false }) three → ⊥ }
+    ensures no_octets { HasEntry (64 ∷ 0 ∷ 0 ∷ 0 ∷ 0 ∷ 0 ∷ 0 ∷ 0 ∷ 0 ∷ 0 ∷ 0 ∷ 0 ∷ 3 ∷ 0 ∷ 0 ∷ 0 ∷ []) 0
+        (record { table = 0; column = 0; ty = Varchar 5; not_null = true }) three → ⊥ }
+    ensures other_rows { HasEntry (64 ∷ 0 ∷ 0 ∷ 0 ∷ 0 ∷ 0 ∷ 0 ∷ 0 ∷ 0 ∷ 0 ∷ 0 ∷ 0 ∷ 4 ∷ 0 ∷ 0 ∷ 0 ∷ []) 0
+        (record { table = 0; column = 0; ty = Integer; not_null = true }) three → ⊥ }
 {}

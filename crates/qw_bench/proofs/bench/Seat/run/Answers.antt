@@ -1,8 +1,9 @@
-use Rattle.std.proofs.Common.{◌≡◌, ℕ, ◌+◌, ◌-◌, ◌<◌, ◌≤◌, Some, refl, subst, arith}
+use Rattle.std.proofs.Common.{◌≡◌, ℕ, ◌+◌, ◌-◌, ◌<◌, ◌≤◌, Some, refl, sym, subst, arith}
+use Rattle.qw_module.specs.Execution.{Raised}
 use Rattle.qw_map.specs.Turns.{steps_of}
 use Rattle.qw_bench.specs.declared.bench.Seat.{Seat}
 use Rattle.qw_bench.specs.Inner.Seats.{common_of, counting, state_in}
-use Rattle.qw_bench.proofs.SeatSteps.{HasRun, grew-on, has-grown, raised-end, raises, ran-on, refused-on, returned, untrapped, within-limit}
+use Rattle.qw_bench.proofs.SeatSteps.{HasRun, end-kept, grew-on, has-grown, raises, ran-on, refused-on, returned, untrapped, within-limit}
 use Rattle.qw_bench.proofs.SeatRuns.{IsLastTaken, last-taken}
 use Rattle.qw_bench.proofs.bench.Seat.run.Goals as goal
 use Rattle.qw_bench.proofs.bench.Seat.run.Goals.{After-run-run}
@@ -65,8 +66,8 @@ loop-taken-preserved-in-Grew c =
     let l = (goal.at.loop-taken-preserved-in-Grew c).After-run-run in
     let e = c.run-run.ensures in
     let noted = c.note_grant.ensures in
-    goes-on l c.note_grant.new.self (grew-on (last l).taken c.in-Grew.at c.in-Grew.pages noted.granted.0 c.note_grant.new.self.granted c.note_grant.new.self
-    c.in-Grew.is e.program e.reserved noted.seat noted.granted.1 noted.granted.2 noted.capacity)
+    goes-on l c.note_grant.new.self (grew-on (last l).taken c.in-Grew.at c.in-Grew.pages c.note_grant.new.self.granted c.note_grant.new.self
+    c.in-Grew.is e.program e.reserved noted.seat noted.granted noted.counted noted.capacity)
 
 pub loop-taken-smaller : goal.loop-taken-smaller
 loop-taken-smaller c =
@@ -102,30 +103,31 @@ returns-in-Returned-clause-progress c = λ some.
     let l = (goal.at.returns-in-Returned-clause-progress c).After-run-run in
     omega (arith, (last l).counted)
 
-pub past_limit-requires : goal.past_limit-requires
-past_limit-requires c =
-    let l = (goal.at.past_limit-requires c).After-run-run in
-    rw (raises (last l).taken c.args.budget c.in-Raised.field-0 (below l) c.in-Raised.is).refused_is refl
+pub end_of_raise-requires : goal.end_of_raise-requires
+end_of_raise-requires c =
+    let l = (goal.at.end_of_raise-requires c).After-run-run in
+    (raises (last l).taken c.args.budget c.in-Raised.code (below l) c.in-Raised.is).raised
 
 pub returns-in-Raised-clause-ran : goal.returns-in-Raised-clause-ran
 returns-in-Raised-clause-ran c =
     let l = (goal.at.returns-in-Raised-clause-ran c).After-run-run in
     let seat : Seat = record c.loop-taken.self { instance = c.run-run.new.self } in
     of_all l (λ n. (counting seat n, common_of c.run-run.new.memory) ≡ steps_of c.args.budget (counting c.args.self.now 0) (common_of c.args.memory.now))
-    (raises (last l).taken c.args.budget c.in-Raised.field-0 (below l) c.in-Raised.is).ended.ran
+    (raises (last l).taken c.args.budget c.in-Raised.code (below l) c.in-Raised.is).ended.ran
 
 pub returns-in-Raised-clause-end : goal.returns-in-Raised-clause-end
 returns-in-Raised-clause-end c =
     let l = (goal.at.returns-in-Raised-clause-end c).After-run-run in
-    let raised = raises (last l).taken c.args.budget c.in-Raised.field-0 (below l) c.in-Raised.is in
-    let seat : Seat = record c.loop-taken.self { instance = c.run-run.new.self; ended = Some c.past_limit.result } in
-    raised-end seat (state_in seat) raised.asked c.past_limit.result raised.state_is raised.refused_is c.past_limit.ensures
+    let raised = raises (last l).taken c.args.budget c.in-Raised.code (below l) c.in-Raised.is in
+    let seat : Seat = record c.loop-taken.self { instance = c.run-run.new.self } in
+    let after : Seat = record seat { ended = Some c.end_of_raise.result } in
+    end-kept seat after (Raised c.in-Raised.code) (state_in after) (Some c.end_of_raise.result) refl refl refl (sym raised.state_is) c.end_of_raise.ensures
 
 pub returns-in-Raised-clause-asks : goal.returns-in-Raised-clause-asks
 returns-in-Raised-clause-asks c =
     let l = (goal.at.returns-in-Raised-clause-asks c).After-run-run in
     let taken = (last l).taken in
-    omega (arith, (raises taken c.args.budget c.in-Raised.field-0 (below l) c.in-Raised.is).ended.size, taken.has.asks)
+    omega (arith, (raises taken c.args.budget c.in-Raised.code (below l) c.in-Raised.is).ended.size, taken.has.asks)
 
 pub returns-in-Raised-clause-progress : goal.returns-in-Raised-clause-progress
 returns-in-Raised-clause-progress c = λ some.

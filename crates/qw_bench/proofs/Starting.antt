@@ -1,0 +1,202 @@
+-- From their start on instances serve their tasks, and one of a compiled module answers its query.
+use Rattle.std.proofs.Common.{◌≡◌, ◌≢◌, ℕ, zero, suc, ◌+◌, ◌-◌, ◌*◌, ◌<◌, ◌≤◌, nat_le, Bool, true, false, ◌⊎◌, inl, inr, ⊎_elim, List, [], ◌∷◌, ◌++◌, length, Option, Some, None, refl, sym, ap, ◌∙◌, subst, arith}
+use Rattle.std.specs.Prelude.{if◌then◌else◌, slice_get}
+use Rattle.std.specs.List.{AllByRecursion}
+use Rattle.std.proofs.lemmas.Bool.{leb-true}
+use Rattle.std.proofs.lemmas.Bool.Decides.{leb_tells}
+use Rattle.qw_types.specs.Contents.{Contents}
+use Rattle.qw_types.specs.declared.value.Val.{Val}
+use Rattle.qw_linear.specs.Memory.{page}
+use Rattle.qw_meaning.specs.Outcome.{Outcome, outcome}
+use Rattle.qw_meaning.specs.Select.{Specification}
+use Rattle.qw_module.specs.Execution.{Config, State, Running, Returned, Raised, Trapped, IsOver}
+use Rattle.qw_module.specs.Validity.{IsShaped}
+use Rattle.qw_map.specs.Areas.{Area, World, Others}
+use Rattle.qw_map.specs.Behaving.{beginning}
+use Rattle.qw_map.specs.Columns.{areas_of, column_pages, columns_start, map_of, tables_end}
+use Rattle.qw_map.specs.Layout.{Layout, column_areas}
+use Rattle.qw_map.specs.Runs.{Moment, Behaves}
+use Rattle.qw_map.specs.Turns.{Done, Exception, Pages, Steps, Trap, End, Instance, Shared, Act, turns, EachInstance, IsWhole, AreApart, LiesWithin, AreSeparate, AreSafe, end_at, moment_of, LeadsTo}
+use Rattle.qw_map.specs.declared.layout.Placed.{Placed}
+use Rattle.qw_map.specs.declared.layout.Used.{Used}
+use Rattle.qw_map.proofs.AreaLemmas.{all-append, all-weaker}
+use Rattle.qw_map.proofs.ColumnLemmas.{pages-reach}
+use Rattle.qw_map.proofs.ResultLemmas.{results_stay}
+use Rattle.qw_map.proofs.Separate.{runs-turns}
+use Rattle.qw_map.proofs.TurnSteps.{turns-whole}
+use Rattle.qw_emit.specs.Compiled.{Answers, AnswersAt, IsCompiled, bound, end_at_state, page_bound}
+use Rattle.qw_bench.specs.Bench.{AreServing, EachTask, IsAt, IsStart, IsStarting, Serves, Task, rows_in_tables}
+use Rattle.qw_bench.proofs.LayoutLemmas.{all-get, areas-all, lies-between, placed-get}
+use Rattle.qw_bench.proofs.Serving.{before, each-whole, task-of, turns-serving}
+
+-- ---- the start
+starts-serving : (tables : List Contents) (memory : List ℕ) (t : Task) (i : Instance) → IsStarting tables memory t i → Serves memory t i
+starts-serving tables memory t i first = rw first.instance (record {
+  mapped = refl;
+  first_page = ([], refl);
+  may_hold = refl;
+  holds = first.may_hold;
+  may_run = refl;
+  whole = record { within = omega arith; end_is = refl };
+  number = first.number;
+  shaped = first.shaped;
+  behaves = first.behaves.behaves first.number t.descriptor t.pages t.placed (rows_in_tables tables) memory first.shaped first.ready;
+})
+
+-- first pages of different numbers lie apart
+pages-apart : (pages j k : ℕ) → j ≢ k → ((pages + j) * page + page ≤ (pages + k) * page) ⊎ ((pages + k) * page + page ≤ (pages + j) * page)
+pages-apart pages j k differ = ⊎_elim
+    (λ before. inl (omega (arith, before.1)))
+    (λ not. inr (omega (arith, differ, not.1)))
+    (leb_tells (suc j) k)
+
+module _ (tables : List Contents) (tasks : List Task) (s : Shared) (start : IsStart tables tasks s) where
+  -- a task's instance at the start
+  record IsFirst (k : ℕ) (i : Instance) : Type 0 where
+    t : Task
+    found : slice_get tasks k ≡ Some t
+    begins : IsStarting tables s.common.memory t i
+    descriptor_is : t.descriptor ≡ (column_pages tables + k) * page
+
+  first_of : (k : ℕ) (i : Instance) → slice_get s.instances k ≡ Some i → IsFirst k i
+  first_of k i found =
+      let t = task-of tasks s start.many k i found in
+      record { t = t.t; found = t.found; begins = start.starting k t.t i t.found found; descriptor_is = start.descriptors k t.t t.found }
+
+  -- the columns that a layout uses lie before all first pages
+  columns-before : (t : Task) (i : Instance) → IsStarting tables s.common.memory t i → (d : ℕ) → column_pages tables * page ≤ d →
+      AllByRecursion (λ (area : Area). area.start + area.size ≤ d) (column_areas t.program.layout.columns t.placed)
+  columns-before t i first d behind = areas-all (λ (area : Area). area.start + area.size ≤ d) t.program.layout.columns t.placed
+      (λ k used one found there. all-weaker
+      (λ (area : Area). (columns_start ≤ area.start) × (area.start + area.size ≤ tables_end columns_start tables)) (λ (area : Area). area.start + area.size ≤ d)
+      (λ area h. omega (arith, h.1, pages-reach tables, behind)) (areas_of used.ty used.not_null one)
+      (lies-between tables used one (placed-get (map_of tables) t.program.layout.columns t.placed first.placed k used one found there)
+      (all-get _ t.program.layout.columns k used found first.columns)))
+
+  start-separate : AreSeparate s
+  start-separate = record {
+    octets = start.octets;
+    inside = λ k i found.
+        let f = first_of k i found in
+        let n = length s.common.memory in
+        let first_page : Area = record { start = f.t.descriptor; size = page } in
+        let inside : f.t.descriptor + page ≤ n = f.begins.ready.inside in
+        let low : column_pages tables * page ≤ n = omega (arith, inside, f.descriptor_is) in
+        subst (λ (x : Instance). AllByRecursion (LiesWithin n) (x.world.mapped ++ x.world.own)) (sym f.begins.instance)
+        (all-append (LiesWithin n) (column_areas f.t.program.layout.columns f.t.placed) (first_page ∷ []) (columns-before f.t i f.begins n low) (inside, tt));
+    own_apart = λ j k one other differ found found_other.
+        let f = first_of j one found in
+        let g = first_of k other found_other in
+        let pages = column_pages tables in
+        rw (f.begins.instance, g.begins.instance) (
+          (
+            subst (λ (a : ℕ). (a + page ≤ g.t.descriptor) ⊎ (g.t.descriptor + page ≤ a)) (sym f.descriptor_is)
+                (subst (λ (b : ℕ). ((pages + j) * page + page ≤ b) ⊎ (b + page ≤ (pages + j) * page)) (sym g.descriptor_is) (pages-apart pages j k differ)),
+            tt,
+          ),
+          tt,
+        );
+    columns_apart = λ j k one other found found_other.
+        let f = first_of j one found in
+        let g = first_of k other found_other in
+        let low : column_pages tables * page ≤ f.t.descriptor = omega (arith, f.descriptor_is) in
+        rw (f.begins.instance, g.begins.instance) (
+          all-weaker (λ (area : Area). area.start + area.size ≤ f.t.descriptor) (AreApart (record { start = f.t.descriptor; size = page }))
+              (λ area h. inr h) (column_areas g.t.program.layout.columns g.t.placed) (columns-before g.t other g.begins f.t.descriptor low),
+          tt,
+        );
+    room = start.room;
+  }
+
+  pub start-serving : AreServing tables tasks s
+  start-serving = record {
+    table = start.table;
+    behind = λ k i found.
+        let f = first_of k i found in
+        rw f.begins.instance (omega (arith, f.descriptor_is), tt);
+    safe = record {
+      separate = start-separate;
+      fine = λ k i found.
+          let f = first_of k i found in
+          (starts-serving tables s.common.memory f.t i f.begins).behaves.2.fine;
+    };
+    many = start.many;
+    serving = λ k t i task found. starts-serving tables s.common.memory t i (start.starting k t i task found);
+  }
+
+-- ---- answers
+-- an end answers whatever others do
+answers-stay : (out : Outcome) (layout : Layout) (most pages d : ℕ) (w : World) (m after : List ℕ) → Others w m after → (end : End) →
+    Answers out layout most pages d w m end → Answers out layout most pages d w after end
+answers-stay out layout most pages d w m after others Done (none, (bag, is, found)) = (none, (bag, is, results_stay layout w m after d bag others found))
+answers-stay out layout most pages d w m after others (Exception code) h = h
+answers-stay out layout most pages d w m after others (Pages held asked limit) h = h
+answers-stay out layout most pages d w m after others (Steps limit) h = h
+answers-stay out layout most pages d w m after others Trap h = h
+
+-- the end of an instance that is over is the one at its state
+end-over : (s : State) (w : World) (ran most : ℕ) → IsOver s → end_at s w ran most ≡ end_at_state s w
+end-over (Running c) w ran most over = absurd over
+end-over Returned w ran most over = refl
+end-over (Raised code) w ran most over = refl
+end-over (Trapped why) w ran most over = refl
+
+module _ (query : Specification) (tables : List (List (List Val))) (t : Task) (number : ℕ) (first : Moment) (later : Instance) (memory : List ℕ)
+    (behaves : Behaves (bound query tables t.program.module' number) (page_bound query tables)
+    (AnswersAt (outcome query tables) t.program.layout (bound query tables t.program.module' number) (page_bound query tables) t.descriptor) first)
+    (led : LeadsTo later.ran first (moment_of later memory)) (whole : IsWhole later) where
+  abbrev most : ℕ
+  most = bound query tables t.program.module' number
+
+  abbrev left : Moment
+  left = record { world = later.world; state = later.state; memory = led.left }
+
+  stopped : (c : Config) → later.state ≡ Running c → (at_limit : Bool) → nat_le later.most_steps later.ran ≡ at_limit →
+      IsAt query tables memory t number later (if at_limit then Some (Steps later.most_steps) else None)
+  stopped c is true at_limit =
+      let below : later.ran < most = behaves.bounded later.ran left c led.run is in
+      let reached : later.most_steps ≤ later.ran = leb-true later.most_steps later.ran at_limit in
+      (omega arith, omega arith)
+  stopped c is false below = behaves.bounded later.ran left c led.run is
+
+  over : (s : State) → later.state ≡ s → IsOver s → IsAt query tables memory t number later (end_at s later.world later.ran later.most_steps)
+  over s is ended =
+      let end = behaves.ends later.ran left led.run (subst IsOver (sym is) ended) in
+      let told : end_at s later.world later.ran later.most_steps ≡ Some end.1.0 =
+      end-over s later.world later.ran later.most_steps ended ∙ ap (λ (x : State). end_at_state x later.world) (sym is) ∙ end.1.1 in
+      subst (IsAt query tables memory t number later) (sym told) (
+        end.0,
+        answers-stay (outcome query tables) t.program.layout most (page_bound query tables) t.descriptor later.world led.left memory led.others end.1.0 end.1.2,
+      )
+
+  by_state : (s : State) → later.state ≡ s → IsAt query tables memory t number later (end_at s later.world later.ran later.most_steps)
+  by_state (Running c) is = stopped c is (nat_le later.most_steps later.ran) refl
+  by_state Returned is = over Returned is tt
+  by_state (Raised code) is = over (Raised code) is tt
+  by_state (Trapped why) is = over (Trapped why) is tt
+
+  pub at-end : IsAt query tables memory t number later later.end
+  at-end = subst (IsAt query tables memory t number later) (sym whole.end_is) (by_state later.state refl)
+
+pub compiled-answers : (tables : List Contents) (tasks : List Task) (s : Shared) (acts : List Act) (query : Specification) → IsStart tables tasks s →
+    EachTask (λ t i. IsCompiled query t.program.layout t.program.module' →
+    (number : ℕ) × IsShaped t.program.module' number × IsAt query (rows_in_tables tables) (turns acts s).common.memory t number i i.end) tasks (turns acts s)
+compiled-answers tables tasks s acts query start k t later task found compiled =
+    let serving = start-serving tables tasks s start in
+    let first = before s acts k later found in
+    let i = first.i in
+    let begins : IsStarting tables s.common.memory t i = start.starting k t i task first.found in
+    let led = runs-turns s acts serving.safe k i later first.found found in
+    let from : Moment = beginning t.program.module' begins.number t.program.layout t.placed t.descriptor t.pages s.common.memory in
+    let none : later.ran - i.ran ≡ later.ran = let ran : i.ran ≡ 0 = ap (λ (x : Instance). x.ran) begins.instance in omega (arith, ran) in
+    let at : moment_of i s.common.memory ≡ from = ap (λ (x : Instance). moment_of x s.common.memory) begins.instance in
+    let runs : LeadsTo later.ran from (moment_of later (turns acts s).common.memory) =
+    subst (λ (n : ℕ). LeadsTo n from (moment_of later (turns acts s).common.memory)) none
+    (subst (λ (m : Moment). LeadsTo (later.ran - i.ran) m (moment_of later (turns acts s).common.memory)) at led.1) in
+    (
+      begins.number,
+      begins.shaped,
+      at-end query (rows_in_tables tables) t begins.number from later (turns acts s).common.memory
+          (compiled.behaves begins.number t.descriptor t.pages t.placed (rows_in_tables tables) s.common.memory begins.shaped begins.ready)
+          runs (turns-whole s acts (each-whole tables tasks s serving) k later found),
+    )
