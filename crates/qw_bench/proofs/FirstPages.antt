@@ -1,10 +1,10 @@
 -- The descriptor in a blank page.
-use Rattle.std.proofs.Common.{◌≡◌, ℕ, zero, suc, ◌+◌, ◌*◌, ◌%◌, ◌^◌, ◌<◌, ◌≤◌, ◌⊎◌, inl, inr, ⊎_elim, List, ◌++◌, Some, length, take, drop, get_or, refl, sym, ap, ◌∙◌, subst, arith}
+use Rattle.std.proofs.Common.{◌≡◌, ℕ, zero, suc, ◌+◌, ◌-◌, ◌*◌, ◌%◌, ◌^◌, ◌<◌, ◌≤◌, ◌⊎◌, inl, inr, ⊎_elim, List, ◌++◌, Some, length, take, drop, get_or, refl, sym, ap, ◌∙◌, subst, arith}
 use Rattle.std.specs.Prelude.{if◌then◌else◌, slice_get, slice_index, All}
 use Rattle.std.proofs.lemmas.Bool.{cases_lt}
-use Rattle.std.proofs.lemmas.List.{get_or-append-add, get_or-drop, get_or-take, get_or_append_left, length-take-le}
+use Rattle.std.proofs.lemmas.List.{get_or-append-add, get_or-drop, get_or-take, get_or_append_left, length-append, length-drop, length-take-le}
 use Rattle.std.proofs.lemmas.List.Elements.{All-append, All-drop, All-take}
-use Rattle.std.proofs.lemmas.Option.{get_or_from_slice_get, slice_get_within}
+use Rattle.std.proofs.lemmas.Option.{get_or_from_slice_get, same_Some, slice_get_within}
 use Rattle.qw_linear.specs.Memory.{AreOctets, grown_by, number_at, page, with_number, SameBelow}
 use Rattle.qw_linear.proofs.MemoryFacts.{length-with_number, number_at-apart, number_at-same, number_at-with_number, with_number-above, with_number-below}
 use Rattle.qw_linear.proofs.GrowthFacts.{grown_by-above}
@@ -90,7 +90,7 @@ first-none before entries columns placed = record {
 }
 
 pub first-more : (before now after : List ℕ) (entries count : ℕ) (columns : List Used) (placed : List Placed) (u : Used) (p : Placed) →
-    u ≡ get_or columns count u → p ≡ get_or placed count p → HasEntry after (entries + 16 * count) u p → SameOutside now after (entries + 16 * count) 16 →
+    slice_get columns count ≡ Some u → slice_get placed count ≡ Some p → HasEntry after (entries + 16 * count) u p → SameOutside now after (entries + 16 * count) 16 →
     AreFirst before now entries columns placed count → AreFirst before after entries columns placed (count + 1)
 first-more before now after entries count columns placed u p u_is p_is entry outside h = record {
   each = λ k used one lt found there. ⊎_elim
@@ -98,8 +98,8 @@ first-more before now after entries count columns placed u p u_is p_is entry out
       entry-same now after (entries + 16 * k) used one (λ j a b. outside j (inl (omega arith))) (h.each k used one low found there))
       (λ (high : count ≤ k).
       let here : k ≡ count = omega arith in
-      let used_is : u ≡ used = u_is ∙ get_or_from_slice_get columns count used u (subst (λ (n : ℕ). slice_get columns n ≡ Some used) here found) in
-      let one_is : p ≡ one = p_is ∙ get_or_from_slice_get placed count one p (subst (λ (n : ℕ). slice_get placed n ≡ Some one) here there) in
+      let used_is : u ≡ used = same_Some u used (sym u_is ∙ subst (λ (n : ℕ). slice_get columns n ≡ Some used) here found) in
+      let one_is : p ≡ one = same_Some p one (sym p_is ∙ subst (λ (n : ℕ). slice_get placed n ≡ Some one) here there) in
       rw (here, ← used_is, ← one_is) entry)
       (cases_lt k count);
   outside = λ k apart. outside k (⊎_elim (λ low. inl (omega arith)) (λ high. inr (omega arith)) apart)
@@ -131,6 +131,16 @@ module _ (before after octets : List ℕ) (at : ℕ) (inside : at + length octet
       ∙ get_or-append-add octets (drop (at + length octets) before) j 0
       ∙ get_or-drop (at + length octets) before j 0 in
       rw is (ap (λ (n : ℕ). get_or (take at before ++ (octets ++ drop (at + length octets) before)) n 0) place ∙ found ∙ ap (λ (n : ℕ). get_or before n 0) back)
+
+  pub copied-length : length after ≡ length before
+  copied-length =
+      let rest : length (drop (at + length octets) before) ≡ length before - (at + length octets) = length-drop (at + length octets) before in
+      let first : length (take at before ++ (octets ++ drop (at + length octets) before)) ≡ length (take at before) + length (octets ++ drop (at + length octets) before) =
+      length-append (take at before) (octets ++ drop (at + length octets) before) in
+      let second : length (octets ++ drop (at + length octets) before) ≡ length octets + length (drop (at + length octets) before) =
+      length-append octets (drop (at + length octets) before) in
+      let whole = ap length is in
+      omega (arith, first, second, rest, whole, start_long)
 
   pub copied-octets : AreOctets before → AreOctets octets → AreOctets after
   copied-octets are those = rw is

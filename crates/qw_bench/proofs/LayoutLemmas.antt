@@ -82,3 +82,11 @@ module _ (tables : List Contents) (used : Used) (one : Placed) (is : place (map_
       let stands = stands-between columns_start (tables_end columns_start tables) in_tables.1 (column_values in_tables.0.rows used.column) one
       (tables-stand columns_start tables used.table in_tables.0 at.columns in_tables.2 at.table used.column in_tables.1 one in_tables.3 at.column) in
       rw (in_tables.4, in_tables.5) at stands
+
+-- one column more
+pub placed-more : (map : List (List Placed)) (columns : List Used) (placed : List Placed) (used : Used) (one : Placed) → ArePlaced map columns placed →
+    place map used ≡ Some one → ArePlaced map (columns ++ used ∷ []) (placed ++ one ∷ [])
+placed-more map [] [] used one are is = (is, tt)
+placed-more map [] (p ∷ placed) used one are is = absurd are
+placed-more map (u ∷ columns) [] used one are is = absurd are
+placed-more map (u ∷ columns) (p ∷ placed) used one are is = (are.0, placed-more map columns placed used one are.1 is)

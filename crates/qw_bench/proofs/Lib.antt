@@ -1,6 +1,9 @@
+mod BenchStart
 mod BenchTurns
 mod FirstPages
+mod FirstSeatLemmas
 mod LayoutLemmas
+mod LimitLemmas
 mod Rounds
 mod SeatRuns
 mod SeatSteps

@@ -256,7 +256,11 @@ fn limit_pages(limits: &[Limits]) -> u64
     ensures pages { result ≡ limit_pages limits.now }
     ensures limit { result ≤ 4_194_240 }
 {
-    limits.iter().map(|one| u64::from(one.pages)).sum()
+    let mut pages = 0;
+    for one in limits {
+        pages += u64::from(one.pages);
+    }
+    pages
 }
 
 /// Whether the instance of one of the seats hasn't ended.

@@ -1,6 +1,6 @@
 //! The first page of an instance, as it begins.
 
-ghost use Rattle.std.specs.Prelude.{◌≡◌, ◌+◌, ◌*◌, ◌<◌, ◌≤◌, ◌^◌, length};
+ghost use Rattle.std.specs.Prelude.{◌≡◌, ◌+◌, ◌*◌, ◌<◌, ◌≤◌, ◌^◌, ◌++◌, length, take, drop};
 ghost use Rattle.std.specs.List.{AllByRecursion};
 ghost use Rattle.qw_linear.specs.Memory.{AreOctets, page, with_number, SameBelow};
 ghost use Rattle.qw_map.specs.Layout.{HasEntry, IsFresh, descriptor_size};
@@ -32,7 +32,7 @@ pub fn begin_page(memory: &mut Linear, descriptor: u32, layout: &Layout, placed:
     put(memory, descriptor + FREE_OFFSET, descriptor + layout.descriptor_size());
     put(memory, descriptor + PAGE_END_OFFSET, descriptor + PAGE as u32);
     write_entries(memory, entries, columns, placed);
-    memory.copy_in(u64::from(texts), layout.literals()).unwrap();
+    copy(memory, texts, layout.literals());
 }
 
 /// Writes what the descriptor says of columns, from the first one's entry on.
@@ -90,4 +90,15 @@ fn put(memory: &mut Linear, address: u32, number: u32)
     memory
         .store32(u64::from(address), u64::from(number))
         .unwrap();
+}
+
+/// Stores octets one after another.
+fn copy(memory: &mut Linear, address: u32, octets: &[u8])
+    requires { address + length octets.now ≤ length memory.old.octets }
+    ensures copied { memory.new.octets ≡ take address memory.old.octets ++ (octets.now ++ drop (address + length octets.now) memory.old.octets) }
+    ensures octets { AreOctets memory.old.octets → AreOctets memory.new.octets }
+    ensures len { length memory.new.octets ≡ length memory.old.octets }
+    ensures reserved { memory.new.reserved ≡ memory.old.reserved }
+{
+    memory.copy_in(u64::from(address), octets).unwrap();
 }

@@ -1,6 +1,7 @@
 -- Where the columns of tables stand, one after another.
-use Rattle.std.proofs.Common.{◌≡◌, ◌+◌, ◌∙◌, refl, sym, ap, ℕ, zero, suc, List, [], ◌∷◌, ◌++◌, length, map, take, Some, arith, subst}
+use Rattle.std.proofs.Common.{◌≡◌, ◌+◌, ◌∙◌, refl, sym, ap, ap₂, ℕ, zero, suc, List, [], ◌∷◌, ◌++◌, length, map, take, Some, arith, subst}
 use Rattle.std.specs.Prelude.{slice_get}
+use Rattle.std.proofs.lemmas.List.{map-append}
 use Rattle.std.specs.List.{AllByRecursion}
 use Rattle.qw_types.specs.Contents.{Contents}
 use Rattle.qw_types.specs.declared.schema.ColumnType.{ColumnType}
@@ -20,6 +21,12 @@ pub all-more : {X : Type 0} (P : X → Type 0) → (xs : List X) (k : ℕ) (x : 
 all-more P [] k x is here are = absurd (cc is)
 all-more P (y ∷ xs) zero x is here are = let e : y ≡ x = cc is in (subst P (sym e) here, tt)
 all-more P (y ∷ xs) (suc k) x is here are = (are.0, all-more P xs k x is here are.1)
+
+pub map-more : {A B : Type 0} (f : A → B) → (xs : List A) (x : A) (ys : List B) (k : ℕ) (y : B) → map f xs ≡ take k ys → slice_get ys k ≡ Some y → f x ≡ y
+    → map f (xs ++ x ∷ []) ≡ take (suc k) ys
+map-more f xs x ys k y front is same =
+    let last : map f (x ∷ []) ≡ y ∷ [] = ap (λ z. z ∷ []) same in
+    map-append f xs (x ∷ []) ∙ ap₂ (λ (ps qs : List _). ps ++ qs) front last ∙ sym (take-more ys k y is)
 
 -- ---- the columns of a table
 
@@ -80,3 +87,14 @@ next_end at columns rows k type before end placed is begins stands ends =
     ends ∙ ap (λ (p : Placed). column_end type.not_null p) stands
     ∙ ap (λ (b : ℕ). column_end type.not_null (placed_at b type.ty (column_values rows k))) begins
     ∙ sym (rw zero_first at (columns_end-more at columns 0 rows k type is))
+
+-- where one more column stands, from what was computed of it
+pub placed_more : (at : ℕ) (columns : List ColumnType) (rows : List (List Val)) (k : ℕ) (type : ColumnType) (before : ℕ) (placed : Placed) → slice_get columns k ≡ Some type
+    → before ≡ columns_end at (take k columns) 0 rows → placed ≡ placed_at before type.ty (column_values rows k)
+    → take (suc k) (placed_columns at columns 0 rows) ≡ take k (placed_columns at columns 0 rows) ++ placed ∷ []
+placed_more at columns rows k type before placed is begins stands =
+    let zero_first : 0 + k ≡ k = omega arith in
+    let where_it_is = rw zero_first at (placed_columns-at at columns 0 rows k type is) in
+    let same : placed_at (columns_end at (take k columns) 0 rows) type.ty (column_values rows k) ≡ placed =
+    ap (λ (b : ℕ). placed_at b type.ty (column_values rows k)) (sym begins) ∙ sym stands in
+    take-more (placed_columns at columns 0 rows) k placed (where_it_is ∙ ap (λ (p : Placed). Some p) same)

@@ -1,6 +1,6 @@
 //! The values of columns, read back from the memory.
 
-ghost use Rattle.std.specs.Prelude.{◌≡◌, ◌≤◌, ◌<◌, ◌+◌, ◌*◌, ◌/◌, IfOk, IsOk, IsSome, List, Some, length, false};
+ghost use Rattle.std.specs.Prelude.{◌≡◌, ◌≤◌, ◌<◌, ◌+◌, ◌*◌, ◌/◌, ◌^◌, IfOk, IsOk, IsSome, List, Some, length, false};
 ghost use Rattle.std.specs.Int.{cast_signed, w32, w64};
 ghost use Rattle.qw_types.specs.Contents.{Contents};
 ghost use Rattle.qw_types.specs.declared.schema.ColumnType.{ColumnType};
@@ -11,7 +11,7 @@ ghost use Rattle.qw_columns.specs.Inner.Reading.{IsReadable, IsReadableText};
 ghost use Rattle.qw_columns.specs.Mapped.{IsMapOf, at_indices, value_in};
 
 use crate::column_map::ColumnMap;
-use qw_linear::linear::Linear;
+use qw_linear::linear::{Linear, MAX_PAGES};
 use qw_map::layout::Placed;
 use qw_types::{NoMemory, Text, Ty, Val};
 use std::alloc::Global;
@@ -30,6 +30,9 @@ pub fn value_at(
         → value_in tables table column row ≡ Some value) }
     ensures certain { (type : ColumnType) → at_indices map.now.columns table column ≡ Some type → is_text type.ty ≡ false → IsOk result }
 {
+    let pages = memory.size();
+    // So addresses are numbers of 32 bits.
+    prove!(pages <= MAX_PAGES);
     let column_type = map.column(table, column);
     let placed = map.placed(table, column);
     let row = row as u64;
@@ -41,7 +44,8 @@ pub fn value_at(
 
 /// Whether the null bit of a row is set.
 fn is_null(memory: &Linear, placed: &Placed, row: u64) -> bool
-    requires { placed.now.nulls + row / 8 + 1 ≤ length memory.now.octets }
+    requires small { length memory.now.octets < 2 ^ 32 }
+    requires inside { placed.now.nulls + row / 8 + 1 ≤ length memory.now.octets }
     ensures { result ≡ columns.is_null_at memory.now.octets false placed.now row }
 {
     let octet = memory.load8(placed.nulls + row / 8).unwrap();
@@ -56,7 +60,8 @@ fn stored_value(
     placed: &Placed,
     row: u64,
 ) -> Result<Val, NoMemory>
-    requires { IsReadable memory.now.octets ty placed.now row }
+    requires small { length memory.now.octets < 2 ^ 32 }
+    requires readable { IsReadable memory.now.octets ty placed.now row }
     ensures value { IfOk result (λ value. value ≡ columns.stored_at memory.now.octets ty placed.now row) }
     ensures certain { is_text ty ≡ false → IsOk result }
 {
@@ -86,7 +91,8 @@ fn number64(memory: &Linear, at: u64) -> i64
 
 /// The text of a row.
 fn text_at(alloc: Global, memory: &Linear, placed: &Placed, row: u64) -> Result<Text, NoMemory>
-    requires { IsReadableText memory.now.octets placed.now row }
+    requires small { length memory.now.octets < 2 ^ 32 }
+    requires readable { IsReadableText memory.now.octets placed.now row }
     ensures { IfOk result (λ text. text ≡ columns.text_at memory.now.octets placed.now row) }
 {
     let at = placed.values + 4 * row;

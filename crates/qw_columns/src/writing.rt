@@ -77,6 +77,7 @@ fn write_values(
 fn write_numbers(loaded: &Loaded, column: usize, ty: Ty, at: u64, memory: &mut Linear)
     requires column { column < length loaded.now.columns }
     requires room { at + width_of ty * length loaded.now.rows ≤ length memory.old.octets }
+    requires small { length memory.old.octets < 2 ^ 32 }
     ensures numbers { HasNumbers memory.new.octets at (width_of ty) (column_values loaded.now.rows column) (length loaded.now.rows) }
     ensures keeps { KeepsBelow memory.old memory.new at }
 {
@@ -126,7 +127,8 @@ fn store_number(memory: &mut Linear, at: u64, width: u64, number: i64)
 fn write_offsets(loaded: &Loaded, column: usize, at: u64, memory: &mut Linear)
     requires column { column < length loaded.now.columns }
     requires room { at + 4 * length loaded.now.rows + 4 ≤ length memory.old.octets }
-    requires small { text_octets (column_values loaded.now.rows column) < 2 ^ 32 }
+    requires small { length memory.old.octets < 2 ^ 32 }
+    requires texts { text_octets (column_values loaded.now.rows column) < 2 ^ 32 }
     ensures starts { HasStarts memory.new.octets at (column_values loaded.now.rows column) (length loaded.now.rows + 1) }
     ensures keeps { KeepsBelow memory.old memory.new at }
 {
@@ -142,6 +144,7 @@ fn write_offsets(loaded: &Loaded, column: usize, at: u64, memory: &mut Linear)
 fn write_texts(loaded: &Loaded, column: usize, at: u64, memory: &mut Linear)
     requires column { column < length loaded.now.columns }
     requires room { at + text_octets (column_values loaded.now.rows column) ≤ length memory.old.octets }
+    requires small { length memory.old.octets < 2 ^ 32 }
     ensures texts { HasTexts memory.new.octets at (column_values loaded.now.rows column) (length loaded.now.rows) }
     ensures keeps { KeepsBelow memory.old memory.new at }
 {
@@ -157,6 +160,7 @@ fn write_texts(loaded: &Loaded, column: usize, at: u64, memory: &mut Linear)
 fn write_nulls(loaded: &Loaded, column: usize, at: u64, memory: &mut Linear)
     requires column { column < length loaded.now.columns }
     requires room { at + (length loaded.now.rows + 7) / 8 ≤ length memory.old.octets }
+    requires small { length memory.old.octets < 2 ^ 32 }
     ensures nulls { HasNulls memory.new.octets at (column_values loaded.now.rows column) ((length loaded.now.rows + 7) / 8) }
     ensures keeps { KeepsBelow memory.old memory.new at }
 {

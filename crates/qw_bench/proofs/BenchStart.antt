@@ -1,0 +1,275 @@
+-- How a bench begins: its seats are those of instances that are about to begin.
+use Rattle.std.proofs.Common.{◌≡◌, ℕ, zero, suc, ◌+◌, ◌-◌, ◌*◌, ◌<◌, ◌≤◌, List, [], ◌∷◌, length, map, get_or, Option, Some, None, slice_get, refl, sym, ap, ◌∙◌, subst, arith}
+use Rattle.std.specs.Prelude.{slice_index, All}
+use Rattle.std.specs.List.{AllByRecursion, AllZip}
+use Rattle.std.specs.Option.{option_map}
+use Rattle.std.proofs.lemmas.List.{length-map}
+use Rattle.std.proofs.lemmas.Option.{get_or_from_slice_get, none-some, same_Some, slice_get-get_or, slice_get-map, slice_get_within}
+use Rattle.qw_types.specs.Contents.{AreLoaded, Contents, IsOfColumnType}
+use Rattle.qw_types.specs.Limits.{most_rows}
+use Rattle.qw_types.specs.declared.schema.ColumnType.{ColumnType}
+use Rattle.qw_types.specs.declared.value.Val.{Val}
+use Rattle.qw_linear.specs.Linear.{Octets}
+use Rattle.qw_linear.specs.Memory.{page, pages_of, AreOctets, SameBelow}
+use Rattle.qw_meaning.specs.Flow.{rows_of}
+use Rattle.qw_module.specs.declared.module.Module.{Module}
+use Rattle.qw_module.specs.Execution.{State}
+use Rattle.qw_module.specs.Start.{begun}
+use Rattle.qw_map.specs.Areas.{Area, World}
+use Rattle.qw_map.specs.Columns.{Holds, HoldsColumn, areas_of, column_pages, column_values, columns_start, map_of, tables_end}
+use Rattle.qw_map.specs.Layout.{HasColumn, IsReady, IsReadyColumn, Layout, column_areas, first_world}
+use Rattle.qw_map.specs.Turns.{End, Instance, end_at, may_ask}
+use Rattle.qw_map.specs.declared.layout.Placed.{Placed}
+use Rattle.qw_map.specs.declared.layout.Used.{Used}
+use Rattle.qw_map.proofs.AreaLemmas.{all-weaker}
+use Rattle.qw_map.proofs.ColumnLemmas.{holds-kept, pages-reach, tables-end-above}
+use Rattle.qw_bench.specs.declared.bench.Ended.{Ended}
+use Rattle.qw_bench.specs.declared.bench.Grant.{Grant}
+use Rattle.qw_bench.specs.declared.bench.Limits.{Limits}
+use Rattle.qw_bench.specs.declared.bench.Seat.{Seat}
+use Rattle.qw_bench.specs.Bench.{ArePlaced, IsColumnIn, IsStart, IsStarting, Program, Task, rows_in_tables, starting}
+use Rattle.qw_bench.specs.Standing.{AreLimits, AreTasksOf, end_of, limit_pages, total_pages}
+use Rattle.qw_bench.specs.Inner.FirstSeats.{AreFirstSeats, IsFirstSeat}
+use Rattle.qw_bench.specs.Inner.Seats.{AreSeats, HasGrants, IsEndOf, area_of, common_of, instance_of, standing_of, state_in, task_of, world_of}
+use Rattle.qw_bench.proofs.FirstSeatLemmas.{begun-is, end-first, not-raised}
+use Rattle.qw_bench.proofs.LayoutLemmas.{all-get, get-all, has-table, lies-between, placed-get, placed-many, there}
+use Rattle.qw_bench.proofs.LimitLemmas.{limit_pages-one}
+use Rattle.qw_bench.proofs.Starting.{start-serving}
+
+-- ---- a column of the tables
+-- a row has a value of it
+has-column : (columns : List ColumnType) (row : List Val) (k : ℕ) (column : ColumnType) → slice_get columns k ≡ Some column → AllZip IsOfColumnType columns row →
+    (value : Val) × (slice_get row k ≡ Some value) × IsOfColumnType column value
+has-column [] row k column found typed = absurd (none-some column found)
+has-column (one ∷ columns) [] k column found typed = absurd typed
+has-column (one ∷ columns) (value ∷ row) zero column found typed =
+    (value, refl, subst (λ (c : ColumnType). IsOfColumnType c value) (same_Some one column found) typed.0)
+has-column (one ∷ columns) (value ∷ row) (suc k) column found typed = has-column columns row k column found typed.1
+
+-- the rows of a table
+rows-found : (tables : List Contents) (k : ℕ) (table : Contents) → slice_get tables k ≡ Some table → rows_of (rows_in_tables tables) k ≡ table.rows
+rows-found [] k table found = absurd (none-some table found)
+rows-found (one ∷ tables) zero table found = ap (λ (t : Contents). t.rows) (same_Some one table found)
+rows-found (one ∷ tables) (suc k) table found = rows-found tables k table found
+
+ready-column : (tables : List Contents) (memory : List ℕ) (d : ℕ) (used : Used) (one : Placed) (columns : List Placed) (table : Contents) (column : ColumnType) →
+    slice_get tables used.table ≡ Some table → slice_get table.columns used.column ≡ Some column → column.ty ≡ used.ty → column.not_null ≡ used.not_null →
+    slice_get (map_of tables) used.table ≡ Some columns → slice_get columns used.column ≡ Some one → AllByRecursion AreLoaded tables → Holds (map_of tables) memory tables →
+    AllByRecursion (λ (area : Area). (64 ≤ area.start) × (area.start + area.size ≤ d)) (areas_of used.ty used.not_null one) →
+    IsReadyColumn (rows_of (rows_in_tables tables) used.table) d memory used one
+ready-column tables memory d used one columns table column there found type null placed place loaded holds between =
+    let are : AreLoaded table = all-get AreLoaded tables used.table table there loaded in
+    let held : HoldsColumn memory column.ty column.not_null one (column_values table.rows used.column) =
+    (holds.each used.table table columns there placed).each used.column column one found place in
+    let rows : rows_of (rows_in_tables tables) used.table ≡ table.rows = rows-found tables used.table table there in
+    rw rows (record {
+      typed = all-weaker (AllZip IsOfColumnType table.columns) (HasColumn used)
+          (λ row typed.
+          let value = has-column table.columns row used.column column found typed in
+          rw (← type, ← null) (value.0, value.1, value.2)) table.rows are.typed;
+      few = are.few;
+      holds = rw (type, null) at held;
+      between = between;
+    })
+
+-- ---- limits and tasks
+tasks-of : (programs : List Program) (limits : List Limits) (seats : List Seat) → length seats ≡ length programs → length limits ≡ length programs →
+    ((k : ℕ) (program : Program) (one : Limits) (seat : Seat) → slice_get programs k ≡ Some program → slice_get limits k ≡ Some one → slice_get seats k ≡ Some seat →
+    ((task_of seat).program ≡ program) × (seat.limits ≡ one)) → AreTasksOf programs limits (map task_of seats)
+tasks-of [] [] [] many as_many each = tt
+tasks-of [] (one ∷ limits) seats many as_many each = absurd (omega (arith, as_many))
+tasks-of [] [] (seat ∷ seats) many as_many each = absurd (omega (arith, many))
+tasks-of (program ∷ programs) [] seats many as_many each = absurd (omega (arith, as_many))
+tasks-of (program ∷ programs) (one ∷ limits) [] many as_many each = absurd (omega (arith, many))
+tasks-of (program ∷ programs) (one ∷ limits) (seat ∷ seats) many as_many each =
+    let first = each 0 program one seat refl refl refl in
+    let fewer : length seats ≡ length programs = omega (arith, many) in
+    let as_few : length limits ≡ length programs = omega (arith, as_many) in
+    (
+      first.0,
+      ap (λ (l : Limits). l.pages) first.1,
+      ap (λ (l : Limits). l.steps) first.1,
+      tasks-of programs limits seats fewer as_few (λ k p l s at_p at_l at_s. each (suc k) p l s at_p at_l at_s),
+    )
+
+asks-first : (limits : List Limits) (seats : List Seat) → length seats ≡ length limits → AllByRecursion AreLimits limits →
+    ((k : ℕ) (one : Limits) (seat : Seat) → slice_get limits k ≡ Some one → slice_get seats k ≡ Some seat → (seat.limits ≡ one) × (seat.held ≡ 1)) →
+    may_ask (map instance_of seats) + length seats ≡ limit_pages limits
+asks-first [] [] many are each = refl
+asks-first [] (seat ∷ seats) many are each = absurd (omega (arith, many))
+asks-first (one ∷ limits) [] many are each = absurd (omega (arith, many))
+asks-first (one ∷ limits) (seat ∷ seats) many are each =
+    let first = each 0 one seat refl refl in
+    let pages : seat.limits.pages ≡ one.pages = ap (λ (l : Limits). l.pages) first.0 in
+    let some : 1 ≤ one.pages = are.0.some_pages in
+    let fewer : length seats ≡ length limits = omega (arith, many) in
+    let rest : may_ask (map instance_of seats) + length seats ≡ limit_pages limits =
+    asks-first limits seats fewer are.1 (λ k l s at_l at_s. each (suc k) l s at_l at_s) in
+    omega (arith, pages, some, rest, first.1)
+
+-- ---- the start
+module _ (tables : List Contents) (programs : List Program) (limits : List Limits) (m0 m : Octets) (seats : List Seat)
+    (loaded : AllByRecursion AreLoaded tables) (in_tables : AllByRecursion (λ (program : Program). AllByRecursion (IsColumnIn tables) program.layout.columns) programs)
+    (are_limits : AllByRecursion AreLimits limits) (many_limits : length limits ≡ length programs)
+    (holds0 : Holds (map_of tables) m0.octets tables) (octets0 : AreOctets m0.octets) (len0 : length m0.octets ≡ column_pages tables * page)
+    (first : AreFirstSeats (map_of tables) m.octets (length m0.octets) programs limits seats) (below : SameBelow m0.octets m.octets (length m0.octets))
+    (octets : AreOctets m0.octets → AreOctets m.octets) (len : length m.octets ≡ length m0.octets + length programs * page)
+    (fits : total_pages tables limits ≤ 65535) (reserved : m.reserved ≡ total_pages tables limits) where
+  holds : Holds (map_of tables) m.octets tables
+  holds = holds-kept m0.octets m.octets tables (omega (arith, len)) (λ k low. below k (omega (arith, low, pages-reach tables, len0))) holds0
+
+  size : length m.octets ≡ (column_pages tables + length programs) * page
+  size = omega (arith, len, len0)
+
+  -- what is at an index of the seats
+  record IsAt (k : ℕ) (seat : Seat) : Type 0 where
+    program : Program
+    one : Limits
+    at_program : slice_get programs k ≡ Some program
+    at_limits : slice_get limits k ≡ Some one
+    is : IsFirstSeat (map_of tables) m.octets (length m0.octets + k * page) program one seat
+
+  at_seat : (k : ℕ) (seat : Seat) → slice_get seats k ≡ Some seat → IsAt k seat
+  at_seat k seat found =
+      let within : k < length programs = omega (arith, slice_get_within seats k seat found, first.many) in
+      let program = there programs k within in
+      let one = there limits k (omega (arith, within, many_limits)) in
+      record { program = program.0; one = one.0; at_program = program.1; at_limits = one.1; is = first.each k program.0 one.0 seat program.1 one.1 found }
+
+  module _ (k : ℕ) (seat : Seat) (found : slice_get seats k ≡ Some seat) where
+    f : IsAt k seat
+    f = at_seat k seat found
+
+    d : ℕ
+    d = length m0.octets + k * page
+
+    layout : Layout
+    layout = f.program.layout
+
+    within : k < length programs
+    within = slice_get_within programs k f.program f.at_program
+
+    columns_are : AllByRecursion (IsColumnIn tables) layout.columns
+    columns_are = all-get (λ (program : Program). AllByRecursion (IsColumnIn tables) program.layout.columns) programs k f.program f.at_program in_tables
+
+    limits_are : AreLimits f.one
+    limits_are = all-get AreLimits limits k f.one f.at_limits are_limits
+
+    ready : IsReady layout seat.placed.items (rows_in_tables tables) d f.one.pages m.octets
+    ready =
+        let total : f.one.pages + length limits ≤ limit_pages limits + 1 = limit_pages-one limits k f.one f.at_limits are_limits in
+        let start : 64 ≤ tables_end columns_start tables = tables-end-above columns_start tables in
+        record {
+          octets = octets octets0;
+          whole = omega (arith, size);
+          room = omega (arith, size, total, many_limits, fits, limits_are.some_pages);
+          many = placed-many (map_of tables) layout.columns seat.placed.items f.is.placed;
+          columns = λ j used one at_used at_placed.
+              let place = placed-get (map_of tables) layout.columns seat.placed.items f.is.placed j used one at_used at_placed in
+              let column = all-get (IsColumnIn tables) layout.columns j used at_used columns_are in
+              let table = has-table (map_of tables) used one place in
+              ready-column tables m.octets d used one table.columns column.0 column.1 column.2 column.3 column.4 column.5 table.table table.column loaded holds
+              (all-weaker (λ (area : Area). (columns_start ≤ area.start) × (area.start + area.size ≤ tables_end columns_start tables))
+              (λ (area : Area). (64 ≤ area.start) × (area.start + area.size ≤ d))
+              (λ area h. (h.0, omega (arith, h.1, pages-reach tables, len0))) (areas_of used.ty used.not_null one) (lies-between tables used one place column));
+          behind = omega (arith, start, pages-reach tables, len0);
+          small = f.is.small;
+          inside = omega (arith, len, within);
+          fresh = f.is.fresh;
+        }
+
+    same : instance_of seat ≡ starting f.is.number (task_of seat)
+    same =
+        let module' : Module = seat.instance.program in
+        let from : State = begun module' f.is.number seat.descriptor in
+        let world : World = first_world seat.layout seat.placed.items seat.descriptor seat.limits.pages in
+        let first_page : Area = record { start = seat.descriptor; size = page } in
+        let state_is : state_in seat ≡ from =
+        f.is.state_is ∙ ap (λ (x : Module). begun x f.is.number d) (sym f.is.module_is) ∙ ap (begun module' f.is.number) (sym f.is.descriptor_is) in
+        let world_is : world_of seat ≡ world =
+        ap (λ (granted : List Grant). record { mapped = column_areas seat.layout.columns seat.placed.items; own = first_page ∷ map area_of granted; held = seat.held; limit = seat.limits.pages; refused = seat.refused }) f.is.granted
+        ∙ ap (λ (n : ℕ). record world { held = n; refused = seat.refused }) f.is.held
+        ∙ ap (λ (o : Option ℕ). record world { refused = o }) f.is.refused in
+        let steps : 1 ≤ seat.limits.steps = rw f.is.limits_are limits_are.some_steps in
+        let end_is : end_of seat.ended ≡ end_at from world 0 seat.limits.steps =
+        end-first seat from seat.ended world seat.limits.steps steps (not-raised from (begun-is module' f.is.number seat.descriptor))
+        (subst (λ (s : State). IsEndOf seat s seat.ended) state_is f.is.end) in
+        ap (λ (e : Option End). record { state = state_in seat; world = world_of seat; most_steps = seat.limits.steps; ran = seat.ran; end = e }) end_is
+        ∙ ap (λ (s : State). record { state = s; world = world_of seat; most_steps = seat.limits.steps; ran = seat.ran; end = end_at from world 0 seat.limits.steps }) state_is
+        ∙ ap (λ (w : World). record { state = from; world = w; most_steps = seat.limits.steps; ran = seat.ran; end = end_at from world 0 seat.limits.steps }) world_is
+        ∙ ap (λ (n : ℕ). record { state = from; world = world; most_steps = seat.limits.steps; ran = n; end = end_at from world 0 seat.limits.steps }) f.is.ran
+
+    starts : IsStarting tables m.octets (task_of seat) (instance_of seat)
+    starts = record {
+      behaves = rw (f.is.layout_is, f.is.module_is) f.is.behaves;
+      columns = rw f.is.layout_is columns_are;
+      placed = rw f.is.layout_is f.is.placed;
+      number = f.is.number;
+      shaped = rw f.is.module_is f.is.shaped;
+      ready = rw (f.is.layout_is, f.is.limits_are, f.is.descriptor_is) ready;
+      may_hold = rw f.is.limits_are limits_are.some_pages;
+      may_run = rw f.is.limits_are limits_are.some_steps;
+      instance = same;
+    }
+
+    descriptor : seat.descriptor ≡ (column_pages tables + k) * page
+    descriptor = omega (arith, f.is.descriptor_is, len0)
+
+    program-is : (task_of seat).program ≡ f.program
+    program-is = rw (f.is.layout_is, f.is.module_is) refl
+
+    grants : HasGrants seat
+    grants = record {
+      counted = let none : length seat.granted.items ≡ 0 = ap length f.is.granted in omega (arith, none, f.is.held);
+      held = let pages : seat.limits.pages ≡ f.one.pages = ap (λ (l : Limits). l.pages) f.is.limits_are in omega (arith, pages, f.is.held, limits_are.some_pages);
+      room = rw f.is.limits_are f.is.room;
+    }
+
+  asks : may_ask (map instance_of seats) + length seats ≡ limit_pages limits
+  asks = asks-first limits seats (first.many ∙ sym many_limits) are_limits
+      (λ k one seat at_limits found.
+      let f = at_seat k seat found in
+      (f.is.limits_are ∙ same_Some f.one one (sym f.at_limits ∙ at_limits), f.is.held))
+
+  pub tasks : AreTasksOf programs limits (map task_of seats)
+  tasks = tasks-of programs limits seats first.many many_limits
+      (λ k program one seat at_program at_limits found.
+      let f = at_seat k seat found in
+      (program-is k seat found ∙ same_Some f.program program (sym f.at_program ∙ at_program), f.is.limits_are ∙ same_Some f.one one (sym f.at_limits ∙ at_limits)))
+
+  -- a task and its instance are those of one seat
+  seat-of : (k : ℕ) (t : Task) → slice_get (map task_of seats) k ≡ Some t → (seat : Seat) × (slice_get seats k ≡ Some seat) × (task_of seat ≡ t)
+  seat-of k t found =
+      let within : k < length seats = omega (arith, slice_get_within (map task_of seats) k t found, length-map seats task_of) in
+      let seat = there seats k within in
+      let found_seat = slice_get-map task_of seats k ∙ ap (option_map task_of) seat.1 in
+      (seat.0, seat.1, same_Some (task_of seat.0) t (sym found_seat ∙ found))
+
+  instance-found : (k : ℕ) (seat : Seat) → slice_get seats k ≡ Some seat → slice_get (map instance_of seats) k ≡ Some (instance_of seat)
+  instance-found k seat found = slice_get-map instance_of seats k ∙ ap (option_map instance_of) found
+
+  pub start : IsStart tables (map task_of seats) (standing_of m seats).shared
+  start = record {
+    octets = octets octets0;
+    many = length-map seats instance_of ∙ sym (length-map seats task_of);
+    starting = λ k t i task found.
+        let seat = seat-of k t task in
+        let is : instance_of seat.0 ≡ i = same_Some (instance_of seat.0) i (sym (instance-found k seat.0 seat.1) ∙ found) in
+        subst (λ (x : Task). IsStarting tables m.octets x i) seat.2 (subst (IsStarting tables m.octets (task_of seat.0)) is (starts k seat.0 seat.1));
+    descriptors = λ k t task.
+        let seat = seat-of k t task in
+        subst (λ (x : Task). x.descriptor ≡ (column_pages tables + k) * page) seat.2 (descriptor k seat.0 seat.1);
+    room = omega (arith, size, asks, first.many, fits);
+    table = holds;
+    size = let all : length (map task_of seats) ≡ length seats = length-map seats task_of in omega (arith, size, all, first.many);
+  }
+
+  pub bench : AreSeats m seats
+  bench = record {
+    bench = record {
+      tables = tables;
+      serving = start-serving tables (map task_of seats) (standing_of m seats).shared start;
+      room = omega (arith, size, asks, first.many, reserved);
+    };
+    grants = λ k other within. grants k (get_or seats k other) (slice_get-get_or seats k other within);
+  }
