@@ -1,2 +1,5 @@
+mod ColumnFacts
 mod PlaceLemmas
 mod RoomLemmas
+mod TableFacts
+mod WriteLemmas

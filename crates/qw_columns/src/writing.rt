@@ -1,10 +1,11 @@
 //! Columns, written part by part. Each function leaves what stands below its part as it was.
 
-ghost use Rattle.std.specs.Prelude.{◌≡◌, ◌≤◌, ◌<◌, ◌+◌, ◌*◌, ◌/◌, ◌^◌, ◌⊎◌, ℕ, Some, length, slice_get};
+ghost use Rattle.std.specs.Prelude.{◌≡◌, ◌≤◌, ◌<◌, ◌+◌, ◌*◌, ◌/◌, ◌^◌, ◌⊎◌, ◌++◌, take, drop, ℕ, Some, length, slice_get};
+ghost use Rattle.qw_types.specs.Contents.{AreLoaded};
 ghost use Rattle.qw_types.specs.Value.{text_octets};
 ghost use Rattle.qw_types.specs.declared.schema.ColumnType.{ColumnType};
 ghost use Rattle.qw_csv.specs.Field.{val_of};
-ghost use Rattle.qw_linear.specs.Memory.{with_number};
+ghost use Rattle.qw_linear.specs.Memory.{AreOctets, with_number};
 ghost use Rattle.std.specs.Int.{cast_unsigned, w64};
 ghost use Rattle.qw_map.specs.Columns.{HoldsColumn, HoldsTable, column_end, column_values, columns_end, placed_at, placed_columns};
 ghost use Rattle.qw_columns.specs.Inner.Writing.{HasNulls, HasNumbers, HasStarts, HasTexts, HasValues, KeepsBelow, flags_from, is_null, number_in, width_of};
@@ -30,6 +31,7 @@ pub(crate) fn write_table(loaded: &Loaded, placed: &[Placed], memory: &mut Linea
 
 /// Writes a column.
 fn write_column(loaded: &Loaded, column: usize, placed: &Placed, memory: &mut Linear)
+    requires loaded { AreLoaded loaded.now }
     requires column { column < length loaded.now.columns }
     requires placed { (type : ColumnType) → slice_get loaded.now.columns column ≡ Some type
         → placed.now ≡ placed_at placed.now.values type.ty (column_values loaded.now.rows column) }
@@ -151,9 +153,18 @@ fn write_texts(loaded: &Loaded, column: usize, at: u64, memory: &mut Linear)
     let mut end = at;
     for row in 0..loaded.len() {
         let text = text_of(loaded.cell(row, column));
-        memory.copy_in(end, text).unwrap();
+        copy_text(memory, end, text);
         end += text.len() as u64;
     }
+}
+
+/// Copies the octets of a text to an address.
+fn copy_text(memory: &mut Linear, at: u64, text: &[u8])
+    requires { at + length text.now ≤ length memory.old.octets }
+    ensures copied { memory.new ≡ record { octets = take at memory.old.octets ++ text.now ++ drop (at + length text.now) memory.old.octets; reserved = memory.old.reserved } }
+    ensures octets { AreOctets text.now }
+{
+    memory.copy_in(at, text).unwrap();
 }
 
 /// Writes the null bits of a column from an address on.

@@ -1,0 +1,14 @@
+use Rattle.std.proofs.Common.{◌≡◌, ◌<◌, ℕ, Some}
+use Rattle.std.specs.Prelude.{slice_get}
+use Rattle.qw_types.specs.declared.schema.ColumnType.{ColumnType}
+use Rattle.qw_map.specs.Columns.{HoldsColumn, column_values, placed_columns}
+use Rattle.qw_map.specs.declared.layout.Placed.{Placed}
+use Rattle.qw_columns.specs.Inner.Writing.{KeepsBelow}
+use Rattle.qw_columns.proofs.TableFacts.{HoldsColumns}
+use Rattle.qw_columns.proofs.writing.write_table.Given as goal
+
+abbrev pub invariant-loop-column : goal.invariant-loop-column
+invariant-loop-column l = record {
+  holds : HoldsColumns l.memory.octets l.placed l.loaded l.column;
+  keeps : (at : ℕ) → l.placed ≡ placed_columns at l.loaded.columns 0 l.loaded.rows → KeepsBelow l.fn.memory l.memory at;
+}
