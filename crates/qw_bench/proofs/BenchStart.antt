@@ -107,6 +107,74 @@ asks-first (one ∷ limits) (seat ∷ seats) many are each =
     asks-first limits seats fewer are.1 (λ k l s at_l at_s. each (suc k) l s at_l at_s) in
     omega (arith, pages, some, rest, first.1)
 
+-- ---- one seat as it begins, at an address behind the columns, in a memory that holds them
+module _ (tables : List Contents) (memory : List ℕ) (program : Program) (one : Limits) (seat : Seat) (d : ℕ) (is : IsFirstSeat (map_of tables) memory d program one seat)
+    (loaded : AllByRecursion AreLoaded tables) (columns : AllByRecursion (IsColumnIn tables) program.layout.columns) (limits : AreLimits one) where
+  ready : AreOctets memory → Holds (map_of tables) memory tables → (pages : ℕ) → length memory ≡ pages * page → pages + (one.pages - 1) ≤ 65535 →
+      column_pages tables * page ≤ d → d + page ≤ length memory → IsReady program.layout seat.placed.items (rows_in_tables tables) d one.pages memory
+  ready octets holds pages size room behind inside = record {
+    octets = octets;
+    whole = omega (arith, size);
+    room = omega (arith, size, room);
+    many = placed-many (map_of tables) program.layout.columns seat.placed.items is.placed;
+    columns = λ j used one at_used at_placed.
+        let place = placed-get (map_of tables) program.layout.columns seat.placed.items is.placed j used one at_used at_placed in
+        let column = all-get (IsColumnIn tables) program.layout.columns j used at_used columns in
+        let table = has-table (map_of tables) used one place in
+        ready-column tables memory d used one table.columns column.0 column.1 column.2 column.3 column.4 column.5 table.table table.column loaded holds
+        (all-weaker (λ (area : Area). (columns_start ≤ area.start) × (area.start + area.size ≤ tables_end columns_start tables))
+        (λ (area : Area). (64 ≤ area.start) × (area.start + area.size ≤ d))
+        (λ area h. (h.0, omega (arith, h.1, pages-reach tables, behind))) (areas_of used.ty used.not_null one) (lies-between tables used one place column));
+    behind = let start : 64 ≤ tables_end columns_start tables = tables-end-above columns_start tables in omega (arith, start, pages-reach tables, behind);
+    small = is.small;
+    inside = inside;
+    fresh = is.fresh;
+  }
+
+  same : instance_of seat ≡ starting is.number (task_of seat)
+  same =
+      let module' : Module = seat.instance.program in
+      let from : State = begun module' is.number seat.descriptor in
+      let world : World = first_world seat.layout seat.placed.items seat.descriptor seat.limits.pages in
+      let first_page : Area = record { start = seat.descriptor; size = page } in
+      let state_is : state_in seat ≡ from =
+      is.state_is ∙ ap (λ (x : Module). begun x is.number d) (sym is.module_is) ∙ ap (begun module' is.number) (sym is.descriptor_is) in
+      let world_is : world_of seat ≡ world =
+      ap (λ (granted : List Grant). record { mapped = column_areas seat.layout.columns seat.placed.items; own = first_page ∷ map area_of granted; held = seat.held; limit = seat.limits.pages; refused = seat.refused }) is.granted
+      ∙ ap (λ (n : ℕ). record world { held = n; refused = seat.refused }) is.held
+      ∙ ap (λ (o : Option ℕ). record world { refused = o }) is.refused in
+      let steps : 1 ≤ seat.limits.steps = rw is.limits_are limits.some_steps in
+      let end_is : end_of seat.ended ≡ end_at from world 0 seat.limits.steps =
+      end-first seat from seat.ended world seat.limits.steps steps (not-raised from (begun-is module' is.number seat.descriptor))
+      (subst (λ (s : State). IsEndOf seat s seat.ended) state_is is.end) in
+      ap (λ (e : Option End). record { state = state_in seat; world = world_of seat; most_steps = seat.limits.steps; ran = seat.ran; end = e }) end_is
+      ∙ ap (λ (s : State). record { state = s; world = world_of seat; most_steps = seat.limits.steps; ran = seat.ran; end = end_at from world 0 seat.limits.steps }) state_is
+      ∙ ap (λ (w : World). record { state = from; world = w; most_steps = seat.limits.steps; ran = seat.ran; end = end_at from world 0 seat.limits.steps }) world_is
+      ∙ ap (λ (n : ℕ). record { state = from; world = world; most_steps = seat.limits.steps; ran = n; end = end_at from world 0 seat.limits.steps }) is.ran
+
+  starts : IsReady program.layout seat.placed.items (rows_in_tables tables) d one.pages memory → IsStarting tables memory (task_of seat) (instance_of seat)
+  starts is_ready = record {
+    behaves = rw (is.layout_is, is.module_is) is.behaves;
+    columns = rw is.layout_is columns;
+    placed = rw is.layout_is is.placed;
+    number = is.number;
+    shaped = rw is.module_is is.shaped;
+    ready = rw (is.layout_is, is.limits_are, is.descriptor_is) is_ready;
+    may_hold = rw is.limits_are limits.some_pages;
+    may_run = rw is.limits_are limits.some_steps;
+    instance = same;
+  }
+
+  program-is : (task_of seat).program ≡ program
+  program-is = rw (is.layout_is, is.module_is) refl
+
+  grants : HasGrants seat
+  grants = record {
+    counted = let none : length seat.granted.items ≡ 0 = ap length is.granted in omega (arith, none, is.held);
+    held = let pages : seat.limits.pages ≡ one.pages = ap (λ (l : Limits). l.pages) is.limits_are in omega (arith, pages, is.held, limits.some_pages);
+    room = rw is.limits_are is.room;
+  }
+
 -- ---- the start
 module _ (tables : List Contents) (programs : List Program) (limits : List Limits) (m0 m : Octets) (seats : List Seat)
     (loaded : AllByRecursion AreLoaded tables) (in_tables : AllByRecursion (λ (program : Program). AllByRecursion (IsColumnIn tables) program.layout.columns) programs)
@@ -137,93 +205,37 @@ module _ (tables : List Contents) (programs : List Program) (limits : List Limit
       record { program = program.0; one = one.0; at_program = program.1; at_limits = one.1; is = first.each k program.0 one.0 seat program.1 one.1 found }
 
   module _ (k : ℕ) (seat : Seat) (found : slice_get seats k ≡ Some seat) where
-    f : IsAt k seat
-    f = at_seat k seat found
-
-    d : ℕ
-    d = length m0.octets + k * page
-
-    layout : Layout
-    layout = f.program.layout
-
-    within : k < length programs
-    within = slice_get_within programs k f.program f.at_program
-
-    columns_are : AllByRecursion (IsColumnIn tables) layout.columns
-    columns_are = all-get (λ (program : Program). AllByRecursion (IsColumnIn tables) program.layout.columns) programs k f.program f.at_program in_tables
-
-    limits_are : AreLimits f.one
-    limits_are = all-get AreLimits limits k f.one f.at_limits are_limits
-
-    ready : IsReady layout seat.placed.items (rows_in_tables tables) d f.one.pages m.octets
-    ready =
+    starts-at : IsStarting tables m.octets (task_of seat) (instance_of seat)
+    starts-at =
+        let f = at_seat k seat found in
+        let within : k < length programs = slice_get_within programs k f.program f.at_program in
+        let are : AreLimits f.one = all-get AreLimits limits k f.one f.at_limits are_limits in
+        let columns = all-get (λ (program : Program). AllByRecursion (IsColumnIn tables) program.layout.columns) programs k f.program f.at_program in_tables in
         let total : f.one.pages + length limits ≤ limit_pages limits + 1 = limit_pages-one limits k f.one f.at_limits are_limits in
-        let start : 64 ≤ tables_end columns_start tables = tables-end-above columns_start tables in
-        record {
-          octets = octets octets0;
-          whole = omega (arith, size);
-          room = omega (arith, size, total, many_limits, fits, limits_are.some_pages);
-          many = placed-many (map_of tables) layout.columns seat.placed.items f.is.placed;
-          columns = λ j used one at_used at_placed.
-              let place = placed-get (map_of tables) layout.columns seat.placed.items f.is.placed j used one at_used at_placed in
-              let column = all-get (IsColumnIn tables) layout.columns j used at_used columns_are in
-              let table = has-table (map_of tables) used one place in
-              ready-column tables m.octets d used one table.columns column.0 column.1 column.2 column.3 column.4 column.5 table.table table.column loaded holds
-              (all-weaker (λ (area : Area). (columns_start ≤ area.start) × (area.start + area.size ≤ tables_end columns_start tables))
-              (λ (area : Area). (64 ≤ area.start) × (area.start + area.size ≤ d))
-              (λ area h. (h.0, omega (arith, h.1, pages-reach tables, len0))) (areas_of used.ty used.not_null one) (lies-between tables used one place column));
-          behind = omega (arith, start, pages-reach tables, len0);
-          small = f.is.small;
-          inside = omega (arith, len, within);
-          fresh = f.is.fresh;
-        }
+        let some : 1 ≤ f.one.pages = are.some_pages in
+        let d : ℕ = length m0.octets + k * page in
+        let low : column_pages tables * page ≤ d = omega (arith, len0) in
+        let high : d + page ≤ length m.octets = omega (arith, len, within) in
+        let room : column_pages tables + length programs + (f.one.pages - 1) ≤ 65535 = omega (arith, total, many_limits, fits, some) in
+        starts tables m.octets f.program f.one seat d f.is loaded columns are
+        (ready tables m.octets f.program f.one seat d f.is loaded columns are (octets octets0) holds (column_pages tables + length programs) size room low high)
 
-    same : instance_of seat ≡ starting f.is.number (task_of seat)
-    same =
-        let module' : Module = seat.instance.program in
-        let from : State = begun module' f.is.number seat.descriptor in
-        let world : World = first_world seat.layout seat.placed.items seat.descriptor seat.limits.pages in
-        let first_page : Area = record { start = seat.descriptor; size = page } in
-        let state_is : state_in seat ≡ from =
-        f.is.state_is ∙ ap (λ (x : Module). begun x f.is.number d) (sym f.is.module_is) ∙ ap (begun module' f.is.number) (sym f.is.descriptor_is) in
-        let world_is : world_of seat ≡ world =
-        ap (λ (granted : List Grant). record { mapped = column_areas seat.layout.columns seat.placed.items; own = first_page ∷ map area_of granted; held = seat.held; limit = seat.limits.pages; refused = seat.refused }) f.is.granted
-        ∙ ap (λ (n : ℕ). record world { held = n; refused = seat.refused }) f.is.held
-        ∙ ap (λ (o : Option ℕ). record world { refused = o }) f.is.refused in
-        let steps : 1 ≤ seat.limits.steps = rw f.is.limits_are limits_are.some_steps in
-        let end_is : end_of seat.ended ≡ end_at from world 0 seat.limits.steps =
-        end-first seat from seat.ended world seat.limits.steps steps (not-raised from (begun-is module' f.is.number seat.descriptor))
-        (subst (λ (s : State). IsEndOf seat s seat.ended) state_is f.is.end) in
-        ap (λ (e : Option End). record { state = state_in seat; world = world_of seat; most_steps = seat.limits.steps; ran = seat.ran; end = e }) end_is
-        ∙ ap (λ (s : State). record { state = s; world = world_of seat; most_steps = seat.limits.steps; ran = seat.ran; end = end_at from world 0 seat.limits.steps }) state_is
-        ∙ ap (λ (w : World). record { state = from; world = w; most_steps = seat.limits.steps; ran = seat.ran; end = end_at from world 0 seat.limits.steps }) world_is
-        ∙ ap (λ (n : ℕ). record { state = from; world = world; most_steps = seat.limits.steps; ran = n; end = end_at from world 0 seat.limits.steps }) f.is.ran
+    program-at : (task_of seat).program ≡ (at_seat k seat found).program
+    program-at =
+        let f = at_seat k seat found in
+        let are : AreLimits f.one = all-get AreLimits limits k f.one f.at_limits are_limits in
+        let columns = all-get (λ (program : Program). AllByRecursion (IsColumnIn tables) program.layout.columns) programs k f.program f.at_program in_tables in
+        program-is tables m.octets f.program f.one seat (length m0.octets + k * page) f.is loaded columns are
 
-    starts : IsStarting tables m.octets (task_of seat) (instance_of seat)
-    starts = record {
-      behaves = rw (f.is.layout_is, f.is.module_is) f.is.behaves;
-      columns = rw f.is.layout_is columns_are;
-      placed = rw f.is.layout_is f.is.placed;
-      number = f.is.number;
-      shaped = rw f.is.module_is f.is.shaped;
-      ready = rw (f.is.layout_is, f.is.limits_are, f.is.descriptor_is) ready;
-      may_hold = rw f.is.limits_are limits_are.some_pages;
-      may_run = rw f.is.limits_are limits_are.some_steps;
-      instance = same;
-    }
+    grants-at : HasGrants seat
+    grants-at =
+        let f = at_seat k seat found in
+        let are : AreLimits f.one = all-get AreLimits limits k f.one f.at_limits are_limits in
+        let columns = all-get (λ (program : Program). AllByRecursion (IsColumnIn tables) program.layout.columns) programs k f.program f.at_program in_tables in
+        grants tables m.octets f.program f.one seat (length m0.octets + k * page) f.is loaded columns are
 
     descriptor : seat.descriptor ≡ (column_pages tables + k) * page
-    descriptor = omega (arith, f.is.descriptor_is, len0)
-
-    program-is : (task_of seat).program ≡ f.program
-    program-is = rw (f.is.layout_is, f.is.module_is) refl
-
-    grants : HasGrants seat
-    grants = record {
-      counted = let none : length seat.granted.items ≡ 0 = ap length f.is.granted in omega (arith, none, f.is.held);
-      held = let pages : seat.limits.pages ≡ f.one.pages = ap (λ (l : Limits). l.pages) f.is.limits_are in omega (arith, pages, f.is.held, limits_are.some_pages);
-      room = rw f.is.limits_are f.is.room;
-    }
+    descriptor = let f = at_seat k seat found in omega (arith, f.is.descriptor_is, len0)
 
   asks : may_ask (map instance_of seats) + length seats ≡ limit_pages limits
   asks = asks-first limits seats (first.many ∙ sym many_limits) are_limits
@@ -235,7 +247,7 @@ module _ (tables : List Contents) (programs : List Program) (limits : List Limit
   tasks = tasks-of programs limits seats first.many many_limits
       (λ k program one seat at_program at_limits found.
       let f = at_seat k seat found in
-      (program-is k seat found ∙ same_Some f.program program (sym f.at_program ∙ at_program), f.is.limits_are ∙ same_Some f.one one (sym f.at_limits ∙ at_limits)))
+      (program-at k seat found ∙ same_Some f.program program (sym f.at_program ∙ at_program), f.is.limits_are ∙ same_Some f.one one (sym f.at_limits ∙ at_limits)))
 
   -- a task and its instance are those of one seat
   seat-of : (k : ℕ) (t : Task) → slice_get (map task_of seats) k ≡ Some t → (seat : Seat) × (slice_get seats k ≡ Some seat) × (task_of seat ≡ t)
@@ -255,7 +267,7 @@ module _ (tables : List Contents) (programs : List Program) (limits : List Limit
     starting = λ k t i task found.
         let seat = seat-of k t task in
         let is : instance_of seat.0 ≡ i = same_Some (instance_of seat.0) i (sym (instance-found k seat.0 seat.1) ∙ found) in
-        subst (λ (x : Task). IsStarting tables m.octets x i) seat.2 (subst (IsStarting tables m.octets (task_of seat.0)) is (starts k seat.0 seat.1));
+        subst (λ (x : Task). IsStarting tables m.octets x i) seat.2 (subst (IsStarting tables m.octets (task_of seat.0)) is (starts-at k seat.0 seat.1));
     descriptors = λ k t task.
         let seat = seat-of k t task in
         subst (λ (x : Task). x.descriptor ≡ (column_pages tables + k) * page) seat.2 (descriptor k seat.0 seat.1);
@@ -271,5 +283,5 @@ module _ (tables : List Contents) (programs : List Program) (limits : List Limit
       serving = start-serving tables (map task_of seats) (standing_of m seats).shared start;
       room = omega (arith, size, asks, first.many, reserved);
     };
-    grants = λ k other within. grants k (get_or seats k other) (slice_get-get_or seats k other within);
+    grants = λ k other within. grants-at k (get_or seats k other) (slice_get-get_or seats k other within);
   }

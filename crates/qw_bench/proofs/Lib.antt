@@ -4,6 +4,7 @@ mod FirstPages
 mod FirstSeatLemmas
 mod LayoutLemmas
 mod LimitLemmas
+mod MapLemmas
 mod Rounds
 mod SeatRuns
 mod SeatSteps

@@ -15,7 +15,7 @@ use Rattle.qw_map.specs.Columns.{Holds, HoldsColumn, HoldsTable, areas_of, colum
 use Rattle.qw_map.specs.declared.layout.Placed.{Placed}
 use Rattle.qw_map.proofs.AccessLemmas.{lies-within}
 use Rattle.qw_map.proofs.ColumnLemmas.{LieBetween, column-kept, columns-end-above, placed-between, tables-end-above}
-use Rattle.qw_columns.proofs.PlaceLemmas.{columns_end-more, length-placed_columns, placed_columns-at, placed_tables-at, tables_end-more}
+use Rattle.qw_columns.proofs.PlaceLemmas.{columns_end-more, length-placed_columns, length-placed_tables, placed_columns-at, placed_tables-at, tables_end-more}
 
 -- ---- one after another
 
@@ -129,3 +129,51 @@ columns_all memory at placed table count all is first = record {
   each = λ k column one found there.
       first.each k column one (let inside = slice_get_within table.columns k column found in omega (arith, inside, all)) found there;
 }
+
+-- ---- one more table
+
+-- what the map of tables says of one of them
+pub columns_of : (tables : List Contents) (map : List (List Placed)) (k : ℕ) (table : Contents) → map ≡ map_of tables → slice_get tables k ≡ Some table
+    → slice_get map k ≡ Some (placed_columns (tables_end columns_start (take k tables)) table.columns 0 table.rows)
+columns_of tables map k table is found = rw (is) (placed_tables-at columns_start tables k table found)
+
+-- the first tables are held
+pub record HoldsTables (map : List (List Placed)) (memory : List ℕ) (tables : List Contents) (count : ℕ) : Type 0 where
+  pub each : (k : ℕ) (table : Contents) (columns : List Placed) → k < count → slice_get tables k ≡ Some table → slice_get map k ≡ Some columns
+      → HoldsTable memory columns table
+
+pub tables_none : (map : List (List Placed)) (memory : List ℕ) (tables : List Contents) → HoldsTables map memory tables 0
+tables_none map memory tables = record { each = λ k table columns lt found there. absurd (omega arith) }
+
+pub tables_more : (before after : List ℕ) (map : List (List Placed)) (tables : List Contents) (count : ℕ) → SameBelow before after (tables_end columns_start (take count tables))
+    → length before ≤ length after → map ≡ map_of tables → HoldsTables map before tables count
+    → ((table : Contents) (columns : List Placed) → slice_get tables count ≡ Some table → slice_get map count ≡ Some columns → HoldsTable after columns table)
+    → HoldsTables map after tables (suc count)
+tables_more before after map tables count same longer is first last = record { each = each }
+  where
+    at_last : (k : ℕ) (table : Contents) (columns : List Placed) → k ≡ count → slice_get tables k ≡ Some table → slice_get map k ≡ Some columns → HoldsTable after columns table
+    at_last k table columns same_k found there = last table columns (rw same_k at found) (rw same_k at there)
+
+    each : (k : ℕ) (table : Contents) (columns : List Placed) → k < suc count → slice_get tables k ≡ Some table → slice_get map k ≡ Some columns → HoldsTable after columns table
+    each k table columns lt found there = ⊎_elim
+        (λ (earlier : k < count).
+        let here = columns_of tables map k table is found in
+        let this : columns ≡ placed_columns (tables_end columns_start (take k tables)) table.columns 0 table.rows = cc (there, here) in
+        let end = tables_end-more columns_start tables k table found in
+        let within = tables_end-rises columns_start tables (suc k) count earlier in
+        table_stays before after (tables_end columns_start (take count tables)) (tables_end columns_start (take k tables)) columns table same longer this
+        (omega (arith, end, within)) (first.each k table columns earlier found there))
+        (λ (past : count ≤ k). at_last k table columns (omega arith) found there)
+        (cases_lt k count)
+
+pub tables_all : (map : List (List Placed)) (memory : List ℕ) (tables : List Contents) (count : ℕ) → length tables ≤ count → map ≡ map_of tables
+    → HoldsTables map memory tables count → Holds (map_of tables) memory tables
+tables_all map memory tables count all is first = record {
+  many = length-placed_tables columns_start tables;
+  each = λ k table columns found there.
+      first.each k table columns (let inside = slice_get_within tables k table found in omega (arith, inside, all)) found (rw (is) there);
+}
+
+pub stands_of : (tables : List Contents) (map : List (List Placed)) (k : ℕ) (table : Contents) (columns : List Placed) → map ≡ map_of tables → slice_get tables k ≡ Some table
+    → slice_get map k ≡ Some columns → columns ≡ placed_columns (tables_end columns_start (take k tables)) table.columns 0 table.rows
+stands_of tables map k table columns is found there = let here = columns_of tables map k table is found in cc (there, here)

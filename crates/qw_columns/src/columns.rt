@@ -29,6 +29,10 @@ pub enum PlaceFault {
 }
 
 impl From<NoMemory> for PlaceFault {
+    ghost use Rattle.qw_columns.specs.declared.columns.PlaceFault.TheVariants.{NoMemory};
+
+    ghost from_gives = { λ _ fault. fault ≡ NoMemory };
+
     fn from(_e: NoMemory) -> PlaceFault {
         PlaceFault::NoMemory
     }

@@ -1,0 +1,60 @@
+use Rattle.std.proofs.Common.{◌≡◌, ℕ, ◌+◌, ◌*◌, ◌≤◌, List, length, sym, ap, ◌∙◌, subst, arith}
+use Rattle.std.specs.List.{AllByRecursion}
+use Rattle.qw_linear.specs.Linear.{Octets}
+use Rattle.qw_map.specs.Columns.{map_of}
+use Rattle.qw_map.specs.declared.layout.Placed.{Placed}
+use Rattle.qw_bench.specs.Bench.{Program}
+use Rattle.qw_bench.specs.Standing.{total_pages}
+use Rattle.qw_bench.specs.Inner.FirstSeats.{AreFirstSeats, AreInMap, IsAddressable}
+use Rattle.qw_bench.proofs.BenchStart.{bench, start, tasks}
+use Rattle.qw_bench.proofs.LimitLemmas.{limit_pages-each}
+use Rattle.qw_bench.proofs.MapLemmas.{addressable, all-in-map}
+use Rattle.qw_bench.proofs.bench.Bench.begin.Goals as goal
+use Rattle.qw_bench.proofs.bench.Bench.begin.Goals.{In_ok-seats}
+
+pub first_seats-requires-clause-columns : goal.first_seats-requires-clause-columns
+first_seats-requires-clause-columns c =
+    subst (λ (map : List (List Placed)). AllByRecursion (λ (program : Program). AreInMap map program.layout.columns) c.args.jobs.items) (sym c.in_ok-map.ensures.placed)
+    (all-in-map c.args.loaded.now c.place_all.new.memory.octets c.in_ok-map.ensures.holds c.args.jobs.items c.requires.columns)
+
+pub first_seats-requires-clause-addresses : goal.first_seats-requires-clause-addresses
+first_seats-requires-clause-addresses c =
+    subst IsAddressable (sym c.in_ok-map.ensures.placed)
+    (addressable c.args.loaded.now c.place_all.new.memory.octets c.in_ok-map.ensures.holds c.in_ok-map.ensures.loaded (omega (arith, c.requires.pages.0, c.requires.pages.1)))
+
+pub first_seats-requires-clause-room : goal.first_seats-requires-clause-room
+first_seats-requires-clause-room c =
+    let reserved = ap (λ (m : Octets). m.reserved) c.in_ok-memory.ensures in
+    omega (arith, c.in_ok-map.ensures.len, c.place_all.ensures.reserved, reserved, c.requires.pages.0, c.requires.many, limit_pages-each c.args.limits.now c.requires.limits)
+
+-- ---- the bench
+first : (c : goal.In_ok-seats) →
+    AreFirstSeats (map_of c.args.loaded.now) c.first_seats.new.memory.octets (length c.place_all.new.memory.octets) c.args.jobs.items c.args.limits.now c.in_ok-seats.seats.items
+first c = subst (λ (map : List (List Placed)). AreFirstSeats map c.first_seats.new.memory.octets (length c.place_all.new.memory.octets) c.args.jobs.items
+    c.args.limits.now c.in_ok-seats.seats.items) c.in_ok-map.ensures.placed c.in_ok-seats.ensures.seats
+
+fits : (c : goal.In_ok-seats) → total_pages c.args.loaded.now c.args.limits.now ≤ 65535
+fits c = omega (arith, c.requires.pages.0, c.requires.pages.1)
+
+reserved : (c : goal.In_ok-seats) → c.first_seats.new.memory.reserved ≡ total_pages c.args.loaded.now c.args.limits.now
+reserved c =
+    c.first_seats.ensures.reserved ∙ c.place_all.ensures.reserved ∙ ap (λ (m : Octets). m.reserved) c.in_ok-memory.ensures ∙ c.requires.pages.0
+
+pub invariant_of-result : goal.invariant_of-result
+invariant_of-result c = bench c.args.loaded.now c.args.jobs.items c.args.limits.now c.place_all.new.memory c.first_seats.new.memory c.in_ok-seats.seats.items
+    c.in_ok-map.ensures.loaded c.requires.columns c.requires.limits c.requires.many c.in_ok-map.ensures.holds c.in_ok-map.ensures.octets c.in_ok-map.ensures.len
+    (first c) c.in_ok-seats.ensures.below c.in_ok-seats.ensures.octets c.in_ok-seats.ensures.len (fits c) (reserved c)
+
+pub returns-clause-tasks : goal.returns-clause-tasks
+returns-clause-tasks c =
+    let l = (goal.at.returns-clause-tasks c).In_ok-seats in
+    tasks l.args.loaded.now l.args.jobs.items l.args.limits.now l.place_all.new.memory l.first_seats.new.memory l.in_ok-seats.seats.items
+    l.in_ok-map.ensures.loaded l.requires.columns l.requires.limits l.requires.many l.in_ok-map.ensures.holds l.in_ok-map.ensures.octets l.in_ok-map.ensures.len
+    (first l) l.in_ok-seats.ensures.below l.in_ok-seats.ensures.octets l.in_ok-seats.ensures.len (fits l) (reserved l)
+
+pub returns-clause-start : goal.returns-clause-start
+returns-clause-start c =
+    let l = (goal.at.returns-clause-start c).In_ok-seats in
+    start l.args.loaded.now l.args.jobs.items l.args.limits.now l.place_all.new.memory l.first_seats.new.memory l.in_ok-seats.seats.items
+    l.in_ok-map.ensures.loaded l.requires.columns l.requires.limits l.requires.many l.in_ok-map.ensures.holds l.in_ok-map.ensures.octets l.in_ok-map.ensures.len
+    (first l) l.in_ok-seats.ensures.below l.in_ok-seats.ensures.octets l.in_ok-seats.ensures.len (fits l) (reserved l)
