@@ -1,38 +1,36 @@
 -- How a bench begins: its seats are those of instances that are about to begin.
-use Rattle.std.proofs.Common.{◌≡◌, ℕ, zero, suc, ◌+◌, ◌-◌, ◌*◌, ◌<◌, ◌≤◌, List, [], ◌∷◌, length, map, get_or, Option, Some, None, slice_get, refl, sym, ap, ◌∙◌, subst, arith}
-use Rattle.std.specs.Prelude.{slice_index, All}
+use Rattle.std.proofs.Common.{◌≡◌, ℕ, zero, suc, ◌+◌, ◌-◌, ◌*◌, ◌<◌, ◌≤◌, List, [], ◌∷◌, length, map, get_or, Option, Some, slice_get, refl, sym, ap, ◌∙◌, subst, arith}
 use Rattle.std.specs.List.{AllByRecursion, AllZip}
 use Rattle.std.specs.Option.{option_map}
 use Rattle.std.proofs.lemmas.List.{length-map}
-use Rattle.std.proofs.lemmas.Option.{get_or_from_slice_get, none-some, same_Some, slice_get-get_or, slice_get-map, slice_get_within}
+use Rattle.std.proofs.lemmas.Option.{none-some, same_Some, slice_get-get_or, slice_get-map, slice_get_within}
 use Rattle.qw_types.specs.Contents.{AreLoaded, Contents, IsOfColumnType}
-use Rattle.qw_types.specs.Limits.{most_rows}
 use Rattle.qw_types.specs.declared.schema.ColumnType.{ColumnType}
 use Rattle.qw_types.specs.declared.value.Val.{Val}
 use Rattle.qw_linear.specs.Linear.{Octets}
-use Rattle.qw_linear.specs.Memory.{page, pages_of, AreOctets, SameBelow}
+use Rattle.qw_linear.specs.Memory.{page, AreOctets, SameBelow}
 use Rattle.qw_meaning.specs.Flow.{rows_of}
 use Rattle.qw_module.specs.declared.module.Module.{Module}
 use Rattle.qw_module.specs.Execution.{State}
 use Rattle.qw_module.specs.Start.{begun}
 use Rattle.qw_map.specs.Areas.{Area, World}
 use Rattle.qw_map.specs.Columns.{Holds, HoldsColumn, areas_of, column_pages, column_values, columns_start, map_of, tables_end}
-use Rattle.qw_map.specs.Layout.{HasColumn, IsReady, IsReadyColumn, Layout, column_areas, first_world}
-use Rattle.qw_map.specs.Turns.{End, Instance, end_at, may_ask}
+use Rattle.qw_map.specs.Layout.{HasColumn, IsReady, IsReadyColumn, column_areas, first_world}
+use Rattle.qw_map.specs.Turns.{End, end_at, may_ask}
 use Rattle.qw_map.specs.declared.layout.Placed.{Placed}
 use Rattle.qw_map.specs.declared.layout.Used.{Used}
 use Rattle.qw_map.proofs.AreaLemmas.{all-weaker}
 use Rattle.qw_map.proofs.ColumnLemmas.{holds-kept, pages-reach, tables-end-above}
-use Rattle.qw_bench.specs.declared.bench.Ended.{Ended}
+use Rattle.qw_map.proofs.TurnFacts.{found-in}
 use Rattle.qw_bench.specs.declared.bench.Grant.{Grant}
 use Rattle.qw_bench.specs.declared.bench.Limits.{Limits}
 use Rattle.qw_bench.specs.declared.bench.Seat.{Seat}
-use Rattle.qw_bench.specs.Bench.{ArePlaced, IsColumnIn, IsStart, IsStarting, Program, Task, rows_in_tables, starting}
+use Rattle.qw_bench.specs.Bench.{IsColumnIn, IsStart, IsStarting, Program, Task, rows_in_tables, starting}
 use Rattle.qw_bench.specs.Standing.{AreLimits, AreTasksOf, end_of, limit_pages, total_pages}
 use Rattle.qw_bench.specs.Inner.FirstSeats.{AreFirstSeats, IsFirstSeat}
-use Rattle.qw_bench.specs.Inner.Seats.{AreSeats, HasGrants, IsEndOf, area_of, common_of, instance_of, standing_of, state_in, task_of, world_of}
+use Rattle.qw_bench.specs.Inner.Seats.{AreSeats, HasGrants, IsEndOf, area_of, instance_of, standing_of, state_in, task_of, world_of}
 use Rattle.qw_bench.proofs.FirstSeatLemmas.{begun-is, end-first, not-raised}
-use Rattle.qw_bench.proofs.LayoutLemmas.{all-get, get-all, has-table, lies-between, placed-get, placed-many, there}
+use Rattle.qw_bench.proofs.LayoutLemmas.{all-get, has-table, lies-between, placed-get, placed-many}
 use Rattle.qw_bench.proofs.LimitLemmas.{limit_pages-one}
 use Rattle.qw_bench.proofs.Starting.{start-serving}
 
@@ -84,8 +82,7 @@ tasks-of (program ∷ programs) (one ∷ limits) [] many as_many each = absurd (
 tasks-of (program ∷ programs) (one ∷ limits) (seat ∷ seats) many as_many each =
     let first = each 0 program one seat refl refl refl in
     let fewer : length seats ≡ length programs = omega (arith, many) in
-    let as_few : length limits ≡ length programs = omega (arith, as_many) in
-    (
+    let as_few : length limits ≡ length programs = omega (arith, as_many) in (
       first.0,
       ap (λ (l : Limits). l.pages) first.1,
       ap (λ (l : Limits). l.steps) first.1,
@@ -196,43 +193,47 @@ module _ (tables : List Contents) (programs : List Program) (limits : List Limit
     at_program : slice_get programs k ≡ Some program
     at_limits : slice_get limits k ≡ Some one
     is : IsFirstSeat (map_of tables) m.octets (length m0.octets + k * page) program one seat
+    columns : AllByRecursion (IsColumnIn tables) program.layout.columns
+    are : AreLimits one
 
   at_seat : (k : ℕ) (seat : Seat) → slice_get seats k ≡ Some seat → IsAt k seat
   at_seat k seat found =
       let within : k < length programs = omega (arith, slice_get_within seats k seat found, first.many) in
-      let program = there programs k within in
-      let one = there limits k (omega (arith, within, many_limits)) in
-      record { program = program.0; one = one.0; at_program = program.1; at_limits = one.1; is = first.each k program.0 one.0 seat program.1 one.1 found }
+      let program = found-in programs k within in
+      let one = found-in limits k (omega (arith, within, many_limits)) in
+      record {
+        program = program.0;
+        one = one.0;
+        at_program = program.1;
+        at_limits = one.1;
+        is = first.each k program.0 one.0 seat program.1 one.1 found;
+        columns = all-get (λ (p : Program). AllByRecursion (IsColumnIn tables) p.layout.columns) programs k program.0 program.1 in_tables;
+        are = all-get AreLimits limits k one.0 one.1 are_limits;
+      }
 
   module _ (k : ℕ) (seat : Seat) (found : slice_get seats k ≡ Some seat) where
     starts-at : IsStarting tables m.octets (task_of seat) (instance_of seat)
     starts-at =
         let f = at_seat k seat found in
         let within : k < length programs = slice_get_within programs k f.program f.at_program in
-        let are : AreLimits f.one = all-get AreLimits limits k f.one f.at_limits are_limits in
-        let columns = all-get (λ (program : Program). AllByRecursion (IsColumnIn tables) program.layout.columns) programs k f.program f.at_program in_tables in
         let total : f.one.pages + length limits ≤ limit_pages limits + 1 = limit_pages-one limits k f.one f.at_limits are_limits in
-        let some : 1 ≤ f.one.pages = are.some_pages in
+        let some : 1 ≤ f.one.pages = f.are.some_pages in
         let d : ℕ = length m0.octets + k * page in
         let low : column_pages tables * page ≤ d = omega (arith, len0) in
         let high : d + page ≤ length m.octets = omega (arith, len, within) in
         let room : column_pages tables + length programs + (f.one.pages - 1) ≤ 65535 = omega (arith, total, many_limits, fits, some) in
-        starts tables m.octets f.program f.one seat d f.is loaded columns are
-        (ready tables m.octets f.program f.one seat d f.is loaded columns are (octets octets0) holds (column_pages tables + length programs) size room low high)
+        starts tables m.octets f.program f.one seat d f.is loaded f.columns f.are
+        (ready tables m.octets f.program f.one seat d f.is loaded f.columns f.are (octets octets0) holds (column_pages tables + length programs) size room low high)
 
     program-at : (task_of seat).program ≡ (at_seat k seat found).program
     program-at =
         let f = at_seat k seat found in
-        let are : AreLimits f.one = all-get AreLimits limits k f.one f.at_limits are_limits in
-        let columns = all-get (λ (program : Program). AllByRecursion (IsColumnIn tables) program.layout.columns) programs k f.program f.at_program in_tables in
-        program-is tables m.octets f.program f.one seat (length m0.octets + k * page) f.is loaded columns are
+        program-is tables m.octets f.program f.one seat (length m0.octets + k * page) f.is loaded f.columns f.are
 
     grants-at : HasGrants seat
     grants-at =
         let f = at_seat k seat found in
-        let are : AreLimits f.one = all-get AreLimits limits k f.one f.at_limits are_limits in
-        let columns = all-get (λ (program : Program). AllByRecursion (IsColumnIn tables) program.layout.columns) programs k f.program f.at_program in_tables in
-        grants tables m.octets f.program f.one seat (length m0.octets + k * page) f.is loaded columns are
+        grants tables m.octets f.program f.one seat (length m0.octets + k * page) f.is loaded f.columns f.are
 
     descriptor : seat.descriptor ≡ (column_pages tables + k) * page
     descriptor = let f = at_seat k seat found in omega (arith, f.is.descriptor_is, len0)
@@ -243,7 +244,7 @@ module _ (tables : List Contents) (programs : List Program) (limits : List Limit
       let f = at_seat k seat found in
       (f.is.limits_are ∙ same_Some f.one one (sym f.at_limits ∙ at_limits), f.is.held))
 
-  pub tasks : AreTasksOf programs limits (map task_of seats)
+  tasks : AreTasksOf programs limits (map task_of seats)
   tasks = tasks-of programs limits seats first.many many_limits
       (λ k program one seat at_program at_limits found.
       let f = at_seat k seat found in
@@ -253,14 +254,14 @@ module _ (tables : List Contents) (programs : List Program) (limits : List Limit
   seat-of : (k : ℕ) (t : Task) → slice_get (map task_of seats) k ≡ Some t → (seat : Seat) × (slice_get seats k ≡ Some seat) × (task_of seat ≡ t)
   seat-of k t found =
       let within : k < length seats = omega (arith, slice_get_within (map task_of seats) k t found, length-map seats task_of) in
-      let seat = there seats k within in
+      let seat = found-in seats k within in
       let found_seat = slice_get-map task_of seats k ∙ ap (option_map task_of) seat.1 in
       (seat.0, seat.1, same_Some (task_of seat.0) t (sym found_seat ∙ found))
 
   instance-found : (k : ℕ) (seat : Seat) → slice_get seats k ≡ Some seat → slice_get (map instance_of seats) k ≡ Some (instance_of seat)
   instance-found k seat found = slice_get-map instance_of seats k ∙ ap (option_map instance_of) found
 
-  pub start : IsStart tables (map task_of seats) (standing_of m seats).shared
+  start : IsStart tables (map task_of seats) (standing_of m seats).shared
   start = record {
     octets = octets octets0;
     many = length-map seats instance_of ∙ sym (length-map seats task_of);
@@ -276,7 +277,7 @@ module _ (tables : List Contents) (programs : List Program) (limits : List Limit
     size = let all : length (map task_of seats) ≡ length seats = length-map seats task_of in omega (arith, size, all, first.many);
   }
 
-  pub bench : AreSeats m seats
+  bench : AreSeats m seats
   bench = record {
     bench = record {
       tables = tables;
@@ -285,3 +286,6 @@ module _ (tables : List Contents) (programs : List Program) (limits : List Limit
     };
     grants = λ k other within. grants-at k (get_or seats k other) (slice_get-get_or seats k other within);
   }
+
+  pub begins : AreTasksOf programs limits (map task_of seats) × IsStart tables (map task_of seats) (standing_of m seats).shared × AreSeats m seats
+  begins = (tasks, start, bench)

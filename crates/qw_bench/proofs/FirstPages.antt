@@ -1,6 +1,6 @@
 -- The descriptor in a blank page.
-use Rattle.std.proofs.Common.{◌≡◌, ℕ, zero, suc, ◌+◌, ◌-◌, ◌*◌, ◌%◌, ◌^◌, ◌<◌, ◌≤◌, ◌⊎◌, inl, inr, ⊎_elim, List, ◌++◌, Some, length, take, drop, get_or, refl, sym, ap, ◌∙◌, subst, arith}
-use Rattle.std.specs.Prelude.{if◌then◌else◌, slice_get, slice_index, All}
+use Rattle.std.proofs.Common.{◌≡◌, ℕ, ◌+◌, ◌-◌, ◌*◌, ◌%◌, ◌^◌, ◌<◌, ◌≤◌, ◌⊎◌, inl, inr, ⊎_elim, List, ◌++◌, Some, length, take, drop, get_or, refl, sym, ap, ◌∙◌, subst, arith}
+use Rattle.std.specs.Prelude.{if◌then◌else◌, slice_get, slice_index}
 use Rattle.std.proofs.lemmas.Bool.{cases_lt}
 use Rattle.std.proofs.lemmas.List.{get_or-append-add, get_or-drop, get_or-take, get_or_append_left, length-append, length-drop, length-take-le}
 use Rattle.std.proofs.lemmas.List.Elements.{All-append, All-drop, All-take}
@@ -11,7 +11,8 @@ use Rattle.qw_linear.proofs.GrowthFacts.{grown_by-above}
 use Rattle.qw_map.specs.Layout.{HasEntry, IsFresh, Layout, descriptor_size, entry_offset, is_text}
 use Rattle.qw_map.specs.declared.layout.Placed.{Placed}
 use Rattle.qw_map.specs.declared.layout.Used.{Used}
-use Rattle.qw_bench.specs.FirstPage.{AreEntries, HasAddresses, IsBlank, SameOutside}
+use Rattle.qw_bench.specs.FirstPage.{HasAddresses, IsBlank}
+use Rattle.qw_bench.specs.Inner.Entries.{AreEntries, SameOutside}
 
 -- ---- after a number of four octets was stored
 -- it is read back where it is below 2^32

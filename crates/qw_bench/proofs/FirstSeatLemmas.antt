@@ -1,10 +1,10 @@
 -- Seats as they begin.
-use Rattle.std.proofs.Common.{◌≡◌, ◌≢◌, ℕ, zero, suc, ◌+◌, ◌*◌, ◌^◌, ◌<◌, ◌≤◌, nat_le, false, ◌⊎◌, inl, inr, ⊎_elim, List, [], ◌∷◌, ◌++◌, length, get_or, Option, Some, None, slice_get, refl, sym, ap, ◌∙◌, subst, arith}
+use Rattle.std.proofs.Common.{◌≡◌, ◌≢◌, ℕ, zero, suc, ◌+◌, ◌*◌, ◌<◌, ◌≤◌, nat_le, false, ◌⊎◌, inl, inr, ⊎_elim, List, [], ◌∷◌, ◌++◌, length, Option, Some, None, slice_get, refl, sym, ap, ◌∙◌, subst, arith}
 use Rattle.std.specs.Prelude.{slice_index}
 use Rattle.std.specs.List.{AllByRecursion}
-use Rattle.std.proofs.lemmas.Bool.{cases_lt, lt-leb}
-use Rattle.std.proofs.lemmas.List.{get_or-append-add, get_or_append_left, length_push}
-use Rattle.std.proofs.lemmas.Option.{get_or_from_slice_get, none-some, same_Some, slice_get-get_or, slice_get_within}
+use Rattle.std.proofs.lemmas.Bool.{lt-leb}
+use Rattle.std.proofs.lemmas.List.{length_push}
+use Rattle.std.proofs.lemmas.Option.{none-some, same_Some, slice_get_within}
 use Rattle.qw_linear.specs.Linear.{Octets}
 use Rattle.qw_linear.specs.Memory.{page, AreOctets, SameBelow}
 use Rattle.qw_linear.proofs.MemoryFacts.{number_at-same}
@@ -29,7 +29,7 @@ use Rattle.qw_bench.specs.Bench.{ArePlaced, Program}
 use Rattle.qw_bench.specs.FirstPage.{HasAddresses}
 use Rattle.qw_bench.specs.Standing.{end_of}
 use Rattle.qw_bench.specs.Inner.FirstSeats.{AreFirstSeats, IsAddressable, IsFirstSeat}
-use Rattle.qw_bench.specs.Inner.Seats.{IsEndOf, state_in}
+use Rattle.qw_bench.specs.Inner.Seats.{IsEndOf}
 use Rattle.qw_bench.proofs.FirstPages.{entry-same}
 use Rattle.qw_bench.proofs.LayoutLemmas.{all-get, has-table}
 

@@ -1,24 +1,14 @@
 -- The columns of a layout: where they stand among those of the tables.
-use Rattle.std.proofs.Common.{◌≡◌, ℕ, zero, suc, ◌+◌, ◌*◌, ◌<◌, ◌≤◌, List, [], ◌∷◌, ◌++◌, length, Option, Some, None, slice_get, refl, sym, ap, ◌∙◌, subst, arith}
+use Rattle.std.proofs.Common.{◌≡◌, ℕ, zero, suc, List, [], ◌∷◌, ◌++◌, length, Option, Some, None, slice_get, refl, ap, subst}
 use Rattle.std.specs.List.{AllByRecursion}
 use Rattle.std.specs.Option.{option_and_then}
 use Rattle.std.proofs.lemmas.Option.{none-some, same_Some}
 use Rattle.qw_types.specs.Contents.{Contents}
-use Rattle.qw_types.specs.declared.schema.ColumnType.{ColumnType}
-use Rattle.qw_map.specs.Areas.{Area}
-use Rattle.qw_map.specs.Columns.{HoldsColumn, Holds, areas_of, column_values, columns_start, map_of, tables_end}
-use Rattle.qw_map.specs.Layout.{column_areas}
+use Rattle.qw_map.specs.Columns.{areas_of, column_values, columns_start, map_of, tables_end}
 use Rattle.qw_map.specs.declared.layout.Placed.{Placed}
 use Rattle.qw_map.specs.declared.layout.Used.{Used}
-use Rattle.qw_map.proofs.AreaLemmas.{all-append}
 use Rattle.qw_map.proofs.ColumnLemmas.{LieBetween, stands-between, tables-stand}
 use Rattle.qw_bench.specs.Bench.{ArePlaced, IsColumnIn}
-
--- what is there at an index of a list
-pub there : {A : Type 0} (xs : List A) (k : ℕ) → k < length xs → (x : A) × (slice_get xs k ≡ Some x)
-there [] k within = absurd (omega arith)
-there (x ∷ xs) zero within = (x, refl)
-there (x ∷ xs) (suc k) within = there xs k (omega arith)
 
 -- what holds of each holds of the one at an index
 pub all-get : {A : Type 0} (P : A → Type 0) (xs : List A) (k : ℕ) (x : A) → slice_get xs k ≡ Some x → AllByRecursion P xs → P x
@@ -30,16 +20,6 @@ all-get P (y ∷ xs) (suc k) x found all = all-get P xs k x found all.1
 pub get-all : {A : Type 0} (P : A → Type 0) (xs : List A) → ((k : ℕ) (x : A) → slice_get xs k ≡ Some x → P x) → AllByRecursion P xs
 get-all P [] each = tt
 get-all P (x ∷ xs) each = (each 0 x refl, get-all P xs (λ k y found. each (suc k) y found))
-
--- what holds of the areas of each column holds of all areas
-pub areas-all : (P : Area → Type 0) (columns : List Used) (placed : List Placed) →
-    ((k : ℕ) (used : Used) (one : Placed) → slice_get columns k ≡ Some used → slice_get placed k ≡ Some one → AllByRecursion P (areas_of used.ty used.not_null one)) →
-    AllByRecursion P (column_areas columns placed)
-areas-all P [] placed each = tt
-areas-all P (used ∷ columns) [] each = tt
-areas-all P (used ∷ columns) (one ∷ placed) each =
-    all-append P (areas_of used.ty used.not_null one) (column_areas columns placed) (each 0 used one refl refl)
-    (areas-all P columns placed (λ k u p there_u there_p. each (suc k) u p there_u there_p))
 
 -- where the map says that a column stands
 abbrev pub place : List (List Placed) → Used → Option Placed

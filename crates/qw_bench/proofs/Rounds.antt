@@ -8,7 +8,7 @@ use Rattle.std.proofs.Math.Nat.{eq-or-lt_of_le}
 use Rattle.std.proofs.lemmas.List.{append-nil, map-append}
 use Rattle.std.proofs.lemmas.Option.{none-some, same_Some, slice_get_within}
 use Rattle.qw_map.specs.Turns.{End, Instance, Shared, EachInstance, IsWhole, steps_of, Act, turn, acted, turns, with_instance}
-use Rattle.qw_map.proofs.TurnFacts.{slice_get-set_same}
+use Rattle.qw_map.proofs.TurnFacts.{found-in, slice_get-set_same}
 use Rattle.qw_map.proofs.TurnSteps.{limits-turns, turn-others, turns-many, turns-whole, unended-runs}
 use Rattle.qw_bench.specs.declared.bench.Ended.{Ended}
 use Rattle.qw_bench.specs.declared.bench.Seat.{Seat}
@@ -16,7 +16,6 @@ use Rattle.qw_bench.specs.Bench.{AreRounds, end_in, ran_in, round, unended_below
 use Rattle.qw_bench.specs.Inner.Rounds.{steps_left}
 use Rattle.qw_bench.specs.Bench as rounds
 use Rattle.qw_bench.proofs.SeatSteps.{is_some-end_of}
-use Rattle.qw_bench.proofs.LayoutLemmas.{there}
 use Rattle.qw_bench.proofs.Serving.{each-whole}
 use Rattle.qw_bench.specs.Standing.{IsBench, Standing, end_of}
 use Rattle.qw_bench.specs.Inner.Seats.{instance_of}
@@ -110,7 +109,7 @@ pub turned-next : (b : Standing) → IsBench b → (quantum k result : ℕ) (sel
 turned-next b kept quantum k result self new o so_far within told is turned counted none =
     let now = self.shared in
     let unended = end-test now k o false told is in
-    let i = there now.instances k (omega (arith, so_far.many)) in
+    let i = found-in now.instances k (omega (arith, so_far.many)) in
     let below = next-below b kept quantum k now i.0 so_far i.1 unended in
     let some : 1 ≤ result = one result (λ zeroth. false≢true (sym unended ∙ none zeroth)) in
     let more : ran_in now k < ran_in (acted now (turn k quantum)) k = rw (← turned) (omega (arith, counted)) in
@@ -203,7 +202,7 @@ all-ended s none k i found = any-none s.instances none k i found
 
 pub no-round : (s : Shared) (quantum : ℕ) → list_any (λ (i : Instance). not (is_some i.end)) s.instances ≡ false → round quantum s ≡ []
 no-round s quantum none = ap (map (λ (i : ℕ). turn i quantum)) (unended-none s (length s.instances)
-    (λ k below. let i = there s.instances k below in rw i.1 (any-none s.instances none k i.0 i.1)))
+    (λ k below. let i = found-in s.instances k below in rw i.1 (any-none s.instances none k i.0 i.1)))
 
 pub some-round : (s : Shared) (quantum : ℕ) → list_any (λ (i : Instance). not (is_some i.end)) s.instances ≡ true → round quantum s ≢ []
 some-round s quantum some none =

@@ -1,34 +1,32 @@
 -- Instances that share one memory serve their tasks, whatever turns they are given.
-use Rattle.std.proofs.Common.{◌≡◌, ◌≢◌, ℕ, zero, suc, ◌+◌, ◌-◌, ◌*◌, ◌<◌, ◌≤◌, Bool, true, false, ◌⊎◌, inl, inr, ⊎_elim, List, [], ◌∷◌, ◌++◌, length, Option, Some, None, IsSome, refl, sym, ap, ◌∙◌, subst, arith, append_assoc}
+use Rattle.std.proofs.Common.{◌≡◌, ℕ, zero, suc, ◌+◌, ◌-◌, ◌*◌, ◌<◌, ◌≤◌, true, false, List, [], ◌∷◌, ◌++◌, length, Option, Some, None, IsSome, refl, sym, ap, ◌∙◌, subst, arith, append_assoc}
 use Rattle.std.specs.Prelude.{slice_get, slice_index, slice_set}
 use Rattle.std.specs.List.{AllByRecursion}
 use Rattle.std.proofs.lemmas.Bool.{leb-true}
 use Rattle.std.proofs.lemmas.List.{append-nil}
-use Rattle.std.proofs.lemmas.Option.{none-some, same_Some, slice_get_within}
+use Rattle.std.proofs.lemmas.Option.{slice_get_within}
 use Rattle.qw_types.specs.Contents.{Contents}
 use Rattle.qw_types.specs.declared.value.Val.{Val}
 use Rattle.qw_linear.specs.Memory.{page}
-use Rattle.qw_module.specs.declared.trap.Trap.{Trap}
 use Rattle.qw_module.specs.Execution.{Config, State, Running, Returned, Raised, Trapped, Event, Silent, Loads, Stores, Grows, Raises, Traps}
 use Rattle.qw_module.specs.Step.{Next, next, wants}
 use Rattle.qw_module.proofs.Outcomes.{outcome}
-use Rattle.qw_map.specs.Areas.{Area, World, Others, AsksWithin, IsAnswered, IsFine, granted_area, grants, lies_in_one, world_after}
+use Rattle.qw_map.specs.Areas.{Area, World, Others, AsksWithin, IsAnswered, IsFine, granted_area, grants, world_after}
 use Rattle.qw_map.specs.Behaving.{HasRows}
 use Rattle.qw_map.specs.Columns.{Holds, column_pages, columns_start, map_of, tables_end}
-use Rattle.qw_map.specs.Layout.{Layout, column_areas, rows_at}
-use Rattle.qw_map.specs.Runs.{Moment, OpenStep, OpenRun, Behaves, begins, goes_on, moment_after}
-use Rattle.qw_map.specs.Turns.{Instance, Shared, Act, turn, moved, steps_of, turn_at, turns, with_instance, EachInstance, IsWhole, moment_of}
+use Rattle.qw_map.specs.Layout.{Layout, rows_at}
+use Rattle.qw_map.specs.Runs.{Moment, OpenStep, OpenRun, begins, goes_on}
+use Rattle.qw_map.specs.Turns.{Instance, Shared, Act, turn, steps_of, turn_at, turns, with_instance, EachInstance, IsWhole, moment_of}
 use Rattle.qw_map.proofs.AccessLemmas.{lies-ahead}
 use Rattle.qw_map.proofs.AreaLemmas.{Gains, LiesBehind, all-append, all-back, all-weaker, outcome-gains}
 use Rattle.qw_map.proofs.ColumnLemmas.{holds-kept, pages-reach}
 use Rattle.qw_map.proofs.NoTrap.{Goes, step-goes}
 use Rattle.qw_map.proofs.ResultLemmas.{results_stay}
 use Rattle.qw_map.proofs.Separate.{safe-turns, runs-turns, worlds-turns, behaves-turns, open-step, others-turns}
-use Rattle.qw_map.proofs.TurnFacts.{after_step, each-step, slice_get-set_same, turns-keep}
+use Rattle.qw_map.proofs.TurnFacts.{after_step, each-step, found-in, slice_get-set_same, turns-keep}
 use Rattle.qw_map.proofs.TurnSteps.{turns-many, turns-whole, limits-turns}
 use Rattle.qw_bench.specs.Bench.{AreBehind, AreServing, EachTask, Serves, Task}
 use Rattle.qw_bench.specs.Inner.Seats.{CanBeTold, IsTold}
-use Rattle.qw_bench.proofs.LayoutLemmas.{all-get, there}
 
 -- ---- what others leave
 pub rows-stay : (layout : Layout) (d : ℕ) (b : Moment) (after : List ℕ) → Others b.world b.memory after → (s : State) →
@@ -78,7 +76,7 @@ pub record IsBefore (s : Shared) (k : ℕ) : Type 0 where
 pub before : (s : Shared) (acts : List Act) (k : ℕ) (later : Instance) → slice_get (turns acts s).instances k ≡ Some later → IsBefore s k
 before s acts k later found =
     let within : k < length s.instances = omega (arith, slice_get_within (turns acts s).instances k later found, turns-many s acts) in
-    let i = there s.instances k within in
+    let i = found-in s.instances k within in
     record { i = i.0; found = i.1 }
 
 -- its task
@@ -89,7 +87,7 @@ pub record HasTask (tasks : List Task) (k : ℕ) : Type 0 where
 pub task-of : (tasks : List Task) (s : Shared) → length s.instances ≡ length tasks → (k : ℕ) (i : Instance) → slice_get s.instances k ≡ Some i → HasTask tasks k
 task-of tasks s many k i found =
     let within : k < length tasks = omega (arith, slice_get_within s.instances k i found, many) in
-    let t = there tasks k within in
+    let t = found-in tasks k within in
     record { t = t.0; found = t.1 }
 
 pub each-whole : (tables : List Contents) (tasks : List Task) (s : Shared) → AreServing tables tasks s → EachInstance IsWhole s

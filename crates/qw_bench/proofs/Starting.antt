@@ -1,5 +1,5 @@
 -- From their start on instances serve their tasks, and one of a compiled module answers its query.
-use Rattle.std.proofs.Common.{◌≡◌, ◌≢◌, ℕ, zero, suc, ◌+◌, ◌-◌, ◌*◌, ◌<◌, ◌≤◌, nat_le, Bool, true, false, ◌⊎◌, inl, inr, ⊎_elim, List, [], ◌∷◌, ◌++◌, length, Option, Some, None, refl, sym, ap, ◌∙◌, subst, arith}
+use Rattle.std.proofs.Common.{◌≡◌, ◌≢◌, ℕ, suc, ◌+◌, ◌-◌, ◌*◌, ◌<◌, ◌≤◌, nat_le, Bool, true, false, ◌⊎◌, inl, inr, ⊎_elim, List, [], ◌∷◌, ◌++◌, length, Some, None, refl, sym, ap, ◌∙◌, subst, arith}
 use Rattle.std.specs.Prelude.{if◌then◌else◌, slice_get}
 use Rattle.std.specs.List.{AllByRecursion}
 use Rattle.std.proofs.lemmas.Bool.{leb-true}
@@ -16,18 +16,17 @@ use Rattle.qw_map.specs.Behaving.{beginning}
 use Rattle.qw_map.specs.Columns.{areas_of, column_pages, columns_start, map_of, tables_end}
 use Rattle.qw_map.specs.Layout.{Layout, column_areas}
 use Rattle.qw_map.specs.Runs.{Moment, Behaves}
-use Rattle.qw_map.specs.Turns.{Done, Exception, Pages, Steps, Trap, End, Instance, Shared, Act, turns, EachInstance, IsWhole, AreApart, LiesWithin, AreSeparate, AreSafe, end_at, moment_of, LeadsTo}
-use Rattle.qw_map.specs.declared.layout.Placed.{Placed}
-use Rattle.qw_map.specs.declared.layout.Used.{Used}
+use Rattle.qw_map.specs.Turns.{Done, Exception, Pages, Steps, Trap, End, Instance, Shared, Act, turns, IsWhole, AreApart, LiesWithin, AreSeparate, end_at, moment_of, LeadsTo}
 use Rattle.qw_map.proofs.AreaLemmas.{all-append, all-weaker}
 use Rattle.qw_map.proofs.ColumnLemmas.{pages-reach}
+use Rattle.qw_map.proofs.LayoutLemmas.{areas-all}
 use Rattle.qw_map.proofs.ResultLemmas.{results_stay}
 use Rattle.qw_map.proofs.Separate.{runs-turns}
 use Rattle.qw_map.proofs.TurnSteps.{turns-whole}
 use Rattle.qw_emit.specs.Compiled.{Answers, AnswersAt, IsCompiled, bound, end_at_state, page_bound}
 use Rattle.qw_bench.specs.Bench.{AreServing, EachTask, IsAt, IsStart, IsStarting, Serves, Task, rows_in_tables}
-use Rattle.qw_bench.proofs.LayoutLemmas.{all-get, areas-all, lies-between, placed-get}
-use Rattle.qw_bench.proofs.Serving.{before, each-whole, task-of, turns-serving}
+use Rattle.qw_bench.proofs.LayoutLemmas.{all-get, lies-between, placed-get}
+use Rattle.qw_bench.proofs.Serving.{before, each-whole, task-of}
 
 -- ---- the start
 starts-serving : (tables : List Contents) (memory : List ℕ) (t : Task) (i : Instance) → IsStarting tables memory t i → Serves memory t i
@@ -192,8 +191,7 @@ compiled-answers tables tasks s acts query start k t later task found compiled =
     let at : moment_of i s.common.memory ≡ from = ap (λ (x : Instance). moment_of x s.common.memory) begins.instance in
     let runs : LeadsTo later.ran from (moment_of later (turns acts s).common.memory) =
     subst (λ (n : ℕ). LeadsTo n from (moment_of later (turns acts s).common.memory)) none
-    (subst (λ (m : Moment). LeadsTo (later.ran - i.ran) m (moment_of later (turns acts s).common.memory)) at led.1) in
-    (
+    (subst (λ (m : Moment). LeadsTo (later.ran - i.ran) m (moment_of later (turns acts s).common.memory)) at led.1) in (
       begins.number,
       begins.shaped,
       at-end query (rows_in_tables tables) t begins.number from later (turns acts s).common.memory

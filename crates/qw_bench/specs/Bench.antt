@@ -1,5 +1,5 @@
 -- Instances of modules that share one memory: how they begin, and what holds of them whatever turns they are given.
-use Rattle.std.specs.Prelude.{◌≡◌, ℕ, zero, suc, ◌+◌, ◌-◌, ◌*◌, ◌<◌, ◌≤◌, if◌then◌else◌, List, [], ◌∷◌, ◌++◌, length, map, Option, Some, None, is_some, slice_get}
+use Rattle.std.specs.Prelude.{◌≡◌, ℕ, zero, suc, ◌+◌, ◌*◌, ◌<◌, ◌≤◌, if◌then◌else◌, List, [], ◌∷◌, ◌++◌, length, map, Option, Some, None, is_some, slice_get}
 use Rattle.std.specs.List.{AllByRecursion}
 use Rattle.std.specs.Option.{option_and_then, option_map_or}
 use Rattle.qw_types.specs.Contents.{Contents}
@@ -19,7 +19,7 @@ use Rattle.qw_map.specs.Runs.{Behaves}
 use Rattle.qw_map.specs.Turns.{End, Instance, Shared, Act, turn, end_at, turns, may_ask, IsWhole, AreSafe, moment_of}
 use Rattle.qw_map.specs.declared.layout.Placed.{Placed}
 use Rattle.qw_map.specs.declared.layout.Used.{Used}
-use Rattle.qw_emit.specs.Compiled.{Answers, IsCompiled, bound, page_bound}
+use Rattle.qw_emit.specs.Compiled.{Answers, bound, page_bound}
 
 -- a module and the layout that it behaves with
 pub record Program : Type 0 where

@@ -1,4 +1,5 @@
 -- What restates code for proofs. No public clause rests on it.
+pub mod Entries
 pub mod FirstSeats
 pub mod Rounds
 pub mod Seats

@@ -16,8 +16,8 @@ use qw_linear::linear::{Linear, MAX_PAGES};
 use qw_machine::machine::Instance;
 use qw_machine::stepped::Stepped;
 use qw_map::layout::{Layout, Placed};
-use qw_types::code::Code;
 use qw_types::NoMemory;
+use qw_types::code::Code;
 use qw_types::schema::MAX_TABLES;
 use qw_valid::valid::ValidModule;
 use std::alloc::Global;
@@ -37,7 +37,7 @@ pub struct Limits {
 pub const MAX_JOBS: usize = 64;
 
 /// The limits where none are given. That of instructions is larger than the bound of any compiled module
-/// over `MAX_ROWS` rows, which is below 2^45.
+/// whose query reads one table of at most `MAX_ROWS` rows, which is below 2^45.
 pub const DEFAULT_LIMITS: Limits = Limits {
     pages: 128,
     steps: 999_999_999_999_999_999,

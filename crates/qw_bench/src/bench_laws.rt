@@ -21,6 +21,6 @@ pub fn turns_serve()
 pub fn compiled_answers()
     ensures { (tables : List Contents) (tasks : List Task) (s : Shared) (acts : List Act) (query : Specification) → IsStart tables tasks s →
         EachTask (λ t i. IsCompiled query t.program.layout t.program.module' →
-            (number : ℕ) × IsShaped t.program.module' number × IsAt query (rows_in_tables tables) (turns acts s).common.memory t number i i.end)
-            tasks (turns acts s) }
+        (number : ℕ) × IsShaped t.program.module' number × IsAt query (rows_in_tables tables) (turns acts s).common.memory t number i i.end)
+        tasks (turns acts s) }
 {}

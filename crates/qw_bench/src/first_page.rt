@@ -5,10 +5,14 @@ ghost use Rattle.std.specs.List.{AllByRecursion};
 ghost use Rattle.qw_linear.specs.Memory.{AreOctets, page, with_number, SameBelow};
 ghost use Rattle.qw_map.specs.Layout.{HasEntry, IsFresh, descriptor_size};
 ghost use Rattle.qw_map.specs.Layout as layout;
-ghost use Rattle.qw_bench.specs.FirstPage.{AreEntries, HasAddresses, IsBlank, SameOutside};
+ghost use Rattle.qw_bench.specs.FirstPage.{HasAddresses, IsBlank};
+ghost use Rattle.qw_bench.specs.Inner.Entries.{AreEntries, SameOutside};
 
 use qw_linear::linear::{Linear, PAGE};
-use qw_map::layout::{ENTRY_NULLS_OFFSET, ENTRY_OCTETS_OFFSET, ENTRY_ROWS_OFFSET, ENTRY_SIZE, FREE_OFFSET, HEAD_SIZE, Layout, PAGE_END_OFFSET, Placed, Used};
+use qw_map::layout::{
+    ENTRY_NULLS_OFFSET, ENTRY_OCTETS_OFFSET, ENTRY_ROWS_OFFSET, ENTRY_SIZE, FREE_OFFSET, HEAD_SIZE,
+    Layout, PAGE_END_OFFSET, Placed, Used,
+};
 use qw_types::Ty;
 
 /// Writes the descriptor of a layout into a blank page: where its columns stand, and the octets of its
@@ -29,8 +33,16 @@ pub fn begin_page(memory: &mut Linear, descriptor: u32, layout: &Layout, placed:
     let columns = layout.columns();
     let entries = descriptor + HEAD_SIZE;
     let texts = entries + ENTRY_SIZE * columns.len() as u32;
-    put(memory, descriptor + FREE_OFFSET, descriptor + layout.descriptor_size());
-    put(memory, descriptor + PAGE_END_OFFSET, descriptor + PAGE as u32);
+    put(
+        memory,
+        descriptor + FREE_OFFSET,
+        descriptor + layout.descriptor_size(),
+    );
+    put(
+        memory,
+        descriptor + PAGE_END_OFFSET,
+        descriptor + PAGE as u32,
+    );
     write_entries(memory, entries, columns, placed);
     copy(memory, texts, layout.literals());
 }

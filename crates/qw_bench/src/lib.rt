@@ -1,9 +1,9 @@
-//! Instances of compiled statements over one linear memory, and their turns.
+//! Instances of modules over one linear memory, and their turns.
 //!
 //! - [`bench::Bench`]: the memory with its columns and instances; a turn is exactly the turn of `qw_map`'s definitions.
 //! - [`first_page`]: the descriptor, on an instance's first page.
 //! - [`bench_laws`]: what holds of instances after any turns.
-//! - [`worked_laws`]: a case with numbers.
+//! - [`worked_laws`]: cases with numbers.
 #![tactic(auto)]
 
 pub mod bench;

@@ -1,5 +1,6 @@
 mod ColumnFacts
 mod PlaceLemmas
+mod ReadLemmas
 mod RoomLemmas
 mod TableFacts
 mod WriteLemmas

@@ -36,20 +36,29 @@ pub fn value_at(
     let column_type = map.column(table, column);
     let placed = map.placed(table, column);
     let row = row as u64;
-    if !column_type.not_null && is_null(memory, &placed, row) {
+    if is_null(memory, column_type.not_null, &placed, row) {
         return Ok(Val::Null);
     }
     stored_value(alloc, memory, column_type.ty, &placed, row)
 }
 
-/// Whether the null bit of a row is set.
-fn is_null(memory: &Linear, placed: &Placed, row: u64) -> bool
+/// Whether the value of a row is null.
+fn is_null(memory: &Linear, not_null: bool, placed: &Placed, row: u64) -> bool
+    requires small { length memory.now.octets < 2 ^ 32 }
+    requires inside { not_null ≡ false → placed.now.nulls + row / 8 + 1 ≤ length memory.now.octets }
+    ensures { result ≡ columns.is_null_at memory.now.octets not_null placed.now row }
+{
+    !not_null && null_bit(memory, placed, row) == 1
+}
+
+/// The null bit of a row.
+fn null_bit(memory: &Linear, placed: &Placed, row: u64) -> u64
     requires small { length memory.now.octets < 2 ^ 32 }
     requires inside { placed.now.nulls + row / 8 + 1 ≤ length memory.now.octets }
-    ensures { result ≡ columns.is_null_at memory.now.octets false placed.now row }
+    ensures { result ≡ columns.null_bit memory.now.octets placed.now.nulls row }
 {
     let octet = memory.load8(placed.nulls + row / 8).unwrap();
-    (octet >> (row % 8)) % 2 == 1
+    (octet >> (row % 8)) % 2
 }
 
 /// What stands in the place of a row's value.

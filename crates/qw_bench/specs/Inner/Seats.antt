@@ -13,7 +13,7 @@ use Rattle.qw_bench.specs.declared.bench.Ended.{Ended}
 use Rattle.qw_bench.specs.declared.bench.Ended.TheVariants as ended
 use Rattle.qw_bench.specs.declared.bench.Grant.{Grant}
 use Rattle.qw_bench.specs.declared.bench.Seat.{Seat}
-use Rattle.qw_bench.specs.Bench.{Program, Task}
+use Rattle.qw_bench.specs.Bench.{Task}
 use Rattle.qw_bench.specs.Standing.{IsBench, Standing, end_of}
 
 -- what the instance of a seat is to do

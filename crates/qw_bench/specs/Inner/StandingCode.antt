@@ -9,7 +9,7 @@ use Rattle.qw_map.specs.Turns.{Shared}
 use Rattle.qw_map.specs.contracts.layout.Layout as layout
 use Rattle.qw_map.specs.contracts.layout.Placed as placed
 use Rattle.qw_map.specs.declared.layout.Placed.{Placed}
-use Rattle.qw_bench.specs.Bench.{Program, Task}
+use Rattle.qw_bench.specs.Bench.{Task}
 use Rattle.qw_bench.specs.Standing.{Standing}
 
 abbrev task_code : Coded Task

@@ -11,8 +11,7 @@ ghost use Rattle.qw_bench.specs.Bench.{ArePlaced, Program};
 ghost use Rattle.qw_bench.specs.Standing.{AreLimits};
 ghost use Rattle.qw_bench.specs.Inner.FirstSeats.{AreFirstSeats, AreInMap, IsAddressable, IsFirstSeat};
 
-use crate::bench::{Job, Limits, MAX_JOBS, Seat};
-use crate::bench::{Ended, Grant};
+use crate::bench::{Ended, Grant, Job, Limits, MAX_JOBS, Seat};
 use crate::first_page::begin_page;
 use qw_columns::{ColumnMap, PlaceFault, place};
 use qw_csv::Loaded;
@@ -136,11 +135,7 @@ fn first_seat(
 /// # Errors
 ///
 /// [`NoMemory`] where that does not fit memory.
-fn placed_columns(
-    alloc: Global,
-    columns: &[Used],
-    map: &ColumnMap,
-) -> Result<Vec<Placed>, NoMemory>
+fn placed_columns(alloc: Global, columns: &[Used], map: &ColumnMap) -> Result<Vec<Placed>, NoMemory>
     requires { AreInMap map.now.placed columns.now }
     ensures { IfOk result (λ placed. ArePlaced map.now.placed columns.now placed.items) }
 {
@@ -157,11 +152,7 @@ fn placed_columns(
 /// # Errors
 ///
 /// [`NoMemory`] where it does not fit memory.
-fn first_instance(
-    alloc: Global,
-    valid: ValidModule,
-    descriptor: u32,
-) -> Result<Instance, NoMemory>
+fn first_instance(alloc: Global, valid: ValidModule, descriptor: u32) -> Result<Instance, NoMemory>
     requires shaped { (number : ℕ) × IsShaped valid number }
     requires descends { IsDescending valid }
     ensures { (number : ℕ) → IsShaped valid number

@@ -1,8 +1,8 @@
 use Rattle.std.proofs.Common.{◌≡◌, ℕ, ◌+◌, ◌*◌, List, ◌++◌, length, take, drop, refl, ◌∙◌, subst, arith}
-use Rattle.qw_linear.specs.Memory.{page, with_number}
+use Rattle.qw_linear.specs.Memory.{with_number}
 use Rattle.qw_map.specs.Layout.{descriptor_size}
 use Rattle.qw_map.specs.declared.layout.Used.{Used}
-use Rattle.qw_bench.specs.FirstPage.{AreEntries, SameOutside}
+use Rattle.qw_bench.specs.Inner.Entries.{AreEntries, SameOutside}
 use Rattle.qw_bench.proofs.FirstPages.{begun-below, begun-fresh}
 use Rattle.qw_bench.proofs.first_page.begin_page.Goals as goal
 

@@ -1,12 +1,13 @@
-use Rattle.std.proofs.Common.{◌≡◌, ℕ, ◌+◌, ◌*◌, ◌≤◌, List, length, sym, ap, ◌∙◌, subst, arith}
+use Rattle.std.proofs.Common.{◌≡◌, ◌≤◌, List, length, sym, ap, ◌∙◌, subst, arith, map}
 use Rattle.std.specs.List.{AllByRecursion}
 use Rattle.qw_linear.specs.Linear.{Octets}
 use Rattle.qw_map.specs.Columns.{map_of}
 use Rattle.qw_map.specs.declared.layout.Placed.{Placed}
-use Rattle.qw_bench.specs.Bench.{Program}
-use Rattle.qw_bench.specs.Standing.{total_pages}
+use Rattle.qw_bench.specs.Bench.{IsStart, Program}
+use Rattle.qw_bench.specs.Standing.{AreTasksOf, total_pages}
 use Rattle.qw_bench.specs.Inner.FirstSeats.{AreFirstSeats, AreInMap, IsAddressable}
-use Rattle.qw_bench.proofs.BenchStart.{bench, start, tasks}
+use Rattle.qw_bench.specs.Inner.Seats.{AreSeats, standing_of, task_of}
+use Rattle.qw_bench.proofs.BenchStart.{begins}
 use Rattle.qw_bench.proofs.LimitLemmas.{limit_pages-each}
 use Rattle.qw_bench.proofs.MapLemmas.{addressable, all-in-map}
 use Rattle.qw_bench.proofs.bench.Bench.begin.Goals as goal
@@ -40,21 +41,19 @@ reserved : (c : goal.In_ok-seats) → c.first_seats.new.memory.reserved ≡ tota
 reserved c =
     c.first_seats.ensures.reserved ∙ c.place_all.ensures.reserved ∙ ap (λ (m : Octets). m.reserved) c.in_ok-memory.ensures ∙ c.requires.pages.0
 
-pub invariant_of-result : goal.invariant_of-result
-invariant_of-result c = bench c.args.loaded.now c.args.jobs.items c.args.limits.now c.place_all.new.memory c.first_seats.new.memory c.in_ok-seats.seats.items
+whole : (c : goal.In_ok-seats) →
+    AreTasksOf c.args.jobs.items c.args.limits.now (map task_of c.in_ok-seats.seats.items)
+    × IsStart c.args.loaded.now (map task_of c.in_ok-seats.seats.items) (standing_of c.first_seats.new.memory c.in_ok-seats.seats.items).shared
+    × AreSeats c.first_seats.new.memory c.in_ok-seats.seats.items
+whole c = begins c.args.loaded.now c.args.jobs.items c.args.limits.now c.place_all.new.memory c.first_seats.new.memory c.in_ok-seats.seats.items
     c.in_ok-map.ensures.loaded c.requires.columns c.requires.limits c.requires.many c.in_ok-map.ensures.holds c.in_ok-map.ensures.octets c.in_ok-map.ensures.len
     (first c) c.in_ok-seats.ensures.below c.in_ok-seats.ensures.octets c.in_ok-seats.ensures.len (fits c) (reserved c)
 
+pub invariant_of-result : goal.invariant_of-result
+invariant_of-result c = (whole c).2
+
 pub returns-clause-tasks : goal.returns-clause-tasks
-returns-clause-tasks c =
-    let l = (goal.at.returns-clause-tasks c).In_ok-seats in
-    tasks l.args.loaded.now l.args.jobs.items l.args.limits.now l.place_all.new.memory l.first_seats.new.memory l.in_ok-seats.seats.items
-    l.in_ok-map.ensures.loaded l.requires.columns l.requires.limits l.requires.many l.in_ok-map.ensures.holds l.in_ok-map.ensures.octets l.in_ok-map.ensures.len
-    (first l) l.in_ok-seats.ensures.below l.in_ok-seats.ensures.octets l.in_ok-seats.ensures.len (fits l) (reserved l)
+returns-clause-tasks c = (whole (goal.at.returns-clause-tasks c).In_ok-seats).0
 
 pub returns-clause-start : goal.returns-clause-start
-returns-clause-start c =
-    let l = (goal.at.returns-clause-start c).In_ok-seats in
-    start l.args.loaded.now l.args.jobs.items l.args.limits.now l.place_all.new.memory l.first_seats.new.memory l.in_ok-seats.seats.items
-    l.in_ok-map.ensures.loaded l.requires.columns l.requires.limits l.requires.many l.in_ok-map.ensures.holds l.in_ok-map.ensures.octets l.in_ok-map.ensures.len
-    (first l) l.in_ok-seats.ensures.below l.in_ok-seats.ensures.octets l.in_ok-seats.ensures.len (fits l) (reserved l)
+returns-clause-start c = (whole (goal.at.returns-clause-start c).In_ok-seats).1

@@ -1,7 +1,7 @@
-use Rattle.std.proofs.Common.{◌≡◌, ℕ, ◌+◌, ◌*◌, ◌≤◌, List, length, None, refl, sym, ap, ◌∙◌, subst, arith}
+use Rattle.std.proofs.Common.{◌≡◌, ℕ, ◌+◌, ◌*◌, List, length, None, refl, sym, ap, ◌∙◌, subst, arith}
 use Rattle.std.specs.Prelude.{slice_index}
 use Rattle.qw_linear.specs.Linear.{Octets}
-use Rattle.qw_linear.specs.Memory.{page, grown_by, AreOctets, SameBelow}
+use Rattle.qw_linear.specs.Memory.{page, grown_by, AreOctets}
 use Rattle.qw_linear.proofs.GrowthFacts.{AreOctets-grown_by, grown_by-below, length-grown_by}
 use Rattle.qw_machine.specs.Instance.{Called}
 use Rattle.qw_module.specs.Start.{begun}

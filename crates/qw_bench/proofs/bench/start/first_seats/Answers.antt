@@ -1,4 +1,4 @@
-use Rattle.std.proofs.Common.{◌≡◌, ℕ, ◌+◌, ◌<◌, List, [], ◌∷◌, ◌++◌, length, get_or, Some, slice_get, sym, ap, ◌∙◌, subst, arith}
+use Rattle.std.proofs.Common.{◌≡◌, ℕ, ◌<◌, length, get_or, Some, slice_get, sym, ap, ◌∙◌, subst, arith}
 use Rattle.std.proofs.lemmas.Iterator.Adapters.{YieldsList-from_vec}
 use Rattle.std.proofs.lemmas.Iterator.Consumers.{YieldsList-turn}
 use Rattle.std.proofs.lemmas.List.{length_push}
@@ -20,8 +20,7 @@ loop-job-preserved c =
     let one : Limits = get_or c.args.limits.now c.len-in-loop-job.result (record { pages = 0; steps = 0 }) in
     let at_limits : slice_get c.args.limits.now n ≡ Some one =
     subst (λ (k : ℕ). slice_get c.args.limits.now k ≡ Some one) at (slice_get-get_or c.args.limits.now c.len-in-loop-job.result (record { pages = 0; steps = 0 }) within) in
-    let seated = c.in_ok-first_seat.ensures in
-    (
+    let seated = c.in_ok-first_seat.ensures in (
       tt,
       tt,
       subst (AreSoFar c.args.map.now.placed c.args.memory.now c.first_seat.new.memory c.args.jobs.items c.args.limits.now c.push.new.self.items)

@@ -1,4 +1,4 @@
-use Rattle.std.proofs.Common.{◌≡◌, length}
+use Rattle.std.proofs.Common.{length}
 use Rattle.qw_bench.proofs.FirstSeatLemmas.{AreSoFar}
 use Rattle.qw_bench.proofs.bench.start.first_seats.Given as goal
 
