@@ -1,6 +1,6 @@
 -- A column stands where its parts were written.
-use Rattle.std.proofs.Common.{◌≡◌, ◌≢◌, ◌≤◌, ◌<◌, ◌+◌, ◌-◌, ◌*◌, ◌/◌, ◌%◌, ◌^◌, ◌∙◌, refl, sym, ap, subst, ℕ, ℤ, pos, negsuc, Option, zero, suc, Bool, true, false, List, [], ◌∷◌, length, take, drop, Some, arith, add-one, mul-le-mul_left, mul-suc, pow-suc, w32, w64}
-use Rattle.std.specs.Prelude.{◌==◌, not, FitsSigned, slice_get, unsigned_abs}
+use Rattle.std.proofs.Common.{◌≡◌, ◌≤◌, ◌<◌, ◌+◌, ◌-◌, ◌*◌, ◌/◌, ◌%◌, ◌^◌, ◌∙◌, refl, sym, ap, subst, ℕ, ℤ, pos, negsuc, Option, zero, suc, Bool, true, false, List, [], ◌∷◌, length, take, Some, arith, add-one, mul-le-mul_left, mul-suc, pow-suc, w32, w64}
+use Rattle.std.specs.Prelude.{not, FitsSigned, slice_get}
 use Rattle.std.specs.Int.{cast_signed, cast_unsigned}
 use Rattle.std.specs.List.{AllByRecursion}
 use Rattle.std.proofs.lemmas.Int.{ints, to_z-of_z}
@@ -22,7 +22,7 @@ use Rattle.qw_types.specs.declared.value.Val.TheVariants as val
 use Rattle.qw_linear.specs.Memory.{SameBelow, number_at}
 use Rattle.qw_linear.proofs.MemoryFacts.{number_at-same}
 use Rattle.qw_map.specs.Areas.{Area}
-use Rattle.qw_map.specs.Columns.{HasOffsets, HoldsColumn, areas_of, blank, column_end, column_values, null_bit, placed_at, stored_at, text_at, text_offset, value_at}
+use Rattle.qw_map.specs.Columns.{HasOffsets, HoldsColumn, areas_of, blank, column_end, column_values, null_bit, placed_at, stored_at, text_at, value_at}
 use Rattle.qw_map.specs.declared.layout.Placed.{Placed}
 use Rattle.qw_map.proofs.AreaLemmas.{all-weaker}
 use Rattle.qw_map.proofs.ColumnLemmas.{placed-between}
@@ -233,9 +233,10 @@ values_kept before after ty.Date placed values is same long room has =
     numbers_kept before after placed.values 4 placed.nulls values same (omega (arith, end)) has
 values_kept before after (ty.Varchar limit) placed values is same long room has =
     let end = ap (λ (p : Placed). p.nulls) is in
-    let start = ap (λ (p : Placed). p.octets) is in
-    (starts_kept before after placed.values placed.nulls values (length values + 1) same (omega (arith, end)) has.0,
-    texts_kept before after placed.octets placed.nulls values same long room (omega (arith, end, start)) has.1)
+    let start = ap (λ (p : Placed). p.octets) is in (
+      starts_kept before after placed.values placed.nulls values (length values + 1) same (omega (arith, end)) has.0,
+      texts_kept before after placed.octets placed.nulls values same long room (omega (arith, end, start)) has.1,
+    )
 
 -- ---- from what is so of a loaded table
 

@@ -1,6 +1,6 @@
 -- What a memory that holds tables has of a row.
-use Rattle.std.proofs.Common.{◌≡◌, ◌≤◌, ◌<◌, ◌+◌, ◌-◌, ◌*◌, ◌/◌, ◌∙◌, refl, sym, ap, subst, ℕ, zero, suc, Bool, true, false, List, [], ◌∷◌, length, map, take, drop, Option, Some, None, arith, add-one}
-use Rattle.std.specs.Prelude.{IsSome, IsUtf8, if◌then◌else◌, slice_get, slice_index_or}
+use Rattle.std.proofs.Common.{◌≡◌, ◌≤◌, ◌<◌, ◌+◌, ◌/◌, ◌∙◌, refl, sym, ap, subst, ℕ, zero, suc, Bool, true, false, List, [], ◌∷◌, length, take, Option, Some, None, arith, add-one}
+use Rattle.std.specs.Prelude.{IsSome, IsUtf8, if◌then◌else◌, slice_get}
 use Rattle.std.specs.List.{AllByRecursion, AllZip}
 use Rattle.std.specs.Option.{option_and_then, option_map}
 use Rattle.std.proofs.lemmas.Option.{slice_get-map, slice_get_within}
@@ -12,10 +12,9 @@ use Rattle.qw_types.specs.declared.value.Ty.{Ty}
 use Rattle.qw_types.specs.declared.value.Ty.TheVariants as ty
 use Rattle.qw_types.specs.declared.value.Val.{Val}
 use Rattle.qw_types.specs.declared.value.Val.TheVariants as val
-use Rattle.qw_map.specs.Columns.{HoldsColumn, blank, column_values, is_null_at, stored_at, text_at, text_offset, value_at}
+use Rattle.qw_map.specs.Columns.{HoldsColumn, column_values, is_null_at, stored_at, text_at, text_offset, value_at}
 use Rattle.qw_map.specs.declared.layout.Placed.{Placed}
-use Rattle.qw_columns.specs.Inner.Reading.{IsReadable, IsReadableText}
-use Rattle.qw_columns.specs.Inner.Writing.{octets_in}
+use Rattle.qw_columns.specs.Inner.Reading.{IsReadable}
 use Rattle.qw_columns.specs.Mapped.{IsMapOf, Mapped, at_indices, value_in}
 use Rattle.qw_columns.proofs.RoomLemmas.{in_column, length-column_values, text_octets-more, there}
 use Rattle.qw_columns.proofs.WriteLemmas.{text_inside}
@@ -87,12 +86,15 @@ named m memory tables i j row is some =
     let place = there in_map.0 j (omega (arith, held.many, slice_get_within table.0.columns j type.0 type.1)) in
     let column = held.each j type.0 place.0 type.1 place.1 in
     let columns : slice_get m.columns i ≡ Some table.0.columns =
-    rw (is.columns) (slice_get-map (λ (one : Contents). one.columns) tables i ∙ ap (option_map (λ (one : Contents). one.columns)) table.1) in
-    (type.0, place.0, record {
-      type_is = rw (columns) type.1;
-      placed_is = rw (in_map.1) place.1;
-      within = omega (arith, column.rows_are, length-column_values table.0.rows j, slice_get_within table.0.rows row values.0 values.1);
-    })
+    rw (is.columns) (slice_get-map (λ (one : Contents). one.columns) tables i ∙ ap (option_map (λ (one : Contents). one.columns)) table.1) in (
+      type.0,
+      place.0,
+      record {
+        type_is = rw (columns) type.1;
+        placed_is = rw (in_map.1) place.1;
+        within = omega (arith, column.rows_are, length-column_values table.0.rows j, slice_get_within table.0.rows row values.0 values.1);
+      },
+    )
 
 -- and what is named is found in any tables that the memory holds by this map
 pub found : (m : Mapped) (memory : List ℕ) (tables : List Contents) (i j row : ℕ) (type : ColumnType) (placed : Placed) → IsMapOf m memory tables → IsNamed m i j row type placed

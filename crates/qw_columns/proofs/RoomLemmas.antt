@@ -1,10 +1,9 @@
 -- The values of a column, and how many octets they take.
-use Rattle.std.proofs.Common.{◌≡◌, ◌≤◌, ◌<◌, ◌+◌, ◌*◌, ◌∙◌, refl, sym, ap, ℕ, zero, suc, Bool, List, [], ◌∷◌, length, map, take, drop, Option, Some, arith}
+use Rattle.std.proofs.Common.{◌≡◌, ◌≤◌, ◌<◌, ◌+◌, ◌*◌, refl, ap, ℕ, zero, suc, Bool, List, [], ◌∷◌, length, take, Some, arith}
 use Rattle.std.specs.Prelude.{slice_get, slice_index_or}
 use Rattle.std.specs.List.{AllByRecursion, AllZip}
-use Rattle.std.specs.Option.{option_and_then}
 use Rattle.std.proofs.lemmas.List.{length-map}
-use Rattle.std.proofs.lemmas.Option.{slice_get-map, get_or_from_slice_get}
+use Rattle.std.proofs.lemmas.Option.{get_or_from_slice_get}
 use Rattle.qw_types.specs.Contents.{AreLoaded, Contents, IsOfColumnType}
 use Rattle.qw_types.specs.Value.{IsOfTypeOrNull, IsSized, text_octets, value_of}
 use Rattle.qw_types.specs.declared.schema.ColumnType.{ColumnType}

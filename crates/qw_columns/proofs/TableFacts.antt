@@ -1,7 +1,6 @@
 -- The first columns of a table, and the first of several tables.
-use Rattle.std.proofs.Common.{◌≡◌, ◌≤◌, ◌<◌, ◌+◌, ◌∙◌, refl, sym, ap, subst, ⊎_elim, ℕ, zero, suc, Bool, List, [], ◌∷◌, length, take, Some, arith}
+use Rattle.std.proofs.Common.{◌≡◌, ◌≤◌, ◌<◌, ◌+◌, ◌∙◌, sym, ap, subst, ⊎_elim, ℕ, zero, suc, Bool, List, [], ◌∷◌, length, take, Some, arith}
 use Rattle.std.specs.Prelude.{slice_get, slice_index_or}
-use Rattle.std.specs.List.{AllByRecursion}
 use Rattle.std.proofs.lemmas.Bool.{cases_lt}
 use Rattle.std.proofs.lemmas.List.{take-take}
 use Rattle.std.proofs.lemmas.Option.{get_or_from_slice_get, slice_get_within}
@@ -10,8 +9,7 @@ use Rattle.qw_types.specs.declared.schema.ColumnType.{ColumnType}
 use Rattle.qw_types.specs.declared.value.Ty.{Ty}
 use Rattle.qw_types.specs.declared.value.Val.{Val}
 use Rattle.qw_linear.specs.Memory.{SameBelow}
-use Rattle.qw_map.specs.Areas.{Area}
-use Rattle.qw_map.specs.Columns.{Holds, HoldsColumn, HoldsTable, areas_of, column_end, column_values, columns_end, columns_start, map_of, placed_at, placed_columns, placed_tables, tables_end}
+use Rattle.qw_map.specs.Columns.{Holds, HoldsColumn, HoldsTable, areas_of, column_end, column_values, columns_end, columns_start, map_of, placed_at, placed_columns, tables_end}
 use Rattle.qw_map.specs.declared.layout.Placed.{Placed}
 use Rattle.qw_map.proofs.AccessLemmas.{lies-within}
 use Rattle.qw_map.proofs.ColumnLemmas.{LieBetween, column-kept, columns-end-above, placed-between, tables-end-above}

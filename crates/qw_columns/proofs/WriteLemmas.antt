@@ -1,6 +1,6 @@
 -- What stands in a part of a column after one more of its values was written.
-use Rattle.std.proofs.Common.{◌≡◌, ◌≤◌, ◌<◌, ◌+◌, ◌*◌, ◌/◌, ◌%◌, ◌^◌, ◌∙◌, refl, sym, ap, ap₂, ⊎_elim, inl, inr, ◌⊎◌, ℕ, zero, suc, List, [], ◌∷◌, ◌++◌, length, take, drop, get_or, Some, arith, append_assoc, get_or-drop, get_or-take, length-append, length-drop, mul-le-mul_left, mul-suc, pow-suc, Bool, true, false}
-use Rattle.std.specs.Prelude.{slice_get, slice_index}
+use Rattle.std.proofs.Common.{◌≡◌, ◌≤◌, ◌<◌, ◌+◌, ◌*◌, ◌%◌, ◌^◌, ◌∙◌, refl, sym, ⊎_elim, inl, ℕ, zero, suc, List, ◌++◌, length, take, drop, get_or, Some, arith, append_assoc, get_or-drop, get_or-take, length-append, length-drop, mul-le-mul_left, mul-suc, pow-suc, Bool, true, false}
+use Rattle.std.specs.Prelude.{slice_get}
 use Rattle.std.specs.Int.{cast_unsigned, w64}
 use Rattle.std.proofs.lemmas.Bool.{cases_lt}
 use Rattle.std.proofs.lemmas.List.{ext_get_or, get_or_append_left, length-take-le, take-take}
@@ -11,7 +11,7 @@ use Rattle.qw_types.specs.declared.value.Val.{Val}
 use mir.Val.{bool_byte}
 use Rattle.qw_linear.specs.Linear.{Octets}
 use Rattle.qw_linear.specs.Memory.{AreOctets, SameBelow, number_at, with_number}
-use Rattle.qw_linear.proofs.MemoryFacts.{AreOctets-with_number, length-with_number, number_at-apart, number_at-same, number_at-with_number, with_number-below}
+use Rattle.qw_linear.proofs.MemoryFacts.{AreOctets-with_number, length-with_number, number_at-apart, number_at-with_number, with_number-below}
 use Rattle.qw_columns.specs.Inner.Writing.{HasNulls, HasNumbers, HasStarts, HasTexts, KeepsBelow, bit_of, flags_from, is_null, number_in, octets_in}
 use Rattle.qw_map.proofs.ColumnLemmas.{text_octets-taken}
 use Rattle.qw_columns.proofs.RoomLemmas.{text_octets-more}

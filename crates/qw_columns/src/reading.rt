@@ -107,7 +107,9 @@ fn text_at(alloc: Global, memory: &Linear, placed: &Placed, row: u64) -> Result<
     let at = placed.values + 4 * row;
     let start = memory.load32(at).unwrap();
     let end = memory.load32(at + 4).unwrap();
-    let octets = memory.octets_at(placed.octets + start, end - start).unwrap();
+    let octets = memory
+        .octets_at(placed.octets + start, end - start)
+        .unwrap();
     let text = str::from_utf8(octets).unwrap();
     Ok(Text::new(String::from_str(alloc, text)?))
 }

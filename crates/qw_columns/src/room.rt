@@ -57,7 +57,10 @@ pub(crate) fn columns_end(loaded: &Loaded, at: u64) -> u64
 {
     let mut end = at;
     for column in 0..loaded.width() {
-        end = column_end(column_type(loaded, column).not_null, &placed_at(loaded, column, end));
+        end = column_end(
+            column_type(loaded, column).not_null,
+            &placed_at(loaded, column, end),
+        );
     }
     end
 }

@@ -50,13 +50,7 @@ fn write_column(loaded: &Loaded, column: usize, placed: &Placed, memory: &mut Li
 }
 
 /// Writes the values of a column, or the offsets of its texts and their octets.
-fn write_values(
-    loaded: &Loaded,
-    column: usize,
-    ty: Ty,
-    placed: &Placed,
-    memory: &mut Linear,
-)
+fn write_values(loaded: &Loaded, column: usize, ty: Ty, placed: &Placed, memory: &mut Linear)
     requires column { column < length loaded.now.columns }
     requires placed { placed.now ≡ placed_at placed.now.values ty (column_values loaded.now.rows column) }
     requires room { placed.now.nulls ≤ length memory.old.octets }
@@ -84,7 +78,8 @@ fn write_numbers(loaded: &Loaded, column: usize, ty: Ty, at: u64, memory: &mut L
     ensures keeps { KeepsBelow memory.old memory.new at }
 {
     let width = width_of(ty);
-    for row in 0..loaded.len() {
+    let rows = loaded.len();
+    for row in 0..rows {
         let number = number_of(loaded.cell(row, column));
         store_number(memory, at + width * row as u64, width, number);
     }
@@ -139,7 +134,9 @@ fn write_offsets(loaded: &Loaded, column: usize, at: u64, memory: &mut Linear)
         memory.store32(at + 4 * row as u64, offset).unwrap();
         offset += text_of(loaded.cell(row, column)).len() as u64;
     }
-    memory.store32(at + 4 * loaded.len() as u64, offset).unwrap();
+    memory
+        .store32(at + 4 * loaded.len() as u64, offset)
+        .unwrap();
 }
 
 /// Writes the octets of the texts of a column from an address on, one text after another.

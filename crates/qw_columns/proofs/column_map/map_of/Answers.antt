@@ -1,7 +1,7 @@
-use Rattle.std.proofs.Common.{◌≡◌, ◌≤◌, ◌+◌, ◌*◌, ◌∙◌, ◌++◌, ◌∷◌, [], List, Some, add-one, arith, ap, length, map, refl, sym, take, take_all}
+use Rattle.std.proofs.Common.{◌≡◌, ◌∙◌, Some, add-one, arith, ap, length, map, refl, take_all}
 use Rattle.std.specs.Prelude.{slice_get}
 use Rattle.std.proofs.lemmas.Option.{slice_get_read, slice_get-map}
-use Rattle.qw_map.specs.Columns.{columns_start, placed_tables, tables_end}
+use Rattle.qw_map.specs.Columns.{columns_start, placed_tables}
 use Rattle.std.specs.Option.{option_map}
 use Rattle.std.proofs.lemmas.List.{length-map}
 use Rattle.qw_types.specs.Contents.{Contents}

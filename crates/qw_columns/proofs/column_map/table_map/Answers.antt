@@ -1,7 +1,5 @@
-use Rattle.std.proofs.Common.{◌≡◌, ◌≤◌, ◌+◌, ◌*◌, ◌∙◌, ◌++◌, ◌∷◌, [], List, add-one, arith, ap, length, refl, sym, take, take_all}
+use Rattle.std.proofs.Common.{◌∙◌, add-one, arith, sym, take_all}
 use Rattle.qw_map.specs.Columns.{placed_columns}
-use Rattle.qw_map.specs.declared.layout.Placed.{Placed}
-use Rattle.qw_types.specs.declared.schema.ColumnType.{ColumnType}
 use Rattle.qw_columns.proofs.PlaceLemmas.{length-placed_columns, next_end, placed_more, take-more}
 use Rattle.qw_columns.proofs.column_map.table_map.Goals as goal
 

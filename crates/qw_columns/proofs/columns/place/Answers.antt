@@ -1,8 +1,7 @@
-use Rattle.std.proofs.Common.{◌≡◌, ◌≤◌, ◌<◌, ◌+◌, ◌*◌, ◌∙◌, ap, arith, length, refl, ℕ}
+use Rattle.std.proofs.Common.{◌≤◌, ◌*◌, ◌∙◌, ap, arith, length, ℕ}
 use Rattle.qw_linear.proofs.GrowthFacts.{AreOctets-grown_by, length-grown_by}
 use Rattle.qw_linear.specs.Linear.{Octets}
 use Rattle.qw_linear.specs.Memory.{page}
-use Rattle.qw_map.specs.Columns.{column_pages, columns_start, tables_end}
 use Rattle.qw_columns.proofs.PlaceLemmas.{no_octets}
 use Rattle.qw_columns.proofs.columns.place.Goals as goal
 

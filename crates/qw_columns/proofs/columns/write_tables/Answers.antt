@@ -1,5 +1,5 @@
-use Rattle.std.proofs.Common.{◌≡◌, ◌≤◌, ◌<◌, ◌+◌, ◌∙◌, Some, add-one, ap, arith, length, refl, subst, suc, take}
-use Rattle.std.specs.Prelude.{slice_get, List}
+use Rattle.std.proofs.Common.{◌≡◌, ◌∙◌, add-one, ap, arith, length, refl, subst, suc, take}
+use Rattle.std.specs.Prelude.{List}
 use Rattle.qw_types.specs.Contents.{Contents}
 use Rattle.qw_map.specs.declared.layout.Placed.{Placed}
 use Rattle.std.proofs.lemmas.Option.{slice_get_read}
@@ -22,9 +22,11 @@ write_table-requires-clause-room c =
     let table = c.index-loaded-index.result in
     let found = slice_get_read tables (length tables) k table refl c.loop-index-test.true c.index-loaded-index.is in
     let end = tables_end-more columns_start tables k table found in
-    let within = tables_end-within columns_start tables (suc k) in
-    (tables_end columns_start (take k tables), stands_of tables c.args.map.now.placed k table c.table.result.now c.requires.placed found c.table.ensures,
-    omega (arith, end, within, c.requires.room, c.loop-index.invariant.keeps.len))
+    let within = tables_end-within columns_start tables (suc k) in (
+      tables_end columns_start (take k tables),
+      stands_of tables c.args.map.now.placed k table c.table.result.now c.requires.placed found c.table.ensures,
+      omega (arith, end, within, c.requires.room, c.loop-index.invariant.keeps.len),
+    )
 
 pub loop-index-preserved : goal.loop-index-preserved
 loop-index-preserved c =

@@ -1,4 +1,4 @@
-use Rattle.std.proofs.Common.{◌≡◌, ◌∙◌, List, Some, ap, arith, false, refl, sym, true}
+use Rattle.std.proofs.Common.{◌≡◌, ◌∙◌, List, Some, ap, false, refl, sym, true}
 use Rattle.std.proofs.lemmas.Result.{IfOk-weaker}
 use Rattle.qw_types.specs.Contents.{Contents}
 use Rattle.qw_types.specs.declared.value.Val.{Val}

@@ -1,7 +1,5 @@
-use Rattle.std.proofs.Common.{◌≡◌, ◌≤◌, ◌<◌, ◌+◌, ◌*◌, ◌∙◌, add-one, arith, length, refl, take_all}
-use Rattle.qw_map.specs.Columns.{column_end, column_values, columns_end}
+use Rattle.std.proofs.Common.{add-one, arith}
 use Rattle.qw_columns.proofs.PlaceLemmas.{next_end}
-use Rattle.qw_columns.proofs.RoomLemmas.{there}
 use Rattle.qw_columns.proofs.room.columns_end.Goals as goal
 
 pub placed_at-requires-clause-small : goal.placed_at-requires-clause-small

@@ -1,5 +1,4 @@
 use Rattle.std.proofs.Common.{◌≤◌, arith}
-use Rattle.qw_map.specs.Columns.{values_size}
 use Rattle.qw_columns.proofs.RoomLemmas.{few_values}
 use Rattle.qw_columns.proofs.room.placed_at.Goals as goal
 

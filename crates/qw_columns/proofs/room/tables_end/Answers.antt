@@ -1,6 +1,6 @@
-use Rattle.std.proofs.Common.{◌≡◌, ◌≤◌, ◌<◌, ◌+◌, ◌*◌, ◌∙◌, Some, add-one, arith, length, refl}
+use Rattle.std.proofs.Common.{◌≡◌, Some, add-one, arith, length, refl}
 use Rattle.std.specs.Prelude.{slice_get}
-use Rattle.qw_map.specs.Columns.{columns_start, tables_end}
+use Rattle.qw_map.specs.Columns.{columns_start}
 use Rattle.qw_types.specs.Contents.{AreLoaded}
 use Rattle.std.proofs.lemmas.Option.{slice_get_read}
 use Rattle.qw_columns.proofs.PlaceLemmas.{all-more, tables_end-more}

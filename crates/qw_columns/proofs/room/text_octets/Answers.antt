@@ -1,5 +1,4 @@
-use Rattle.std.proofs.Common.{◌≡◌, ◌≤◌, ◌+◌, ◌∙◌, Some, add-one, arith, length, refl, suc, take, take_all}
-use Rattle.std.specs.Prelude.{slice_get}
+use Rattle.std.proofs.Common.{◌≡◌, ◌≤◌, ◌+◌, add-one, arith, length, refl, suc, take, take_all}
 use Rattle.qw_types.specs.Value.{text_octets}
 use Rattle.qw_csv.specs.Field.{val_of}
 use Rattle.qw_map.specs.Columns.{column_values}

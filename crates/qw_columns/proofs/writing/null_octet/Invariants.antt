@@ -1,4 +1,4 @@
-use Rattle.std.proofs.Common.{◌≡◌, ◌≤◌, ◌+◌, ◌*◌, ◌-◌}
+use Rattle.std.proofs.Common.{◌≡◌, ◌+◌, ◌*◌, ◌-◌}
 use Rattle.qw_map.specs.Columns.{column_values}
 use Rattle.qw_columns.specs.Inner.Writing.{flags_from}
 use Rattle.qw_columns.proofs.writing.null_octet.Given as goal

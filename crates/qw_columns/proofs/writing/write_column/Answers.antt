@@ -1,4 +1,4 @@
-use Rattle.std.proofs.Common.{◌≡◌, ◌≤◌, ◌+◌, ◌/◌, true, false, Bool, ◌∙◌, ℕ, List, Some, ap, arith, length, subst}
+use Rattle.std.proofs.Common.{◌≡◌, ◌≤◌, true, false, Bool, ◌∙◌, ℕ, List, Some, ap, arith, length, subst}
 use Rattle.std.specs.Prelude.{not, slice_get}
 use Rattle.qw_types.specs.declared.schema.ColumnType.{ColumnType}
 use Rattle.qw_map.specs.Columns.{HoldsColumn, column_end, column_values}

@@ -1,4 +1,4 @@
-use Rattle.std.proofs.Common.{◌≡◌, ◌≤◌, ◌<◌, ◌+◌, ◌*◌, ◌∙◌, add-one, arith, length}
+use Rattle.std.proofs.Common.{◌≡◌, ◌≤◌, ◌+◌, ◌*◌, ◌∙◌, add-one, arith, length}
 use Rattle.qw_linear.proofs.AccessFacts.{stored-inside}
 use Rattle.qw_map.specs.Columns.{column_values}
 use Rattle.qw_columns.specs.Inner.Writing.{flags_from}

@@ -1,5 +1,5 @@
 use Rattle.qw_map.specs.Columns.{column_values}
-use Rattle.qw_columns.specs.Inner.Writing.{HasNumbers, KeepsBelow, width_of}
+use Rattle.qw_columns.specs.Inner.Writing.{HasNumbers, KeepsBelow}
 use Rattle.qw_columns.proofs.writing.write_numbers.Given as goal
 
 abbrev pub invariant-loop-row : goal.invariant-loop-row

@@ -1,4 +1,4 @@
-use Rattle.std.proofs.Common.{◌≡◌, ◌≤◌, ◌<◌, ◌+◌, ◌*◌, ◌^◌, ◌∙◌, ℕ, List, Some, add-one, ap, arith, length, suc, sym, take}
+use Rattle.std.proofs.Common.{◌≡◌, ◌≤◌, ◌<◌, ◌+◌, ◌*◌, ◌^◌, Some, add-one, arith, length, sym, take}
 use Rattle.std.specs.Prelude.{slice_get}
 use Rattle.qw_csv.specs.Field.{val_of}
 use Rattle.qw_types.specs.Value.{text_octets}

@@ -1,14 +1,12 @@
-use Rattle.std.proofs.Common.{◌≡◌, ◌≤◌, ◌<◌, ◌+◌, ◌∙◌, Some, add-one, ap, arith, length, refl, subst, suc, take}
-use Rattle.std.specs.Prelude.{slice_get}
-use Rattle.qw_types.specs.declared.schema.ColumnType.{ColumnType}
+use Rattle.std.proofs.Common.{◌≤◌, ◌∙◌, add-one, ap, arith, length, refl, subst, suc, take}
 use Rattle.qw_map.specs.Columns.{HoldsColumn, column_values, columns_end}
 use Rattle.qw_map.specs.declared.layout.Placed.{Placed}
 use Rattle.qw_columns.proofs.PlaceLemmas.{length-placed_columns}
 use Rattle.std.proofs.lemmas.Option.{get_or_from_slice_get}
 use Rattle.qw_map.proofs.ColumnLemmas.{columns-end-above}
 use Rattle.qw_columns.proofs.RoomLemmas.{there}
-use Rattle.qw_columns.proofs.TableFacts.{columns_all, columns_end-within, columns_more, nowhere, place_at, place_end, place_of}
-use Rattle.qw_columns.proofs.WriteLemmas.{keeps_same, keeps_then}
+use Rattle.qw_columns.proofs.TableFacts.{columns_all, columns_end-within, columns_more, nowhere, place_at, place_end}
+use Rattle.qw_columns.proofs.WriteLemmas.{keeps_then}
 use Rattle.qw_columns.proofs.writing.write_table.Goals as goal
 
 pub bounds-placed-column : goal.bounds-placed-column

@@ -1,8 +1,5 @@
-use Rattle.std.proofs.Common.{◌≡◌, ◌<◌, ℕ, Some}
-use Rattle.std.specs.Prelude.{slice_get}
-use Rattle.qw_types.specs.declared.schema.ColumnType.{ColumnType}
-use Rattle.qw_map.specs.Columns.{HoldsColumn, column_values, placed_columns}
-use Rattle.qw_map.specs.declared.layout.Placed.{Placed}
+use Rattle.std.proofs.Common.{◌≡◌, ℕ}
+use Rattle.qw_map.specs.Columns.{placed_columns}
 use Rattle.qw_columns.specs.Inner.Writing.{KeepsBelow}
 use Rattle.qw_columns.proofs.TableFacts.{HoldsColumns}
 use Rattle.qw_columns.proofs.writing.write_table.Given as goal

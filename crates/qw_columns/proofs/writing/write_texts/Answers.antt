@@ -1,4 +1,4 @@
-use Rattle.std.proofs.Common.{◌≡◌, ◌≤◌, ◌<◌, ◌+◌, ◌*◌, Some, add-one, ap, arith, length, rules, suc, sym, take}
+use Rattle.std.proofs.Common.{◌≤◌, ◌+◌, add-one, arith, length}
 use Rattle.qw_csv.specs.Field.{val_of}
 use Rattle.qw_linear.specs.Memory.{AreOctets}
 use Rattle.qw_map.specs.Columns.{column_values}
