@@ -8,5 +8,5 @@ mod MapLemmas
 mod Rounds
 mod SeatRuns
 mod SeatSteps
-mod Serving
-mod Starting
+pub mod Serving
+pub mod Starting

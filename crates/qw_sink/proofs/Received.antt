@@ -16,7 +16,7 @@ use Rattle.qw_map.proofs.AreaLemmas.{all-back}
 use Rattle.qw_map.specs.Layout.{Layout, rows_at}
 use Rattle.qw_bench.specs.Bench.{AreServing, Serves, Task, end_in}
 use Rattle.qw_bench.specs.Standing.{IsBench, Standing, rows_in}
-use Rattle.qw_bench.proofs.LayoutLemmas.{there}
+use Rattle.qw_map.proofs.TurnFacts.{found-in as there}
 
 -- an instance that is done has returned
 pub returned : (s : State) (w : World) (ran most : ℕ) → end_at s w ran most ≡ Some Done → s ≡ Returned
