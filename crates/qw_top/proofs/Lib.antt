@@ -1,7 +1,11 @@
+pub mod BenchLemmas
+mod CauseLemmas
+mod ContentLemmas
 mod DeliverLemmas
 mod OutputLemmas
 mod ReportLemmas
 mod RunLemmas
-mod TakenLemmas
-mod TopLemmas
+mod SettleLemmas
+mod StatementLemmas
+mod StopLemmas
 mod WholeFileLemmas

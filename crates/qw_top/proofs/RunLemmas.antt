@@ -1,154 +1,356 @@
--- What a bench that has run a statement to its end holds, and that there is a report of it.
-use Rattle.std.proofs.Common.{◌≡◌, ℕ, ◌+◌, ◌*◌, ◌^◌, ◌<◌, ◌≤◌, Bool, List, [], ◌∷◌, Option, Some, None, refl, sym, subst, length, ap, ◌∙◌, arith, filter}
-use Rattle.std.specs.Prelude.{IsSome, slice_get}
-use Rattle.std.proofs.lemmas.List.{length-map}
-use Rattle.std.proofs.lemmas.List.Sums.{length-filter, count_by-le-length}
-use Rattle.std.proofs.lemmas.Nat.{mul-le}
-use Rattle.qw_types.specs.Limits.{most_rows}
-use Rattle.qw_types.specs.declared.schema.Table.{Table}
-use Rattle.qw_types.specs.declared.value.Val.{Val}
-use Rattle.qw_module.specs.declared.module.Module.{Module}
-use Rattle.qw_module.specs.Validity.{IsShaped}
+-- What a bench that has run queries to their ends holds, and what a report shows of it.
+use Rattle.std.proofs.Common.{◌≡◌, ◌⊎◌, ℕ, zero, suc, ◌+◌, ◌<◌, nat_le, Bool, true, false, List, [], ◌∷◌, ◌++◌, Option, Some, None, inl, inr, refl, sym, subst, length, ap, ◌∙◌, arith, map}
+use Rattle.std.specs.Prelude.{Contains, IsSome, ◌==◌, ◌||◌, if◌then◌else◌, slice_get}
+use Rattle.std.specs.List.{AllZip, list_any}
 use Rattle.std.specs.Option.{option_and_then}
-use Rattle.qw_map.specs.Turns.{Act, Done, EachInstance, End, Exception, Instance, Pages, Shared, Steps, Trap, turns}
-use Rattle.qw_meaning.specs.Statement.{Statement}
-use Rattle.qw_meaning.specs.Meaning.{condition, is_true, results, selected}
-use Rattle.qw_emit.specs.Compiled.{IsCompiled, bound, page_bound, units, weight_of}
-use Rattle.qw_map.specs.Layout.{cell_types, rows_at}
-use Rattle.qw_top.specs.Limits.{default_limits, quantum}
-use Rattle.qw_bench.specs.Bench.{AreRounds, AreServing, end_in, IsAt, IsStart, Serves, Task}
-use Rattle.qw_top.specs.Delivered.{HasRun, ShowsEnd}
-use Rattle.qw_bench.specs.Standing.{Standing, first_task, rows_in}
-use Rattle.qw_sink.specs.Sink.{report_of_pages, report_of_rows}
-use Rattle.qw_top.specs.Top.{header_of}
-use Rattle.qw_bench.proofs.Serving.{served-at, start-serving, there, turns-serving}
+use Rattle.std.proofs.lemmas.Option.{none-some, same_Some}
+use Rattle.qw_types.specs.Contents.{Contents}
+use Rattle.qw_types.specs.declared.code.Code.{Code}
+use Rattle.qw_types.specs.declared.code.Code.TheVariants.{DivZero, OutOfRange}
+use Rattle.qw_module.specs.Execution.{State, Running, Returned, Raised as HasRaised, Trapped}
+use Rattle.qw_module.specs.Validity.{IsShaped}
+use Rattle.qw_meaning.specs.Outcome.{Rows, Raises, outcome}
+use Rattle.qw_map.specs.Layout.{rows_at}
+use Rattle.qw_map.specs.Turns.{End, Done as EndedDone, Exception, Pages, Steps, Trap, Instance, IsWhole, Shared, end_at, end_of_refusal}
+use Rattle.qw_emit.specs.Compiled.{IsCompiled, page_bound, raised_for}
+use Rattle.qw_bench.specs.Bench.{AreServing, IsAt, Program, Serves, Task, end_in, rows_in_tables}
+use Rattle.qw_bench.specs.Standing.{Standing, AreTasksOf, rows_in}
+use Rattle.qw_bench.specs.declared.bench.Limits.{Limits}
+use Rattle.qw_map.proofs.TurnFacts.{found-in as there}
+use Rattle.qw_bench.proofs.Serving.{turns-serving}
+use Rattle.qw_bench.proofs.Starting.{compiled-answers, start-serving}
+use Rattle.qw_sink.specs.Sink.{report_of_exception, report_of_pages, report_of_rows, report_of_steps}
+use Rattle.qw_top.specs.Delivered.{HasRun, IsProgramOf, ShowsEnd, ShowsEnds, ends_below, is_exception, is_pages, is_steps, status_of_ends}
+use Rattle.qw_top.specs.Top.{Asked, IsPastSteps, same_limits}
+use Rattle.qw_top.specs.Inner.Reports.{AreBlocks, IsBlock}
+use Rattle.qw_top.specs.declared.status.Status.TheVariants.{Done, Raised, PageLimitMet, StepLimitMet}
 
--- a run of few instructions over few rows ends before the limit where none is given
-few_instructions : (weight units : ℕ) → weight ≤ 2 ^ 24 → 1 + units ≤ 2000001 → weight * (1 + units) ≤ 999999999999999999
-few_instructions weight units light few = omega (arith, mul-le weight (1 + units) (2 ^ 24) 2000001 light few)
+-- ---- the task of a query
 
-few_results : (statement : Statement) (rows : List (List Val)) → length (results statement rows) ≤ length rows
-few_results statement rows =
-    let keeps : List Val → Bool = λ row. is_true (condition statement row) in
-    omega (arith, length-map (filter keeps rows) (selected statement), length-filter keeps rows, count_by-le-length keeps rows)
+-- The task of query k of a bench: its module is compiled for the query, and it has the limits.
+record TaskOf (limits : Limits) (asked : Asked) (tasks : List Task) (k : ℕ) : Type 0 where
+  t : Task
+  task : slice_get tasks k ≡ Some t
+  compiled : IsCompiled asked.specification t.program.layout t.program.module'
+  pages : t.pages ≡ limits.pages
+  steps : t.steps ≡ limits.steps
 
-bounded : (statement : Statement) (rows : List (List Val)) (program : Module) (number : ℕ) → IsCompiled statement program → IsShaped program number → length rows ≤ most_rows → bound statement rows program number ≤ 999999999999999999
-bounded statement rows program number compiled shaped few =
-    few_instructions (weight_of program number) (units statement rows) (compiled.light number shaped) (omega (arith, few, few_results statement rows))
+task_of : (limits : Limits) (queries : List Asked) (programs : List Program) (tasks : List Task) → AllZip IsProgramOf queries programs → AreTasksOf programs (same_limits limits queries) tasks →
+    (k : ℕ) (asked : Asked) → slice_get queries k ≡ Some asked → TaskOf limits asked tasks k
+task_of limits [] programs tasks compiled are k asked found = absurd (none-some asked found)
+task_of limits (query ∷ queries) [] tasks compiled are k asked found = absurd compiled
+task_of limits (query ∷ queries) (program ∷ programs) [] compiled are k asked found = absurd are
+task_of limits (query ∷ queries) (program ∷ programs) (t ∷ tasks) compiled are zero asked found = record {
+  t = t;
+  task = refl;
+  compiled =
+      subst (λ (q : Asked). IsCompiled q.specification t.program.layout t.program.module') (same_Some query asked found)
+      (subst (λ (p : Program). IsCompiled query.specification p.layout p.module') (sym are.0) compiled.0);
+  pages = are.1;
+  steps = are.2;
+}
+task_of limits (query ∷ queries) (program ∷ programs) (t ∷ tasks) compiled are (suc k) asked found =
+    let one = task_of limits queries programs tasks compiled.1 are.3 k asked found in
+    record { t = one.t; task = one.task; compiled = one.compiled; pages = one.pages; steps = one.steps }
 
-few_at_start : (width : ℕ) (rows : List (List Val)) (t : Task) (start : Shared) → IsStart width rows (t ∷ []) start → length rows ≤ most_rows
-few_at_start width rows t start began =
-    let many : length start.instances ≡ 1 = began.begins.many in
-    let i = there start.instances 0 (omega arith) in
-    (began.begins.starting 0 t i.0 refl i.1).ready.few
+-- one task for each query
+pub many_tasks : (limits : Limits) (queries : List Asked) (programs : List Program) (tasks : List Task) → AllZip IsProgramOf queries programs → AreTasksOf programs (same_limits limits queries) tasks →
+    length tasks ≡ length queries
+many_tasks limits [] [] [] compiled are = refl
+many_tasks limits [] [] (t ∷ tasks) compiled are = absurd are
+many_tasks limits [] (program ∷ programs) tasks compiled are = absurd compiled
+many_tasks limits (query ∷ queries) [] tasks compiled are = absurd compiled
+many_tasks limits (query ∷ queries) (program ∷ programs) [] compiled are = absurd are
+many_tasks limits (query ∷ queries) (program ∷ programs) (t ∷ tasks) compiled are = ap suc (many_tasks limits queries programs tasks compiled.1 are.3)
 
-abbrev pub task_for : (width : ℕ) → List (List Val) → Statement → Module → Task
-task_for width rows statement program = first_task width (length rows) (record { statement = statement; program = program }) default_limits
+-- ---- the end of a query
 
--- instances have served a bench's one task from the start on
-serving_one : (width : ℕ) (rows : List (List Val)) (statement : Statement) (program : Module) (b : Standing) (start : Shared) (given : List Act) →
-    b.tasks ≡ task_for width rows statement program ∷ [] → IsStart width rows b.tasks start → b.shared ≡ turns given start →
-    AreServing rows (task_for width rows statement program ∷ []) b.shared
-serving_one width rows statement program b start given tasks starts turned =
-    let t = task_for width rows statement program in
-    let began : IsStart width rows (t ∷ []) start = subst (λ (tasks : List Task). IsStart width rows tasks start) tasks starts in
-    subst (λ (s : Shared). AreServing rows (t ∷ []) s) (sym turned) (turns-serving rows (t ∷ []) start given (start-serving width rows (t ∷ []) start began.begins))
+-- Query k of a bench was run to this end by its task's instance.
+pub record EndedAs (limits : Limits) (tables : List Contents) (asked : Asked) (b : Standing) (k : ℕ) : Type 0 where
+  pub t : Task
+  pub task : slice_get b.tasks k ≡ Some t
+  pub i : Instance
+  pub found : slice_get b.shared.instances k ≡ Some i
+  pub compiled : IsCompiled asked.specification t.program.layout t.program.module'
+  pub serves : Serves b.shared.common.memory t i
+  pub pages : t.pages ≡ limits.pages
+  pub steps : t.steps ≡ limits.steps
+  pub number : ℕ
+  pub shaped : IsShaped t.program.module' number
+  pub at : IsAt asked.specification (rows_in_tables tables) b.shared.common.memory t number i i.end
 
--- the one instance
-the_one : (rows : List (List Val)) (t : Task) (s : Shared) → AreServing rows (t ∷ []) s → (i : Instance) × (slice_get s.instances 0 ≡ Some i)
-the_one rows t s serving = there s.instances 0 (omega (arith, serving.many))
+pub end_is : (s : Shared) (k : ℕ) (i : Instance) → slice_get s.instances k ≡ Some i → end_in s k ≡ i.end
+end_is s k i found = ap (option_and_then (λ (instance : Instance). instance.end)) found
 
-end_is : (s : Shared) (i : Instance) → slice_get s.instances 0 ≡ Some i → end_in s 0 ≡ i.end
-end_is s i found = ap (option_and_then (λ (i : Instance). i.end)) found
+module _ (limits : Limits) (quantum : ℕ) (tables : List Contents) (queries : List Asked) (b : Standing) (run : HasRun limits quantum tables queries b) where
+  serving : AreServing tables b.tasks b.shared
+  serving = subst (λ (s : Shared). AreServing tables b.tasks s) (sym run.turned)
+      (turns-serving tables b.tasks run.start (start-serving tables b.tasks run.start run.began) run.given)
 
--- An instance has served its one task from the start on: its end is one of a task, and comes before its limit of instructions.
-record Served (width : ℕ) (rows : List (List Val)) (t : Task) (b : Standing) : Type 0 where
-  instance : Instance
-  found : slice_get b.shared.instances 0 ≡ Some instance
-  task : b.tasks ≡ t ∷ []
-  number : ℕ
-  enough : bound t.statement rows t.program number ≤ t.steps
-  at : IsAt rows b.shared.common.memory t number instance instance.end
+  pub many_instances : length b.shared.instances ≡ length queries
+  many_instances = serving.many ∙ many_tasks limits queries run.programs b.tasks run.compiled run.tasks
 
-served : (width : ℕ) (rows : List (List Val)) (statement : Statement) (program : Module) (b : Standing) (start : Shared) (given : List Act) →
-    IsCompiled statement program → b.tasks ≡ task_for width rows statement program ∷ [] → IsStart width rows b.tasks start →
-    b.shared ≡ turns given start → Served width rows (task_for width rows statement program) b
-served width rows statement program b start given compiled tasks starts turned =
-    let t = task_for width rows statement program in
-    let began : IsStart width rows (t ∷ []) start = subst (λ (tasks : List Task). IsStart width rows tasks start) tasks starts in
-    let serving = serving_one width rows statement program b start given tasks starts turned in
-    let one = the_one rows t b.shared serving in
-    let serves : Serves rows b.shared.common.memory t one.0 = serving.serving 0 t one.0 refl one.1 in
-    record {
-      instance = one.0;
-      found = one.1;
-      task = tasks;
-      number = serves.number;
-      enough = bounded statement rows program serves.number compiled serves.shaped (few_at_start width rows t start began);
-      at = served-at rows b.shared.common.memory t one.0 serves;
-    }
+  pub ended_as : (k : ℕ) (asked : Asked) → slice_get queries k ≡ Some asked → k < length queries → EndedAs limits tables asked b k
+  ended_as k asked found within =
+      let one = task_of limits queries run.programs b.tasks run.compiled run.tasks k asked found in
+      let i = there b.shared.instances k (omega (arith, many_instances, within)) in
+      let answers = compiled-answers tables b.tasks run.start run.given asked.specification run.began k one.t i.0 one.task
+      (subst (λ (s : Shared). slice_get s.instances k ≡ Some i.0) run.turned i.1) one.compiled in
+      record {
+        t = one.t;
+        task = one.task;
+        i = i.0;
+        found = i.1;
+        compiled = one.compiled;
+        serves = serving.serving k one.t i.0 one.task i.1;
+        pages = one.pages;
+        steps = one.steps;
+        number = answers.0;
+        shaped = answers.1;
+        at = subst (λ (s : Shared). IsAt asked.specification (rows_in_tables tables) s.common.memory one.t answers.0 i.0 i.0.end) (sym run.turned) answers.2;
+      }
 
--- what there is, where it is said to be there
-some_of : {T : Type 0} (o : Option T) → IsSome o → (x : T) × (o ≡ Some x)
-some_of None is = cc
-some_of (Some x) is = (x, refl)
+-- ---- what is shown of it
 
--- turns from the start of a statement on, after which its instance has ended
-pub HasRun-from : (width : ℕ) (rows : List (List Val)) (statement : Statement) (program : Module) (before b : Standing) → IsCompiled statement program →
-    before.tasks ≡ task_for width rows statement program ∷ [] → IsStart width rows before.tasks before.shared → b.tasks ≡ before.tasks →
-    ((given : List Act) × AreRounds quantum given before.shared × (b.shared ≡ turns given before.shared)) →
-    EachInstance (λ instance. IsSome instance.end) b.shared → HasRun width rows statement b
-HasRun-from width rows statement program before b compiled task start same (given, rounds, turned) ended =
-    let t = task_for width rows statement program in
-    let began : IsStart width rows b.tasks before.shared = subst (λ (tasks : List Task). IsStart width rows tasks before.shared) (sym same) start in
-    let one = the_one rows t b.shared (serving_one width rows statement program b before.shared given (same ∙ task) began turned) in
-    let end = some_of one.0.end (ended 0 one.0 one.1) in
-    record {
-      program = program;
-      compiled = compiled;
-      tasks = same ∙ task;
-      start = before.shared;
-      began = began;
-      given = given;
-      rounds = rounds;
-      turned = turned;
-      end = end.0;
-      ended = end_is b.shared one.0 one.1 ∙ end.1;
-    }
+same_raised : (one other : Code) → raised_for one ≡ raised_for other → one ≡ other
+same_raised DivZero DivZero is = refl
+same_raised DivZero OutOfRange is = absurd (omega (arith, is))
+same_raised OutOfRange DivZero is = absurd (omega (arith, is))
+same_raised OutOfRange OutOfRange is = refl
 
--- the end of a bench that has run a statement
-ended_at : (width : ℕ) (rows : List (List Val)) (statement : Statement) (b : Standing) (run : HasRun width rows statement b) → Served width rows (task_for width rows statement run.program) b
-ended_at width rows statement b run = served width rows statement run.program b run.start run.given run.compiled run.tasks run.began run.turned
+module _ (limits : Limits) (tables : List Contents) (asked : Asked) (b : Standing) (k : ℕ) (one : EndedAs limits tables asked b k) where
+  rows_are : rows_in b k ≡ rows_at one.t.program.layout one.i.world b.shared.common.memory one.t.descriptor
+  rows_are = rw (one.task, one.found) refl
 
-at_end : (width : ℕ) (rows : List (List Val)) (t : Task) (b : Standing) (end : End) (s : Served width rows t b) → end_in b.shared 0 ≡ Some end → IsAt rows b.shared.common.memory t s.number s.instance (Some end)
-at_end width rows t b end s is =
-    subst (λ (o : Option End). IsAt rows b.shared.common.memory t s.number s.instance o) (sym (end_is b.shared s.instance s.found) ∙ is) s.at
+  -- the block of an end shows it
+  shows_at : (end : Option End) → IsAt asked.specification (rows_in_tables tables) b.shared.common.memory one.t one.number one.i end → (block : List ℕ) →
+      IsBlock asked.header b k end block → ShowsEnd tables asked b k end block
+  shows_at None at block is = absurd is
+  shows_at (Some EndedDone) at block (bag, found, is) =
+      let same : Some at.1.1.0 ≡ Some bag = sym (rows_are ∙ at.1.1.2) ∙ found in
+      (bag, at.1.1.1 ∙ ap Rows (same_Some at.1.1.0 bag same), found, is)
+  shows_at (Some (Exception code)) (ran, (raised, other, out, among, code_is)) block (shown, shown_is, is) =
+      let same : other ≡ shown = same_raised other shown (sym code_is ∙ shown_is) in
+      (raised, shown, out, subst (λ (c : Code). Contains raised c) same among, shown_is, is)
+  shows_at (Some (Pages held asked_for limit)) at block is = is
+  shows_at (Some (Steps limit)) at block is = is
+  shows_at (Some Trap) at block is = absurd is
 
--- the result rows of the one instance are those that stand at its task's descriptor
-found_in : (width : ℕ) (rows : List (List Val)) (t : Task) (b : Standing) (s : Served width rows t b) → rows_in b 0 ≡ rows_at (cell_types t.statement) s.instance.world.own b.shared.common.memory t.descriptor
-found_in width rows t b s = rw (s.task, s.found) refl
+  pub shows_block : (block : List ℕ) → IsBlock asked.header b k (end_in b.shared k) block → ShowsEnd tables asked b k (end_in b.shared k) block
+  shows_block block is =
+      let end = end_is b.shared k one.i one.found in
+      subst (λ (o : Option End). ShowsEnd tables asked b k o block) (sym end)
+      (shows_at one.i.end one.at block (subst (λ (o : Option End). IsBlock asked.header b k o block) end is))
 
-shown : (width : ℕ) (table : Table) (rows : List (List Val)) (t : Task) (b : Standing) (end : End) (s : Served width rows t b) → IsAt rows b.shared.common.memory t s.number s.instance (Some end) →
-    (report : List ℕ) × ShowsEnd table rows t.statement b end report
-shown width table rows t b Done s (ran, none, (bag, meant, found)) = (report_of_rows 1 (header_of table t.statement) bag, (bag, meant, found_in width rows t b s ∙ found, refl))
-shown width table rows t b (Pages held asked limit) s at = (report_of_pages 1 held asked limit, refl)
-shown width table rows t b (Steps limit) s (ran, is, below) = absurd (omega (arith, s.enough))
-shown width table rows t b (Exception code) s at = absurd at
-shown width table rows t b Trap s at = absurd at
+-- the blocks of queries show their ends, where each shows its own
+shows_blocks : (tables : List Contents) (b : Standing) (queries : List Asked) (k : ℕ) (text : List ℕ) →
+    ((n j : ℕ) (asked : Asked) (block : List ℕ) → n ≡ k + j → slice_get queries j ≡ Some asked → IsBlock asked.header b n (end_in b.shared n) block → ShowsEnd tables asked b n (end_in b.shared n) block) →
+    AreBlocks (map (λ (asked : Asked). asked.header) queries) b k text → ShowsEnds tables queries b k text
+shows_blocks tables b [] k text each are = are
+shows_blocks tables b (asked ∷ queries) k text each (block, blocks, is, first, more) = (
+  block,
+  blocks,
+  is,
+  each k zero asked block (omega arith) refl first,
+  shows_blocks tables b queries (suc k) blocks (λ n j other piece n_is found here. each n (suc j) other piece (omega (arith, n_is)) found here) more,
+)
 
--- there is a report of the end of a bench that has run a statement
-pub HasRun-shows : (table : Table) (rows : List (List Val)) (statement : Statement) (b : Standing) (run : HasRun (length table.columns) rows statement b) → (report : List ℕ) × ShowsEnd table rows statement b run.end report
-HasRun-shows table rows statement b run =
-    let width = length table.columns in
-    let t = task_for width rows statement run.program in
-    let s = ended_at width rows statement b run in
-    shown width table rows t b run.end s (at_end width rows t b run.end s run.ended)
+within_of : {A : Type 0} (xs : List A) (k : ℕ) (x : A) → slice_get xs k ≡ Some x → k < length xs
+within_of [] k x found = absurd (none-some x found)
+within_of (y ∷ xs) zero x found = omega arith
+within_of (y ∷ xs) (suc k) x found = let shorter = within_of xs k x found in omega (arith, shorter)
 
--- a request that was past the limit of pages was within the page bound
-pub HasRun-pages : (width : ℕ) (rows : List (List Val)) (statement : Statement) (b : Standing) (run : HasRun width rows statement b) (held asked limit : ℕ) → run.end ≡ Pages held asked limit →
-    default_limits.pages < page_bound statement rows
-HasRun-pages width rows statement b run held asked limit is =
-    let t = task_for width rows statement run.program in
-    let s = ended_at width rows statement b run in
-    let at = at_end width rows t b (Pages held asked limit) s (run.ended ∙ ap Some is) in
-    omega (arith, at.2, at.3, at.4)
+contains_at : {A : Type 0} (xs : List A) (k : ℕ) (x : A) → slice_get xs k ≡ Some x → Contains xs x
+contains_at [] k x found = absurd (none-some x found)
+contains_at (y ∷ xs) zero x found = (0, omega arith, same_Some y x found)
+contains_at (y ∷ xs) (suc k) x found =
+    let h = contains_at xs k x found in (suc h.0, omega (arith, h.1), h.2)
+
+pub shows_run : (limits : Limits) (quantum : ℕ) (tables : List Contents) (queries : List Asked) (b : Standing) → HasRun limits quantum tables queries b → (text : List ℕ) →
+    AreBlocks (map (λ (asked : Asked). asked.header) queries) b 0 text → ShowsEnds tables queries b 0 text
+shows_run limits quantum tables queries b run text are =
+    shows_blocks tables b queries 0 text
+    (λ n j asked block n_is found here.
+    let same : j ≡ n = omega (arith, n_is) in
+    let at : slice_get queries n ≡ Some asked = subst (λ (m : ℕ). slice_get queries m ≡ Some asked) same found in
+    shows_block limits tables asked b n (ended_as limits quantum tables queries b run n asked at (within_of queries n asked at)) block here)
+    are
+
+-- ---- there is a report
+
+module _ (limits : Limits) (tables : List Contents) (asked : Asked) (b : Standing) (k : ℕ) (one : EndedAs limits tables asked b k) where
+  some_at : (end : Option End) → IsSome end → IsAt asked.specification (rows_in_tables tables) b.shared.common.memory one.t one.number one.i end → (block : List ℕ) × ShowsEnd tables asked b k end block
+  some_at None some at = cc
+  some_at (Some EndedDone) some at =
+      let bag = at.1.1.0 in
+      (report_of_rows (suc k) asked.header bag, (bag, at.1.1.1, rows_are limits tables asked b k one ∙ at.1.1.2, refl))
+  some_at (Some (Exception code)) some (ran, (raised, other, out, among, code_is)) = (report_of_exception (suc k) other, (raised, other, out, among, code_is, refl))
+  some_at (Some (Pages held asked_for limit)) some at = (report_of_pages (suc k) held asked_for limit, refl)
+  some_at (Some (Steps limit)) some at = (report_of_steps (suc k) limit, refl)
+  some_at (Some Trap) some at = absurd at.1
+
+  some_block : IsSome (end_in b.shared k) → (block : List ℕ) × ShowsEnd tables asked b k (end_in b.shared k) block
+  some_block some =
+      let end = end_is b.shared k one.i one.found in
+      let h = some_at one.i.end (subst (λ (o : Option End). IsSome o) end some) one.at in
+      (h.0, subst (λ (o : Option End). ShowsEnd tables asked b k o h.0) (sym end) h.1)
+
+some_blocks : (tables : List Contents) (b : Standing) (queries : List Asked) (k : ℕ) →
+    ((n j : ℕ) (asked : Asked) → n ≡ k + j → slice_get queries j ≡ Some asked → (block : List ℕ) × ShowsEnd tables asked b n (end_in b.shared n) block) →
+    (report : List ℕ) × ShowsEnds tables queries b k report
+some_blocks tables b [] k each = ([], refl)
+some_blocks tables b (asked ∷ queries) k each =
+    let first = each k zero asked (omega arith) refl in
+    let more = some_blocks tables b queries (suc k) (λ n j other n_is found. each n (suc j) other (omega (arith, n_is)) found) in
+    (first.0 ++ more.0, (first.0, more.0, refl, first.1, more.1))
+
+pub some_report : (limits : Limits) (quantum : ℕ) (tables : List Contents) (queries : List Asked) (b : Standing) → HasRun limits quantum tables queries b → (report : List ℕ) × ShowsEnds tables queries b 0 report
+some_report limits quantum tables queries b run =
+    some_blocks tables b queries 0
+    (λ n j asked n_is found.
+    let same : j ≡ n = omega (arith, n_is) in
+    let at : slice_get queries n ≡ Some asked = subst (λ (m : ℕ). slice_get queries m ≡ Some asked) same found in
+    let within = within_of queries n asked at in
+    some_block limits tables asked b n (ended_as limits quantum tables queries b run n asked at within) (run.ended n within))
+
+-- ---- which limits were met
+
+-- an end at a limit of instructions is at that of the instance
+limit_of_steps : (i : Instance) (limit : ℕ) → IsWhole i → i.end ≡ Some (Steps limit) → limit ≡ i.most_steps
+limit_of_steps i limit whole is = by_state i.state (sym whole.end_is ∙ is)
+  where
+    none_raised : (code : ℕ) (a c : Bool) (refused : Option ℕ) → (if a then Some (Exception code) else (if c then end_of_refusal refused i.world else Some Trap)) ≡ Some (Steps limit) → limit ≡ i.most_steps
+    none_raised code true c refused is = cc
+    none_raised code false true None is = cc
+    none_raised code false true (Some asked) is = cc
+    none_raised code false false refused is = cc
+
+    reached : (at_limit : Bool) → (if at_limit then Some (Steps i.most_steps) else None) ≡ Some (Steps limit) → limit ≡ i.most_steps
+    reached true is = cc
+    reached false is = cc
+
+    by_state : (s : State) → end_at s i.world i.ran i.most_steps ≡ Some (Steps limit) → limit ≡ i.most_steps
+    by_state Returned is = cc
+    by_state (HasRaised code) is = none_raised code ((code == 1) || (code == 2)) (code == 3) i.world.refused is
+    by_state (Trapped why) is = cc
+    by_state (Running c) is = reached (nat_le i.most_steps i.ran) is
+
+or_false : (a : Bool) → (a || false) ≡ true → a ≡ true
+or_false true is = refl
+or_false false is = is
+
+last_or_before : (p : Option End → Bool) (ends : List (Option End)) (end : Option End) → list_any p (ends ++ end ∷ []) ≡ true → (list_any p ends ≡ true) ⊎ (p end ≡ true)
+last_or_before p [] end is = inr (or_false (p end) is)
+last_or_before p (first ∷ ends) end is = by_first (p first) (last_or_before p ends end) is
+  where
+    by_first : (a : Bool) → (list_any p (ends ++ end ∷ []) ≡ true → (list_any p ends ≡ true) ⊎ (p end ≡ true)) → (a || list_any p (ends ++ end ∷ [])) ≡ true → ((a || list_any p ends) ≡ true) ⊎ (p end ≡ true)
+    by_first true more is = inl refl
+    by_first false more is = more is
+
+-- the end of the instance of a number, below how many
+any_below : (p : Option End → Bool) (b : Standing) (n : ℕ) → list_any p (ends_below b n) ≡ true → (k : ℕ) × (k < n) × (p (end_in b.shared k) ≡ true)
+any_below p b zero is = cc
+any_below p b (suc n) is =
+    elim (last_or_before p (ends_below b n) (end_in b.shared n) is) [
+      | inl before ↦ let h = any_below p b n before in (h.0, omega (arith, h.1), h.2)
+      | inr last ↦ (n, omega arith, last)
+    ]
+
+some_pages : (end : Option End) → is_pages end ≡ true → (held : ℕ) × (asked : ℕ) × (limit : ℕ) × (end ≡ Some (Pages held asked limit))
+some_pages None is = cc
+some_pages (Some EndedDone) is = cc
+some_pages (Some (Exception code)) is = cc
+some_pages (Some (Pages held asked limit)) is = (held, asked, limit, refl)
+some_pages (Some (Steps limit)) is = cc
+some_pages (Some Trap) is = cc
+
+some_steps : (end : Option End) → is_steps end ≡ true → (limit : ℕ) × (end ≡ Some (Steps limit))
+some_steps None is = cc
+some_steps (Some EndedDone) is = cc
+some_steps (Some (Exception code)) is = cc
+some_steps (Some (Pages held asked limit)) is = cc
+some_steps (Some (Steps limit)) is = (limit, refl)
+some_steps (Some Trap) is = cc
+
+some_exception : (end : Option End) → is_exception end ≡ true → (code : ℕ) × (end ≡ Some (Exception code))
+some_exception None is = cc
+some_exception (Some EndedDone) is = cc
+some_exception (Some (Exception code)) is = (code, refl)
+some_exception (Some (Pages held asked limit)) is = cc
+some_exception (Some (Steps limit)) is = cc
+some_exception (Some Trap) is = cc
+
+pages_status : (a b c : Bool) → (if a then PageLimitMet else (if b then StepLimitMet else (if c then Raised else Done))) ≡ PageLimitMet → a ≡ true
+pages_status true b c is = refl
+pages_status false true c is = cc
+pages_status false false true is = cc
+pages_status false false false is = cc
+
+steps_status : (a b c : Bool) → (if a then PageLimitMet else (if b then StepLimitMet else (if c then Raised else Done))) ≡ StepLimitMet → b ≡ true
+steps_status true b c is = cc
+steps_status false true c is = refl
+steps_status false false true is = cc
+steps_status false false false is = cc
+
+raised_status : (a b c : Bool) → (if a then PageLimitMet else (if b then StepLimitMet else (if c then Raised else Done))) ≡ Raised → c ≡ true
+raised_status true b c is = cc
+raised_status false true c is = cc
+raised_status false false true is = refl
+raised_status false false false is = cc
+
+module _ (limits : Limits) (quantum : ℕ) (tables : List Contents) (queries : List Asked) (b : Standing) (run : HasRun limits quantum tables queries b) where
+  -- an end of one of the queries
+  record OneEnd (p : Option End → Bool) : Type 0 where
+    k : ℕ
+    asked : Asked
+    among : Contains queries asked
+    one : EndedAs limits tables asked b k
+    is : p one.i.end ≡ true
+
+  one_end : (p : Option End → Bool) → list_any p (ends_below b (length queries)) ≡ true → OneEnd p
+  one_end p is =
+      let h = any_below p b (length queries) is in
+      let asked = there queries h.0 h.1 in
+      let one = ended_as limits quantum tables queries b run h.0 asked.0 asked.1 h.1 in
+      record {
+        k = h.0;
+        asked = asked.0;
+        among = contains_at queries h.0 asked.0 asked.1;
+        one = one;
+        is = subst (λ (o : Option End). p o ≡ true) (end_is b.shared h.0 one.i one.found) h.2;
+      }
+
+  abbrev ends : List (Option End)
+  ends = ends_below b (length queries)
+
+  -- a limit of pages that was met is below the page bound of a query
+  pub pages_met : status_of_ends ends ≡ PageLimitMet → (asked : Asked) × Contains queries asked × (limits.pages < page_bound asked.specification (rows_in_tables tables))
+  pages_met is =
+      let h = one_end is_pages (pages_status (list_any is_pages ends) (list_any is_steps ends) (list_any is_exception ends) is) in
+      let pages = some_pages h.one.i.end h.is in
+      let at = subst (λ (o : Option End). IsAt h.asked.specification (rows_in_tables tables) b.shared.common.memory h.one.t h.one.number h.one.i o) pages.3 h.one.at in
+      let may_hold = h.one.serves.may_hold in
+      let limit_is = h.one.pages in
+      (h.asked, h.among, omega (arith, at.1.1, at.1.2, at.1.3, may_hold, limit_is))
+
+  -- one of instructions is below the bound of a compiled form
+  pub steps_met : status_of_ends ends ≡ StepLimitMet → (asked : Asked) × Contains queries asked × IsPastSteps limits.steps (rows_in_tables tables) asked
+  steps_met is =
+      let h = one_end is_steps (steps_status (list_any is_pages ends) (list_any is_steps ends) (list_any is_exception ends) is) in
+      let steps = some_steps h.one.i.end h.is in
+      let at = subst (λ (o : Option End). IsAt h.asked.specification (rows_in_tables tables) b.shared.common.memory h.one.t h.one.number h.one.i o) steps.1 h.one.at in
+      let limit_is = limit_of_steps h.one.i steps.0 h.one.serves.whole steps.1 in
+      let may_run = h.one.serves.may_run in
+      let steps_are = h.one.steps in (
+        h.asked,
+        h.among,
+        (h.one.t.program.layout, h.one.t.program.module', h.one.number, h.one.compiled, h.one.shaped, omega (arith, at.1, limit_is, may_run, steps_are)),
+      )
+
+  -- an exception that was raised is one of a query's outcome
+  pub exception_raised : status_of_ends ends ≡ Raised → (asked : Asked) × Contains queries asked × ((codes : List Code) × (outcome asked.specification (rows_in_tables tables) ≡ Raises codes))
+  exception_raised is =
+      let h = one_end is_exception (raised_status (list_any is_pages ends) (list_any is_steps ends) (list_any is_exception ends) is) in
+      let code = some_exception h.one.i.end h.is in
+      let at = subst (λ (o : Option End). IsAt h.asked.specification (rows_in_tables tables) b.shared.common.memory h.one.t h.one.number h.one.i o) code.1 h.one.at in
+      (h.asked, h.among, (at.1.0, at.1.2))

@@ -15,17 +15,19 @@ use Rattle.qw_sink.specs.Sink.{report_of_rows, report_of_exception, report_of_pa
 use Rattle.qw_top.specs.Causes.{Cause, line_of_cause, status_of_cause}
 use Rattle.qw_top.specs.Notes.{read_fault_line, want_of_memory_line}
 use Rattle.qw_top.specs.Output.{TookFront, with_text}
-use Rattle.qw_top.specs.Top.{Asked, Asks, Files, IsNamed, Settles, same_limits}
+use Rattle.qw_top.specs.Top.{Asked, Asks, Files, HaveRoom, IsNamed, Settles, same_limits}
 use Rattle.qw_top.specs.declared.status.Status.{Status}
-use Rattle.qw_top.specs.declared.status.Status.TheVariants.{Done, WordsRefused, SchemaRefused, TableFileRefused, QueriesRefused, ReadFailed, WriteFailed, Raised, PageLimitMet, StepLimitMet, TotalPages, NoMemory}
+use Rattle.qw_top.specs.declared.status.Status.TheVariants.{Done, ReadFailed, WriteFailed, Raised, PageLimitMet, StepLimitMet, NoMemory}
 
 -- a program is a query's compiled form
 abbrev pub IsProgramOf : Asked → Program → Type 0
 IsProgramOf asked program = IsCompiled asked.specification program.layout program.module'
 
--- A bench has run queries over tables to their ends, under limits, in turns of so many instructions: it has one task for each
--- query in order, its compiled module; it stands where rounds of turns led from a start of these tasks; and all instances ended.
+-- A bench has run queries over tables to their ends, under limits, in turns of so many instructions: there is room for them; it has
+-- one task for each query in order, its compiled module; it stands where rounds of turns led from a start of these tasks; and all
+-- instances ended.
 pub record HasRun (limits : Limits) (quantum : ℕ) (tables : List Contents) (queries : List Asked) (b : Standing) : Type 0 where
+  pub room : HaveRoom limits tables queries
   pub programs : List Program
   pub compiled : AllZip IsProgramOf queries programs
   pub tasks : AreTasksOf programs (same_limits limits queries) b.tasks

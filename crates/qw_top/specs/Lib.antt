@@ -8,3 +8,4 @@ pub mod Output
 pub mod Status
 pub mod Top
 pub mod Words
+pub mod Worked

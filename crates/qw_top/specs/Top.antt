@@ -1,7 +1,7 @@
 -- What the files of a run hold, and which ends of a run the words and the files explain.
 use Rattle.std.specs.List.{filter_map}
 use Rattle.std.specs.Option.{option_map, option_map_or}
-use Rattle.std.specs.Prelude.{◌≡◌, ◌⊎◌, ℕ, ◌<◌, ◌≤◌, List, [], ◌∷◌, ◌++◌, Option, Some, length, map, slice_get, Contains}
+use Rattle.std.specs.Prelude.{◌≡◌, ◌⊎◌, ℕ, ◌<◌, ◌≤◌, List, [], ◌∷◌, ◌++◌, Option, length, map, slice_get, Contains}
 use Rattle.qw_io.specs.Files.{OfFile}
 use Rattle.qw_types.specs.Contents.{Contents, column_type}
 use Rattle.qw_types.specs.Kind.{type_kind}
@@ -175,10 +175,14 @@ Settles limits files words cause = (names : Names) × AreNames words names × Fi
 abbrev pub Asks : Files → List (List ℕ) → List Table → List Contents → List Asked → Type 0
 Asks files words schema tables queries = (names : Names) × AreNames words names × HasQueries files names schema tables queries
 
--- they ask for queries of which one has the property
-abbrev pub AsksOne : Files → List (List ℕ) → (List Contents → Asked → Type 0) → Type 0
-AsksOne files words P = (schema : List Table) × (tables : List Contents) × (queries : List Asked) × (one : Asked)
-    × Asks files words schema tables queries × Contains queries one × P tables one
+-- the pages of the tables' columns and all that the queries may hold under the limits fit a memory
+abbrev pub HaveRoom : (limits : Limits) → List Contents → List Asked → Type 0
+HaveRoom limits tables queries = pages_in_all tables (same_limits limits queries) ≤ most_pages
+
+-- they ask for queries, which have room, and of which one has the property
+abbrev pub AsksOne : (limits : Limits) → Files → List (List ℕ) → (List Contents → Asked → Type 0) → Type 0
+AsksOne limits files words P = (schema : List Table) × (tables : List Contents) × (queries : List Asked) × (one : Asked)
+    × Asks files words schema tables queries × HaveRoom limits tables queries × Contains queries one × P tables one
 
 -- a refusal, which the words and the files settle
 abbrev pub IsRefusal : Status → Type 0
@@ -214,14 +218,19 @@ pub record IsEnough (limits : Limits) (tables : List (List (List Val))) (one : A
   pub pages : page_bound one.specification tables ≤ limits.pages
   pub steps : IsPastSteps limits.steps tables one → ⊥
 
--- The words and the files explain how a run under limits ended: they settle a cause of a refusal; or they ask for queries, of
--- which one raises, where an exception was raised, and has bounds that are past the limits, where one was met. A fault comes only
--- where the words were read.
+-- the query raises nothing over tables
+abbrev pub RaisesNothing : (tables : List (List (List Val))) → Asked → Type 0
+RaisesNothing tables one = (codes : List Code) → outcome one.specification tables ≡ Raises codes → ⊥
+
+-- The words and the files explain how a run under limits ended: they settle a cause of a refusal; or they ask for queries that
+-- have room, of which one raises, where an exception was raised, and has bounds that are past the limits, where one was met. A
+-- fault comes only where the words were read.
 abbrev pub Explains : (limits : Limits) → Files → List (List ℕ) → Status → Type 0
-Explains limits files words Done = (schema : List Table) × (tables : List Contents) × (queries : List Asked) × Asks files words schema tables queries
-Explains limits files words Raised = AsksOne files words (λ tables one. (codes : List Code) × (outcome one.specification (rows_in_tables tables) ≡ Raises codes))
-Explains limits files words PageLimitMet = AsksOne files words (λ tables one. limits.pages < page_bound one.specification (rows_in_tables tables))
-Explains limits files words StepLimitMet = AsksOne files words (λ tables one. IsPastSteps limits.steps (rows_in_tables tables) one)
+Explains limits files words Done =
+    (schema : List Table) × (tables : List Contents) × (queries : List Asked) × Asks files words schema tables queries × HaveRoom limits tables queries
+Explains limits files words Raised = AsksOne limits files words (λ tables one. (codes : List Code) × (outcome one.specification (rows_in_tables tables) ≡ Raises codes))
+Explains limits files words PageLimitMet = AsksOne limits files words (λ tables one. limits.pages < page_bound one.specification (rows_in_tables tables))
+Explains limits files words StepLimitMet = AsksOne limits files words (λ tables one. IsPastSteps limits.steps (rows_in_tables tables) one)
 Explains limits files words ReadFailed = (names : Names) × AreNames words names
 Explains limits files words WriteFailed = (names : Names) × AreNames words names
 Explains limits files words NoMemory = (names : Names) × AreNames words names

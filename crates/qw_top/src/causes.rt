@@ -30,7 +30,7 @@ pub(crate) enum Cause<'a> {
 impl Cause<'_> {
     /// What is refused for it.
     pub(crate) fn refusal(self) -> Refusal
-        ensures { refusal_status result ≡ status_of_cause (cause_of self) }
+        ensures { refusal_status result ≡ status_of_cause (cause_of self.entry) }
     {
         match self {
             Cause::SchemaTooLong | Cause::Schema(_) => Refusal::Schema,
@@ -42,7 +42,7 @@ impl Cause<'_> {
 
     /// The line on it.
     pub(crate) fn line(self, alloc: Global) -> Result<String, NoMemory>
-        ensures { IfOk result (λ line. string_bytes line ≡ line_of_cause (cause_of self)) }
+        ensures { IfOk result (λ line. string_bytes line ≡ line_of_cause (cause_of self.entry)) }
     {
         match self {
             Cause::SchemaTooLong => line_on(alloc, "schema", "too long"),

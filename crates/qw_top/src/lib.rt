@@ -10,6 +10,7 @@
 //! - `causes`: the lines on the causes for which a file is refused.
 //! - [`stop`] and [`status`]: how a run ends.
 //! - [`top`]: the whole run.
+//! - [`worked_laws`]: cases with numbers.
 //!
 //! The time grows with the lengths of the files and of the report and with the number of
 //! instructions executed; docs/ARCHITECTURE.md counts them. In memory are at most one file, four octets for each value
@@ -24,6 +25,7 @@ pub mod status;
 pub mod stop;
 pub mod top;
 pub mod words;
+pub mod worked_laws;
 
 pub use status::Status;
 pub use top::qwasm;

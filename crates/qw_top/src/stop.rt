@@ -86,7 +86,7 @@ impl From<NoMemory> for Stop<'_> {
 
 /// Why a run stops for this cause. Where there is no memory for its line, that is why.
 pub(crate) fn refused<'a>(alloc: Global, cause: Cause<'_>) -> Stop<'a>
-    ensures { StopsFor (cause_of cause) result }
+    ensures { StopsFor (cause_of cause.entry) result }
 {
     match cause.line(alloc) {
         Ok(line) => Stop::Refused {

@@ -1,14 +1,12 @@
 //! A run, from the words of the command line on.
 
-ghost use Rattle.std.specs.Prelude.{◌≡◌, ◌≢◌, ◌≤◌, ◌⊎◌, ℕ, List, map, IfSome, IsTrue, Option, Some};
+ghost use Rattle.std.specs.Prelude.{◌≡◌, ◌≢◌, ◌⊎◌, ℕ, List, map, IfSome, IsTrue, Option, Some};
 ghost use Rattle.std.specs.List.{AllByRecursion};
 ghost use Rattle.std.specs.String.{string_bytes};
 ghost use Rattle.qw_io.specs.Faults.{IsCounted};
 ghost use Rattle.qw_types.specs.Contents.{Contents};
 ghost use Rattle.qw_types.specs.declared.schema.Table.{Table};
-ghost use Rattle.qw_linear.specs.Memory.{most_pages};
 ghost use Rattle.qw_bench.specs.Bench.{rows_in_tables};
-ghost use Rattle.qw_bench.specs.Standing.{total_pages};
 ghost use Rattle.qw_bench.specs.declared.bench.Limits.{Limits};
 ghost use Rattle.qw_top.specs.Causes.{Cause, status_of_cause, words_refused};
 ghost use Rattle.qw_top.specs.Limits.{default_limits, quantum};
@@ -16,7 +14,7 @@ ghost use Rattle.qw_top.specs.declared.status.Status.{Status};
 ghost use Rattle.qw_top.specs.Delivered.{Leaves, LeavesBench, Notes};
 ghost use Rattle.qw_top.specs.Notes.{want_of_memory_line};
 ghost use Rattle.qw_top.specs.Output.{TookFront, with_text};
-ghost use Rattle.qw_top.specs.Top.{Asked, Asks, Explains, Files, HasQueries, IsEnough, IsFault, IsNamed, IsRefusal, IsReported, Names, Settles, same_limits};
+ghost use Rattle.qw_top.specs.Top.{Asked, Asks, Explains, Files, HasQueries, HaveRoom, IsEnough, IsFault, IsNamed, IsRefusal, IsReported, Names, RaisesNothing, Settles};
 
 use crate::notes::{note_stop, note_want_of_memory};
 use crate::status::Status;
@@ -54,12 +52,15 @@ pub fn qwasm<F: Shelf, O: Sink, E: Sink>(
         → (result ≡ status_of_cause cause) ⊎ IsFault result }
     ensures runs { (told : List ℕ → Option (List ℕ)) (schema : List Table) (tables : List Contents) (queries : List Asked)
         → F.files files.old ≡ Some told → Asks (Some told) (map string_bytes words.now) schema tables queries
-        → total_pages tables (same_limits default_limits queries) ≤ most_pages → IsReported result ⊎ IsFault result }
+        → HaveRoom default_limits tables queries → IsReported result ⊎ IsFault result }
     ensures enough { (told : List ℕ → Option (List ℕ)) (schema : List Table) (tables : List Contents) (queries : List Asked)
         → F.files files.old ≡ Some told → Asks (Some told) (map string_bytes words.now) schema tables queries
-        → total_pages tables (same_limits default_limits queries) ≤ most_pages
+        → HaveRoom default_limits tables queries
         → AllByRecursion (IsEnough default_limits (rows_in_tables tables)) queries
-        → ((result ≡ Status.Done) ⊎ (result ≡ Status.Raised)) ⊎ IsFault result }
+        → (result ≡ Status.Done) ⊎ (result ≡ Status.Raised) ⊎ IsFault result }
+    ensures plain { (told : List ℕ → Option (List ℕ)) (schema : List Table) (tables : List Contents) (queries : List Asked)
+        → F.files files.old ≡ Some told → Asks (Some told) (map string_bytes words.now) schema tables queries
+        → AllByRecursion (RaisesNothing (rows_in_tables tables)) queries → result ≢ Status.Raised }
     ensures left { Leaves default_limits quantum (F.files files.old) (map string_bytes words.now) result kept.new (O.taken out.old) (O.taken out.new) }
     ensures kept_at_fault { O.faults out.new ≢ O.faults out.old
         → LeavesBench default_limits quantum (F.files files.old) (map string_bytes words.now) kept.new

@@ -1,5 +1,4 @@
 -- Mirrors `causes::Cause`.
-use Rattle.std.specs.Prelude.{ℕ}
 use Rattle.qw_top.specs.declared.causes.Cause.{Cause as Told}
 use Rattle.qw_top.specs.declared.causes.Cause.TheVariants as told
 use Rattle.qw_top.specs.Causes.{Cause, schema_too_long, schema_refused, table_too_long, table_refused, queries_too_long, queries_refused, total_pages}

@@ -10,7 +10,7 @@ use Rattle.qw_sink.specs.Sink.{report_of_rows, report_of_exception, report_of_pa
 use Rattle.qw_sink.specs.declared.sink.Head.{Head}
 use Rattle.qw_top.specs.Delivered.{is_exception, is_pages, is_steps}
 use Rattle.qw_top.specs.declared.status.Status.{Status}
-use Rattle.qw_top.specs.declared.status.Status.TheVariants.{Done, Raised, PageLimitMet, StepLimitMet}
+use Rattle.qw_top.specs.declared.status.Status.TheVariants.{Raised, PageLimitMet, StepLimitMet}
 
 -- the block of an end of the instance of a number, counted from 0
 abbrev pub IsBlock : List Head → Standing → ℕ → Option End → (block : List ℕ) → Type 0

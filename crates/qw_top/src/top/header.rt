@@ -1,6 +1,7 @@
 //! The header of the rows that a query gives.
 
-ghost use Rattle.std.specs.Prelude.{◌≡◌, IfOk};
+ghost use Rattle.std.specs.Prelude.{◌≡◌, ◌++◌, [], ◌∷◌, slice_get, IfOk};
+ghost use Rattle.std.specs.Option.{option_map_or};
 ghost use Rattle.qw_top.specs.Top.{columns_of, head_of, header_of};
 
 use qw_meaning::query::Query;
@@ -15,11 +16,27 @@ pub(super) fn header_of(alloc: Global, schema: &Schema, query: &Query) -> Result
     let columns = columns_of(schema, query.table());
     let mut heads = Vec::new(alloc);
     for place in query.columns() {
-        if let Some(column) = columns.get(*place) {
-            heads.push(head_of(alloc, column)?)?;
-        }
+        heads = with_head(alloc, heads, columns, *place)?;
     }
     Ok(Header::new(heads))
+}
+
+/// The heads, and behind them that of the column of this number, where it is there.
+fn with_head(
+    alloc: Global,
+    mut heads: Vec<Head>,
+    columns: &[Column],
+    place: usize,
+) -> Result<Vec<Head>, NoMemory>
+    ensures { IfOk result (λ more. more.items ≡ heads.items ++ option_map_or (λ column. head_of column ∷ []) (slice_get columns.now place) []) }
+{
+    match columns.get(place) {
+        Some(column) => {
+            heads.push(head_of(alloc, column)?)?;
+            Ok(heads)
+        }
+        None => Ok(heads),
+    }
 }
 
 /// The columns of a table of the schema, counted from 0; none where there is no such table.

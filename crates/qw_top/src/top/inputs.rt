@@ -1,12 +1,13 @@
 //! From the words of a run to the contents of its files.
 
-ghost use Rattle.std.specs.Prelude.{◌≡◌, [], ◌∷◌, IfOk, IfErr};
+ghost use Rattle.std.specs.Prelude.{◌≡◌, ◌≢◌, [], ◌∷◌, IfOk, IfErr};
+ghost use Rattle.qw_top.specs.Causes.{queries_refused, schema_refused, table_refused};
 ghost use Rattle.qw_top.specs.FileNames.{table_file_of};
 ghost use Rattle.qw_top.specs.Inner.Causes.{cause_of};
 ghost use Rattle.qw_top.specs.Inner.Inputs.{IsNoQuery, IsNoSchema, IsNoTable, IsStatementOf, StopsAtTables, names_of};
 ghost use Rattle.qw_top.specs.Inner.Stages.{FilesStop};
 ghost use Rattle.qw_top.specs.Inner.Shelves.{HasRead, told_by};
-ghost use Rattle.qw_top.specs.Inner.Stop.{StopsAs, failed_stop, octets_of};
+ghost use Rattle.qw_top.specs.Inner.Stop.{StopsAs, StopsFor, failed_stop, octets_of};
 ghost use Rattle.qw_top.specs.Top.{HasQueries, IsFile, IsTooLong, QueriesAre, SchemaIs, TableIs, TablesAre, asked_by};
 
 use crate::causes::Cause;
@@ -72,8 +73,18 @@ fn read_schema<'a, F: Shelf>(
     let text = read_file(alloc, files, name, MAX_TEXT_FILE, Cause::SchemaTooLong)?;
     match schema_of(alloc, text.as_slice()) {
         Ok(schema) => Ok(schema),
-        Err(SchemaFault::NoMemory) => Err(Stop::NoMemory),
-        Err(fault) => Err(refused(alloc, Cause::Schema(&fault))),
+        Err(fault) => Err(schema_stop(alloc, &fault)),
+    }
+}
+
+/// Why a run stops at a text that is no schema.
+fn schema_stop<'a>(alloc: Global, fault: &SchemaFault) -> Stop<'a>
+    ensures memory { fault.now ≡ SchemaFault.NoMemory → result ≡ Stop.NoMemory }
+    ensures refused { fault.now ≢ SchemaFault.NoMemory → StopsFor (schema_refused fault.now) result }
+{
+    match fault {
+        SchemaFault::NoMemory => Stop::NoMemory,
+        fault => refused(alloc, Cause::Schema(fault)),
     }
 }
 
@@ -91,7 +102,9 @@ fn read_tables<'a, F: Shelf>(
     let mut tables = Vec::with_capacity(alloc, schema.len()).map_err(|_| Stop::NoMemory)?;
     for table in schema {
         let loaded = read_table(alloc, folder, table, files)?;
-        tables.push(loaded).map_err(|_| Stop::NoMemory)?;
+        let Ok(()) = tables.push(loaded) else {
+            return Err(Stop::NoMemory);
+        };
     }
     Ok(tables)
 }
@@ -114,8 +127,18 @@ fn read_table<'a, F: Shelf>(
     let bytes = read_file(alloc, files, name, MAX_TABLE_FILE, cause)?;
     match load(alloc, table, bytes.as_slice()) {
         Ok(loaded) => Ok(loaded),
-        Err(LoadFault::NoMemory) => Err(Stop::NoMemory),
-        Err(fault) => Err(refused(alloc, Cause::Table(table, &fault))),
+        Err(fault) => Err(table_stop(alloc, table, &fault)),
+    }
+}
+
+/// Why a run stops at the file of a table that stands for no rows.
+fn table_stop<'a>(alloc: Global, table: &Table, fault: &LoadFault) -> Stop<'a>
+    ensures memory { fault.now ≡ LoadFault.NoMemory → result ≡ Stop.NoMemory }
+    ensures refused { fault.now ≢ LoadFault.NoMemory → StopsFor (table_refused table.now fault.now) result }
+{
+    match fault {
+        LoadFault::NoMemory => Stop::NoMemory,
+        fault => refused(alloc, Cause::Table(table, fault)),
     }
 }
 
@@ -135,8 +158,18 @@ fn read_query<'a, F: Shelf>(
     let text = read_file(alloc, files, name, MAX_TEXT_FILE, Cause::QueriesTooLong)?;
     match query_of(alloc, schema, text.as_slice()) {
         Ok(query) => Ok(query),
-        Err(QueryFault::NoMemory) => Err(Stop::NoMemory),
-        Err(fault) => Err(refused(alloc, Cause::Queries(&fault))),
+        Err(fault) => Err(query_stop(alloc, &fault)),
+    }
+}
+
+/// Why a run stops at a text that is no query.
+fn query_stop<'a>(alloc: Global, fault: &QueryFault) -> Stop<'a>
+    ensures memory { fault.now ≡ QueryFault.NoMemory → result ≡ Stop.NoMemory }
+    ensures refused { fault.now ≢ QueryFault.NoMemory → StopsFor (queries_refused fault.now) result }
+{
+    match fault {
+        QueryFault::NoMemory => Stop::NoMemory,
+        fault => refused(alloc, Cause::Queries(fault)),
     }
 }
 
@@ -149,7 +182,7 @@ fn read_file<'a, F: Shelf>(
     too_long: Cause<'_>,
 ) -> Result<Vec<u8>, Stop<'a>>
     ensures whole { IfOk result (λ bytes. IsFile (F.files files.old) (octets_of name.entry) limit bytes.items) }
-    ensures stops { IfErr result (λ stop. StopsAs (λ cause. (cause ≡ cause_of too_long) × IsTooLong (F.files files.old) (octets_of name.entry) limit)
+    ensures stops { IfErr result (λ stop. StopsAs (λ cause. (cause ≡ cause_of too_long.entry) × IsTooLong (F.files files.old) (octets_of name.entry) limit)
         (octets_of name.entry) stop) }
     ensures shelf { HasRead (failed_stop result) (told_by F.Shelf files.old) (told_by F.Shelf files.new) }
 {

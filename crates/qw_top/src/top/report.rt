@@ -1,6 +1,6 @@
 //! From the turned bench of a run to the written report.
 
-ghost use Rattle.std.specs.Prelude.{◌≡◌, ◌≢◌, ◌<◌, ◌++◌, ℕ, List, length, IfOk, IsSome};
+ghost use Rattle.std.specs.Prelude.{◌≡◌, ◌≢◌, ◌<◌, ◌-◌, ◌^◌, ◌++◌, ℕ, List, length, IfOk, IsSome};
 ghost use Rattle.qw_io.specs.Faults.{IsCounted};
 ghost use Rattle.qw_bench.specs.Standing.{end_of};
 ghost use Rattle.qw_bench.specs.Bench.{end_in};
@@ -74,6 +74,7 @@ fn with_block(
     header: &[Head],
 ) -> Result<Vec<u8>, NoMemory>
     requires there { k < length bench.now.shared.instances }
+    requires few { k < 2 ^ 64 - 1 }
     requires ended { IsSome (end_in bench.now.shared k) }
     ensures { IfOk result (λ text. (block : List ℕ) × (text.items ≡ report.items ++ block) × IsBlock header.now bench.now k (end_in bench.now.shared k) block) }
 {

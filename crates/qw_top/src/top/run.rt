@@ -1,11 +1,12 @@
 //! From the words of a run to the bench that was turned to its end.
 
-ghost use Rattle.std.specs.Prelude.{◌≡◌, ◌≤◌, ◌⊎◌, List, [], ◌∷◌, length, map, IfOk, IfErr};
+ghost use Rattle.std.specs.Prelude.{◌≡◌, ◌≤◌, ◌⊎◌, List, [], ◌∷◌, length, map, IfOk, IfErr, OnOk};
 ghost use Rattle.std.specs.List.{AllByRecursion};
 ghost use Rattle.std.specs.String.{string_bytes};
 ghost use Rattle.qw_types.specs.declared.value.Ty.{Ty};
 ghost use Rattle.qw_meaning.specs.Simple.{HasIntegers, simple};
 ghost use Rattle.qw_types.specs.Limits.{most_tables};
+ghost use Rattle.qw_linear.specs.Memory.{most_pages};
 ghost use Rattle.qw_emit.specs.Compiled.{IsCompiled};
 ghost use Rattle.qw_emit.specs.ScanLayout.{layout_for};
 ghost use Rattle.qw_bench.specs.Bench.{IsColumnIn, IsStart};
@@ -62,7 +63,10 @@ pub fn run<'a, F: Shelf>(
         tables,
         query,
     } = accept(alloc, words, files)?;
-    let headers = vec![in alloc; header_of(alloc, &schema, &query)?].map_err(|_| Stop::NoMemory)?;
+    let header = header_of(alloc, &schema, &query)?;
+    let Ok(headers) = vec![in alloc; header] else {
+        return Err(Stop::NoMemory);
+    };
     let bench = finished(alloc, &schema, tables.as_slice(), &query)?;
     Ok(Turned { headers, bench })
 }
@@ -89,6 +93,7 @@ fn finished<'a>(
     tables: &[Loaded],
     query: &Query,
 ) -> Result<Bench, Stop<'a>>
+    requires few { length schema.now ≤ most_tables }
     requires statement { IsStatementOf schema.now query.now }
     requires tables { AreContentsOf schema.now tables.now }
     ensures ran { IfOk result (λ bench. HasRun default_limits quantum tables.now (asked_by schema.now query.now ∷ []) bench) }
@@ -106,6 +111,7 @@ fn begun<'a>(alloc: Global, tables: &[Loaded], job: Job) -> Result<Bench, Stop<'
     requires columns { AllByRecursion (IsColumnIn tables.now) job.layout.columns }
     ensures tasks { IfOk result (λ bench. AreTasksOf (job ∷ []) (default_limits ∷ []) bench.tasks) }
     ensures start { IfOk result (λ bench. IsStart tables.now bench.tasks bench.shared) }
+    ensures room { OnOk result (pages_in_all tables.now (default_limits ∷ []) ≤ most_pages) }
     ensures stops { IfErr result (λ stop. (stop ≡ Stop.NoMemory) ⊎ StopsForPages (pages_in_all tables.now (default_limits ∷ [])) stop) }
 {
     let jobs = vec![in alloc; job].map_err(|_| Stop::NoMemory)?;
@@ -118,6 +124,7 @@ fn begun<'a>(alloc: Global, tables: &[Loaded], job: Job) -> Result<Bench, Stop<'
 
 /// The program of a statement. A compiled module is valid, so it is refused for want of memory alone.
 fn compiled(alloc: Global, query: &Query) -> Result<Job, NoMemory>
+    requires { (types : List Ty) × HasIntegers types query.now }
     ensures layout { IfOk result (λ job. job.layout ≡ layout_for query.now) }
     ensures compiled { IfOk result (λ job. (types : List Ty) → HasIntegers types query.now
         → IsCompiled (simple types query.now) job.layout job.module') }

@@ -1,8 +1,8 @@
-use Rattle.qw_top.proofs.TopLemmas.{executed_is_neither, settled_is_no_fault}
+use Rattle.qw_top.proofs.SettleLemmas.{kind_of_end, kinds_apart}
 use Rattle.qw_top.proofs.top.kinds_of_ends.Goals as goal
 
-pub returns-clause-apart : goal.returns-clause-apart
-returns-clause-apart c = settled_is_no_fault
+pub returns-clause-one : goal.returns-clause-one
+returns-clause-one c = kind_of_end
 
-pub returns-clause-executed : goal.returns-clause-executed
-returns-clause-executed c = executed_is_neither
+pub returns-clause-apart : goal.returns-clause-apart
+returns-clause-apart c = kinds_apart

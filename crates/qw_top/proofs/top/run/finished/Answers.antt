@@ -1,16 +1,23 @@
-use Rattle.std.proofs.Common.{[], ◌∷◌, ◌∙◌, ap, length}
-use Rattle.qw_bench.specs.Standing.{first_task}
-use Rattle.qw_top.specs.Limits.{default_limits}
-use Rattle.qw_top.proofs.RunLemmas.{HasRun-from}
+use Rattle.std.proofs.Common.{◌∷◌, [], arith}
+use Rattle.qw_top.specs.Limits.{default_limits, quantum}
+use Rattle.qw_top.specs.Top.{asked_by}
+use Rattle.qw_top.proofs.BenchLemmas.{HasRun-from, has_integers, layout_columns, same_many}
 use Rattle.qw_top.proofs.top.run.finished.Goals as goal
 
-pub begun-requires-clause-columns : goal.begun-requires-clause-columns
-begun-requires-clause-columns c = rw c.in_ok-job.ensures.query c.requires.columns
+pub compiled-requires : goal.compiled-requires
+compiled-requires c = (_, has_integers c.args.schema.now c.args.query.now c.requires.statement)
 
-pub returns : goal.returns
-returns c =
-    let job = c.in_ok-job.job in
-    let loaded = c.args.loaded.now in
-    let task = c.in_ok-bench.ensures.tasks ∙ ap (λ statement. first_task (length loaded.columns) (length loaded.rows) (record { statement = statement; program = job.program }) default_limits ∷ []) c.in_ok-job.ensures.query in
-    HasRun-from (length loaded.columns) loaded.rows c.args.query job.program c.in_ok-bench.bench c.run_all.new.self
-    c.in_ok-job.ensures.compiled task c.in_ok-bench.ensures.start c.run_all.ensures.tasks c.run_all.ensures.rounds c.run_all.ensures.ended
+pub begun-requires-clause-few : goal.begun-requires-clause-few
+begun-requires-clause-few c =
+    let many = same_many c.args.schema.now c.args.tables.now c.requires.tables in
+    let few = c.requires.few in
+    omega (arith, many, few)
+
+pub begun-requires-clause-columns : goal.begun-requires-clause-columns
+begun-requires-clause-columns c = rw c.in_ok-job.ensures.layout (layout_columns c.args.schema.now c.args.tables.now c.args.query.now c.requires.tables c.requires.statement)
+
+pub returns-clause-ran : goal.returns-clause-ran
+returns-clause-ran c =
+    let compiled = c.in_ok-job.ensures.compiled _ (has_integers c.args.schema.now c.args.query.now c.requires.statement) in
+    HasRun-from default_limits quantum c.args.tables.now (asked_by c.args.schema.now c.args.query.now ∷ []) (c.in_ok-job.job ∷ []) c.in_ok-bench.bench c.run_all.new.self
+    c.in_ok-bench.ensures.room (compiled, tt) c.in_ok-bench.ensures.tasks c.in_ok-bench.ensures.start c.run_all.ensures.tasks c.run_all.ensures.rounds c.run_all.ensures.ended

@@ -1,0 +1,199 @@
+-- What told files hold is one, and a file that is accepted isn't refused.
+use Rattle.std.proofs.Common.{◌≡◌, ℕ, ◌<◌, ◌≤◌, List, [], ◌∷◌, ◌++◌, Option, Some, None, inl, inr, refl, sym, subst, length, ap, ◌∙◌, arith}
+use Rattle.std.specs.Prelude.{IsSomeAnd}
+use Rattle.qw_types.specs.Contents.{Contents}
+use Rattle.qw_types.specs.declared.schema.ColumnType.{ColumnType}
+use Rattle.qw_types.specs.declared.schema.Table.{Table}
+use Rattle.qw_types.specs.declared.value.Val.{Val}
+use Rattle.qw_csv.specs.Loading.{IsFirstFault, Loads}
+use Rattle.qw_csv.proofs.LoadingLaws.{loads_or_fails, same_fault, same_loads}
+use Rattle.qw_meaning.specs.Statement.{Statement}
+use Rattle.qw_parse.specs.Parse.{IsRefused, ReadsSchema}
+use Rattle.qw_parse.specs.Query.{IsQueryRefused}
+use Rattle.qw_parse.proofs.QueryLemmas.{IsQueryRefused-unique, ReadsQuery-unique, query_or_refused}
+use Rattle.qw_parse.proofs.SchemaLemmas.{IsRefused-unique, ReadsSchema-unique, reads_or_refused}
+use Rattle.qw_top.specs.Causes.{Cause, queries_refused, schema_refused, table_refused}
+use Rattle.qw_top.specs.FileNames.{table_file_of}
+use Rattle.qw_top.specs.Limits.{most_table_octets, most_text_octets}
+use Rattle.qw_top.specs.Top.{AreNames, Asked, HasQueries, HasTables, IsFile, IsNextTable, IsTooLong, Names, QueriesAre, ReadsScript, SchemaIs, TableIs, TablesAre, asked_by}
+use Rattle.qw_top.specs.Inner.Inputs.{IsNoQuery, IsNoSchema, IsNoTable}
+
+-- ---- one file
+
+-- the octets of a file are told once
+same_octets : (o : Option (List ℕ)) (a b : List ℕ) → IsSomeAnd o (λ file. file ≡ a) → IsSomeAnd o (λ file. file ≡ b) → a ≡ b
+same_octets None a b h k = absurd h
+same_octets (Some file) a b h k = cc
+
+short_or_long : (o : Option (List ℕ)) (a : List ℕ) (limit : ℕ) → IsSomeAnd o (λ file. file ≡ a) → length a ≤ limit → IsSomeAnd o (λ file. limit < length file) → ⊥
+short_or_long None a limit h short long = h
+short_or_long (Some file) a limit h short long = let e : length file ≡ length a = ap length h in omega arith
+
+-- words give one list of names
+abbrev named : (schema folder queries : List ℕ) → Names
+named schema folder queries = record { schema = schema; folder = folder; queries = queries }
+
+same_names : (a b : Names) → a.schema ≡ b.schema → a.folder ≡ b.folder → a.queries ≡ b.queries → a ≡ b
+same_names a b h k m =
+    ap (λ s. named s a.folder a.queries) h ∙ ap (λ f. named b.schema f a.queries) k ∙ ap (λ q. named b.schema b.folder q) m
+
+pub AreNames-unique : (words : List (List ℕ)) (a b : Names) → AreNames words a → AreNames words b → a ≡ b
+AreNames-unique words a b h k =
+    let e = h.words_are in
+    let f = k.words_are in
+    let schema : a.schema ≡ b.schema = cc in
+    let folder : a.folder ≡ b.folder = cc in
+    let queries : a.queries ≡ b.queries = cc in
+    same_names a b schema folder queries
+
+module _ (told : List ℕ → Option (List ℕ)) where
+  pub IsFile-unique : (name : List ℕ) (limit : ℕ) (a b : List ℕ) → IsFile (Some told) name limit a → IsFile (Some told) name limit b → a ≡ b
+  IsFile-unique name limit a b h k = same_octets (told name) a b h.there k.there
+
+  pub IsFile-short : (name : List ℕ) (limit : ℕ) (a : List ℕ) → IsFile (Some told) name limit a → IsTooLong (Some told) name limit → ⊥
+  IsFile-short name limit a h long = short_or_long (told name) a limit h.there h.short long
+
+  -- ---- the schema
+
+  pub SchemaIs-unique : (name : List ℕ) (a b : List Table) → SchemaIs (Some told) name a → SchemaIs (Some told) name b → a ≡ b
+  SchemaIs-unique name a b h k =
+      let e = IsFile-unique name most_text_octets h.text k.text h.file k.file in
+      ReadsSchema-unique k.text a b (subst (λ (t : List ℕ). ReadsSchema t a) e h.reads) k.reads
+
+  pub SchemaIs-refused : (name : List ℕ) (schema : List Table) (cause : Cause) → SchemaIs (Some told) name schema → IsNoSchema (Some told) name cause → ⊥
+  SchemaIs-refused name schema cause h (inl (is, long)) = IsFile-short name most_text_octets h.text h.file long
+  SchemaIs-refused name schema cause h (inr (fault, text, is, file, refused)) =
+      let e = IsFile-unique name most_text_octets h.text text h.file file in
+      reads_or_refused text schema fault (subst (λ (t : List ℕ). ReadsSchema t schema) e h.reads) refused
+
+  pub IsNoSchema-unique : (name : List ℕ) (cause other : Cause) → IsNoSchema (Some told) name cause → IsNoSchema (Some told) name other → cause ≡ other
+  IsNoSchema-unique name cause other (inl (is, long)) (inl (is', long')) = is ∙ sym is'
+  IsNoSchema-unique name cause other (inl (is, long)) (inr (fault, text, is', file, refused)) = absurd (IsFile-short name most_text_octets text file long)
+  IsNoSchema-unique name cause other (inr (fault, text, is, file, refused)) (inl (is', long)) = absurd (IsFile-short name most_text_octets text file long)
+  IsNoSchema-unique name cause other (inr (fault, text, is, file, refused)) (inr (fault', text', is', file', refused')) =
+      let e = IsFile-unique name most_text_octets text text' file file' in
+      let f = IsRefused-unique text' fault fault' (subst (λ (t : List ℕ). IsRefused t fault) e refused) refused' in
+      is ∙ ap schema_refused f ∙ sym is'
+
+  -- ---- a table
+
+  abbrev contents : List ColumnType → List (List Val) → Contents
+  contents columns rows = record { columns = columns; rows = rows }
+
+  same_contents : (a b : Contents) → a.columns ≡ b.columns → a.rows ≡ b.rows → a ≡ b
+  same_contents a b columns rows = ap (λ c. contents c a.rows) columns ∙ ap (λ r. contents b.columns r) rows
+
+  pub TableIs-unique : (folder : List ℕ) (table : Table) (a b : Contents) → TableIs (Some told) folder table a → TableIs (Some told) folder table b → a ≡ b
+  TableIs-unique folder table a b h k =
+      let e = IsFile-unique (table_file_of folder table.name) most_table_octets h.bytes k.bytes h.file k.file in
+      same_contents a b (h.columns ∙ sym k.columns)
+      (same_loads table k.bytes a.rows b.rows (subst (λ (t : List ℕ). Loads table t a.rows) e h.loads) k.loads)
+
+  pub TableIs-refused : (folder : List ℕ) (table : Table) (one : Contents) (cause : Cause) → TableIs (Some told) folder table one → IsNoTable (Some told) folder table cause → ⊥
+  TableIs-refused folder table one cause h (inl (is, long)) = IsFile-short (table_file_of folder table.name) most_table_octets h.bytes h.file long
+  TableIs-refused folder table one cause h (inr (fault, bytes, is, file, fails)) =
+      let e = IsFile-unique (table_file_of folder table.name) most_table_octets h.bytes bytes h.file file in
+      loads_or_fails table bytes one.rows fault (subst (λ (t : List ℕ). Loads table t one.rows) e h.loads) fails
+
+  pub IsNoTable-unique : (folder : List ℕ) (table : Table) (cause other : Cause) → IsNoTable (Some told) folder table cause → IsNoTable (Some told) folder table other → cause ≡ other
+  IsNoTable-unique folder table cause other (inl (is, long)) (inl (is', long')) = is ∙ sym is'
+  IsNoTable-unique folder table cause other (inl (is, long)) (inr (fault, bytes, is', file, fails)) = absurd (IsFile-short (table_file_of folder table.name) most_table_octets bytes file long)
+  IsNoTable-unique folder table cause other (inr (fault, bytes, is, file, fails)) (inl (is', long)) = absurd (IsFile-short (table_file_of folder table.name) most_table_octets bytes file long)
+  IsNoTable-unique folder table cause other (inr (fault, bytes, is, file, fails)) (inr (fault', bytes', is', file', fails')) =
+      let e = IsFile-unique (table_file_of folder table.name) most_table_octets bytes bytes' file file' in
+      let f = same_fault table bytes' fault fault' (subst (λ (t : List ℕ). IsFirstFault table t fault) e fails) fails' in
+      is ∙ ap (table_refused table) f ∙ sym is'
+
+  -- ---- the tables of a schema
+
+  pub TablesAre-unique : (folder : List ℕ) (tables : List Table) (a b : List Contents) → TablesAre (Some told) folder tables a → TablesAre (Some told) folder tables b → a ≡ b
+  TablesAre-unique folder [] [] [] h k = refl
+  TablesAre-unique folder [] [] (two ∷ b) h k = absurd k
+  TablesAre-unique folder [] (one ∷ a) b h k = absurd h
+  TablesAre-unique folder (table ∷ tables) [] b h k = absurd h
+  TablesAre-unique folder (table ∷ tables) (one ∷ a) [] h k = absurd k
+  TablesAre-unique folder (table ∷ tables) (one ∷ a) (two ∷ b) h k =
+      ap (λ (x : Contents). x ∷ a) (TableIs-unique folder table one two h.0 k.0) ∙ ap (λ (xs : List Contents). two ∷ xs) (TablesAre-unique folder tables a b h.1 k.1)
+
+  -- where all tables were accepted, one of them was
+  accepted_at : (folder : List ℕ) (before : List Table) (table : Table) (behind : List Table) (tables : List Contents) →
+      TablesAre (Some told) folder (before ++ table ∷ behind) tables → (one : Contents) × TableIs (Some told) folder table one
+  accepted_at folder [] table behind [] h = absurd h
+  accepted_at folder [] table behind (one ∷ tables) h = (one, h.0)
+  accepted_at folder (first ∷ before) table behind [] h = absurd h
+  accepted_at folder (first ∷ before) table behind (one ∷ tables) h = accepted_at folder before table behind tables h.1
+
+  -- the first table whose file isn't accepted is one
+  first_refused : (folder : List ℕ) (before other : List Table) (table next : Table) (behind rest : List Table) (a b : List Contents) →
+      before ++ table ∷ behind ≡ other ++ next ∷ rest → TablesAre (Some told) folder before a → TablesAre (Some told) folder other b →
+      ((one : Contents) → TableIs (Some told) folder table one → ⊥) → ((one : Contents) → TableIs (Some told) folder next one → ⊥) → table ≡ next
+  first_refused folder [] [] table next behind rest a b same h k none none' = cc
+  first_refused folder [] (o ∷ other) table next behind rest a [] same h k none none' = absurd k
+  first_refused folder [] (o ∷ other) table next behind rest a (two ∷ b) same h k none none' =
+      let is : o ≡ table = cc in absurd (none two (subst (λ (t : Table). TableIs (Some told) folder t two) is k.0))
+  first_refused folder (x ∷ before) other table next behind rest [] b same h k none none' = absurd h
+  first_refused folder (x ∷ before) [] table next behind rest (one ∷ a) b same h k none none' =
+      let is : x ≡ next = cc in absurd (none' one (subst (λ (t : Table). TableIs (Some told) folder t one) is h.0))
+  first_refused folder (x ∷ before) (o ∷ other) table next behind rest (one ∷ a) [] same h k none none' = absurd k
+  first_refused folder (x ∷ before) (o ∷ other) table next behind rest (one ∷ a) (two ∷ b) same h k none none' =
+      let tails : before ++ table ∷ behind ≡ other ++ next ∷ rest = cc in
+      first_refused folder before other table next behind rest a b tails h.1 k.1 none none'
+
+  -- ---- the queries
+
+  pub QueriesAre-unique : (name : List ℕ) (schema : List Table) (a b : List Asked) → QueriesAre (Some told) name schema a → QueriesAre (Some told) name schema b → a ≡ b
+  QueriesAre-unique name schema a b h k =
+      let e = IsFile-unique name most_text_octets h.text k.text h.file k.file in
+      let reads = subst (λ (t : List ℕ). ReadsScript schema t a) e h.reads in
+      let f = ReadsQuery-unique schema k.text reads.0 k.reads.0 reads.1 k.reads.1 in
+      reads.2 ∙ ap (λ (s : Statement). asked_by schema s ∷ []) f ∙ sym k.reads.2
+
+  pub QueriesAre-refused : (name : List ℕ) (schema : List Table) (queries : List Asked) (cause : Cause) → QueriesAre (Some told) name schema queries → IsNoQuery (Some told) name schema cause → ⊥
+  QueriesAre-refused name schema queries cause h (inl (is, long)) = IsFile-short name most_text_octets h.text h.file long
+  QueriesAre-refused name schema queries cause h (inr (fault, text, is, file, refused)) =
+      let e = IsFile-unique name most_text_octets h.text text h.file file in
+      let reads = subst (λ (t : List ℕ). ReadsScript schema t queries) e h.reads in
+      query_or_refused schema text reads.0 fault reads.1 refused
+
+  pub IsNoQuery-unique : (name : List ℕ) (schema : List Table) (cause other : Cause) → IsNoQuery (Some told) name schema cause → IsNoQuery (Some told) name schema other → cause ≡ other
+  IsNoQuery-unique name schema cause other (inl (is, long)) (inl (is', long')) = is ∙ sym is'
+  IsNoQuery-unique name schema cause other (inl (is, long)) (inr (fault, text, is', file, refused)) = absurd (IsFile-short name most_text_octets text file long)
+  IsNoQuery-unique name schema cause other (inr (fault, text, is, file, refused)) (inl (is', long)) = absurd (IsFile-short name most_text_octets text file long)
+  IsNoQuery-unique name schema cause other (inr (fault, text, is, file, refused)) (inr (fault', text', is', file', refused')) =
+      let e = IsFile-unique name most_text_octets text text' file file' in
+      let f = IsQueryRefused-unique schema text' fault fault' (subst (λ (t : List ℕ). IsQueryRefused schema t fault) e refused) refused' in
+      is ∙ ap queries_refused f ∙ sym is'
+
+  -- ---- all files
+
+  pub HasTables-unique : (names : Names) (schema other : List Table) (a b : List Contents) → HasTables (Some told) names schema a → HasTables (Some told) names other b → (schema ≡ other) × (a ≡ b)
+  HasTables-unique names schema other a b h k =
+      let e = SchemaIs-unique names.schema schema other h.declared k.declared in
+      (e, TablesAre-unique names.folder other a b (subst (λ (s : List Table). TablesAre (Some told) names.folder s a) e h.loaded) k.loaded)
+
+  pub HasQueries-unique : (names : Names) (schema other_schema : List Table) (tables other_tables : List Contents) (queries other_queries : List Asked) →
+      HasQueries (Some told) names schema tables queries → HasQueries (Some told) names other_schema other_tables other_queries →
+      (schema ≡ other_schema) × (tables ≡ other_tables) × (queries ≡ other_queries)
+  HasQueries-unique names schema other_schema tables other_tables queries other_queries h k =
+      let e = HasTables-unique names schema other_schema tables other_tables h.before k.before in (
+        e.0,
+        e.1,
+        QueriesAre-unique names.queries other_schema queries other_queries (subst (λ (s : List Table). QueriesAre (Some told) names.queries s queries) e.0 h.asked) k.asked,
+      )
+
+  -- a table's file isn't refused where all tables were accepted
+  pub next_accepted : (names : Names) (table : Table) (schema : List Table) (tables : List Contents) (cause : Cause) →
+      IsNextTable (Some told) names table → HasTables (Some told) names schema tables → IsNoTable (Some told) names.folder table cause → ⊥
+  next_accepted names table schema tables cause next h none =
+      let e = SchemaIs-unique names.schema schema (next.before ++ table ∷ next.behind) h.declared next.declared in
+      let one = accepted_at names.folder next.before table next.behind tables (subst (λ (s : List Table). TablesAre (Some told) names.folder s tables) e h.loaded) in
+      TableIs-refused names.folder table one.0 cause one.1 none
+
+  -- and the first one that is refused is one
+  pub one_refused : (names : Names) (table other : Table) (cause cause' : Cause) → IsNextTable (Some told) names table → IsNextTable (Some told) names other →
+      IsNoTable (Some told) names.folder table cause → IsNoTable (Some told) names.folder other cause' → table ≡ other
+  one_refused names table other cause cause' h k none none' =
+      let e = SchemaIs-unique names.schema (h.before ++ table ∷ h.behind) (k.before ++ other ∷ k.behind) h.declared k.declared in
+      first_refused names.folder h.before k.before table other h.behind k.behind h.contents k.contents e h.loaded k.loaded
+      (λ one is. TableIs-refused names.folder table one cause is none)
+      (λ one is. TableIs-refused names.folder other one cause' is none')

@@ -1,0 +1,204 @@
+-- How the reading of the files goes on from stage to stage, and how it stops.
+use Rattle.std.proofs.Common.{◌≡◌, ◌⊎◌, ℕ, zero, suc, ◌<◌, List, [], ◌∷◌, ◌++◌, Result, Ok, Err, inl, inr, refl, sym, subst, length, ap, arith, take, drop, get_or}
+use Rattle.std.specs.Prelude.{IfErr}
+use Rattle.qw_types.specs.Contents.{Contents}
+use Rattle.qw_types.specs.declared.schema.Table.{Table}
+use Rattle.qw_csv.specs.declared.loading.LoadFault.{LoadFault}
+use Rattle.qw_csv.specs.declared.loading.LoadFault.TheVariants as load_faults
+use Rattle.qw_csv.specs.Loading.{IsFirstFault}
+use Rattle.qw_parse.specs.declared.parse.QueryFault.{QueryFault}
+use Rattle.qw_parse.specs.declared.parse.QueryFault.TheVariants as query_faults
+use Rattle.qw_parse.specs.declared.parse.SchemaFault.{SchemaFault}
+use Rattle.qw_parse.specs.declared.parse.SchemaFault.TheVariants as schema_faults
+use Rattle.qw_parse.specs.Parse.{IsRefused}
+use Rattle.qw_parse.specs.Query.{IsQueryRefused}
+use Rattle.qw_top.specs.Causes.{Cause, queries_refused, schema_refused, table_refused, total_pages}
+use Rattle.qw_top.specs.FileNames.{table_file_of}
+use Rattle.qw_top.specs.Limits.{default_limits, most_table_octets, most_text_octets}
+use Rattle.qw_top.specs.Top.{AreNames, Asked, Asks, Files, FilesSettle, HasQueries, HasTables, IsFile, IsFileOf, IsNextTable, Names, QueriesAre, SchemaIs, TableIs, TablesAre}
+use Rattle.qw_top.specs.declared.stop.Stop.{Stop}
+use Rattle.qw_top.specs.declared.stop.Stop.TheVariants.{Words, Refused, Unread, NoMemory}
+use Rattle.qw_top.specs.Inner.Inputs.{IsNoQuery, IsNoSchema, IsNoTable, StopsAtTables}
+use Rattle.qw_top.specs.Inner.Stages.{FilesStop, Stops, StopsToRun}
+use Rattle.qw_top.specs.Inner.Stop.{StopsAs, StopsFor}
+use Rattle.qw_top.proofs.SettleLemmas.{queries_settle, schema_settles, table_settles}
+
+-- a stop for a cause that is one of a stage's reasons
+pub StopsFor-stage : (reason : Cause → Type 0) (name : List ℕ) (cause : Cause) (stop : Stop) → reason cause → StopsFor cause stop → StopsAs reason name stop
+StopsFor-stage reason name cause Words holds stops = absurd stops
+StopsFor-stage reason name cause (Refused refusal line) holds stops = (cause, holds, stops)
+StopsFor-stage reason name cause (Unread file) holds stops = absurd stops
+StopsFor-stage reason name cause NoMemory holds stops = tt
+
+-- memory was wanted, or it is another fault
+schema_or_memory : (fault : SchemaFault) → (fault ≡ schema_faults.NoMemory) ⊎ (fault ≡ schema_faults.NoMemory → ⊥)
+schema_or_memory schema_faults.NoMemory = inl refl
+schema_or_memory schema_faults.NotUtf8 = inr (λ same. cc)
+schema_or_memory (schema_faults.NotToken at) = inr (λ same. cc)
+schema_or_memory (schema_faults.NotGrammar k) = inr (λ same. cc)
+schema_or_memory (schema_faults.TooDeep k) = inr (λ same. cc)
+schema_or_memory (schema_faults.TooMany k what limit) = inr (λ same. cc)
+schema_or_memory (schema_faults.Duplicate k) = inr (λ same. cc)
+schema_or_memory (schema_faults.BadSize k) = inr (λ same. cc)
+
+query_or_memory : (fault : QueryFault) → (fault ≡ query_faults.NoMemory) ⊎ (fault ≡ query_faults.NoMemory → ⊥)
+query_or_memory query_faults.NoMemory = inl refl
+query_or_memory query_faults.NotUtf8 = inr (λ same. cc)
+query_or_memory (query_faults.NotToken at) = inr (λ same. cc)
+query_or_memory (query_faults.NotGrammar k) = inr (λ same. cc)
+query_or_memory (query_faults.TooDeep k) = inr (λ same. cc)
+query_or_memory (query_faults.TooMany k what limit) = inr (λ same. cc)
+query_or_memory (query_faults.Mistyped k kind name) = inr (λ same. cc)
+
+load_or_memory : (fault : LoadFault) → (fault ≡ load_faults.NoMemory) ⊎ (fault ≡ load_faults.NoMemory → ⊥)
+load_or_memory load_faults.NoMemory = inl refl
+load_or_memory load_faults.BadHeader = inr (λ same. cc)
+load_or_memory (load_faults.FieldCount row) = inr (λ same. cc)
+load_or_memory (load_faults.Field row column why) = inr (λ same. cc)
+load_or_memory load_faults.TooManyRows = inr (λ same. cc)
+
+wants : (reason : Cause → Type 0) (name : List ℕ) (stop : Stop) → stop ≡ NoMemory → StopsAs reason name stop
+wants reason name stop is = subst (λ (s : Stop). StopsAs reason name s) (sym is) tt
+
+-- how a stage stops at a text or a table's octets that are refused for a fault
+module _ (files : Files) (name : List ℕ) (stop : Stop) where
+  pub schema_refused_stops : (text : List ℕ) (fault : SchemaFault) → IsFile files name most_text_octets text → (fault ≡ schema_faults.NoMemory) ⊎ IsRefused text fault →
+      (fault ≡ schema_faults.NoMemory → stop ≡ NoMemory) → ((fault ≡ schema_faults.NoMemory → ⊥) → StopsFor (schema_refused fault) stop) → StopsAs (IsNoSchema files name) name stop
+  schema_refused_stops text fault file (inl is) memory refused = wants (IsNoSchema files name) name stop (memory is)
+  schema_refused_stops text fault file (inr holds) memory refused =
+      elim (schema_or_memory fault) [
+        | inl is ↦ wants (IsNoSchema files name) name stop (memory is)
+        | inr other ↦ StopsFor-stage (IsNoSchema files name) name (schema_refused fault) stop (inr (fault, text, refl, file, holds)) (refused other)
+      ]
+
+  pub query_refused_stops : (schema : List Table) (text : List ℕ) (fault : QueryFault) → IsFile files name most_text_octets text → (fault ≡ query_faults.NoMemory) ⊎ IsQueryRefused schema text fault →
+      (fault ≡ query_faults.NoMemory → stop ≡ NoMemory) → ((fault ≡ query_faults.NoMemory → ⊥) → StopsFor (queries_refused fault) stop) → StopsAs (IsNoQuery files name schema) name stop
+  query_refused_stops schema text fault file (inl is) memory refused = wants (IsNoQuery files name schema) name stop (memory is)
+  query_refused_stops schema text fault file (inr holds) memory refused =
+      elim (query_or_memory fault) [
+        | inl is ↦ wants (IsNoQuery files name schema) name stop (memory is)
+        | inr other ↦ StopsFor-stage (IsNoQuery files name schema) name (queries_refused fault) stop (inr (fault, text, refl, file, holds)) (refused other)
+      ]
+
+pub table_refused_stops : (files : Files) (folder : List ℕ) (table : Table) (stop : Stop) (bytes : List ℕ) (fault : LoadFault) → IsFile files (table_file_of folder table.name) most_table_octets bytes →
+    ((fault ≡ load_faults.NoMemory → ⊥) → IsFirstFault table bytes fault) → (fault ≡ load_faults.NoMemory → stop ≡ NoMemory) →
+    ((fault ≡ load_faults.NoMemory → ⊥) → StopsFor (table_refused table fault) stop) → StopsAs (IsNoTable files folder table) (table_file_of folder table.name) stop
+table_refused_stops files folder table stop bytes fault file holds memory refused =
+    elim (load_or_memory fault) [
+      | inl is ↦ wants (IsNoTable files folder table) (table_file_of folder table.name) stop (memory is)
+      | inr other ↦ StopsFor-stage (IsNoTable files folder table) (table_file_of folder table.name) (table_refused table fault) stop (inr (fault, bytes, refl, file, holds other)) (refused other)
+    ]
+
+split : {A : Type 0} (xs : List A) (i : ℕ) (x : A) → i < length xs → x ≡ get_or xs i x → xs ≡ take i xs ++ x ∷ drop (suc i) xs
+split [] i x within is = absurd (omega (arith, within))
+split (y ∷ xs) zero x within is = ap (λ z. z ∷ xs) (sym is)
+split (y ∷ xs) (suc i) x within is = ap (λ zs. y ∷ zs) (split xs i x (omega (arith, within)) is)
+
+-- where the reading of the tables' files stopped, behind those that were accepted
+pub tables_stop_at : (files now : Files) (folder : List ℕ) (schema : List Table) (i : ℕ) (table : Table) (contents : List Contents) (stop : Stop) → i < length schema → table ≡ get_or schema i table →
+    now ≡ files → TablesAre files folder (take i schema) contents → StopsAs (IsNoTable now folder table) (table_file_of folder table.name) stop → StopsAtTables files folder schema stop
+tables_stop_at files now folder schema i table contents stop within is same loaded stops =
+    inr (
+      take i schema,
+      table,
+      drop (suc i) schema,
+      contents,
+      split schema i table within is,
+      loaded,
+      subst (λ (f : Files). StopsAs (IsNoTable f folder table) (table_file_of folder table.name) stop) same stops,
+    )
+
+-- a stage's stop for a reason that is one of another's
+pub StopsAs-weaker : (P Q : Cause → Type 0) (name : List ℕ) (stop : Stop) → ((cause : Cause) → P cause → Q cause) → StopsAs P name stop → StopsAs Q name stop
+StopsAs-weaker P Q name Words weaker stops = absurd stops
+StopsAs-weaker P Q name (Refused refusal line) weaker (cause, holds, is) = (cause, weaker cause holds, is)
+StopsAs-weaker P Q name (Unread file) weaker stops = stops
+StopsAs-weaker P Q name NoMemory weaker stops = tt
+
+-- a stage that stopped for a reason that files settle, or at a file that a run may read
+pub StopsAs-files : (files : Files) (names : Names) (reason : Cause → Type 0) (name : List ℕ) (stop : Stop) → ((cause : Cause) → reason cause → FilesSettle default_limits files names cause) →
+    IsFileOf files names name → StopsAs reason name stop → FilesStop files names stop
+StopsAs-files files names reason name Words settle named stops = absurd stops
+StopsAs-files files names reason name (Refused refusal line) settle named (cause, holds, is) = (cause, settle cause holds, is)
+StopsAs-files files names reason name (Unread file) settle named is = subst (λ (octets : List ℕ). IsFileOf files names octets) (sym is) named
+StopsAs-files files names reason name NoMemory settle named stops = tt
+
+module _ (files : Files) (names : Names) where
+  pub schema_stops : (stop : Stop) → StopsAs (IsNoSchema files names.schema) names.schema stop → FilesStop files names stop
+  schema_stops stop stops = StopsAs-files files names (IsNoSchema files names.schema) names.schema stop (schema_settles default_limits files names) (inl refl) stops
+
+  -- where the tables' stage stopped, after a schema that was accepted
+  pub tables_stop : (now : Files) (schema : List Table) (stop : Stop) → now ≡ files → SchemaIs files names.schema schema → StopsAtTables now names.folder schema stop → FilesStop files names stop
+  tables_stop now schema stop same declared (inl is) = subst (FilesStop files names) (sym is) tt
+  tables_stop now schema stop same declared (inr (before, table, behind, contents, is, loaded, stops)) =
+      let next : IsNextTable files names table = record {
+        before = before;
+        behind = behind;
+        declared = subst (λ (s : List Table). SchemaIs files names.schema s) is declared;
+        contents = contents;
+        loaded = subst (λ (f : Files). TablesAre f names.folder before contents) same loaded;
+      } in
+      StopsAs-files files names (IsNoTable files names.folder table) (table_file_of names.folder table.name) stop
+      (λ cause none. table_settles default_limits files names table cause next none)
+      (inr (inl (table, next, refl)))
+      (subst (λ (f : Files). StopsAs (IsNoTable f names.folder table) (table_file_of names.folder table.name) stop) same stops)
+
+  -- what was accepted before the queries file
+  pub tables_accepted : (now : Files) (schema : List Table) (tables : List Contents) → now ≡ files → SchemaIs files names.schema schema → TablesAre now names.folder schema tables → HasTables files names schema tables
+  tables_accepted now schema tables same declared loaded = record {
+    declared = declared;
+    loaded = subst (λ (f : Files). TablesAre f names.folder schema tables) same loaded;
+  }
+
+  -- where the queries' stage stopped
+  pub queries_stop : (now : Files) (schema : List Table) (tables : List Contents) (stop : Stop) → now ≡ files → HasTables files names schema tables →
+      StopsAs (IsNoQuery now names.queries schema) names.queries stop → FilesStop files names stop
+  queries_stop now schema tables stop same held stops =
+      StopsAs-files files names (IsNoQuery files names.queries schema) names.queries stop
+      (λ cause none. queries_settle default_limits files names schema tables cause held none)
+      (inr (inr (schema, tables, held, refl)))
+      (subst (λ (f : Files). StopsAs (IsNoQuery f names.queries schema) names.queries stop) same stops)
+
+  -- all was accepted
+  pub all_accepted : (now : Files) (schema : List Table) (tables : List Contents) (queries : List Asked) → now ≡ files → HasTables files names schema tables →
+      QueriesAre now names.queries schema queries → HasQueries files names schema tables queries
+  all_accepted now schema tables queries same held asked = record {
+    before = held;
+    asked = subst (λ (f : Files). QueriesAre f names.queries schema queries) same asked;
+  }
+
+-- ---- the tables' files, one after another
+
+pub TablesAre-more : (files : Files) (folder : List ℕ) (tables : List Table) (contents : List Contents) (table : Table) (one : Contents) →
+    TablesAre files folder tables contents → TableIs files folder table one → TablesAre files folder (tables ++ table ∷ []) (contents ++ one ∷ [])
+TablesAre-more files folder [] [] table one are is = (is, tt)
+TablesAre-more files folder [] (first ∷ contents) table one are is = absurd are
+TablesAre-more files folder (first ∷ tables) [] table one are is = absurd are
+TablesAre-more files folder (first ∷ tables) (held ∷ contents) table one are is = (are.0, TablesAre-more files folder tables contents table one are.1 is)
+
+-- ---- words and files
+
+-- where the reading of the files stopped
+pub Stops-files : (files : Files) (words : List (List ℕ)) (names : Names) (stop : Stop) → AreNames words names → FilesStop files names stop → Stops files words stop
+Stops-files files words names Words are why = absurd why
+Stops-files files words names (Refused refusal line) are why = (names, are, why)
+Stops-files files words names (Unread file) are why = (names, are, why)
+Stops-files files words names NoMemory are why = (names, are, why)
+
+pub IfErr-Stops : {T : Type 0} (files : Files) (words : List (List ℕ)) (names : Names) (result : Result T Stop) → AreNames words names →
+    IfErr result (λ stop. FilesStop files names stop) → IfErr result (λ stop. Stops files words stop)
+IfErr-Stops files words names (Ok run) are why = why
+IfErr-Stops files words names (Err stop) are why = Stops-files files words names stop are why
+
+-- where a run stopped before its bench, what was asked for having been read
+pub run_stops : (files : Files) (words : List (List ℕ)) (schema : List Table) (tables : List Contents) (queries : List Asked) (stop : Stop) →
+    Asks files words schema tables queries → StopsToRun tables queries stop → Stops files words stop
+run_stops files words schema tables queries stop (names, are, held) (inl is) = subst (Stops files words) (sym is) (names, are, tt)
+run_stops files words schema tables queries Words (names, are, held) (inr (large, stops)) = absurd stops
+run_stops files words schema tables queries (Refused refusal line) (names, are, held) (inr (large, stops)) =
+    (names, are, (total_pages _, (schema, tables, queries, held, refl, large), stops))
+run_stops files words schema tables queries (Unread file) (names, are, held) (inr (large, stops)) = absurd stops
+run_stops files words schema tables queries NoMemory (names, are, held) (inr (large, stops)) = (names, are, tt)
+
+pub want_stops : (files : Files) (words : List (List ℕ)) (schema : List Table) (tables : List Contents) (queries : List Asked) → Asks files words schema tables queries → Stops files words NoMemory
+want_stops files words schema tables queries (names, are, held) = (names, are, tt)

@@ -1,0 +1,10 @@
+use Rattle.std.proofs.Common.{◌≡◌, None, sym}
+use Rattle.std.specs.Prelude.{slice_get}
+use Rattle.std.proofs.lemmas.List.{append-nil}
+use Rattle.std.proofs.lemmas.Option.{slice_get_past}
+use Rattle.qw_top.proofs.top.header.with_head.Goals as goal
+
+pub returns-in-None : goal.returns-in-None
+returns-in-None c =
+    let none : slice_get c.args.columns.now c.args.place ≡ None = slice_get_past c.args.columns.now c.args.place c.in-None.ensures.lookup.3 in
+    rw none (sym (append-nil c.args.heads.items))

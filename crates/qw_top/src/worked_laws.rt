@@ -1,0 +1,58 @@
+//! Cases with numbers of definitions that no function computes as they stand. No function here computes anything.
+
+ghost use Rattle.std.specs.Prelude.{◌≡◌, [], ◌∷◌, Some, codes};
+ghost use Rattle.qw_types.specs.declared.numeral.FieldFault.TheVariants.{TooLarge};
+ghost use Rattle.qw_csv.specs.declared.cell.CellFault.TheVariants as cell;
+ghost use Rattle.qw_csv.specs.declared.loading.LoadFault.TheVariants as load;
+ghost use Rattle.qw_map.specs.Turns.{Done, Exception, Pages, Steps};
+ghost use Rattle.qw_parse.specs.declared.parse.Count.TheVariants.{Columns, SelectItems};
+ghost use Rattle.qw_parse.specs.declared.parse.QueryFault.TheVariants as query;
+ghost use Rattle.qw_parse.specs.declared.parse.SchemaFault.TheVariants as schema;
+ghost use Rattle.qw_parse.specs.declared.parse.TypeFault.TheVariants.{LiteralTooLong, UnknownColumn};
+ghost use Rattle.qw_top.specs.Causes.{line_of_cause, queries_refused, queries_too_long, schema_refused, schema_too_long, table_refused, table_too_long, total_pages, words_refused};
+ghost use Rattle.qw_top.specs.Delivered.{status_of_ends};
+ghost use Rattle.qw_top.specs.Worked.{worked_table};
+ghost use Rattle.qw_top.specs.declared.status.Status.{Status};
+
+/// A limit of pages comes before one of instructions, and that before an exception, whichever query met it.
+pub fn worked_statuses()
+    ensures done { status_of_ends (Some Done ∷ Some Done ∷ []) ≡ Status.Done }
+    ensures raised { status_of_ends (Some Done ∷ Some (Exception 1) ∷ Some Done ∷ []) ≡ Status.Raised }
+    ensures steps { status_of_ends (Some (Exception 2) ∷ Some (Steps 9) ∷ Some Done ∷ []) ≡ Status.StepLimitMet }
+    ensures pages { status_of_ends (Some (Exception 1) ∷ Some (Steps 9) ∷ Some (Pages 1 1 1) ∷ []) ≡ Status.PageLimitMet }
+    ensures pages_first { status_of_ends (Some (Pages 1 1 1) ∷ Some (Steps 9) ∷ Some (Exception 1) ∷ []) ≡ Status.PageLimitMet }
+{}
+
+/// The lines on a schema file.
+pub fn worked_schema_lines()
+    ensures too_long { line_of_cause schema_too_long ≡ codes "schema: too long\n" }
+    ensures not_utf8 { line_of_cause (schema_refused schema.NotUtf8) ≡ codes "schema: not utf-8\n" }
+    ensures not_token { line_of_cause (schema_refused (schema.NotToken 7)) ≡ codes "schema: not a token at 7\n" }
+    ensures not_grammar { line_of_cause (schema_refused (schema.NotGrammar 1)) ≡ codes "schema: not grammar in statement 1\n" }
+    ensures too_deep { line_of_cause (schema_refused (schema.TooDeep 3)) ≡ codes "schema: too deep in statement 3\n" }
+    ensures too_many { line_of_cause (schema_refused (schema.TooMany 2 Columns 64)) ≡ codes "schema: too many columns in statement 2, limit 64\n" }
+    ensures duplicate { line_of_cause (schema_refused (schema.Duplicate 2)) ≡ codes "schema: duplicate in statement 2\n" }
+    ensures bad_size { line_of_cause (schema_refused (schema.BadSize 1)) ≡ codes "schema: bad size in statement 1\n" }
+{}
+
+/// The lines on the file of a table.
+pub fn worked_table_lines()
+    ensures too_long { line_of_cause (table_too_long worked_table) ≡ codes "T: too long\n" }
+    ensures bad_header { line_of_cause (table_refused worked_table load.BadHeader) ≡ codes "T: bad header\n" }
+    ensures field_count { line_of_cause (table_refused worked_table (load.FieldCount 12)) ≡ codes "T record 12: field count\n" }
+    ensures null { line_of_cause (table_refused worked_table (load.Field 1 0 cell.NullForbidden)) ≡ codes "T record 1 column A: null forbidden\n" }
+    ensures second_column { line_of_cause (table_refused worked_table (load.Field 3 1 (cell.Form TooLarge))) ≡ codes "T record 3 column B: too large\n" }
+    ensures too_many_rows { line_of_cause (table_refused worked_table load.TooManyRows) ≡ codes "T: too many rows\n" }
+{}
+
+/// The lines on a queries file, and on the pages of a run. There is none on the words.
+pub fn worked_query_lines()
+    ensures words { line_of_cause words_refused ≡ [] }
+    ensures too_long { line_of_cause queries_too_long ≡ codes "queries: too long\n" }
+    ensures not_token { line_of_cause (queries_refused (query.NotToken 10)) ≡ codes "queries: not a token at 10\n" }
+    ensures too_many { line_of_cause (queries_refused (query.TooMany 1 SelectItems 64)) ≡ codes "queries: too many select items in statement 1, limit 64\n" }
+    ensures unknown_column { line_of_cause (queries_refused (query.Mistyped 1 UnknownColumn (codes "B"))) ≡ codes "queries: unknown column B in statement 1\n" }
+    ensures literal { line_of_cause (queries_refused (query.Mistyped 1 LiteralTooLong (codes "1000000000000000000")))
+        ≡ codes "queries: literal too long 1000000000000000000 in statement 1\n" }
+    ensures pages { line_of_cause (total_pages 65536) ≡ codes "total pages 65536\n" }
+{}
