@@ -1,5 +1,5 @@
 -- The code of functions one after the other, as a loop reads it.
-use Rattle.std.proofs.Common.{◌≡◌, ℕ, ◌-◌, ◌+◌, ◌<◌, ◌≤◌, List, [], ◌∷◌, ◌++◌, length, map, get_or, subst, Result, Ok, sym, ap, ◌∙◌}
+use Rattle.std.proofs.Common.{◌≡◌, ℕ, ◌-◌, ◌+◌, ◌<◌, List, [], ◌∷◌, ◌++◌, length, map, get_or, subst, Result, Ok, sym, ap, ◌∙◌}
 use Rattle.std.proofs.lemmas.List.{length-map}
 use Rattle.qw_grammar.specs.declared.fault.BinaryFault.{BinaryFault}
 use Rattle.qw_grammar.specs.Vectors.{counted}
@@ -18,10 +18,10 @@ module _ (indices : List ℕ) (i : ℕ) (found : List Function) (bytes : List �
       → read (counted (length indices - (i + 1)) (next_function indices) (map function_contents found ++ function_contents x ∷ [])) rest ≡ total
   next_read x rest index e h =
       goes_on_counted (next_function indices) (length indices) i (map function_contents found) bytes (map function_contents found ++ function_contents x ∷ []) rest total lt
-        (one_more_ok (code (get_or indices (length (map function_contents found)) 0)) (map function_contents found) bytes (function_contents x) rest
-          (subst (λ n. read (code n) bytes ≡ Ok (function_contents x, rest)) (sym (its_index index e)) h)) so_far
+      (one_more_ok (code (get_or indices (length (map function_contents found)) 0)) (map function_contents found) bytes (function_contents x) rest
+      (subst (λ n. read (code n) bytes ≡ Ok (function_contents x, rest)) (sym (its_index index e)) h)) so_far
 
   pub next_fails : (f : BinaryFault) (index : ℕ) → get_or indices i 0 ≡ index → Fails f (read (code index) bytes) → Fails f total
   next_fails f index e h =
       ends_counted (next_function indices) f (length indices) i (map function_contents found) bytes total lt
-        (one_more_fails f (code (get_or indices (length (map function_contents found)) 0)) (map function_contents found) bytes (subst (λ n. Fails f (read (code n) bytes)) (sym (its_index index e)) h)) so_far
+      (one_more_fails f (code (get_or indices (length (map function_contents found)) 0)) (map function_contents found) bytes (subst (λ n. Fails f (read (code n) bytes)) (sym (its_index index e)) h)) so_far

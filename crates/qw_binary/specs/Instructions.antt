@@ -189,16 +189,16 @@ at_first = record { ended = []; labels = []; around = []; now = [] }
 
 -- one more instruction of the present sequence
 abbrev pub with_instruction : Progress → Instr → Progress
-with_instruction p instruction = record { ended = p.ended; labels = p.labels; around = p.around; now = p.now ++ instruction ∷ [] }
+with_instruction p instruction = record p { now = p.now ++ instruction ∷ [] }
 
 -- one more br_table, which names its labels as a range
 abbrev pub with_table : Progress → List ℕ → (default : ℕ) → Progress
 with_table p labels default =
-    record { ended = p.ended; labels = p.labels ++ labels; around = p.around; now = p.now ++ i.BrTable (length p.labels) (length labels) default ∷ [] }
+    record p { labels = p.labels ++ labels; now = p.now ++ i.BrTable (length p.labels) (length labels) default ∷ [] }
 
 -- a sequence begins
 abbrev pub begun : Progress → Opener → Progress
-begun p opener = record { ended = p.ended; labels = p.labels; around = record { opener = opener; before = p.now } ∷ p.around; now = [] }
+begun p opener = record p { around = record { opener = opener; before = p.now } ∷ p.around; now = [] }
 
 -- the instruction of a sequence of this number that has ended; where no `else` was read, none is named
 abbrev pub instruction_of : Opener → (number : ℕ) → Instr
@@ -223,7 +223,7 @@ else_of (second type then_body) number = Err NotModule
 abbrev pub with_else : Result Opener BinaryFault → Progress → List Instr → List Open → Result (Next Progress Sequences) BinaryFault
 with_else (Err fault) p before around = Err fault
 with_else (Ok opener) p before around =
-    Ok (goes_on (record { ended = p.ended ++ p.now ∷ []; labels = p.labels; around = record { opener = opener; before = before } ∷ around; now = [] }))
+    Ok (goes_on (record p { ended = p.ended ++ p.now ∷ []; around = record { opener = opener; before = before } ∷ around; now = [] }))
 
 -- at an else
 abbrev pub at_else : Progress → List Open → Result (Next Progress Sequences) BinaryFault

@@ -1,5 +1,5 @@
 -- Sections in the binary format (WebAssembly Core Specification 1.0, 5.5).
-use Rattle.std.specs.Prelude.{ℕ, ◌+◌, ◌^◌, ◌==◌, if◌then◌else◌, nat_lt, Bool, true, false, List, [], ◌∷◌, ◌++◌, length, get_or, codes, Result, Ok, Err}
+use Rattle.std.specs.Prelude.{ℕ, ◌+◌, ◌^◌, ◌==◌, if◌then◌else◌, nat_lt, Bool, true, false, List, [], ◌∷◌, length, get_or, codes, Result, Ok, Err}
 use Rattle.qw_grammar.specs.declared.fault.BinaryFault.{BinaryFault}
 use Rattle.qw_grammar.specs.declared.fault.BinaryFault.TheVariants.{NotModule, OutOfProfile}
 use Rattle.qw_grammar.specs.declared.fault.What.TheVariants as what
@@ -61,9 +61,9 @@ equal (x ∷ xs) (y ∷ ys) = if x == y then equal xs ys else false
 abbrev pub named_by : List Import → (from text : List ℕ) → Result Imported BinaryFault
 named_by before from text =
     if equal from (codes "q") then
-      (if equal text (codes "memory") then once memory before
-      else if equal text (codes "raise") then once raise before
-      else Err (OutOfProfile what.Import))
+    (if equal text (codes "memory") then once memory before
+    else if equal text (codes "raise") then once raise before
+    else Err (OutOfProfile what.Import))
     else Err (OutOfProfile what.Import)
 
 abbrev pub names : List Import → Grammar Imported
@@ -155,7 +155,7 @@ locals = after (vector locals_run) (λ runs. pick (nat_lt (locals_count runs) (2
 abbrev pub code : (type_index : ℕ) → Grammar FunctionContents
 code type_index =
     after u32 (λ size. within size false
-      (after locals (λ runs. after expression (λ body. is (record { type_index = type_index; locals = runs; body = body })))))
+    (after locals (λ runs. after expression (λ body. is (record { type_index = type_index; locals = runs; body = body })))))
 
 -- the code of the function behind these, of which the indices of the types are given
 abbrev pub next_function : List ℕ → List FunctionContents → Grammar (List FunctionContents)
@@ -183,37 +183,25 @@ no_sections =
     }
 
 abbrev pub with_types : Sections → List Signature → Sections
-with_types s types =
-    record { last = 1; type_indices = s.type_indices;
-      contents = record { types = types; imports = s.contents.imports; functions = s.contents.functions; memories = s.contents.memories; globals = s.contents.globals; exports = s.contents.exports } }
+with_types s types = record s { last = 1; contents = record (s.contents) { types = types } }
 
 abbrev pub with_imports : Sections → List Import → Sections
-with_imports s imports =
-    record { last = 2; type_indices = s.type_indices;
-      contents = record { types = s.contents.types; imports = imports; functions = s.contents.functions; memories = s.contents.memories; globals = s.contents.globals; exports = s.contents.exports } }
+with_imports s imports = record s { last = 2; contents = record (s.contents) { imports = imports } }
 
 abbrev pub with_indices : Sections → List ℕ → Sections
-with_indices s indices = record { last = 3; type_indices = indices; contents = s.contents }
+with_indices s indices = record s { last = 3; type_indices = indices }
 
 abbrev pub with_memories : Sections → List Limits → Sections
-with_memories s memories =
-    record { last = 5; type_indices = s.type_indices;
-      contents = record { types = s.contents.types; imports = s.contents.imports; functions = s.contents.functions; memories = memories; globals = s.contents.globals; exports = s.contents.exports } }
+with_memories s memories = record s { last = 5; contents = record (s.contents) { memories = memories } }
 
 abbrev pub with_globals : Sections → List Global → Sections
-with_globals s globals =
-    record { last = 6; type_indices = s.type_indices;
-      contents = record { types = s.contents.types; imports = s.contents.imports; functions = s.contents.functions; memories = s.contents.memories; globals = globals; exports = s.contents.exports } }
+with_globals s globals = record s { last = 6; contents = record (s.contents) { globals = globals } }
 
 abbrev pub with_exports : Sections → List ExportContents → Sections
-with_exports s exports =
-    record { last = 7; type_indices = s.type_indices;
-      contents = record { types = s.contents.types; imports = s.contents.imports; functions = s.contents.functions; memories = s.contents.memories; globals = s.contents.globals; exports = exports } }
+with_exports s exports = record s { last = 7; contents = record (s.contents) { exports = exports } }
 
 abbrev pub with_functions : Sections → List FunctionContents → Sections
-with_functions s functions =
-    record { last = 10; type_indices = s.type_indices;
-      contents = record { types = s.contents.types; imports = s.contents.imports; functions = functions; memories = s.contents.memories; globals = s.contents.globals; exports = s.contents.exports } }
+with_functions s functions = record s { last = 10; contents = record (s.contents) { functions = functions } }
 
 -- what a section of this id holds: types (5.5.4), imports (5.5.5), the indices of the functions' types (5.5.6), memories (5.5.8),
 -- globals (5.5.9), exports (5.5.10), code (5.5.13)

@@ -38,8 +38,8 @@ block_type = octet (λ b. settle (block_type_by b))
 abbrev pub func_type : Grammar Signature
 func_type =
     octet (λ b. pick (b == 0x60)
-      (after (vector val_type) (λ params. after (vector val_type) (λ results. is (record { params = params; results = results }))))
-      (refuse NotModule))
+    (after (vector val_type) (λ params. after (vector val_type) (λ results. is (record { params = params; results = results }))))
+    (refuse NotModule))
 
 abbrev pub limits_from : ℕ → Option ℕ → Limits
 limits_from min max = record { min = min; max = max }
@@ -48,8 +48,8 @@ limits_from min max = record { min = min; max = max }
 abbrev pub limits : Grammar Limits
 limits =
     octet (λ b. pick (b == 0x00) (after u32 (λ min. is (limits_from min None)))
-      (pick (b == 0x01) (after u32 (λ min. after u32 (λ max. is (limits_from min (Some max)))))
-      (refuse NotModule)))
+    (pick (b == 0x01) (after u32 (λ min. after u32 (λ max. is (limits_from min (Some max)))))
+    (refuse NotModule)))
 
 -- whether a global may be set (5.3.7)
 abbrev pub mutability_by : ℕ → Result Bool BinaryFault

@@ -8,12 +8,10 @@ ghost use Rattle.qw_binary.specs.Modules.{SpellsModule, FirstStuck};
 /// Octets spell at most one module.
 pub fn one_module()
     ensures { (text : List ℕ) (m n : Contents) → SpellsModule m text → SpellsModule n text → m ≡ n }
-{
-}
+{}
 
 /// Octets have at most one first construct that no rule allows, and those that spell a module have none.
 pub fn one_fault()
     ensures one { (text : List ℕ) (f g : BinaryFault) → FirstStuck text f → FirstStuck text g → f ≡ g }
     ensures never_both { (text : List ℕ) (m : Contents) (f : BinaryFault) → SpellsModule m text → FirstStuck text f → ⊥ }
-{
-}
+{}

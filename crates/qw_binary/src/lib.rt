@@ -10,3 +10,5 @@
 pub mod decode;
 pub mod laws;
 mod read;
+#[cfg(test)]
+mod tests;

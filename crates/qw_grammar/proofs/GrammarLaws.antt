@@ -67,9 +67,11 @@ takes (octets n k) bytes x rest e =
     let len : length (take n bytes) ≡ n = length-take-le n bytes long in
     let text : List ℕ = take n bytes ++ t.0 in
     let a : take n text ≡ take n bytes = take_at (take n bytes) t.0 n len in
-    let b : drop n text ≡ t.0 = drop_at (take n bytes) t.0 n len in
-    (text, joined bytes (take n bytes) (drop n bytes) t.0 rest (sym (take-append-drop n bytes)) t.1,
-      (omega (arith, length-append (take n bytes) t.0, len), rw (a, b) t.2))
+    let b : drop n text ≡ t.0 = drop_at (take n bytes) t.0 n len in (
+      text,
+      joined bytes (take n bytes) (drop n bytes) t.0 rest (sym (take-append-drop n bytes)) t.1,
+      (omega (arith, length-append (take n bytes) t.0, len), rw (a, b) t.2),
+    )
 takes (after g k) bytes x rest e =
     let a = bind_ok (read g bytes) (λ y. read (k y.0) y.1) (x, rest) e in
     let t = takes g bytes a.0.0 a.0.1 a.1 in
@@ -79,9 +81,11 @@ takes (within n true g) bytes x rest e =
     let a = bind_ok (read g (take n bytes)) (filled n true bytes) (x, rest) e in
     let t = takes g (take n bytes) a.0.0 a.0.1 a.1 in
     let c = guard_ok (ltb (length bytes) n) NotModule (Ok (a.0.0, drop n bytes)) (x, rest) a.2 in
-    let q = ok_is (a.0.0, drop n bytes) (x, rest) c.1 in
-    (take n bytes, subst (λ w. bytes ≡ take n bytes ++ w) (ap (λ z. z.1) q) (sym (take-append-drop n bytes)),
-      (length-take-le n bytes (ltb-false _ _ c.0), t.0, a.0.1, t.1, subst (λ w. Spells g w t.0) (ap (λ z. z.0) q) t.2))
+    let q = ok_is (a.0.0, drop n bytes) (x, rest) c.1 in (
+      take n bytes,
+      subst (λ w. bytes ≡ take n bytes ++ w) (ap (λ z. z.1) q) (sym (take-append-drop n bytes)),
+      (length-take-le n bytes (ltb-false _ _ c.0), t.0, a.0.1, t.1, subst (λ w. Spells g w t.0) (ap (λ z. z.0) q) t.2),
+    )
 takes (within n false g) bytes x rest e =
     let a = bind_ok (read g (take n bytes)) (filled n false bytes) (x, rest) e in
     let t = takes g (take n bytes) a.0.0 a.0.1 a.1 in
@@ -90,9 +94,11 @@ takes (within n false g) bytes x rest e =
     let q = ok_is (a.0.0, drop n bytes) (x, rest) d.1 in
     let short : length a.0.1 ≤ 0 = ltb-false _ _ d.0 in
     let nothing : a.0.1 ≡ [] = nil_from_length a.0.1 (omega (arith, short)) in
-    let whole : take n bytes ≡ t.0 = t.1 ∙ ap (λ w. t.0 ++ w) nothing ∙ append-nil t.0 in
-    (take n bytes, subst (λ w. bytes ≡ take n bytes ++ w) (ap (λ z. z.1) q) (sym (take-append-drop n bytes)),
-      (length-take-le n bytes (ltb-false _ _ c.0), subst (λ w. Spells g x w) (sym whole) (subst (λ w. Spells g w t.0) (ap (λ z. z.0) q) t.2)))
+    let whole : take n bytes ≡ t.0 = t.1 ∙ ap (λ w. t.0 ++ w) nothing ∙ append-nil t.0 in (
+      take n bytes,
+      subst (λ w. bytes ≡ take n bytes ++ w) (ap (λ z. z.1) q) (sym (take-append-drop n bytes)),
+      (length-take-le n bytes (ltb-false _ _ c.0), subst (λ w. Spells g x w) (sym whole) (subst (λ w. Spells g w t.0) (ap (λ z. z.0) q) t.2)),
+    )
 takes (items s step) bytes x rest e =
     let t = chain_takes (λ s b r t. Spells (step s b) r t) (λ s b. read (step s b)) (λ s b bytes r rest e. takes (step s b) bytes r rest e) (suc (length bytes)) (goes_on s) bytes x rest e in
     (t.0, t.1, (suc (length bytes), t.2))
@@ -195,9 +201,9 @@ stuck_where (within n false g) bytes f e =
           elim (guard_err (ltb (length bytes) n) NotModule (cond (ltb 0 (length a.0.1)) (Err NotModule) (Ok (a.0.0, drop n bytes))) f a.2) [
             | inl c ↦ inr (c.1, a.0.0, t.0, a.0.1, t.1, t.2, inl (ltb-true _ _ c.0))
             | inr c ↦ elim (guard_err (ltb 0 (length a.0.1)) NotModule (Ok (a.0.0, drop n bytes)) f c.1) [
-                | inl d ↦ inr (d.1, a.0.0, t.0, a.0.1, t.1, t.2, inr (refl, ltb-true _ _ d.0))
-                | inr d ↦ absurd cc
-              ]
+              | inl d ↦ inr (d.1, a.0.0, t.0, a.0.1, t.1, t.2, inr (refl, ltb-true _ _ d.0))
+              | inr d ↦ absurd cc
+            ]
           ]
     ]
 stuck_where (items s step) bytes f e =
@@ -258,9 +264,9 @@ fails_where (within n false g) bytes f h =
           elim c [
             | inl short ↦ rw (e, again g x first second p, lt-ltb _ _ short) (ap Err (sym d))
             | inr left ↦ elim (cases_lt (length bytes) n) [
-                | inl short ↦ rw (e, again g x first second p, lt-ltb _ _ short) (ap Err (sym d))
-                | inr long ↦ rw (e, again g x first second p, le-ltb _ _ long, lt-ltb _ _ left.1) (ap Err (sym d))
-              ]
+              | inl short ↦ rw (e, again g x first second p, lt-ltb _ _ short) (ap Err (sym d))
+              | inr long ↦ rw (e, again g x first second p, le-ltb _ _ long, lt-ltb _ _ left.1) (ap Err (sym d))
+            ]
           ]
     ]
 fails_where (items s step) bytes f h =

@@ -23,9 +23,9 @@ more_fails signed (suc k) bits (b ∷ rest) e some long high h =
     let wide : 128 ≤ b = high in
     let one : suc k - 1 ≡ k = omega arith in
     let inner : Fails e (read (leb signed k (bits - 7)) rest) =
-      subst (λ n. Fails e (read (leb signed n (bits - 7)) rest)) one (subst (λ w. Fails e (read (leb signed (suc k - 1) (bits - 7)) w)) (tail_of b rest) h) in
+    subst (λ n. Fails e (read (leb signed n (bits - 7)) rest)) one (subst (λ w. Fails e (read (leb signed (suc k - 1) (bits - 7)) w)) (tail_of b rest) h) in
     fails_through e (read (leb signed k (bits - 7)) rest) (λ y. read (is ((b - 128) + 128 * y.0)) y.1) _ inner
-      (sym (read_second (ltb b 128) (settle (last_octet signed bits b)) (after (leb signed k (bits - 7)) (λ high. is ((b - 128) + 128 * high))) rest (le-ltb b 128 wide)))
+    (sym (read_second (ltb b 128) (settle (last_octet signed bits b)) (after (leb signed k (bits - 7)) (λ high. is ((b - 128) + 128 * high))) rest (le-ltb b 128 wide)))
 
 -- seven bits more
 pub seven_more : (bits high octet : ℕ) → 7 ≤ bits → high < 2 ^ (bits - 7) → octet < 256 → (octet - 128) + 128 * high < 2 ^ bits

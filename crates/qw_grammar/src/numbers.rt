@@ -36,12 +36,7 @@ fn last_octet(signed: bool, bits: u32, octet: u64) -> Result<u64, BinaryFault>
 
 /// A number of so many bits in at most so many octets, and the octets behind it.
 #[tactic(auto, unfolding(crate::specs::Numbers::leb, crate::specs::Reading::read))]
-fn leb_at(
-    signed: bool,
-    most: u32,
-    bits: u32,
-    octets: &[u8],
-) -> Result<(u64, &[u8]), BinaryFault>
+fn leb_at(signed: bool, most: u32, bits: u32, octets: &[u8]) -> Result<(u64, &[u8]), BinaryFault>
     requires { (1 ≤ bits) × (bits ≤ 64) × (7 * most ≤ bits + 6) }
     ensures exact { Gives (λ x. (x.0, x.1.now)) result (read (leb signed most bits) octets.now) }
     ensures fits { IfOk result (λ x. x.0 < 2 ^ bits) }

@@ -11,11 +11,7 @@ use std::alloc::Global;
 
 /// So many unsigned numbers of 32 bits. Nothing is reserved by their count, which may be a lie.
 #[tactic(auto, using(crate::proofs::Loops::vector_loop))]
-fn numbers_at(
-    alloc: Global,
-    count: u32,
-    octets: &[u8],
-) -> Result<(Vec<u32>, &[u8]), BinaryFault>
+fn numbers_at(alloc: Global, count: u32, octets: &[u8]) -> Result<(Vec<u32>, &[u8]), BinaryFault>
     ensures { Gives (λ x. (x.0.items, x.1.now)) result (read (counted count (one_more u32_grammar) []) octets.now) }
 {
     let mut found = Vec::new(alloc);

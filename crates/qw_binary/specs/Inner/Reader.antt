@@ -1,5 +1,5 @@
 -- Mirrors `Reader`: what it has read of an expression.
-use Rattle.std.specs.Prelude.{ℕ, List, map, reverse, Bool, true, false}
+use Rattle.std.specs.Prelude.{map, reverse, Bool, true, false}
 use Rattle.qw_grammar.specs.Grammar.{Next, goes_on, ends}
 use Rattle.qw_module.specs.Syntax.{Sequences}
 use Rattle.qw_module.specs.Validity.{items_of}

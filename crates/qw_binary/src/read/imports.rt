@@ -72,7 +72,10 @@ impl Imported {
 
     /// The pair of names of an import.
     #[tactic(auto, unfolding(qw_grammar::specs::Reading::read))]
-    fn names_at<'a>(before: &[Import], octets: &'a [u8]) -> Result<(Imported, &'a [u8]), BinaryFault>
+    fn names_at<'a>(
+        before: &[Import],
+        octets: &'a [u8],
+    ) -> Result<(Imported, &'a [u8]), BinaryFault>
         ensures { Gives (λ x. (imported_of x.0, x.1.now)) result (read (names before.now) octets.now) }
     {
         let (from, rest) = name_at(octets)?;
@@ -121,11 +124,7 @@ fn import_at<'a>(before: &[Import], octets: &'a [u8]) -> Result<(Import, &'a [u8
 }
 
 /// So many imports.
-fn imports_at(
-    alloc: Global,
-    count: u32,
-    octets: &[u8],
-) -> Result<(Vec<Import>, &[u8]), BinaryFault>
+fn imports_at(alloc: Global, count: u32, octets: &[u8]) -> Result<(Vec<Import>, &[u8]), BinaryFault>
     ensures { Gives (λ x. (x.0.items, x.1.now)) result (read (counted count next_import []) octets.now) }
 {
     let mut found = Vec::new(alloc);

@@ -80,10 +80,7 @@ fn val_types_at(
 
 /// A vector of value types.
 #[tactic(auto, unfolding(qw_grammar::specs::Reading::read))]
-fn val_type_vector_at(
-    alloc: Global,
-    octets: &[u8],
-) -> Result<(Vec<ValType>, &[u8]), BinaryFault>
+fn val_type_vector_at(alloc: Global, octets: &[u8]) -> Result<(Vec<ValType>, &[u8]), BinaryFault>
     ensures { Gives (λ x. (x.0.items, x.1.now)) result (read (vector val_type) octets.now) }
 {
     let (count, rest) = u32_at(octets)?;

@@ -9,4 +9,4 @@ abbrev pub invariant-loop-type_index : goal.invariant-loop-type_index
 invariant-loop-type_index l =
     (length l.found.items ≡ l.type_index-index)
     × (read (counted (length l.type_indices - l.type_index-index) (next_function l.type_indices) (map function_contents l.found.items)) l.rest
-        ≡ read (counted (length l.type_indices) (next_function l.type_indices) []) l.octets)
+    ≡ read (counted (length l.type_indices) (next_function l.type_indices) []) l.octets)

@@ -11,4 +11,4 @@ pub returns-in_err-item : goal.returns-in_err-item
 returns-in_err-item c =
     let p = err_from_is_err_and c.from_residual.result c.from_residual.ensures.1 in
     rw (p.1, p.2) (ends_one_more func_type c.in_err-item.field-0.0 c.args.count c.loop.counter (map signature_of c.loop.found.items) c.loop.rest.now
-      (read (counted c.args.count (one_more func_type) []) c.args.octets.now) c.loop-test.true c.in_err-item.ensures c.loop.invariant)
+    (read (counted c.args.count (one_more func_type) []) c.args.octets.now) c.loop-test.true c.in_err-item.ensures c.loop.invariant)

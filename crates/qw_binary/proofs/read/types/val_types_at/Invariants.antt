@@ -1,5 +1,4 @@
 use Rattle.std.proofs.Common.{◌≡◌, ◌-◌, []}
-use Rattle.std.specs.Prelude.{map}
 use Rattle.qw_grammar.specs.Vectors.{counted, one_more}
 use Rattle.qw_grammar.specs.Reading.{read}
 use Rattle.qw_binary.specs.Types.{val_type}

@@ -8,4 +8,4 @@ returns-then-ne c = from_elsewhere c.args.before.now c.args.from.now c.args.name
 pub returns-else-eq-2 : goal.returns-else-eq-2
 returns-else-eq-2 c =
     of_no_name c.args.before.now c.args.from.now c.args.name.now (unlike c.args.name.now (codes "memory") c.eq.result c.eq.ensures c.if-eq.false)
-      (unlike c.args.name.now (codes "raise") c.eq-else-eq.result c.eq-else-eq.ensures c.if-eq-2.false)
+    (unlike c.args.name.now (codes "raise") c.eq-else-eq.result c.eq-else-eq.ensures c.if-eq-2.false)

@@ -1,4 +1,3 @@
-use Rattle.std.proofs.Common.{◌≡◌}
 use Rattle.qw_binary.specs.Inner.SoFar.{sections_of}
 use Rattle.qw_binary.proofs.read.sections.SoFar.section_at.Goals as goal
 
