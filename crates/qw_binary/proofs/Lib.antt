@@ -2,3 +2,4 @@ mod FunctionLemmas
 mod ImportLemmas
 mod LocalsLemmas
 mod ModuleLaws
+mod WriteExpression

@@ -4,3 +4,4 @@ pub mod Imported
 pub mod Indexed
 pub mod Reader
 pub mod SoFar
+pub mod Writer

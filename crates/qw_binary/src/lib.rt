@@ -10,5 +10,6 @@
 pub mod decode;
 pub mod laws;
 mod read;
+mod write;
 #[cfg(test)]
 mod tests;
