@@ -3,3 +3,5 @@ mod ImportLemmas
 mod LocalsLemmas
 mod ModuleLaws
 mod WriteExpression
+mod WriteCodes
+mod WriteSimple

@@ -1,4 +1,5 @@
 -- What restates code for proofs. No public clause rests on it.
+pub mod Codes
 pub mod Decoding
 pub mod Imported
 pub mod Indexed
