@@ -5,3 +5,4 @@ mod ModuleLaws
 mod WriteExpression
 mod WriteCodes
 mod WriteSimple
+mod WriteSections

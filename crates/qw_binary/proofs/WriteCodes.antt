@@ -16,7 +16,7 @@ use Rattle.qw_module.specs.declared.instruction.Op.TheVariants as o
 use Rattle.qw_module.specs.declared.instruction.Instr.{Instr}
 use Rattle.qw_module.specs.declared.instruction.Instr.TheVariants as i
 use Rattle.qw_module.specs.Syntax.{Sequences}
-use Rattle.qw_binary.specs.Types.{block_type}
+use Rattle.qw_binary.specs.Types.{val_type_by, val_type, block_type_by, block_type, mutability_by, mutability}
 use Rattle.qw_binary.specs.Instructions.{Opener, Progress, given, opener_by, indexed_by, load_by, store_by, plain_by, mem_arg, zero_octet, simple, instruction, begun, with_instruction, with_table}
 use Rattle.qw_binary.specs.Inner.Codes.{IsInside, IsSimple, IsOpening, IsIndexed, IsLoad, IsStore, IsPlain}
 use Rattle.qw_binary.specs.Inner.Writer.{PutsInstruction}
@@ -35,6 +35,18 @@ puts_some found y k g x old new e s = subst (λ f. Puts (given f k g) x old new)
 -- an octet that stands for a value alone
 pub puts_by : {A : Type 0} (by : ℕ → Result A BinaryFault) (b : ℕ) (x : A) (old : List ℕ) → by b ≡ Ok x → Puts (octet (λ b. settle (by b))) x old (old ++ b ∷ [])
 puts_by by b x old e = puts_octet (λ b. settle (by b)) b x old (old ++ b ∷ []) (subst (λ r. Puts (settle r) x (old ++ b ∷ []) (old ++ b ∷ [])) (sym e) (puts_is x (old ++ b ∷ [])))
+
+pub puts_val_type : (b : ℕ) (type : ValType) (old : List ℕ) → val_type_by b ≡ Ok type → Puts val_type type old (old ++ b ∷ [])
+puts_val_type b type old e = puts_by val_type_by b type old e
+
+pub puts_block_type : (b : ℕ) (type : Option ValType) (old : List ℕ) → block_type_by b ≡ Ok type → Puts block_type type old (old ++ b ∷ [])
+puts_block_type b type old e = puts_by block_type_by b type old e
+
+pub puts_mutable : (old : List ℕ) → Puts mutability true old (old ++ 0x01 ∷ [])
+puts_mutable old = puts_by mutability_by 0x01 true old refl
+
+pub puts_constant_global : (old : List ℕ) → Puts mutability false old (old ++ 0x00 ∷ [])
+puts_constant_global old = puts_by mutability_by 0x00 false old refl
 
 -- by what a code makes of what stands behind it
 puts_maker : {A B C : Type 0} (item : Grammar B) (finish : C → A) (found : Option (B → C)) (y : B) (made : C) (rest : Grammar A) (old new : List ℕ) → option_map (λ make. make y) found ≡ Some made → Puts item y old new
@@ -120,4 +132,4 @@ pub puts_growth : (old : List ℕ) → PutsInstruction (i.Op o.MemoryGrow) old (
 puts_growth old = puts_simple 0x40 (i.Op o.MemoryGrow) old ((old ++ 0x40 ∷ []) ++ 0x00 ∷ []) (simple_code 0x40 refl refl refl refl) (puts_made zero_octet (λ _. i.Op o.MemoryGrow) 0 (old ++ 0x40 ∷ []) ((old ++ 0x40 ∷ []) ++ 0x00 ∷ []) (puts_zero (old ++ 0x40 ∷ [])))
 
 -- what a writer of instructions cites
-pub ruleset instruction_put = (puts_by, puts_opening, puts_indexed, puts_load, puts_store, puts_plain, puts_i32, puts_i64, puts_size, puts_growth)
+pub ruleset instruction_put = (puts_opening, puts_indexed, puts_load, puts_store, puts_plain, puts_i32, puts_i64, puts_size, puts_growth)

@@ -3,6 +3,8 @@ pub mod Codes
 pub mod Decoding
 pub mod Imported
 pub mod Indexed
+pub mod Parts
 pub mod Reader
 pub mod SoFar
 pub mod Writer
+pub mod Written

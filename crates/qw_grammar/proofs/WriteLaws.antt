@@ -1,6 +1,6 @@
 -- What is put by the parts of a grammar is put by the whole.
-use Rattle.std.proofs.Common.{◌≡◌, ℕ, zero, suc, ◌+◌, ◌-◌, ◌<◌, ◌≤◌, Bool, true, false, List, [], ◌∷◌, ◌++◌, length, get_or, take, drop, refl, sym, ap, subst, ◌∙◌, append_assoc, arith}
-use Rattle.std.proofs.lemmas.List.{append-nil}
+use Rattle.std.proofs.Common.{◌≡◌, ℕ, zero, suc, ◌+◌, ◌-◌, ◌<◌, ◌≤◌, Bool, true, false, List, [], ◌∷◌, ◌++◌, length, get_or, map, take, drop, refl, sym, ap, subst, ◌∙◌, append_assoc, arith}
+use Rattle.std.proofs.lemmas.List.{append-nil, length-map, get_or-map}
 use Rattle.std.proofs.Math.Seq.{take-suc, take-length, drop-length}
 use Rattle.std.proofs.lemmas.Str.{is_utf8-from_IsUtf8}
 use Rattle.std.specs.Str.{is_utf8, IsUtf8}
@@ -158,3 +158,30 @@ module _ {S : Type 0} (step : S → ℕ → Grammar S) (from : S) where
 
 -- what a loop that puts the items of a vector cites
 pub ruleset vector_put = (vector_begin, vector_next, vector_end)
+
+-- what a loop that puts items by a state cites
+pub ruleset items_put = (items_begin, items_next, items_end)
+
+-- ---- the same of what a list's items are seen as
+
+module _ {A B : Type 0} (item : Grammar B) (view : A → B) where
+  pub views_begin : (xs : List A) (old new : List ℕ) → Puts u32 (length xs) old new → Awaits (vector item) (counted (length xs - 0) (one_more item) (take 0 (map view xs))) old new
+  views_begin xs old new p =
+      let e : length (map view xs) ≡ length xs = length-map xs view in
+      subst (λ n. Awaits (vector item) (counted (n - 0) (one_more item) (take 0 (map view xs))) old new) e (vector_begin item (map view xs) old new (subst (λ n. Puts u32 n old new) (sym e) p))
+
+  pub views_next : (xs : List A) (i : ℕ) (d : A) (old now new : List ℕ) → i < length xs → Awaits (vector item) (counted (length xs - i) (one_more item) (take i (map view xs))) old now → Puts item (view (get_or xs i d)) now new
+      → Awaits (vector item) (counted (length xs - (i + 1)) (one_more item) (take (i + 1) (map view xs))) old new
+  views_next xs i d old now new lt a p =
+      let e : length (map view xs) ≡ length xs = length-map xs view in
+      let got : get_or (map view xs) i (view d) ≡ view (get_or xs i d) = get_or-map view xs i d (view d) lt in
+      subst (λ n. Awaits (vector item) (counted (n - (i + 1)) (one_more item) (take (i + 1) (map view xs))) old new) e
+        (vector_next item (map view xs) i (view d) old now new (omega (arith, lt, e)) (subst (λ n. Awaits (vector item) (counted (n - i) (one_more item) (take i (map view xs))) old now) (sym e) a) (subst (λ x. Puts item x now new) (sym got) p))
+
+  pub views_end : (xs : List A) (i : ℕ) (old now : List ℕ) → i ≡ length xs → Awaits (vector item) (counted (length xs - i) (one_more item) (take i (map view xs))) old now → Puts (vector item) (map view xs) old now
+  views_end xs i old now at a =
+      let e : length (map view xs) ≡ length xs = length-map xs view in
+      vector_end item (map view xs) i old now (at ∙ sym e) (subst (λ n. Awaits (vector item) (counted (n - i) (one_more item) (take i (map view xs))) old now) (sym e) a)
+
+-- what a loop that puts such items cites
+pub ruleset views_put = (views_begin, views_next, views_end)

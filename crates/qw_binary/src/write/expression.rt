@@ -4,15 +4,18 @@
 ghost use Rattle.std.specs.Prelude.{◌≡◌, ◌<◌, ◌≤◌, ◌+◌, ◌^◌, IfSome, IfOk, OnOk, MatchOption, Some, true, [], length, slice_get};
 ghost use Rattle.qw_grammar.specs.Grammar.{goes_on, ends, octet};
 ghost use Rattle.qw_grammar.specs.Writing.{Puts};
-ghost use Rattle.qw_module.specs.Syntax.{Sequences, sequence_at};
+ghost use Rattle.qw_module.specs.Syntax.{Sequences, sequence_at, labels_in};
 ghost use Rattle.qw_module.specs.Validity.{sequences_of};
-ghost use Rattle.qw_binary.specs.Instructions.{at_first, begun, instruction as instruction_grammar, instruction_of, expression};
+ghost use Rattle.qw_binary.specs.Instructions.{at_first, begun, instruction as instruction_grammar, instruction_of, expression, Progress};
+ghost use Rattle.qw_module.specs.declared.instruction.Instr.TheVariants as i;
+ghost use Rattle.qw_binary.specs.Inner.Codes.{IsOpening};
 ghost use Rattle.qw_binary.specs.Inner.Reader.{opener_of};
 ghost use Rattle.qw_binary.specs.Inner.Writer.{progress_of, within_open, next_of};
 
 use crate::read::expression::Opener;
-use crate::write::instruction::put_op;
-use qw_grammar::write::WriteFault;
+use crate::write::instruction::put_simple;
+use crate::write::types::put_block_type;
+use qw_grammar::write::{put_number_vector, put_u32, WriteFault};
 use qw_module::instruction::{BlockType, Instr, ValType};
 use qw_module::module::Body;
 use std::alloc::Global;
@@ -75,6 +78,37 @@ fn holds(instruction: Instr, opener: Opener, number: usize) -> bool
         }
         _ => false,
     }
+}
+
+/// So many labels from the first one on.
+fn labels_at(body: &Body, first: usize, count: usize) -> Option<&[u32]>
+    ensures { IfSome result (λ labels. (labels.now ≡ labels_in (sequences_of body.now).labels first count) × (first + count ≤ length (sequences_of body.now).labels)) }
+{
+    body.labels.get(first..)?.get(..count)
+}
+
+/// The code and the type of what opens a sequence; an `else` has no type of its own.
+fn opening(opener: Opener) -> Option<(u8, BlockType)>
+    ensures { IfSome result (λ x. IsOpening x.0 x.1 (opener_of opener)) }
+{
+    match opener {
+        Opener::Block(ty) => Some((0x02, ty)),
+        Opener::Loop(ty) => Some((0x03, ty)),
+        Opener::First(ty) => Some((0x04, ty)),
+        Opener::Second(..) => None,
+    }
+}
+
+/// Writes the code and the type of a sequence that begins.
+#[tactic(auto, using(crate::proofs::WriteCodes::instruction_put))]
+fn put_opening(opener: Opener, out: &mut Vec<u8>) -> Result<(), WriteFault>
+    ensures { OnOk result ((p : Progress) → Puts (octet (instruction_grammar p)) (goes_on (begun p (opener_of opener))) out.old.items out.new.items) }
+{
+    let Some((code, ty)) = opening(opener) else {
+        return Err(WriteFault::NotSpelled);
+    };
+    out.push(code)?;
+    put_block_type(ty, out)
 }
 
 impl Writer {
@@ -173,4 +207,88 @@ impl Writer {
             }
         }
     }
+
+    /// Opens a sequence of this number.
+    fn open(&mut self, opener: Opener, number: usize, out: &mut Vec<u8>) -> Result<(), WriteFault>
+        ensures { OnOk result ((body : Sequences) → Puts (octet (instruction_grammar (progress_of body self.old))) (goes_on (progress_of body self.new)) out.old.items out.new.items) }
+    {
+        put_opening(opener, out)?;
+        self.begin(opener, number)
+    }
+
+    /// Writes the `br_table` at the present place, whose labels are the next ones of the body.
+    fn put_table(&mut self, first: usize, count: usize, default: u32, body: &Body, out: &mut Vec<u8>) -> Result<(), WriteFault>
+        requires at { slice_get (sequence_at (sequences_of body.now) self.old.sequence) self.old.place ≡ Some (i.BrTable first count default) }
+        requires next_place { self.old.place + 1 < 2 ^ 64 }
+        ensures { OnOk result (Puts (octet (instruction_grammar (progress_of (sequences_of body.now) self.old))) (goes_on (progress_of (sequences_of body.now) self.new)) out.old.items out.new.items) }
+    {
+        let Some(labels) = labels_at(body, first, count) else {
+            return Err(WriteFault::NotSpelled);
+        };
+        if first != self.labels {
+            return Err(WriteFault::NotSpelled);
+        }
+        out.push(0x0E)?;
+        put_number_vector(labels, out)?;
+        put_u32(default, out)?;
+        self.labels = first + count;
+        self.place += 1;
+        Ok(())
+    }
+
+    /// Writes the instruction at the present place, which holds no sequence and names no labels.
+    #[tactic(auto, using(crate::proofs::WriteExpression::puts_here))]
+    fn put_here(&mut self, instruction: Instr, body: &Body, out: &mut Vec<u8>) -> Result<(), WriteFault>
+        requires at { slice_get (sequence_at (sequences_of body.now) self.old.sequence) self.old.place ≡ Some instruction }
+        requires next_place { self.old.place + 1 < 2 ^ 64 }
+        ensures { OnOk result (Puts (octet (instruction_grammar (progress_of (sequences_of body.now) self.old))) (goes_on (progress_of (sequences_of body.now) self.new)) out.old.items out.new.items) }
+    {
+        put_simple(instruction, out)?;
+        self.place += 1;
+        Ok(())
+    }
+
+    /// Writes the instruction at the present place.
+    fn put(&mut self, instruction: Instr, body: &Body, out: &mut Vec<u8>) -> Result<(), WriteFault>
+        requires at { slice_get (sequence_at (sequences_of body.now) self.old.sequence) self.old.place ≡ Some instruction }
+        requires next_place { self.old.place + 1 < 2 ^ 64 }
+        ensures { OnOk result (Puts (octet (instruction_grammar (progress_of (sequences_of body.now) self.old))) (goes_on (progress_of (sequences_of body.now) self.new)) out.old.items out.new.items) }
+    {
+        match instruction {
+            Instr::Block { result, body: number } => self.open(Opener::Block(result), number, out),
+            Instr::Loop { result, body: number } => self.open(Opener::Loop(result), number, out),
+            Instr::If { result, then_body, .. } => self.open(Opener::First(result), then_body, out),
+            Instr::BrTable { first, count, default } => self.put_table(first, count, default, body, out),
+            _ => self.put_here(instruction, body, out),
+        }
+    }
+
+    /// Writes what comes next; whether it was the last end.
+    #[tactic(auto, using(crate::proofs::WriteExpression::past_end))]
+    fn step(&mut self, body: &Body, out: &mut Vec<u8>) -> Result<bool, WriteFault>
+        ensures { IfOk result (λ last. Puts (octet (instruction_grammar (progress_of (sequences_of body.now) self.old))) (next_of (sequences_of body.now) last self.new) out.old.items out.new.items) }
+    {
+        match instruction_at(body, self.sequence, self.place) {
+            Some(instruction) => {
+                self.put(instruction, body, out)?;
+                Ok(false)
+            }
+            None => self.end(body, out),
+        }
+    }
+}
+
+/// Writes an expression, whose sequences stand in a body.
+#[tactic(auto, using(qw_grammar::proofs::WriteLaws::items_put))]
+pub fn put_expression(alloc: Global, body: &Body, out: &mut Vec<u8>) -> Result<(), WriteFault>
+    ensures { OnOk result (Puts expression (sequences_of body.now) out.old.items out.new.items) }
+{
+    let mut writer = Writer::new(alloc, body)?;
+    // Each sequence is entered once, so the last end comes sooner.
+    for _ in 0..u64::MAX {
+        if writer.step(body, out)? {
+            return Ok(());
+        }
+    }
+    Err(WriteFault::NotSpelled)
 }

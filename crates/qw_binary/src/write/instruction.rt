@@ -14,11 +14,11 @@ use crate::write::codes::{
     unary_code,
 };
 use qw_grammar::write::{put_s32, put_s64, put_u32, WriteFault};
-use qw_module::instruction::{Const, Load, MemArg, Op, Store};
+use qw_module::instruction::{Const, Instr, Load, MemArg, Op, Store};
 
 /// Writes a code with an index behind it.
 #[tactic(auto, using(crate::proofs::WriteCodes::instruction_put))]
-pub fn put_indexed(code: u8, index: u32, out: &mut Vec<u8>) -> Result<(), WriteFault>
+fn put_indexed(code: u8, index: u32, out: &mut Vec<u8>) -> Result<(), WriteFault>
     ensures { OnOk result ((i : AnyInstr) → IsIndexed code index i → PutsInstruction i out.old.items out.new.items) }
 {
     out.push(code)?;
@@ -27,7 +27,7 @@ pub fn put_indexed(code: u8, index: u32, out: &mut Vec<u8>) -> Result<(), WriteF
 
 /// Writes a code with nothing behind it.
 #[tactic(auto, using(crate::proofs::WriteCodes::instruction_put))]
-pub fn put_plain(code: u8, out: &mut Vec<u8>) -> Result<(), WriteFault>
+fn put_plain(code: u8, out: &mut Vec<u8>) -> Result<(), WriteFault>
     ensures { OnOk result ((i : AnyInstr) → IsPlain code i → PutsInstruction i out.old.items out.new.items) }
 {
     out.push(code)?;
@@ -99,7 +99,7 @@ fn put_memory_grow(out: &mut Vec<u8>) -> Result<(), WriteFault>
 }
 
 /// Writes an instruction that is none of control.
-pub fn put_op(op: Op, out: &mut Vec<u8>) -> Result<(), WriteFault>
+fn put_op(op: Op, out: &mut Vec<u8>) -> Result<(), WriteFault>
     ensures { OnOk result (PutsInstruction (i.Op op) out.old.items out.new.items) }
 {
     match op {
@@ -122,5 +122,20 @@ pub fn put_op(op: Op, out: &mut Vec<u8>) -> Result<(), WriteFault>
         Op::Store(store, arg) => put_store(store, arg, out),
         Op::MemorySize => put_memory_size(out),
         Op::MemoryGrow => put_memory_grow(out),
+    }
+}
+
+/// Writes an instruction that holds no sequence and names no labels.
+pub fn put_simple(instruction: Instr, out: &mut Vec<u8>) -> Result<(), WriteFault>
+    ensures { OnOk result (PutsInstruction instruction out.old.items out.new.items) }
+{
+    match instruction {
+        Instr::Op(op) => put_op(op, out),
+        Instr::Unreachable => put_plain(0x00, out),
+        Instr::Br(label) => put_indexed(0x0C, label, out),
+        Instr::BrIf(label) => put_indexed(0x0D, label, out),
+        Instr::Return => put_plain(0x0F, out),
+        Instr::Call(index) => put_indexed(0x10, index, out),
+        _ => Err(WriteFault::NotSpelled),
     }
 }
