@@ -3,3 +3,7 @@ mod ImportLemmas
 mod LocalsLemmas
 mod ModuleLaws
 mod NumberedBodies
+mod WriteExpression
+mod WriteCodes
+mod WriteSimple
+mod WriteSections

@@ -1,6 +1,10 @@
 -- What restates code for proofs. No public clause rests on it.
+pub mod Codes
 pub mod Decoding
 pub mod Imported
 pub mod Indexed
+pub mod Parts
 pub mod Reader
 pub mod SoFar
+pub mod Writer
+pub mod Written

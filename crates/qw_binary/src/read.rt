@@ -3,10 +3,10 @@
 
 mod codes;
 mod exports;
-mod expression;
-mod functions;
+pub mod expression;
+pub mod functions;
 mod globals;
-mod imports;
-mod instruction;
+pub mod imports;
+pub mod instruction;
 pub mod sections;
 mod types;

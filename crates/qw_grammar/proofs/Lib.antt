@@ -2,3 +2,5 @@ pub mod AllLaws
 pub mod GrammarLaws
 pub mod Loops
 mod NumberFacts
+mod WriteFacts
+pub mod WriteLaws

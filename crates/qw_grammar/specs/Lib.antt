@@ -2,3 +2,4 @@ pub mod Grammar
 pub mod Numbers
 pub mod Reading
 pub mod Vectors
+pub mod Writing

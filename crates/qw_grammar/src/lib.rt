@@ -12,3 +12,4 @@ pub mod names;
 pub mod numbers;
 pub mod vectors;
 pub mod windows;
+pub mod write;

@@ -18,7 +18,7 @@ use std::alloc::Global;
 
 /// What opened a sequence.
 #[derive(Clone, Copy, Debug)]
-enum Opener {
+pub enum Opener {
     Block(BlockType),
     Loop(BlockType),
     /// An `if`, whose first sequence it is.
@@ -29,7 +29,7 @@ enum Opener {
 
 impl Opener {
     /// The instruction that the sequence belongs to, once it has ended and has this number.
-    fn instruction(self, number: usize) -> Instr
+    pub fn instruction(self, number: usize) -> Instr
         ensures { result ≡ instruction_of (opener_of self) number }
     {
         match self {

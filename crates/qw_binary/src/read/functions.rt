@@ -45,7 +45,7 @@ fn locals_runs_at(
 
 /// Whether runs have fewer than 2^32 locals.
 #[tactic(auto, using(crate::proofs::LocalsLemmas::count_more, crate::proofs::LocalsLemmas::few_where))]
-fn are_few(runs: &[Locals]) -> bool
+pub fn are_few(runs: &[Locals]) -> bool
     ensures { result ≡ nat_lt (locals_count runs.now) (2 ^ 32) }
 {
     let mut sum = 0u64;

@@ -13,7 +13,7 @@ use qw_module::instruction::{Const, Instr, MemArg, Op};
 
 /// An instruction with one index behind its code, and nothing else (5.4.1, 5.4.3).
 #[derive(Clone, Copy)]
-enum Indexed {
+pub enum Indexed {
     Br,
     BrIf,
     Call,

@@ -1,0 +1,11 @@
+use Rattle.std.proofs.Common.{◌-◌, length, map, take}
+use Rattle.qw_grammar.specs.Numbers.{u32}
+use Rattle.qw_grammar.specs.Vectors.{counted, one_more, vector}
+use Rattle.qw_grammar.specs.Writing.{Awaits}
+use Rattle.qw_binary.specs.Contents.{function_contents, export_contents}
+use Rattle.qw_binary.specs.Sections.{global, export, locals_run, functions, next_function, imports, next_import}
+use Rattle.qw_binary.specs.Inner.Parts.{type_index_of}
+use Rattle.qw_binary.proofs.write.functions.put_runs.Given as goal
+
+abbrev pub invariant-loop-run : goal.invariant-loop-run
+invariant-loop-run l = Awaits (vector locals_run) (counted (length l.runs - l.run-index) (one_more locals_run) (take l.run-index l.runs)) l.fn.out.items l.out.items
