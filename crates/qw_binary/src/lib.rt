@@ -10,10 +10,10 @@
 
 pub mod decode;
 pub mod encode;
-pub mod laws;
-mod read;
-mod write;
-#[cfg(test)]
-mod tests;
 #[cfg(test)]
 mod encode_tests;
+pub mod laws;
+mod read;
+#[cfg(test)]
+mod tests;
+mod write;

@@ -41,7 +41,7 @@ put_more signed (suc k) bits value old new some h =
       b ∷ h.0,
       h.1 ∙ append_assoc old (b ∷ []) h.0,
       spells_second (ltb b 128) (settle (last_octet signed bits b)) (after (leb signed k (bits - 7)) (λ high. is ((b - 128) + 128 * high))) value h.0 (le-ltb b 128 (omega arith))
-        (value / 128, h.0, [], sym (append-nil h.0), inner, (whole, refl)),
+          (value / 128, h.0, [], sym (append-nil h.0), inner, (whole, refl)),
     )
 
 -- seven bits fewer

@@ -176,7 +176,7 @@ module _ {A B : Type 0} (item : Grammar B) (view : A → B) where
       let e : length (map view xs) ≡ length xs = length-map xs view in
       let got : get_or (map view xs) i (view d) ≡ view (get_or xs i d) = get_or-map view xs i d (view d) lt in
       subst (λ n. Awaits (vector item) (counted (n - (i + 1)) (one_more item) (take (i + 1) (map view xs))) old new) e
-        (vector_next item (map view xs) i (view d) old now new (omega (arith, lt, e)) (subst (λ n. Awaits (vector item) (counted (n - i) (one_more item) (take i (map view xs))) old now) (sym e) a) (subst (λ x. Puts item x now new) (sym got) p))
+      (vector_next item (map view xs) i (view d) old now new (omega (arith, lt, e)) (subst (λ n. Awaits (vector item) (counted (n - i) (one_more item) (take i (map view xs))) old now) (sym e) a) (subst (λ x. Puts item x now new) (sym got) p))
 
   pub views_end : (xs : List A) (i : ℕ) (old now : List ℕ) → i ≡ length xs → Awaits (vector item) (counted (length xs - i) (one_more item) (take i (map view xs))) old now → Puts (vector item) (map view xs) old now
   views_end xs i old now at a =
