@@ -2,7 +2,8 @@ mod FunctionLemmas
 mod ImportLemmas
 mod LocalsLemmas
 mod ModuleLaws
-mod WriteExpression
+mod NumberedBodies
 mod WriteCodes
-mod WriteSimple
+mod WriteExpression
 mod WriteSections
+mod WriteSimple

@@ -1,8 +1,8 @@
 -- What stands behind a code is put by its own grammar.
-use Rattle.std.proofs.Common.{◌≡◌, ℕ, ◌==◌, Bool, true, false, List, [], ◌∷◌, ◌++◌, length, Option, Some, None, Result, Ok, refl, sym, ap, subst}
+use Rattle.std.proofs.Common.{◌≡◌, ℕ, ◌==◌, Bool, true, false, List, [], ◌∷◌, ◌++◌, Option, Some, None, Result, Ok, refl, sym, subst}
 use Rattle.std.specs.Option.{option_map}
 use Rattle.qw_grammar.specs.declared.fault.BinaryFault.{BinaryFault}
-use Rattle.qw_grammar.specs.Grammar.{Grammar, Next, goes_on, is, octet, after, pick, settle}
+use Rattle.qw_grammar.specs.Grammar.{Grammar, goes_on, is, octet, after, pick, settle}
 use Rattle.qw_grammar.specs.Numbers.{u32, s32, s64}
 use Rattle.qw_grammar.specs.Vectors.{vector}
 use Rattle.qw_grammar.specs.Writing.{Puts}
@@ -15,10 +15,9 @@ use Rattle.qw_module.specs.declared.instruction.Store.{Store}
 use Rattle.qw_module.specs.declared.instruction.Op.TheVariants as o
 use Rattle.qw_module.specs.declared.instruction.Instr.{Instr}
 use Rattle.qw_module.specs.declared.instruction.Instr.TheVariants as i
-use Rattle.qw_module.specs.Syntax.{Sequences}
 use Rattle.qw_binary.specs.Types.{val_type_by, val_type, block_type_by, block_type, mutability_by, mutability}
-use Rattle.qw_binary.specs.Instructions.{Opener, Progress, given, opener_by, indexed_by, load_by, store_by, plain_by, mem_arg, zero_octet, simple, instruction, begun, with_instruction, with_table}
-use Rattle.qw_binary.specs.Inner.Codes.{IsInside, IsSimple, IsOpening, IsIndexed, IsLoad, IsStore, IsPlain}
+use Rattle.qw_binary.specs.Instructions.{Opener, Progress, given, opener_by, indexed_by, load_by, store_by, mem_arg, zero_octet, simple, instruction, begun, with_instruction, with_table}
+use Rattle.qw_binary.specs.Inner.Codes.{IsSimple, IsOpening, IsIndexed, IsLoad, IsStore, IsPlain}
 use Rattle.qw_binary.specs.Inner.Writer.{PutsInstruction}
 
 pub puts_second : {A : Type 0} (b : Bool) (g h : Grammar A) (x : A) (old new : List ℕ) → b ≡ false → Puts h x old new → Puts (pick b g h) x old new
@@ -60,26 +59,26 @@ pub puts_opening : (code : ℕ) (type : Option ValType) (opener : Opener) (p : P
     → Puts (octet (instruction p)) (goes_on (begun p opener)) old new
 puts_opening code type opener p old new h s =
     puts_octet (instruction p) code (goes_on (begun p opener)) old new
-      (puts_second (code == 0x0B) _ _ (goes_on (begun p opener)) (old ++ code ∷ []) new h.inside.no_end
-      (puts_second (code == 0x05) _ _ (goes_on (begun p opener)) (old ++ code ∷ []) new h.inside.no_else
-      (puts_maker block_type (λ opener. goes_on (begun p opener)) (opener_by code) type opener _ (old ++ code ∷ []) new h.opens s)))
+    (puts_second (code == 0x0B) _ _ (goes_on (begun p opener)) (old ++ code ∷ []) new h.inside.no_end
+    (puts_second (code == 0x05) _ _ (goes_on (begun p opener)) (old ++ code ∷ []) new h.inside.no_else
+    (puts_maker block_type (λ opener. goes_on (begun p opener)) (opener_by code) type opener _ (old ++ code ∷ []) new h.opens s)))
 
 pub puts_table : (p : Progress) (labels : List ℕ) (default : ℕ) (old mid new : List ℕ) → Puts (vector u32) labels (old ++ 0x0E ∷ []) mid → Puts u32 default mid new
     → Puts (octet (instruction p)) (goes_on (with_table p labels default)) old new
 puts_table p labels default old mid new f s =
     puts_octet (instruction p) 0x0E (goes_on (with_table p labels default)) old new
-      (puts_after (vector u32) (λ labels. after u32 (λ default. is (goes_on (with_table p labels default)))) labels (goes_on (with_table p labels default)) (old ++ 0x0E ∷ []) mid new f
-      (puts_made u32 (λ default. goes_on (with_table p labels default)) default mid new s))
+    (puts_after (vector u32) (λ labels. after u32 (λ default. is (goes_on (with_table p labels default)))) labels (goes_on (with_table p labels default)) (old ++ 0x0E ∷ []) mid new f
+    (puts_made u32 (λ default. goes_on (with_table p labels default)) default mid new s))
 
 puts_simple : (code : ℕ) (i : Instr) (old new : List ℕ) → IsSimple code → Puts (simple code) i (old ++ code ∷ []) new → PutsInstruction i old new
 unfolding PutsInstruction
 puts_simple code i old new h s = λ p.
     puts_octet (instruction p) code (goes_on (with_instruction p i)) old new
-      (puts_second (code == 0x0B) _ _ (goes_on (with_instruction p i)) (old ++ code ∷ []) new h.no_end
-      (puts_second (code == 0x05) _ _ (goes_on (with_instruction p i)) (old ++ code ∷ []) new h.no_else
-      (puts_none (opener_by code) _ _ (goes_on (with_instruction p i)) (old ++ code ∷ []) new h.opens_none
-      (puts_second (code == 0x0E) _ _ (goes_on (with_instruction p i)) (old ++ code ∷ []) new h.no_table
-      (puts_made (simple code) (λ i. goes_on (with_instruction p i)) i (old ++ code ∷ []) new s)))))
+    (puts_second (code == 0x0B) _ _ (goes_on (with_instruction p i)) (old ++ code ∷ []) new h.no_end
+    (puts_second (code == 0x05) _ _ (goes_on (with_instruction p i)) (old ++ code ∷ []) new h.no_else
+    (puts_none (opener_by code) _ _ (goes_on (with_instruction p i)) (old ++ code ∷ []) new h.opens_none
+    (puts_second (code == 0x0E) _ _ (goes_on (with_instruction p i)) (old ++ code ∷ []) new h.no_table
+    (puts_made (simple code) (λ i. goes_on (with_instruction p i)) i (old ++ code ∷ []) new s)))))
 
 pub puts_indexed : (code index : ℕ) (i : Instr) (old new : List ℕ) → IsIndexed code index i → Puts u32 index (old ++ code ∷ []) new → PutsInstruction i old new
 puts_indexed code index i old new h s =
@@ -88,30 +87,30 @@ puts_indexed code index i old new h s =
 pub puts_load : (code : ℕ) (load : Load) (arg : MemArg) (old new : List ℕ) → IsLoad code load → Puts mem_arg arg (old ++ code ∷ []) new → PutsInstruction (i.Op (o.Load load arg)) old new
 puts_load code load arg old new h s =
     puts_simple code (i.Op (o.Load load arg)) old new h.simple
-      (puts_none (indexed_by code) _ _ (i.Op (o.Load load arg)) (old ++ code ∷ []) new h.no_index
-      (puts_some (load_by code) load _ _ (i.Op (o.Load load arg)) (old ++ code ∷ []) new h.loads
-      (puts_made mem_arg (λ arg. i.Op (o.Load load arg)) arg (old ++ code ∷ []) new s)))
+    (puts_none (indexed_by code) _ _ (i.Op (o.Load load arg)) (old ++ code ∷ []) new h.no_index
+    (puts_some (load_by code) load _ _ (i.Op (o.Load load arg)) (old ++ code ∷ []) new h.loads
+    (puts_made mem_arg (λ arg. i.Op (o.Load load arg)) arg (old ++ code ∷ []) new s)))
 
 pub puts_store : (code : ℕ) (store : Store) (arg : MemArg) (old new : List ℕ) → IsStore code store → Puts mem_arg arg (old ++ code ∷ []) new → PutsInstruction (i.Op (o.Store store arg)) old new
 puts_store code store arg old new h s =
     puts_simple code (i.Op (o.Store store arg)) old new h.simple
-      (puts_none (indexed_by code) _ _ (i.Op (o.Store store arg)) (old ++ code ∷ []) new h.no_index
-      (puts_none (load_by code) _ _ (i.Op (o.Store store arg)) (old ++ code ∷ []) new h.no_load
-      (puts_some (store_by code) store _ _ (i.Op (o.Store store arg)) (old ++ code ∷ []) new h.stores
-      (puts_made mem_arg (λ arg. i.Op (o.Store store arg)) arg (old ++ code ∷ []) new s))))
+    (puts_none (indexed_by code) _ _ (i.Op (o.Store store arg)) (old ++ code ∷ []) new h.no_index
+    (puts_none (load_by code) _ _ (i.Op (o.Store store arg)) (old ++ code ∷ []) new h.no_load
+    (puts_some (store_by code) store _ _ (i.Op (o.Store store arg)) (old ++ code ∷ []) new h.stores
+    (puts_made mem_arg (λ arg. i.Op (o.Store store arg)) arg (old ++ code ∷ []) new s))))
 
 pub puts_plain : (code : ℕ) (i : Instr) (old : List ℕ) → IsPlain code i → PutsInstruction i old (old ++ code ∷ [])
 puts_plain code i old h =
     let new = old ++ code ∷ [] in
     puts_simple code i old new h.simple
-      (puts_none (indexed_by code) _ _ i new new h.no_index
-      (puts_none (load_by code) _ _ i new new h.no_load
-      (puts_none (store_by code) _ _ i new new h.no_store
-      (puts_second (code == 0x3F) _ _ i new new h.no_size
-      (puts_second (code == 0x40) _ _ i new new h.no_growth
-      (puts_second (code == 0x41) _ _ i new new h.no_i32
-      (puts_second (code == 0x42) _ _ i new new h.no_i64
-      (subst (λ r. Puts (settle r) i new new) (sym h.plain) (puts_is i new)))))))))
+    (puts_none (indexed_by code) _ _ i new new h.no_index
+    (puts_none (load_by code) _ _ i new new h.no_load
+    (puts_none (store_by code) _ _ i new new h.no_store
+    (puts_second (code == 0x3F) _ _ i new new h.no_size
+    (puts_second (code == 0x40) _ _ i new new h.no_growth
+    (puts_second (code == 0x41) _ _ i new new h.no_i32
+    (puts_second (code == 0x42) _ _ i new new h.no_i64
+    (subst (λ r. Puts (settle r) i new new) (sym h.plain) (puts_is i new)))))))))
 
 simple_code : (code : ℕ) → (code == 0x0B) ≡ false → (code == 0x05) ≡ false → opener_by code ≡ None → (code == 0x0E) ≡ false → IsSimple code
 simple_code code a b c d = record { no_end = a; no_else = b; opens_none = c; no_table = d }

@@ -1,10 +1,10 @@
 -- What is read again of an expression, instruction by instruction.
-use Rattle.std.proofs.Common.{◌≡◌, ℕ, zero, suc, ◌+◌, ◌<◌, ◌≤◌, List, [], ◌∷◌, ◌++◌, length, get_or, take, drop, map, reverse, slice_get, Option, Some, None, Result, Ok, refl, sym, ap, subst, ◌∙◌, arith, add-one, inl, inr}
+use Rattle.std.proofs.Common.{◌≡◌, ℕ, ◌+◌, ◌<◌, ◌≤◌, List, [], ◌∷◌, ◌++◌, length, take, drop, map, reverse, slice_get, Option, Some, None, Result, Ok, refl, sym, ap, subst, ◌∙◌, arith, add-one, inl, inr}
 use Rattle.std.proofs.lemmas.List.{take_all, length-take-le, map_push, reverse-append, length-drop}
 use Rattle.std.proofs.lemmas.Option.{slice_get_within, slice_get_cases, get_or_from_slice_get, unwrap_or-slice_get}
 use Rattle.std.proofs.Math.Seq.{take-suc, take-length, take-add}
 use Rattle.qw_grammar.specs.declared.fault.BinaryFault.{BinaryFault}
-use Rattle.qw_grammar.specs.Grammar.{Grammar, Next, goes_on, ends, is, octet, after, settle, Spells}
+use Rattle.qw_grammar.specs.Grammar.{Next, goes_on, ends, octet, settle}
 use Rattle.qw_grammar.specs.Writing.{Puts, AwaitsItems}
 use Rattle.qw_grammar.proofs.WriteLaws.{puts_octet, puts_is, puts_after, items_begin, items_next, items_end}
 use Rattle.qw_module.specs.declared.instruction.ValType.{ValType}
@@ -59,7 +59,7 @@ module _ (body : Sequences) (ended labels place : ℕ) where
 
   pub puts_inner : (opener : Opener) (sequence at : ℕ) (around : List Open) (old : List ℕ) → ended < length body.each → length (sequence_at body ended) ≤ place → slice_get (sequence_at body sequence) at ≡ Some (instruction_of opener ended)
       → Puts (octet (instruction (ending (record { opener = opener; before = take at (sequence_at body sequence) } ∷ around))))
-        (goes_on (record { ended = take (ended + 1) body.each; labels = take labels body.labels; around = around; now = take (at + 1) (sequence_at body sequence) })) old (old ++ 0x0B ∷ [])
+      (goes_on (record { ended = take (ended + 1) body.each; labels = take labels body.labels; around = around; now = take (at + 1) (sequence_at body sequence) })) old (old ++ 0x0B ∷ [])
   puts_inner opener sequence at around old lt le holds =
       let p = ending (record { opener = opener; before = take at (sequence_at body sequence) } ∷ around) in
       let whole : take place (sequence_at body ended) ≡ sequence_at body ended = take_all place (sequence_at body ended) le in
@@ -69,13 +69,13 @@ module _ (body : Sequences) (ended labels place : ℕ) where
 
   pub puts_otherwise : (type : Option ValType) (before : List Instr) (around : List Open) (old : List ℕ) → ended < length body.each → length (sequence_at body ended) ≤ place
       → Puts (octet (instruction (ending (record { opener = first type; before = before } ∷ around))))
-        (goes_on (record { ended = take (ended + 1) body.each; labels = take labels body.labels; around = record { opener = second type ended; before = before } ∷ around; now = [] })) old (old ++ 0x05 ∷ [])
+      (goes_on (record { ended = take (ended + 1) body.each; labels = take labels body.labels; around = record { opener = second type ended; before = before } ∷ around; now = [] })) old (old ++ 0x05 ∷ [])
   puts_otherwise type before around old lt le =
       let p = ending (record { opener = first type; before = before } ∷ around) in
       let whole : take place (sequence_at body ended) ≡ sequence_at body ended = take_all place (sequence_at body ended) le in
       let number : length (take ended body.each) ≡ ended = length-take-le ended body.each (omega (arith, lt)) in
       puts_else p (goes_on (record { ended = take (ended + 1) body.each; labels = take labels body.labels; around = record { opener = second type ended; before = before } ∷ around; now = [] })) old
-        (rw (whole, number, take_sequence body ended lt) refl)
+      (rw (whole, number, take_sequence body ended lt) refl)
 
 -- where no instruction stands, a sequence has ended
 pub past_end : {A : Type 0} (xs : List A) (place : ℕ) → slice_get xs place ≡ None → length xs ≤ place
@@ -88,7 +88,7 @@ past_end xs place e =
 -- the instruction at the present place
 pub puts_here : (body : Sequences) (ended labels sequence place : ℕ) (around : List Open) (i : Instr) (old new : List ℕ) → slice_get (sequence_at body sequence) place ≡ Some i → PutsInstruction i old new
     → Puts (octet (instruction (record { ended = take ended body.each; labels = take labels body.labels; around = around; now = take place (sequence_at body sequence) })))
-      (goes_on (record { ended = take ended body.each; labels = take labels body.labels; around = around; now = take (place + 1) (sequence_at body sequence) })) old new
+    (goes_on (record { ended = take ended body.each; labels = take labels body.labels; around = around; now = take (place + 1) (sequence_at body sequence) })) old new
 unfolding PutsInstruction
 puts_here body ended labels sequence place around i old new at put = rw (take_next (sequence_at body sequence) place i at) (put (record { ended = take ended body.each; labels = take labels body.labels; around = around; now = take place (sequence_at body sequence) }))
 
@@ -96,7 +96,7 @@ puts_here body ended labels sequence place around i old new at put = rw (take_ne
 pub puts_table_here : (body : Sequences) (ended from count sequence place default : ℕ) (around : List Open) (named old pushed mid new : List ℕ) → slice_get (sequence_at body sequence) place ≡ Some (i.BrTable from count default)
     → (named ≡ labels_in body.labels from count) × (from + count ≤ length body.labels) → pushed ≡ old ++ 0x0E ∷ [] → Puts (vector u32) named pushed mid → Puts u32 default mid new
     → Puts (octet (instruction (record { ended = take ended body.each; labels = take from body.labels; around = around; now = take place (sequence_at body sequence) })))
-      (goes_on (record { ended = take ended body.each; labels = take (from + count) body.labels; around = around; now = take (place + 1) (sequence_at body sequence) })) old new
+    (goes_on (record { ended = take ended body.each; labels = take (from + count) body.labels; around = around; now = take (place + 1) (sequence_at body sequence) })) old new
 puts_table_here body ended from count sequence place default around named old pushed mid new at found push f s =
     let p : Progress = record { ended = take ended body.each; labels = take from body.labels; around = around; now = take place (sequence_at body sequence) } in
     let before : length (take from body.labels) ≡ from = length-take-le from body.labels (omega (arith, found.1)) in

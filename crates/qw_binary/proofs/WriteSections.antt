@@ -1,8 +1,8 @@
 -- Sections behind those before them.
-use Rattle.std.proofs.Common.{◌≡◌, ℕ, ◌==◌, ◌+◌, ◌<◌, ◌≤◌, Bool, true, false, List, [], ◌∷◌, ◌++◌, length, map, Result, Ok, refl, sym, ap, subst, ◌∙◌, arith}
+use Rattle.std.proofs.Common.{◌≡◌, ℕ, ◌==◌, ◌<◌, ◌≤◌, false, List, [], ◌∷◌, ◌++◌, length, map, Ok, refl, sym, ap, subst, ◌∙◌, arith}
 use Rattle.std.proofs.lemmas.Bool.{lt-ltb}
 use Rattle.std.proofs.lemmas.List.{length-map}
-use Rattle.qw_grammar.specs.Grammar.{Grammar, is, octet, after, within, settle, Spells}
+use Rattle.qw_grammar.specs.Grammar.{Grammar, is, after, within, settle, Spells}
 use Rattle.qw_grammar.specs.Numbers.{u32}
 use Rattle.qw_grammar.specs.Vectors.{vector}
 use Rattle.qw_grammar.specs.Writing.{Puts}
@@ -24,10 +24,10 @@ pub puts_section : (id : ℕ) (text old mid : List ℕ) → Puts u32 (length tex
 unfolding PutsSection
 puts_section id text old mid p = λ s t some allowed h.
     puts_octet (section s) id t old (mid ++ text)
-      (puts_second (id == 0) _ _ t (old ++ id ∷ []) (mid ++ text) some
-      (puts_after (settle (section_by s.last id)) (λ id. after u32 (λ size. within size false (content s id))) id t (old ++ id ∷ []) (old ++ id ∷ []) (mid ++ text)
-        (subst (λ r. Puts (settle r) id (old ++ id ∷ []) (old ++ id ∷ [])) (sym allowed) (puts_is id (old ++ id ∷ [])))
-        (puts_within (content s id) t text (old ++ id ∷ []) mid p h)))
+    (puts_second (id == 0) _ _ t (old ++ id ∷ []) (mid ++ text) some
+    (puts_after (settle (section_by s.last id)) (λ id. after u32 (λ size. within size false (content s id))) id t (old ++ id ∷ []) (old ++ id ∷ []) (mid ++ text)
+    (subst (λ r. Puts (settle r) id (old ++ id ∷ []) (old ++ id ∷ [])) (sym allowed) (puts_is id (old ++ id ∷ [])))
+    (puts_within (content s id) t text (old ++ id ∷ []) mid p h)))
 
 -- the sections go up to a later id too
 pub later : (k id : ℕ) (indices : List ℕ) (c d : Contents) (old : List ℕ) → k ≤ id → c ≡ d → Written k indices c old → Written id indices d old
@@ -59,37 +59,37 @@ before last k n le lt = omega (arith, le, lt)
 pub types_written : (indices : List ℕ) (c : Contents) (types : List Signature) (text old new : List ℕ) → Puts (vector func_type) types [] text → PutsSection 1 text old new → Written 0 indices c old → Written 1 indices (record c { types = types }) new
 types_written indices c types text old new p put w =
     next 0 1 indices indices c (record c { types = types }) text old new (λ s. with_types s types) refl
-      (λ s le i e. (rw (lt-ltb s.last 1 (before s.last 0 1 le (omega arith))) refl, made (vector func_type) (with_types s) types text p, omega arith, i, ap (λ (c : Contents). record c { types = types }) e)) put w
+    (λ s le i e. (rw (lt-ltb s.last 1 (before s.last 0 1 le (omega arith))) refl, made (vector func_type) (with_types s) types text p, omega arith, i, ap (λ (c : Contents). record c { types = types }) e)) put w
 
 pub imports_written : (indices : List ℕ) (c : Contents) (found : List Import) (text old new : List ℕ) → Puts imports found [] text → PutsSection 2 text old new → Written 1 indices c old → Written 2 indices (record c { imports = found }) new
 imports_written indices c found text old new p put w =
     next 1 2 indices indices c (record c { imports = found }) text old new (λ s. with_imports s found) refl
-      (λ s le i e. (rw (lt-ltb s.last 2 (before s.last 1 2 le (omega arith))) refl, made imports (with_imports s) found text p, omega arith, i, ap (λ (c : Contents). record c { imports = found }) e)) put w
+    (λ s le i e. (rw (lt-ltb s.last 2 (before s.last 1 2 le (omega arith))) refl, made imports (with_imports s) found text p, omega arith, i, ap (λ (c : Contents). record c { imports = found }) e)) put w
 
 pub indices_written : (indices more : List ℕ) (c : Contents) (text old new : List ℕ) → Puts (vector u32) more [] text → PutsSection 3 text old new → Written 2 indices c old → Written 3 more c new
 indices_written indices more c text old new p put w =
     next 2 3 indices more c c text old new (λ s. with_indices s more) refl
-      (λ s le i e. (rw (lt-ltb s.last 3 (before s.last 2 3 le (omega arith))) refl, made (vector u32) (with_indices s) more text p, omega arith, refl, e)) put w
+    (λ s le i e. (rw (lt-ltb s.last 3 (before s.last 2 3 le (omega arith))) refl, made (vector u32) (with_indices s) more text p, omega arith, refl, e)) put w
 
 pub memories_written : (indices : List ℕ) (c : Contents) (memories : List Limits) (text old new : List ℕ) → Puts (vector limits) memories [] text → PutsSection 5 text old new → Written 3 indices c old → Written 5 indices (record c { memories = memories }) new
 memories_written indices c memories text old new p put w =
     next 3 5 indices indices c (record c { memories = memories }) text old new (λ s. with_memories s memories) refl
-      (λ s le i e. (rw (lt-ltb s.last 5 (before s.last 3 5 le (omega arith))) refl, made (vector limits) (with_memories s) memories text p, omega arith, i, ap (λ (c : Contents). record c { memories = memories }) e)) put w
+    (λ s le i e. (rw (lt-ltb s.last 5 (before s.last 3 5 le (omega arith))) refl, made (vector limits) (with_memories s) memories text p, omega arith, i, ap (λ (c : Contents). record c { memories = memories }) e)) put w
 
 pub globals_written : (indices : List ℕ) (c : Contents) (globals : List Global) (text old new : List ℕ) → Puts (vector global) globals [] text → PutsSection 6 text old new → Written 5 indices c old → Written 6 indices (record c { globals = globals }) new
 globals_written indices c globals text old new p put w =
     next 5 6 indices indices c (record c { globals = globals }) text old new (λ s. with_globals s globals) refl
-      (λ s le i e. (rw (lt-ltb s.last 6 (before s.last 5 6 le (omega arith))) refl, made (vector global) (with_globals s) globals text p, omega arith, i, ap (λ (c : Contents). record c { globals = globals }) e)) put w
+    (λ s le i e. (rw (lt-ltb s.last 6 (before s.last 5 6 le (omega arith))) refl, made (vector global) (with_globals s) globals text p, omega arith, i, ap (λ (c : Contents). record c { globals = globals }) e)) put w
 
 pub exports_written : (indices : List ℕ) (c : Contents) (exports : List ExportContents) (text old new : List ℕ) → Puts (vector export) exports [] text → PutsSection 7 text old new → Written 6 indices c old → Written 7 indices (record c { exports = exports }) new
 exports_written indices c exports text old new p put w =
     next 6 7 indices indices c (record c { exports = exports }) text old new (λ s. with_exports s exports) refl
-      (λ s le i e. (rw (lt-ltb s.last 7 (before s.last 6 7 le (omega arith))) refl, made (vector export) (with_exports s) exports text p, omega arith, i, ap (λ (c : Contents). record c { exports = exports }) e)) put w
+    (λ s le i e. (rw (lt-ltb s.last 7 (before s.last 6 7 le (omega arith))) refl, made (vector export) (with_exports s) exports text p, omega arith, i, ap (λ (c : Contents). record c { exports = exports }) e)) put w
 
 pub codes_written : (indices : List ℕ) (c : Contents) (found : List FunctionContents) (text old new : List ℕ) → Puts (functions indices) found [] text → PutsSection 10 text old new → Written 7 indices c old → Written 10 indices (record c { functions = found }) new
 codes_written indices c found text old new p put w =
     next 7 10 indices indices c (record c { functions = found }) text old new (λ s. with_functions s found) refl
-      (λ s le i e. (rw (lt-ltb s.last 10 (before s.last 7 10 le (omega arith))) refl, subst (λ n. Spells (after (functions n) (λ x. is (with_functions s x))) (with_functions s found) text) (sym i) (made (functions indices) (with_functions s) found text p), omega arith, i, ap (λ (c : Contents). record c { functions = found }) e)) put w
+    (λ s le i e. (rw (lt-ltb s.last 10 (before s.last 7 10 le (omega arith))) refl, subst (λ n. Spells (after (functions n) (λ x. is (with_functions s x))) (with_functions s found) text) (sym i) (made (functions indices) (with_functions s) found text p), omega arith, i, ap (λ (c : Contents). record c { functions = found }) e)) put w
 
 -- ---- the whole
 

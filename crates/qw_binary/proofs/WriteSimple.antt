@@ -5,9 +5,9 @@ use Rattle.std.proofs.lemmas.List.{length-map, length-take-le, get_or-map, take_
 use Rattle.std.proofs.Math.Seq.{take-suc}
 use Rattle.qw_grammar.specs.declared.fault.BinaryFault.{BinaryFault}
 use Rattle.qw_grammar.specs.declared.fault.BinaryFault.TheVariants.{NotModule}
-use Rattle.qw_grammar.specs.Grammar.{Grammar, is, refuse, octet, after, within, pick, settle, Spells}
+use Rattle.qw_grammar.specs.Grammar.{is, refuse, after, pick, settle, Spells}
 use Rattle.qw_grammar.specs.Numbers.{u32}
-use Rattle.qw_grammar.specs.Vectors.{counted, one_more, vector, name}
+use Rattle.qw_grammar.specs.Vectors.{counted, vector, name}
 use Rattle.qw_grammar.specs.Writing.{Puts, Awaits}
 use Rattle.qw_grammar.proofs.WriteLaws.{puts_is, puts_octet, puts_after, puts_made, puts_within, spelled, spells_first, awaits_behind, awaits_next, awaits_all}
 use Rattle.qw_module.specs.declared.instruction.ValType.{ValType}
@@ -35,7 +35,7 @@ puts_mem_arg arg old mid new p q =
 pub puts_func_type : (params results : List ValType) (old mid new : List ℕ) → Puts (vector val_type) params (old ++ 0x60 ∷ []) mid → Puts (vector val_type) results mid new → Puts func_type (record { params = params; results = results }) old new
 puts_func_type params results old mid new p q =
     puts_octet _ 0x60 (record { params = params; results = results }) old new
-      (puts_after (vector val_type) _ params (record { params = params; results = results }) (old ++ 0x60 ∷ []) mid new p (puts_made (vector val_type) (λ results. record { params = params; results = results }) results mid new q))
+    (puts_after (vector val_type) _ params (record { params = params; results = results }) (old ++ 0x60 ∷ []) mid new p (puts_made (vector val_type) (λ results. record { params = params; results = results }) results mid new q))
 
 pub puts_least : (min : ℕ) (old new : List ℕ) → Puts u32 min (old ++ 0x00 ∷ []) new → Puts limits (record { min = min; max = None }) old new
 puts_least min old new p = puts_octet _ 0x00 (limits_from min None) old new (puts_made u32 (λ min. limits_from min None) min (old ++ 0x00 ∷ []) new p)
@@ -43,12 +43,12 @@ puts_least min old new p = puts_octet _ 0x00 (limits_from min None) old new (put
 pub puts_both : (min max : ℕ) (old mid new : List ℕ) → Puts u32 min (old ++ 0x01 ∷ []) mid → Puts u32 max mid new → Puts limits (record { min = min; max = Some max }) old new
 puts_both min max old mid new p q =
     puts_octet _ 0x01 (limits_from min (Some max)) old new
-      (puts_after u32 _ min (limits_from min (Some max)) (old ++ 0x01 ∷ []) mid new p (puts_made u32 (λ max. limits_from min (Some max)) max mid new q))
+    (puts_after u32 _ min (limits_from min (Some max)) (old ++ 0x01 ∷ []) mid new p (puts_made u32 (λ max. limits_from min (Some max)) max mid new q))
 
 pub puts_global : (global : Global) (old first second new : List ℕ) → Puts val_type global.ty old first → Puts mutability global.mutable first second → Puts constant global.init second new → Puts global_grammar global old new
 puts_global global old first second new p q s =
     puts_after val_type _ global.ty global old first new p
-      (puts_after mutability _ global.mutable global first second new q (puts_made constant (λ init. global_from global.ty global.mutable init) global.init second new s))
+    (puts_after mutability _ global.mutable global first second new q (puts_made constant (λ init. global_from global.ty global.mutable init) global.init second new s))
 
 pub puts_kind : (b index : ℕ) (kind : ExportKind) (old new : List ℕ) → MakesKind (kind_by b) index kind → Puts u32 index (old ++ b ∷ []) new → Puts export_kind kind old new
 puts_kind b index kind old new m p = made (kind_by b) refl m
@@ -56,7 +56,7 @@ puts_kind b index kind old new m p = made (kind_by b) refl m
     made : (found : Result (ℕ → ExportKind) BinaryFault) → kind_by b ≡ found → MakesKind found index kind → Puts export_kind kind old new
     made (Ok make) e same =
         puts_after _ (λ make. after u32 (λ index. is (make index))) make kind old (old ++ b ∷ []) new (puts_by kind_by b make old e)
-          (subst (λ k. Puts (after u32 (λ index. is (make index))) k (old ++ b ∷ []) new) same (puts_made u32 (λ index. make index) index (old ++ b ∷ []) new p))
+        (subst (λ k. Puts (after u32 (λ index. is (make index))) k (old ++ b ∷ []) new) same (puts_made u32 (λ index. make index) index (old ++ b ∷ []) new p))
     made (Err fault) e none = absurd none
 
 pub puts_export : (text : List ℕ) (kind : ExportKind) (old mid new : List ℕ) → Puts name text old mid → Puts export_kind kind mid new → Puts export (record { name = text; kind = kind }) old new
@@ -69,7 +69,7 @@ puts_run run old mid new p q = puts_after u32 _ run.count run old mid new p (put
 pub puts_locals : (runs : List Locals) (old new : List ℕ) → nat_lt (locals_count runs) (2 ^ 32) ≡ true → Puts (vector locals_run) runs old new → Puts locals runs old new
 puts_locals runs old new few p =
     puts_after (vector locals_run) (λ runs. pick (nat_lt (locals_count runs) (2 ^ 32)) (is runs) (refuse NotModule)) runs runs old new new p
-      (subst (λ b. Puts (pick b (is runs) (refuse NotModule)) runs new new) (sym few) (puts_is runs new))
+    (subst (λ b. Puts (pick b (is runs) (refuse NotModule)) runs new new) (sym few) (puts_is runs new))
 
 pub puts_code : (index : ℕ) (runs : List Locals) (body : Sequences) (old mid inner-locals inner : List ℕ) → Puts locals runs [] inner-locals → Puts expression body inner-locals inner → Puts u32 (length inner) old mid
     → Puts (code index) (record { type_index = index; locals = runs; body = body }) old (mid ++ inner)
@@ -77,7 +77,7 @@ puts_code index runs body old mid inner-locals inner p q s =
     let made : FunctionContents = record { type_index = index; locals = runs; body = body } in
     let g = after locals (λ runs. after expression (λ body. is (record { type_index = index; locals = runs; body = body }))) in
     puts_within g made inner old mid s
-      (spelled g made inner (puts_after locals _ runs made [] inner-locals inner p (puts_made expression (λ body. record { type_index = index; locals = runs; body = body }) body inner-locals inner q)))
+    (spelled g made inner (puts_after locals _ runs made [] inner-locals inner p (puts_made expression (λ body. record { type_index = index; locals = runs; body = body }) body inner-locals inner q)))
 
 -- ---- the codes of functions
 
@@ -88,7 +88,7 @@ codes_begin all old new p = λ x text s.
     let k : length all - 0 ≡ length all = omega arith in
     let e : (length all == length indices) ≡ true = eq-eqb (length all) (length indices) (sym (length-map all type_index_of)) in
     awaits_behind u32 (λ n. pick (n == length indices) (counted n (next_function indices) []) (refuse NotModule)) (length all) old new p x text
-      (spells_first (length all == length indices) (counted (length all) (next_function indices) []) (refuse NotModule) x text e (subst (λ n. Spells (counted n (next_function indices) []) x text) k s))
+    (spells_first (length all == length indices) (counted (length all) (next_function indices) []) (refuse NotModule) x text e (subst (λ n. Spells (counted n (next_function indices) []) x text) k s))
 
 pub codes_next : (all : List Function) (i : ℕ) (d : Function) (old now new : List ℕ) → i < length all
     → Awaits (functions (map type_index_of all)) (counted (length all - i) (next_function (map type_index_of all)) (take i (map function_contents all))) old now
@@ -105,8 +105,8 @@ codes_next all i d old now new lt a p =
     let e : take (i + 1) cs ≡ take i cs ++ function_contents (get_or all i d) ∷ [] =
     ap (λ n. take n cs) (add-one i) ∙ take-suc cs i (function_contents d) (omega (arith, lt, long)) ∙ ap (λ y. take i cs ++ y ∷ []) got in
     awaits_next (functions indices) (next_function indices) (length all) i (take i cs) (take (i + 1) cs) old now new lt a
-      (subst (λ w. Puts (next_function indices (take i cs)) w now new) (sym e)
-        (puts_made (code (get_or indices (length (take i cs)) 0)) (λ x. take i cs ++ x ∷ []) (function_contents (get_or all i d)) now new one))
+    (subst (λ w. Puts (next_function indices (take i cs)) w now new) (sym e)
+    (puts_made (code (get_or indices (length (take i cs)) 0)) (λ x. take i cs ++ x ∷ []) (function_contents (get_or all i d)) now new one))
 
 pub codes_end : (all : List Function) (i : ℕ) (old now : List ℕ) → i ≡ length all
     → Awaits (functions (map type_index_of all)) (counted (length all - i) (next_function (map type_index_of all)) (take i (map function_contents all))) old now
@@ -115,7 +115,7 @@ codes_end all i old now at a =
     let cs : List FunctionContents = map function_contents all in
     let whole : take i cs ≡ cs = take_all i cs (omega (arith, at, length-map all function_contents)) in
     subst (λ w. Puts (functions (map type_index_of all)) w old now) whole
-      (awaits_all (functions (map type_index_of all)) (next_function (map type_index_of all)) (length all) i (take i cs) old now (omega (arith, at)) a)
+    (awaits_all (functions (map type_index_of all)) (next_function (map type_index_of all)) (length all) i (take i cs) old now (omega (arith, at)) a)
 
 -- what a loop that puts them cites
 pub ruleset codes_put = (codes_begin, codes_next, codes_end)
@@ -127,18 +127,18 @@ pub puts_memory_import : (before : List Import) (l : Limits) (old a b new : List
 puts_memory_import before l old a b new absent p q s =
     let once_here : named_by before (codes "q") (codes "memory") ≡ Ok memory = rw absent refl in
     puts_after (names before) described memory (import.Memory l) old b new
-      (puts_after name _ (codes "q") memory old a b p
-        (puts_after name (λ text. settle (named_by before (codes "q") text)) (codes "memory") memory a b b q (subst (λ r. Puts (settle r) memory b b) (sym once_here) (puts_is memory b))))
-      (puts_octet _ 0x02 (import.Memory l) b new (puts_made limits (λ l. import.Memory l) l (b ++ 0x02 ∷ []) new s))
+    (puts_after name _ (codes "q") memory old a b p
+    (puts_after name (λ text. settle (named_by before (codes "q") text)) (codes "memory") memory a b b q (subst (λ r. Puts (settle r) memory b b) (sym once_here) (puts_is memory b))))
+    (puts_octet _ 0x02 (import.Memory l) b new (puts_made limits (λ l. import.Memory l) l (b ++ 0x02 ∷ []) new s))
 
 pub puts_raise_import : (before : List Import) (type : ℕ) (old a b new : List ℕ) → is_among raise before ≡ false → Puts name (codes "q") old a → Puts name (codes "raise") a b → Puts u32 type (b ++ 0x00 ∷ []) new
     → Puts (import_behind before) (import.Raise type) old new
 puts_raise_import before type old a b new absent p q s =
     let once_here : named_by before (codes "q") (codes "raise") ≡ Ok raise = rw absent refl in
     puts_after (names before) described raise (import.Raise type) old b new
-      (puts_after name _ (codes "q") raise old a b p
-        (puts_after name (λ text. settle (named_by before (codes "q") text)) (codes "raise") raise a b b q (subst (λ r. Puts (settle r) raise b b) (sym once_here) (puts_is raise b))))
-      (puts_octet _ 0x00 (import.Raise type) b new (puts_made u32 (λ type. import.Raise type) type (b ++ 0x00 ∷ []) new s))
+    (puts_after name _ (codes "q") raise old a b p
+    (puts_after name (λ text. settle (named_by before (codes "q") text)) (codes "raise") raise a b b q (subst (λ r. Puts (settle r) raise b b) (sym once_here) (puts_is raise b))))
+    (puts_octet _ 0x00 (import.Raise type) b new (puts_made u32 (λ type. import.Raise type) type (b ++ 0x00 ∷ []) new s))
 
 pub imports_begin : (all : List Import) (old new : List ℕ) → Puts u32 (length all) old new → Awaits imports (counted (length all - 0) next_import (take 0 all)) old new
 imports_begin all old new p =
@@ -150,7 +150,7 @@ pub imports_next : (all : List Import) (i : ℕ) (d : Import) (old now new : Lis
 imports_next all i d old now new lt a p =
     let e : take (i + 1) all ≡ take i all ++ get_or all i d ∷ [] = ap (λ n. take n all) (add-one i) ∙ take-suc all i d lt in
     awaits_next imports next_import (length all) i (take i all) (take (i + 1) all) old now new lt a
-      (subst (λ w. Puts (next_import (take i all)) w now new) (sym e) (puts_made (import_behind (take i all)) (λ x. take i all ++ x ∷ []) (get_or all i d) now new p))
+    (subst (λ w. Puts (next_import (take i all)) w now new) (sym e) (puts_made (import_behind (take i all)) (λ x. take i all ++ x ∷ []) (get_or all i d) now new p))
 
 pub imports_end : (all : List Import) (i : ℕ) (old now : List ℕ) → length all ≤ i → Awaits imports (counted (length all - i) next_import (take i all)) old now → Puts imports all old now
 imports_end all i old now le a =

@@ -32,33 +32,37 @@ fn shortest(rt: HostRuntime) -> Result<(), Fail> {
         &[],
         // A function whose `if` has an `else` that holds a block.
         &[
-            0x01, 0x04, 0x01, 0x60, 0x00, 0x00, 0x03, 0x02, 0x01, 0x00, 0x0A, 0x10, 0x01, 0x0E, 0x00,
-            0x41, 0x00, 0x04, 0x40, 0x41, 0x7F, 0x1A, 0x05, 0x02, 0x40, 0x0B, 0x0B, 0x0B,
+            0x01, 0x04, 0x01, 0x60, 0x00, 0x00, 0x03, 0x02, 0x01, 0x00, 0x0A, 0x10, 0x01, 0x0E,
+            0x00, 0x41, 0x00, 0x04, 0x40, 0x41, 0x7F, 0x1A, 0x05, 0x02, 0x40, 0x0B, 0x0B, 0x0B,
         ],
         // A loop with a `br_table`, and an `if` without `else`.
         &[
-            0x01, 0x04, 0x01, 0x60, 0x00, 0x00, 0x03, 0x02, 0x01, 0x00, 0x0A, 0x15, 0x01, 0x13, 0x00,
-            0x03, 0x7F, 0x41, 0x2A, 0x41, 0x00, 0x0E, 0x01, 0x00, 0x00, 0x0B, 0x1A, 0x41, 0x01, 0x04,
-            0x40, 0x0B, 0x0B,
+            0x01, 0x04, 0x01, 0x60, 0x00, 0x00, 0x03, 0x02, 0x01, 0x00, 0x0A, 0x15, 0x01, 0x13,
+            0x00, 0x03, 0x7F, 0x41, 0x2A, 0x41, 0x00, 0x0E, 0x01, 0x00, 0x00, 0x0B, 0x1A, 0x41,
+            0x01, 0x04, 0x40, 0x0B, 0x0B,
         ],
         // Both imports.
         &[
-            0x01, 0x04, 0x01, 0x60, 0x00, 0x00, 0x02, 0x18, 0x02, 0x01, 0x71, 0x06, 0x6D, 0x65, 0x6D,
-            0x6F, 0x72, 0x79, 0x02, 0x01, 0x01, 0x02, 0x01, 0x71, 0x05, 0x72, 0x61, 0x69, 0x73, 0x65,
-            0x00, 0x00,
+            0x01, 0x04, 0x01, 0x60, 0x00, 0x00, 0x02, 0x18, 0x02, 0x01, 0x71, 0x06, 0x6D, 0x65,
+            0x6D, 0x6F, 0x72, 0x79, 0x02, 0x01, 0x01, 0x02, 0x01, 0x71, 0x05, 0x72, 0x61, 0x69,
+            0x73, 0x65, 0x00, 0x00,
         ],
         // A memory without a greatest size.
         &[0x05, 0x03, 0x01, 0x00, 0x01],
         // A global of -128, and one of 64, whose sixth bit is none of the sign.
         &[0x06, 0x07, 0x01, 0x7F, 0x01, 0x41, 0x80, 0x7F, 0x0B],
         &[
-            0x06, 0x07, 0x01, 0x7E, 0x00, 0x42, 0xC0, 0x00, 0x0B, 0x07, 0x05, 0x01, 0x01, 0x61, 0x03,
-            0x00,
+            0x06, 0x07, 0x01, 0x7E, 0x00, 0x42, 0xC0, 0x00, 0x0B, 0x07, 0x05, 0x01, 0x01, 0x61,
+            0x03, 0x00,
         ],
     ];
     for octets in cases {
         let text = with_header(rt.alloc(), octets)?;
-        assert_eq!(rt; again(rt.alloc(), &text).as_deref(), Some(text.as_slice()), "{octets:?}");
+        assert_eq!(rt;
+            again(rt.alloc(), &text).as_deref(),
+            Some(text.as_slice()),
+            "{octets:?}"
+        );
     }
     Ok(())
 }
@@ -66,9 +70,15 @@ fn shortest(rt: HostRuntime) -> Result<(), Fail> {
 /// A longer spelling of a size is written as the shortest one.
 #[test]
 fn longer(rt: HostRuntime) -> Result<(), Fail> {
-    let longer = with_header(rt.alloc(), &[0x05, 0x84, 0x80, 0x00, 0x01, 0x00, 0x81, 0x00])?;
+    let longer = with_header(
+        rt.alloc(),
+        &[0x05, 0x84, 0x80, 0x00, 0x01, 0x00, 0x81, 0x00],
+    )?;
     let shorter = with_header(rt.alloc(), &[0x05, 0x03, 0x01, 0x00, 0x01])?;
-    assert_eq!(rt; again(rt.alloc(), &longer).as_deref(), Some(shorter.as_slice()));
+    assert_eq!(rt;
+        again(rt.alloc(), &longer).as_deref(),
+        Some(shorter.as_slice())
+    );
     Ok(())
 }
 
@@ -92,7 +102,10 @@ fn module(alloc: Global, imports: &[Import], sequences: &[&[Instr]]) -> Result<M
     module.functions.push(Function {
         type_index: 0,
         locals: Vec::new(alloc),
-        body: Body { sequences: each, labels: Vec::new(alloc) },
+        body: Body {
+            sequences: each,
+            labels: Vec::new(alloc),
+        },
     })?;
     Ok(module)
 }
@@ -103,15 +116,50 @@ fn not_spelled(rt: HostRuntime) -> Result<(), Fail> {
     let cases: [&[&[Instr]]; 4] = [
         // No sequence, one that holds itself, one that stands twice, and two whose numbers are the wrong way round.
         &[],
-        &[&[Instr::Block { result: None, body: 0 }]],
-        &[&[], &[Instr::Block { result: None, body: 0 }, Instr::Block { result: None, body: 0 }]],
-        &[&[], &[], &[Instr::Block { result: None, body: 1 }, Instr::Block { result: None, body: 0 }]],
+        &[&[Instr::Block {
+            result: None,
+            body: 0,
+        }]],
+        &[
+            &[],
+            &[
+                Instr::Block {
+                    result: None,
+                    body: 0,
+                },
+                Instr::Block {
+                    result: None,
+                    body: 0,
+                },
+            ],
+        ],
+        &[
+            &[],
+            &[],
+            &[
+                Instr::Block {
+                    result: None,
+                    body: 1,
+                },
+                Instr::Block {
+                    result: None,
+                    body: 0,
+                },
+            ],
+        ],
     ];
     for sequences in cases {
         let module = module(rt.alloc(), &[], sequences)?;
-        assert_eq!(rt; encode(rt.alloc(), &module).err(), Some(WriteFault::NotSpelled), "{sequences:?}");
+        assert_eq!(rt;
+            encode(rt.alloc(), &module).err(),
+            Some(WriteFault::NotSpelled),
+            "{sequences:?}"
+        );
     }
     let module = module(rt.alloc(), &[Import::Raise(0), Import::Raise(1)], &[&[]])?;
-    assert_eq!(rt; encode(rt.alloc(), &module).err(), Some(WriteFault::NotSpelled));
+    assert_eq!(rt;
+        encode(rt.alloc(), &module).err(),
+        Some(WriteFault::NotSpelled)
+    );
     Ok(())
 }

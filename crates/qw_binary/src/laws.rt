@@ -2,7 +2,9 @@
 
 ghost use Rattle.std.specs.Prelude.{◌≡◌, ℕ, List};
 ghost use Rattle.qw_grammar.specs.declared.fault.BinaryFault.{BinaryFault};
-ghost use Rattle.qw_binary.specs.Contents.{Contents};
+ghost use Rattle.std.specs.List.{AllByRecursion};
+ghost use Rattle.qw_module.specs.Syntax.{IsNumbered};
+ghost use Rattle.qw_binary.specs.Contents.{Contents, FunctionContents};
 ghost use Rattle.qw_binary.specs.Modules.{SpellsModule, FirstStuck};
 
 /// Octets spell at most one module.
@@ -14,4 +16,9 @@ pub fn one_module()
 pub fn one_fault()
     ensures one { (text : List ℕ) (f g : BinaryFault) → FirstStuck text f → FirstStuck text g → f ≡ g }
     ensures never_both { (text : List ℕ) (m : Contents) (f : BinaryFault) → SpellsModule m text → FirstStuck text f → ⊥ }
+{}
+
+/// The bodies of a module that octets spell are numbered: each sequence names only lower ones, and only labels that are there.
+pub fn numbered_bodies()
+    ensures { (text : List ℕ) (m : Contents) → SpellsModule m text → AllByRecursion (λ (f : FunctionContents). IsNumbered f.body) m.functions }
 {}

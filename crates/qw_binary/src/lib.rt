@@ -3,17 +3,17 @@
 //!
 //! - [`decode::decode`]: the module that octets spell, or the first construct from the left that no rule allows.
 //! - [`encode::encode`]: octets that spell a module.
-//! - [`laws`]: octets spell at most one module, have at most one first fault, and never both.
+//! - [`laws`]: octets spell at most one module, have at most one first fault, and never both; bodies are numbered.
 //! - `specs/Modules`: the octets that spell a module; `Sections`, `Instructions`, `Types`: the constructs, in the order of the
 //!   standard's chapter; `Contents`: what a module holds, without where it lies in memory.
 #![tactic(auto)]
 
 pub mod decode;
 pub mod encode;
-pub mod laws;
-mod read;
-mod write;
-#[cfg(test)]
-mod tests;
 #[cfg(test)]
 mod encode_tests;
+pub mod laws;
+mod read;
+#[cfg(test)]
+mod tests;
+mod write;

@@ -1,11 +1,11 @@
 -- What is put by the parts of a grammar is put by the whole.
-use Rattle.std.proofs.Common.{◌≡◌, ℕ, zero, suc, ◌+◌, ◌-◌, ◌<◌, ◌≤◌, Bool, true, false, List, [], ◌∷◌, ◌++◌, length, get_or, map, take, drop, refl, sym, ap, subst, ◌∙◌, append_assoc, arith}
+use Rattle.std.proofs.Common.{◌≡◌, ℕ, suc, ◌+◌, ◌-◌, ◌<◌, ◌≤◌, Bool, true, false, List, [], ◌∷◌, ◌++◌, length, get_or, map, take, drop, refl, sym, ap, subst, ◌∙◌, append_assoc, arith}
 use Rattle.std.proofs.lemmas.List.{append-nil, length-map, get_or-map}
 use Rattle.std.proofs.Math.Seq.{take-suc, take-length, drop-length}
 use Rattle.std.proofs.lemmas.Str.{is_utf8-from_IsUtf8}
 use Rattle.std.specs.Str.{is_utf8, IsUtf8}
 use Rattle.qw_grammar.specs.declared.fault.BinaryFault.TheVariants.{NotModule}
-use Rattle.qw_grammar.specs.Grammar.{Next, goes_on, ends, Grammar, is, refuse, octet, after, within, items, pick, Chain, Spells, SpellsAll}
+use Rattle.qw_grammar.specs.Grammar.{Next, goes_on, ends, Grammar, is, refuse, octet, after, within, items, pick, Spells, SpellsAll}
 use Rattle.qw_grammar.specs.Numbers.{u32}
 use Rattle.qw_grammar.specs.Vectors.{counted, one_more, vector, name}
 use Rattle.qw_grammar.specs.Writing.{Puts, Awaits, AwaitsItems, AwaitsAll}
@@ -176,7 +176,7 @@ module _ {A B : Type 0} (item : Grammar B) (view : A → B) where
       let e : length (map view xs) ≡ length xs = length-map xs view in
       let got : get_or (map view xs) i (view d) ≡ view (get_or xs i d) = get_or-map view xs i d (view d) lt in
       subst (λ n. Awaits (vector item) (counted (n - (i + 1)) (one_more item) (take (i + 1) (map view xs))) old new) e
-        (vector_next item (map view xs) i (view d) old now new (omega (arith, lt, e)) (subst (λ n. Awaits (vector item) (counted (n - i) (one_more item) (take i (map view xs))) old now) (sym e) a) (subst (λ x. Puts item x now new) (sym got) p))
+      (vector_next item (map view xs) i (view d) old now new (omega (arith, lt, e)) (subst (λ n. Awaits (vector item) (counted (n - i) (one_more item) (take i (map view xs))) old now) (sym e) a) (subst (λ x. Puts item x now new) (sym got) p))
 
   pub views_end : (xs : List A) (i : ℕ) (old now : List ℕ) → i ≡ length xs → Awaits (vector item) (counted (length xs - i) (one_more item) (take i (map view xs))) old now → Puts (vector item) (map view xs) old now
   views_end xs i old now at a =

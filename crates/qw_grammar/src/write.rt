@@ -54,7 +54,13 @@ fn only_octet(signed: bool, bits: u32, value: u64) -> Option<u8>
 }
 
 /// Writes a number of so many bits.
-fn put_leb(signed: bool, most: u32, bits: u32, value: u64, out: &mut Vec<u8>) -> Result<(), WriteFault>
+fn put_leb(
+    signed: bool,
+    most: u32,
+    bits: u32,
+    value: u64,
+    out: &mut Vec<u8>,
+) -> Result<(), WriteFault>
     requires width { (1 ≤ bits) × (bits ≤ 64) × (bits ≤ 7 * most) }
     requires value { value < 2 ^ bits }
     ensures { OnOk result (Puts (leb signed most bits) value out.old.items out.new.items) }

@@ -7,7 +7,7 @@ ghost use Rattle.qw_binary.specs.Contents.{export_contents};
 ghost use Rattle.qw_binary.specs.Sections.{kind_by, export_kind, export as export_grammar};
 ghost use Rattle.qw_binary.specs.Inner.Parts.{MakesKind};
 
-use qw_grammar::write::{put_name, put_size, put_u32, WriteFault};
+use qw_grammar::write::{WriteFault, put_name, put_size, put_u32};
 use qw_module::module::{Export, ExportKind};
 
 /// The code of what is exported, and its index.

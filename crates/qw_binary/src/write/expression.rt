@@ -15,7 +15,7 @@ ghost use Rattle.qw_binary.specs.Inner.Writer.{progress_of, within_open, next_of
 use crate::read::expression::Opener;
 use crate::write::instruction::put_simple;
 use crate::write::types::put_block_type;
-use qw_grammar::write::{put_number_vector, put_u32, WriteFault};
+use qw_grammar::write::{WriteFault, put_number_vector, put_u32};
 use qw_module::instruction::{BlockType, Instr, ValType};
 use qw_module::module::Body;
 use std::alloc::Global;
@@ -72,10 +72,22 @@ fn holds(instruction: Instr, opener: Opener, number: usize) -> bool
     match (opener, instruction) {
         (Opener::Block(ty), Instr::Block { result, body }) => is_same(result, ty) && body == number,
         (Opener::Loop(ty), Instr::Loop { result, body }) => is_same(result, ty) && body == number,
-        (Opener::First(ty), Instr::If { result, then_body, else_body: None }) => is_same(result, ty) && then_body == number,
-        (Opener::Second(ty, first), Instr::If { result, then_body, else_body: Some(second) }) => {
-            is_same(result, ty) && then_body == first && second == number
-        }
+        (
+            Opener::First(ty),
+            Instr::If {
+                result,
+                then_body,
+                else_body: None,
+            },
+        ) => is_same(result, ty) && then_body == number,
+        (
+            Opener::Second(ty, first),
+            Instr::If {
+                result,
+                then_body,
+                else_body: Some(second),
+            },
+        ) => { is_same(result, ty) && then_body == first && second == number }
         _ => false,
     }
 }
@@ -159,7 +171,12 @@ impl Writer {
     }
 
     /// Ends the present sequence, and goes on behind the instruction that holds it, or with its other sequence.
-    fn end_inner(&mut self, around: Around, body: &Body, out: &mut Vec<u8>) -> Result<(), WriteFault>
+    fn end_inner(
+        &mut self,
+        around: Around,
+        body: &Body,
+        out: &mut Vec<u8>,
+    ) -> Result<(), WriteFault>
         requires at_end { length (sequence_at (sequences_of body.now) self.old.ended) ≤ self.old.place }
         requires present { (self.old.sequence ≡ self.old.ended) × (self.old.ended < length (sequences_of body.now).each) }
         ensures { OnOk result (Puts (octet (instruction_grammar (within_open (sequences_of body.now) around (progress_of (sequences_of body.now) self.old)))) (goes_on (progress_of (sequences_of body.now) self.new)) out.old.items out.new.items) }
@@ -169,7 +186,14 @@ impl Writer {
         };
         let number = self.ended;
         self.ended = number + 1;
-        if let (Opener::First(result), Instr::If { else_body: Some(second), .. }) = (around.opener, holder) {
+        if let (
+            Opener::First(result),
+            Instr::If {
+                else_body: Some(second),
+                ..
+            },
+        ) = (around.opener, holder)
+        {
             self.around.push(Around {
                 opener: Opener::Second(result, number),
                 ..around
@@ -217,7 +241,14 @@ impl Writer {
     }
 
     /// Writes the `br_table` at the present place, whose labels are the next ones of the body.
-    fn put_table(&mut self, first: usize, count: usize, default: u32, body: &Body, out: &mut Vec<u8>) -> Result<(), WriteFault>
+    fn put_table(
+        &mut self,
+        first: usize,
+        count: usize,
+        default: u32,
+        body: &Body,
+        out: &mut Vec<u8>,
+    ) -> Result<(), WriteFault>
         requires at { slice_get (sequence_at (sequences_of body.now) self.old.sequence) self.old.place ≡ Some (i.BrTable first count default) }
         requires next_place { self.old.place + 1 < 2 ^ 64 }
         ensures { OnOk result (Puts (octet (instruction_grammar (progress_of (sequences_of body.now) self.old))) (goes_on (progress_of (sequences_of body.now) self.new)) out.old.items out.new.items) }
@@ -238,7 +269,12 @@ impl Writer {
 
     /// Writes the instruction at the present place, which holds no sequence and names no labels.
     #[tactic(auto, using(crate::proofs::WriteExpression::puts_here))]
-    fn put_here(&mut self, instruction: Instr, body: &Body, out: &mut Vec<u8>) -> Result<(), WriteFault>
+    fn put_here(
+        &mut self,
+        instruction: Instr,
+        body: &Body,
+        out: &mut Vec<u8>,
+    ) -> Result<(), WriteFault>
         requires at { slice_get (sequence_at (sequences_of body.now) self.old.sequence) self.old.place ≡ Some instruction }
         requires next_place { self.old.place + 1 < 2 ^ 64 }
         ensures { OnOk result (Puts (octet (instruction_grammar (progress_of (sequences_of body.now) self.old))) (goes_on (progress_of (sequences_of body.now) self.new)) out.old.items out.new.items) }
@@ -255,10 +291,24 @@ impl Writer {
         ensures { OnOk result (Puts (octet (instruction_grammar (progress_of (sequences_of body.now) self.old))) (goes_on (progress_of (sequences_of body.now) self.new)) out.old.items out.new.items) }
     {
         match instruction {
-            Instr::Block { result, body: number } => self.open(Opener::Block(result), number, out),
-            Instr::Loop { result, body: number } => self.open(Opener::Loop(result), number, out),
-            Instr::If { result, then_body, .. } => self.open(Opener::First(result), then_body, out),
-            Instr::BrTable { first, count, default } => self.put_table(first, count, default, body, out),
+            Instr::Block {
+                result,
+                body: number,
+            } => self.open(Opener::Block(result), number, out),
+            Instr::Loop {
+                result,
+                body: number,
+            } => self.open(Opener::Loop(result), number, out),
+            Instr::If {
+                result,
+                then_body,
+                ..
+            } => self.open(Opener::First(result), then_body, out),
+            Instr::BrTable {
+                first,
+                count,
+                default,
+            } => self.put_table(first, count, default, body, out),
             _ => self.put_here(instruction, body, out),
         }
     }

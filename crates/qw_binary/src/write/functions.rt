@@ -11,7 +11,7 @@ ghost use Rattle.qw_binary.specs.Inner.Parts.{type_index_of};
 use crate::read::functions::are_few;
 use crate::write::expression::put_expression;
 use crate::write::types::put_val_type;
-use qw_grammar::write::{put_size, put_u32, WriteFault};
+use qw_grammar::write::{WriteFault, put_size, put_u32};
 use qw_module::module::{Function, Locals};
 use std::alloc::Global;
 

@@ -9,7 +9,7 @@ ghost use Rattle.qw_binary.specs.Inner.Parts.{constant};
 
 use crate::write::instruction::put_const;
 use crate::write::types::put_val_type;
-use qw_grammar::write::{put_size, WriteFault};
+use qw_grammar::write::{WriteFault, put_size};
 use qw_module::instruction::Const;
 use qw_module::module::Global;
 

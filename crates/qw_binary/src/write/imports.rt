@@ -7,7 +7,7 @@ ghost use Rattle.qw_binary.specs.Sections.{import_behind, imports as imports_gra
 
 use crate::read::imports::Imported;
 use crate::write::types::put_limits;
-use qw_grammar::write::{put_name, put_size, put_u32, WriteFault};
+use qw_grammar::write::{WriteFault, put_name, put_size, put_u32};
 use qw_module::module::{Import, Limits};
 
 /// Writes the import of the memory, where it is not among those before it.

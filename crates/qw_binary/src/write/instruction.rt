@@ -13,7 +13,7 @@ use crate::write::codes::{
     binary_code, conversion_code, division_code, eqz_code, load_code, relation_code, store_code,
     unary_code,
 };
-use qw_grammar::write::{put_s32, put_s64, put_u32, WriteFault};
+use qw_grammar::write::{WriteFault, put_s32, put_s64, put_u32};
 use qw_module::instruction::{Const, Instr, Load, MemArg, Op, Store};
 
 /// Writes a code with an index behind it.

@@ -11,7 +11,7 @@ use crate::write::functions::{put_codes, put_type_indices};
 use crate::write::globals::put_globals;
 use crate::write::imports::put_imports;
 use crate::write::types::{put_func_types, put_memories};
-use qw_grammar::write::{put_size, WriteFault};
+use qw_grammar::write::{WriteFault, put_size};
 use qw_module::module::{Export, FuncType, Function, Global as ModuleGlobal, Import, Limits};
 use std::alloc::Global;
 
@@ -28,7 +28,11 @@ fn put_section(id: u8, content: &[u8], out: &mut Vec<u8>) -> Result<(), WriteFau
 
 /// Writes the types of functions.
 #[tactic(auto, using(crate::proofs::WriteSections::types_written, crate::proofs::WriteSections::later))]
-pub fn put_type_section(alloc: Global, types: &[FuncType], out: &mut Vec<u8>) -> Result<(), WriteFault>
+pub fn put_type_section(
+    alloc: Global,
+    types: &[FuncType],
+    out: &mut Vec<u8>,
+) -> Result<(), WriteFault>
     ensures { OnOk result ((indices : List ℕ) (c : Contents) → c.types ≡ [] → Written 0 indices c out.old.items → Written 1 indices (record c { types = map signature_of types.now }) out.new.items) }
 {
     if types.is_empty() {
@@ -41,7 +45,11 @@ pub fn put_type_section(alloc: Global, types: &[FuncType], out: &mut Vec<u8>) ->
 
 /// Writes the imports.
 #[tactic(auto, using(crate::proofs::WriteSections::imports_written, crate::proofs::WriteSections::later))]
-pub fn put_import_section(alloc: Global, imports: &[Import], out: &mut Vec<u8>) -> Result<(), WriteFault>
+pub fn put_import_section(
+    alloc: Global,
+    imports: &[Import],
+    out: &mut Vec<u8>,
+) -> Result<(), WriteFault>
     ensures { OnOk result ((indices : List ℕ) (c : Contents) → c.imports ≡ [] → Written 1 indices c out.old.items → Written 2 indices (record c { imports = imports.now }) out.new.items) }
 {
     if imports.is_empty() {
@@ -54,7 +62,11 @@ pub fn put_import_section(alloc: Global, imports: &[Import], out: &mut Vec<u8>) 
 
 /// Writes the indices of the types of functions.
 #[tactic(auto, using(crate::proofs::WriteSections::indices_written, crate::proofs::WriteSections::later))]
-pub fn put_function_section(alloc: Global, functions: &[Function], out: &mut Vec<u8>) -> Result<(), WriteFault>
+pub fn put_function_section(
+    alloc: Global,
+    functions: &[Function],
+    out: &mut Vec<u8>,
+) -> Result<(), WriteFault>
     ensures { OnOk result ((c : Contents) → Written 2 [] c out.old.items → Written 3 (map type_index_of functions.now) c out.new.items) }
 {
     if functions.is_empty() {
@@ -67,7 +79,11 @@ pub fn put_function_section(alloc: Global, functions: &[Function], out: &mut Vec
 
 /// Writes the memories.
 #[tactic(auto, using(crate::proofs::WriteSections::memories_written, crate::proofs::WriteSections::later))]
-pub fn put_memory_section(alloc: Global, memories: &[Limits], out: &mut Vec<u8>) -> Result<(), WriteFault>
+pub fn put_memory_section(
+    alloc: Global,
+    memories: &[Limits],
+    out: &mut Vec<u8>,
+) -> Result<(), WriteFault>
     ensures { OnOk result ((indices : List ℕ) (c : Contents) → c.memories ≡ [] → Written 3 indices c out.old.items → Written 5 indices (record c { memories = memories.now }) out.new.items) }
 {
     if memories.is_empty() {
@@ -80,7 +96,11 @@ pub fn put_memory_section(alloc: Global, memories: &[Limits], out: &mut Vec<u8>)
 
 /// Writes the globals.
 #[tactic(auto, using(crate::proofs::WriteSections::globals_written, crate::proofs::WriteSections::later))]
-pub fn put_global_section(alloc: Global, globals: &[ModuleGlobal], out: &mut Vec<u8>) -> Result<(), WriteFault>
+pub fn put_global_section(
+    alloc: Global,
+    globals: &[ModuleGlobal],
+    out: &mut Vec<u8>,
+) -> Result<(), WriteFault>
     ensures { OnOk result ((indices : List ℕ) (c : Contents) → c.globals ≡ [] → Written 5 indices c out.old.items → Written 6 indices (record c { globals = globals.now }) out.new.items) }
 {
     if globals.is_empty() {
@@ -93,7 +113,11 @@ pub fn put_global_section(alloc: Global, globals: &[ModuleGlobal], out: &mut Vec
 
 /// Writes the exports.
 #[tactic(auto, using(crate::proofs::WriteSections::exports_written, crate::proofs::WriteSections::later))]
-pub fn put_export_section(alloc: Global, exports: &[Export], out: &mut Vec<u8>) -> Result<(), WriteFault>
+pub fn put_export_section(
+    alloc: Global,
+    exports: &[Export],
+    out: &mut Vec<u8>,
+) -> Result<(), WriteFault>
     ensures { OnOk result ((indices : List ℕ) (c : Contents) → c.exports ≡ [] → Written 6 indices c out.old.items → Written 7 indices (record c { exports = map export_contents exports.now }) out.new.items) }
 {
     if exports.is_empty() {
@@ -106,7 +130,11 @@ pub fn put_export_section(alloc: Global, exports: &[Export], out: &mut Vec<u8>) 
 
 /// Writes the code of functions.
 #[tactic(auto, using(crate::proofs::WriteSections::codes_written, crate::proofs::WriteSections::later))]
-pub fn put_code_section(alloc: Global, functions: &[Function], out: &mut Vec<u8>) -> Result<(), WriteFault>
+pub fn put_code_section(
+    alloc: Global,
+    functions: &[Function],
+    out: &mut Vec<u8>,
+) -> Result<(), WriteFault>
     ensures { OnOk result ((c : Contents) → c.functions ≡ [] → Written 7 (map type_index_of functions.now) c out.old.items → Written 10 (map type_index_of functions.now) (record c { functions = map function_contents functions.now }) out.new.items) }
 {
     if functions.is_empty() {

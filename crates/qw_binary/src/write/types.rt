@@ -7,7 +7,7 @@ ghost use Rattle.qw_module.specs.Validity.{signature_of};
 ghost use Rattle.qw_binary.specs.Types.{val_type, block_type, func_type, limits as limits_grammar};
 
 use crate::write::codes::{block_type_code, val_type_code};
-use qw_grammar::write::{put_size, put_u32, WriteFault};
+use qw_grammar::write::{WriteFault, put_size, put_u32};
 use qw_module::instruction::{BlockType, ValType};
 use qw_module::module::{FuncType, Limits};
 

@@ -1,5 +1,5 @@
-use Rattle.std.proofs.Common.{◌≡◌, ◌+◌, ◌∙◌, Some, sym, ap, take, slice_get}
-use Rattle.std.specs.Prelude.{length, reverse, map}
+use Rattle.std.proofs.Common.{◌≡◌, ◌∙◌, Some, sym, ap, take, slice_get}
+use Rattle.std.specs.Prelude.{reverse, map}
 use Rattle.qw_module.specs.Syntax.{sequence_at}
 use Rattle.qw_module.specs.Validity.{sequences_of}
 use Rattle.qw_binary.specs.Inner.Writer.{open_of}
@@ -15,7 +15,7 @@ returns-in-First-If-default-default-Some c =
     let branch = c.in-First-If-default-default-Some in
     let around = reverse (map (open_of body) w.around.items) in
     rw (c.in_ok-push-2.ensures.items, c.in_ok-push.ensures.items, reversed_push, c.requires.present.0, branch.is-0)
-      (puts_otherwise body w.ended w.labels w.place branch.result (take c.args.around.place (sequence_at body c.args.around.sequence)) around c.args.out.now.items c.requires.present.1 c.requires.at_end)
+    (puts_otherwise body w.ended w.labels w.place branch.result (take c.args.around.place (sequence_at body c.args.around.sequence)) around c.args.out.now.items c.requires.present.1 c.requires.at_end)
 
 pub returns : goal.returns
 returns c =
@@ -24,4 +24,4 @@ returns c =
     let around = reverse (map (open_of body) w.around.items) in
     let holds : slice_get (sequence_at body c.args.around.sequence) c.args.around.place ≡ Some (instruction_of (opener_of c.args.around.opener) w.ended) = sym c.instruction_at.ensures.found ∙ c.in-Some.is ∙ ap Some (c.holds.ensures c.if-not-holds.false) in
     rw (c.in_ok-push-3.ensures.items, c.requires.present.0)
-      (puts_inner body w.ended w.labels w.place (opener_of c.args.around.opener) c.args.around.sequence c.args.around.place around c.args.out.now.items c.requires.present.1 c.requires.at_end holds)
+    (puts_inner body w.ended w.labels w.place (opener_of c.args.around.opener) c.args.around.sequence c.args.around.place around c.args.out.now.items c.requires.present.1 c.requires.at_end holds)

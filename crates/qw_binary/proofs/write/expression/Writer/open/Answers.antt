@@ -1,4 +1,4 @@
-use Rattle.std.proofs.Common.{◌≡◌, sym, subst}
+use Rattle.std.proofs.Common.{sym, subst}
 use Rattle.std.proofs.lemmas.Result.{on_ok_weaker}
 use Rattle.qw_grammar.specs.Grammar.{goes_on, octet}
 use Rattle.qw_grammar.specs.Writing.{Puts}
@@ -10,5 +10,5 @@ pub returns : goal.returns
 returns c =
     let w = c.args.self.now in
     on_ok_weaker c.begin.result
-      (λ h body. subst (λ r. Puts (octet (instruction (progress_of body w))) (goes_on r) c.args.out.now.items c.put_opening.new.out.items) (sym (h body)) (c.in_ok-put_opening.ensures (progress_of body w)))
-      c.begin.ensures
+    (λ h body. subst (λ r. Puts (octet (instruction (progress_of body w))) (goes_on r) c.args.out.now.items c.put_opening.new.out.items) (sym (h body)) (c.in_ok-put_opening.ensures (progress_of body w)))
+    c.begin.ensures
