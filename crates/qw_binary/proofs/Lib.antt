@@ -3,7 +3,7 @@ mod ImportLemmas
 mod LocalsLemmas
 mod ModuleLaws
 mod NumberedBodies
-mod WriteExpression
 mod WriteCodes
-mod WriteSimple
+mod WriteExpression
 mod WriteSections
+mod WriteSimple

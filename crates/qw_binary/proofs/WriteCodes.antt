@@ -1,8 +1,8 @@
 -- What stands behind a code is put by its own grammar.
-use Rattle.std.proofs.Common.{◌≡◌, ℕ, ◌==◌, Bool, true, false, List, [], ◌∷◌, ◌++◌, length, Option, Some, None, Result, Ok, refl, sym, ap, subst}
+use Rattle.std.proofs.Common.{◌≡◌, ℕ, ◌==◌, Bool, true, false, List, [], ◌∷◌, ◌++◌, Option, Some, None, Result, Ok, refl, sym, subst}
 use Rattle.std.specs.Option.{option_map}
 use Rattle.qw_grammar.specs.declared.fault.BinaryFault.{BinaryFault}
-use Rattle.qw_grammar.specs.Grammar.{Grammar, Next, goes_on, is, octet, after, pick, settle}
+use Rattle.qw_grammar.specs.Grammar.{Grammar, goes_on, is, octet, after, pick, settle}
 use Rattle.qw_grammar.specs.Numbers.{u32, s32, s64}
 use Rattle.qw_grammar.specs.Vectors.{vector}
 use Rattle.qw_grammar.specs.Writing.{Puts}
@@ -15,10 +15,9 @@ use Rattle.qw_module.specs.declared.instruction.Store.{Store}
 use Rattle.qw_module.specs.declared.instruction.Op.TheVariants as o
 use Rattle.qw_module.specs.declared.instruction.Instr.{Instr}
 use Rattle.qw_module.specs.declared.instruction.Instr.TheVariants as i
-use Rattle.qw_module.specs.Syntax.{Sequences}
 use Rattle.qw_binary.specs.Types.{val_type_by, val_type, block_type_by, block_type, mutability_by, mutability}
-use Rattle.qw_binary.specs.Instructions.{Opener, Progress, given, opener_by, indexed_by, load_by, store_by, plain_by, mem_arg, zero_octet, simple, instruction, begun, with_instruction, with_table}
-use Rattle.qw_binary.specs.Inner.Codes.{IsInside, IsSimple, IsOpening, IsIndexed, IsLoad, IsStore, IsPlain}
+use Rattle.qw_binary.specs.Instructions.{Opener, Progress, given, opener_by, indexed_by, load_by, store_by, mem_arg, zero_octet, simple, instruction, begun, with_instruction, with_table}
+use Rattle.qw_binary.specs.Inner.Codes.{IsSimple, IsOpening, IsIndexed, IsLoad, IsStore, IsPlain}
 use Rattle.qw_binary.specs.Inner.Writer.{PutsInstruction}
 
 pub puts_second : {A : Type 0} (b : Bool) (g h : Grammar A) (x : A) (old new : List ℕ) → b ≡ false → Puts h x old new → Puts (pick b g h) x old new

@@ -1,10 +1,10 @@
 -- What is read again of an expression, instruction by instruction.
-use Rattle.std.proofs.Common.{◌≡◌, ℕ, zero, suc, ◌+◌, ◌<◌, ◌≤◌, List, [], ◌∷◌, ◌++◌, length, get_or, take, drop, map, reverse, slice_get, Option, Some, None, Result, Ok, refl, sym, ap, subst, ◌∙◌, arith, add-one, inl, inr}
+use Rattle.std.proofs.Common.{◌≡◌, ℕ, ◌+◌, ◌<◌, ◌≤◌, List, [], ◌∷◌, ◌++◌, length, take, drop, map, reverse, slice_get, Option, Some, None, Result, Ok, refl, sym, ap, subst, ◌∙◌, arith, add-one, inl, inr}
 use Rattle.std.proofs.lemmas.List.{take_all, length-take-le, map_push, reverse-append, length-drop}
 use Rattle.std.proofs.lemmas.Option.{slice_get_within, slice_get_cases, get_or_from_slice_get, unwrap_or-slice_get}
 use Rattle.std.proofs.Math.Seq.{take-suc, take-length, take-add}
 use Rattle.qw_grammar.specs.declared.fault.BinaryFault.{BinaryFault}
-use Rattle.qw_grammar.specs.Grammar.{Grammar, Next, goes_on, ends, is, octet, after, settle, Spells}
+use Rattle.qw_grammar.specs.Grammar.{Next, goes_on, ends, octet, settle}
 use Rattle.qw_grammar.specs.Writing.{Puts, AwaitsItems}
 use Rattle.qw_grammar.proofs.WriteLaws.{puts_octet, puts_is, puts_after, items_begin, items_next, items_end}
 use Rattle.qw_module.specs.declared.instruction.ValType.{ValType}

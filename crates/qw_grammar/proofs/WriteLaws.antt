@@ -1,11 +1,11 @@
 -- What is put by the parts of a grammar is put by the whole.
-use Rattle.std.proofs.Common.{◌≡◌, ℕ, zero, suc, ◌+◌, ◌-◌, ◌<◌, ◌≤◌, Bool, true, false, List, [], ◌∷◌, ◌++◌, length, get_or, map, take, drop, refl, sym, ap, subst, ◌∙◌, append_assoc, arith}
+use Rattle.std.proofs.Common.{◌≡◌, ℕ, suc, ◌+◌, ◌-◌, ◌<◌, ◌≤◌, Bool, true, false, List, [], ◌∷◌, ◌++◌, length, get_or, map, take, drop, refl, sym, ap, subst, ◌∙◌, append_assoc, arith}
 use Rattle.std.proofs.lemmas.List.{append-nil, length-map, get_or-map}
 use Rattle.std.proofs.Math.Seq.{take-suc, take-length, drop-length}
 use Rattle.std.proofs.lemmas.Str.{is_utf8-from_IsUtf8}
 use Rattle.std.specs.Str.{is_utf8, IsUtf8}
 use Rattle.qw_grammar.specs.declared.fault.BinaryFault.TheVariants.{NotModule}
-use Rattle.qw_grammar.specs.Grammar.{Next, goes_on, ends, Grammar, is, refuse, octet, after, within, items, pick, Chain, Spells, SpellsAll}
+use Rattle.qw_grammar.specs.Grammar.{Next, goes_on, ends, Grammar, is, refuse, octet, after, within, items, pick, Spells, SpellsAll}
 use Rattle.qw_grammar.specs.Numbers.{u32}
 use Rattle.qw_grammar.specs.Vectors.{counted, one_more, vector, name}
 use Rattle.qw_grammar.specs.Writing.{Puts, Awaits, AwaitsItems, AwaitsAll}

@@ -1,5 +1,5 @@
 -- Mirrors the writer's tables of codes: which instruction a code is read as.
-use Rattle.std.specs.Prelude.{◌≡◌, ℕ, ◌==◌, Bool, true, false, Option, Some, None, Ok}
+use Rattle.std.specs.Prelude.{◌≡◌, ℕ, ◌==◌, false, Option, Some, None, Ok}
 use Rattle.std.specs.Option.{option_map}
 use Rattle.qw_module.specs.declared.instruction.ValType.{ValType}
 use Rattle.qw_module.specs.declared.instruction.Load.{Load}

@@ -1,11 +1,9 @@
 -- Mirrors `Writer`: what is read again of what it has written of an expression.
-use Rattle.std.specs.Prelude.{◌≡◌, ℕ, ◌∷◌, map, reverse, take, slice_get, Bool, true, false, List, Option, Some, None}
+use Rattle.std.specs.Prelude.{ℕ, ◌∷◌, map, reverse, take, Bool, true, false, List}
 use Rattle.qw_grammar.specs.Grammar.{Next, goes_on, ends, octet}
 use Rattle.qw_grammar.specs.Writing.{Puts}
 use Rattle.qw_module.specs.declared.instruction.Instr.{Instr}
-use Rattle.qw_module.specs.declared.module.Body.{Body}
 use Rattle.qw_module.specs.Syntax.{Sequences, sequence_at}
-use Rattle.qw_module.specs.Validity.{sequences_of}
 use Rattle.qw_binary.specs.Instructions.{Open, Progress, instruction, with_instruction}
 use Rattle.qw_binary.specs.Inner.Reader.{opener_of}
 use Rattle.qw_binary.specs.declared.write.expression.Around.{Around}

@@ -1,4 +1,4 @@
-use Rattle.std.proofs.Common.{◌≡◌, ◌<◌, ◌≤◌, ◌*◌, ◌-◌, ◌/◌, arith, subst}
+use Rattle.std.proofs.Common.{◌-◌, ◌/◌, arith, subst}
 use Rattle.std.proofs.lemmas.Result.{on_ok_weaker}
 use Rattle.std.specs.Result.{OnOk}
 use Rattle.qw_grammar.specs.Numbers.{leb}

@@ -1,4 +1,4 @@
-use Rattle.std.proofs.Common.{◌≡◌, ◌<◌, ◌≤◌, ◌^◌, ◌-◌, ◌+◌, arith}
+use Rattle.std.proofs.Common.{◌<◌, ◌^◌, ◌-◌, ◌+◌, arith}
 use Rattle.qw_grammar.proofs.WriteFacts.{many_bits}
 use Rattle.qw_grammar.proofs.write.only_octet.Goals as goal
 

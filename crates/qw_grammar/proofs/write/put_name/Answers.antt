@@ -1,4 +1,3 @@
-use Rattle.std.proofs.Common.{◌≡◌, ◌++◌, length, sym, ap, ◌∙◌}
 use Rattle.qw_grammar.proofs.WriteLaws.{puts_name}
 use Rattle.qw_grammar.proofs.write.put_name.Goals as goal
 

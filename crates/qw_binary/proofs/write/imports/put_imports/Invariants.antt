@@ -1,10 +1,7 @@
-use Rattle.std.proofs.Common.{◌-◌, length, map, take}
-use Rattle.qw_grammar.specs.Numbers.{u32}
-use Rattle.qw_grammar.specs.Vectors.{counted, one_more, vector}
+use Rattle.std.proofs.Common.{◌-◌, length, take}
+use Rattle.qw_grammar.specs.Vectors.{counted}
 use Rattle.qw_grammar.specs.Writing.{Awaits}
-use Rattle.qw_binary.specs.Contents.{function_contents, export_contents}
-use Rattle.qw_binary.specs.Sections.{global, export, locals_run, functions, next_function, imports, next_import}
-use Rattle.qw_binary.specs.Inner.Parts.{type_index_of}
+use Rattle.qw_binary.specs.Sections.{imports, next_import}
 use Rattle.qw_binary.proofs.write.imports.put_imports.Given as goal
 
 abbrev pub invariant-loop-place : goal.invariant-loop-place

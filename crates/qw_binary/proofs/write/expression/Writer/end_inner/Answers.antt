@@ -1,5 +1,5 @@
-use Rattle.std.proofs.Common.{◌≡◌, ◌+◌, ◌∙◌, Some, sym, ap, take, slice_get}
-use Rattle.std.specs.Prelude.{length, reverse, map}
+use Rattle.std.proofs.Common.{◌≡◌, ◌∙◌, Some, sym, ap, take, slice_get}
+use Rattle.std.specs.Prelude.{reverse, map}
 use Rattle.qw_module.specs.Syntax.{sequence_at}
 use Rattle.qw_module.specs.Validity.{sequences_of}
 use Rattle.qw_binary.specs.Inner.Writer.{open_of}

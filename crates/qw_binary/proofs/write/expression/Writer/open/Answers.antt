@@ -1,4 +1,4 @@
-use Rattle.std.proofs.Common.{◌≡◌, sym, subst}
+use Rattle.std.proofs.Common.{sym, subst}
 use Rattle.std.proofs.lemmas.Result.{on_ok_weaker}
 use Rattle.qw_grammar.specs.Grammar.{goes_on, octet}
 use Rattle.qw_grammar.specs.Writing.{Puts}

@@ -1,4 +1,4 @@
-use Rattle.std.proofs.Common.{◌≡◌, reverse, map}
+use Rattle.std.proofs.Common.{reverse, map}
 use Rattle.qw_module.specs.Validity.{sequences_of}
 use Rattle.qw_binary.specs.Inner.Writer.{open_of}
 use Rattle.qw_binary.proofs.WriteExpression.{puts_table_here}
