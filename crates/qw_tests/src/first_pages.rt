@@ -1,20 +1,17 @@
 // The octets of tables, of the first pages of instances and of what a run writes there, as docs/FORMATS.md says.
 
-ghost use Rattle.qw_csv.specs.Contents.{AreIntegerKinds};
-
-use crate::tables::{WORDS, loaded_integers, shelf, wide, words};
+use crate::tables::{WORDS, shelf, words};
 use qw_bench::bench::Bench;
-use qw_bench::first_page::begin_page;
-use qw_columns::columns::{column_starts, pages_needed, place};
-use qw_csv::Loaded;
 use qw_io::MemorySink;
-use qw_linear::linear::{Linear, PAGE};
+use qw_linear::linear::Linear;
 use qw_top::top::qwasm;
-use qw_types::NoMemory;
 use std::alloc::Global;
 use std::test::Fail;
 
-const FILE: &[u8] = b"A,B\n4,-1\n1,256\n7,2\n";
+const TWO_COLUMNS: &[u8] = b"CREATE TABLE T (A INTEGER NOT NULL, B INTEGER NOT NULL)";
+
+// No row is one of its result.
+const NONE_OF_BOTH: &[u8] = b"SELECT A FROM T WHERE B > 300";
 
 // By the addresses where they begin, eight octets a line: the first column, the second one, and the descriptor.
 const OCTETS: [(u64, [u8; 8]); 22] = [
@@ -55,8 +52,10 @@ const TWO_ROWS: [(u64, [u8; 8]); 9] = [
     (65_624, [0, 0, 0, 0, 2, 0, 0, 0]),
 ];
 
-const SCHEMA: &[u8] =
+const THREE_COLUMNS: &[u8] =
     b"CREATE TABLE T (A INTEGER NOT NULL, B INTEGER NOT NULL, C INTEGER NOT NULL)";
+
+const TWO_ROWS_OF_THREE: &[u8] = b"A,B,C\n1,-2,3\n4,5,6\n";
 
 // After a run of `SELECT C, A FROM T WHERE C < 9` over three columns of two rows: all columns, the descriptor, which tells of
 // the first and the third one, and the two result rows, whose cells are of the third and the first.
@@ -106,20 +105,6 @@ const NO_ROWS: [(u64, [u8; 8]); 10] = [
     (65_616, [0; 8]),
 ];
 
-// The memory of the columns and one page more, which tells of the first two of them.
-fn two_pages(alloc: Global, loaded: &Loaded) -> Result<Linear, NoMemory>
-    requires { AreIntegerKinds loaded.now.columns }
-{
-    let starts = column_starts(alloc, loaded.len(), &[0, 1])?;
-    let pages = pages_needed(loaded);
-    let mut memory = Linear::new(alloc, pages + 1)?;
-    place(loaded, &mut memory);
-    memory.grow(1).unwrap();
-    let rows = loaded.len() as u32;
-    begin_page(&mut memory, pages * PAGE as u32, starts.as_slice(), rows);
-    Ok(memory)
-}
-
 // The first address from which a memory has other octets than these.
 fn differs(memory: &Linear, octets: &[(u64, [u8; 8])]) -> Option<u64> {
     for (address, expected) in octets {
@@ -130,9 +115,9 @@ fn differs(memory: &Linear, octets: &[(u64, [u8; 8])]) -> Option<u64> {
     None
 }
 
-// The bench that a run over three columns of two rows leaves.
-fn left(alloc: Global, query: &[u8]) -> Result<Bench, Fail> {
-    let mut files = shelf(alloc, SCHEMA, b"A,B,C\n1,-2,3\n4,5,6\n", query)?;
+// The bench that a run over these files leaves.
+fn left(alloc: Global, schema: &[u8], table: &[u8], query: &[u8]) -> Result<Bench, Fail> {
+    let mut files = shelf(alloc, schema, table, query)?;
     let mut out = MemorySink::new(alloc, 4_096, Vec::new(alloc));
     let mut notes = MemorySink::new(alloc, 1, Vec::new(alloc));
     let words = words(alloc, &WORDS)?;
@@ -150,23 +135,29 @@ fn left(alloc: Global, query: &[u8]) -> Result<Bench, Fail> {
 
 #[test]
 fn octets_of_two_columns(rt: HostRuntime) -> Result<(), Fail> {
-    let table = wide(rt.alloc())?;
-    let loaded = loaded_integers(rt.alloc(), &table, FILE)?;
-    let memory = two_pages(rt.alloc(), &loaded)?;
-    assert_eq!(rt; memory.size(), 2);
-    assert_eq!(rt; differs(&memory, &OCTETS), None);
-    let loaded = loaded_integers(rt.alloc(), &table, b"A,B\n4,-1\n1,256\n")?;
-    let memory = two_pages(rt.alloc(), &loaded)?;
-    assert_eq!(rt; memory.size(), 2);
-    assert_eq!(rt; differs(&memory, &TWO_ROWS), None);
+    let alloc = rt.alloc();
+    let cases: [(&[u8], &[(u64, [u8; 8])]); 2] = [
+        (b"A,B\n4,-1\n1,256\n7,2\n", &OCTETS),
+        (b"A,B\n4,-1\n1,256\n", &TWO_ROWS),
+    ];
+    for (table, octets) in cases {
+        let bench = left(alloc, TWO_COLUMNS, table, NONE_OF_BOTH)?;
+        assert_eq!(rt; bench.memory().size(), 2);
+        assert_eq!(rt; differs(bench.memory(), octets), None);
+    }
     Ok(())
 }
 
 #[test]
 fn octets_after_runs(rt: HostRuntime) -> Result<(), Fail> {
-    let bench = left(rt.alloc(), b"SELECT C, A FROM T WHERE C < 9")?;
-    assert_eq!(rt; differs(bench.memory(), &OUT_OF_ORDER), None);
-    let bench = left(rt.alloc(), b"SELECT B FROM T WHERE B > 5")?;
-    assert_eq!(rt; differs(bench.memory(), &NO_ROWS), None);
+    let alloc = rt.alloc();
+    let cases: [(&[u8], &[(u64, [u8; 8])]); 2] = [
+        (b"SELECT C, A FROM T WHERE C < 9", &OUT_OF_ORDER),
+        (b"SELECT B FROM T WHERE B > 5", &NO_ROWS),
+    ];
+    for (query, octets) in cases {
+        let bench = left(alloc, THREE_COLUMNS, TWO_ROWS_OF_THREE, query)?;
+        assert_eq!(rt; differs(bench.memory(), octets), None);
+    }
     Ok(())
 }

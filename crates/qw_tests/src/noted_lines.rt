@@ -6,7 +6,7 @@ use qw_top::status::Status;
 use qw_top::stop::{FileName, Refusal, Stop};
 use std::test::Fail;
 
-fn refused<'a>(refusal: Refusal, line: Option<String>) -> Stop<'a> {
+fn refused<'a>(refusal: Refusal, line: String) -> Stop<'a> {
     Stop::Refused { refusal, line }
 }
 
@@ -16,21 +16,23 @@ fn lines(rt: HostRuntime) -> Result<(), Fail> {
     let made = String::from_str(alloc, "d/t.csv")?;
     let whole = String::from_str(alloc, "queries: too long\n")?;
     let cut = String::from_str(alloc, "queries: too long\n")?;
-    let cases: [(Stop<'_>, &[u64], Status, &[u8]); 8] = [
+    let pages = String::from_str(alloc, "total pages 65536\n")?;
+    let cases: [(Stop<'_>, &[u64], Status, &[u8]); 9] = [
+        (Stop::Words, &[0], Status::WordsRefused, b""),
         (
-            refused(Refusal::TableFile, None),
-            &[0],
-            Status::TableFileRefused,
-            b"",
+            refused(Refusal::TotalPages, pages),
+            &[],
+            Status::TotalPages,
+            b"total pages 65536\n",
         ),
         (
-            refused(Refusal::Queries, Some(whole)),
+            refused(Refusal::Queries, whole),
             &[],
             Status::QueriesRefused,
             b"queries: too long\n",
         ),
         (
-            refused(Refusal::Queries, Some(cut)),
+            refused(Refusal::Queries, cut),
             &[7],
             Status::WriteFailed,
             b"queries",

@@ -2,12 +2,12 @@
 
 ghost use Rattle.std.specs.Prelude.{◌≡◌, ◌≤◌, [], ◌∷◌, IfOk, true};
 ghost use Rattle.qw_types.specs.declared.value.Ty.TheVariants.{Integer};
-ghost use Rattle.qw_csv.specs.Contents.{AreIntegerKinds, AreIntegers};
+ghost use Rattle.qw_top.specs.Inner.Inputs.{IsIntegerAt};
 
 use qw_bench::bench::{Bench, BenchFault, Job, Limits};
-use qw_csv::Loaded;
-use qw_csv::loading::{LoadFault, load};
+use qw_csv::loading::load;
 use qw_emit::emit::module_of;
+use qw_emit::layout::layout_of;
 use qw_io::{MemoryShelf, NamedFile};
 use qw_linear::linear::MAX_PAGES;
 use qw_meaning::query::{Comparison, Query};
@@ -31,7 +31,7 @@ fn integer(alloc: Global, name: &str) -> Result<Column, AllocError>
 
 /// CREATE TABLE T ( A INTEGER NOT NULL )
 pub fn narrow(alloc: Global) -> Result<Table, AllocError>
-    ensures { IfOk result (λ t. AreIntegers t.columns) }
+    ensures { IfOk result (λ t. IsIntegerAt t.columns 0) }
 {
     let columns = vec![in alloc; integer(alloc, "A")?]?;
     Ok(Table {
@@ -42,7 +42,7 @@ pub fn narrow(alloc: Global) -> Result<Table, AllocError>
 
 /// CREATE TABLE T ( A INTEGER NOT NULL , B INTEGER NOT NULL )
 pub fn wide(alloc: Global) -> Result<Table, AllocError>
-    ensures { IfOk result (λ t. AreIntegers t.columns) }
+    ensures { IfOk result (λ t. IsIntegerAt t.columns 0) }
 {
     let columns = vec![in alloc; integer(alloc, "A")?, integer(alloc, "B")?]?;
     Ok(Table {
@@ -85,11 +85,20 @@ pub fn shelf(
     table: &[u8],
     query: &[u8],
 ) -> Result<MemoryShelf, AllocError> {
-    let files = vec![in alloc;
-        file(alloc, "s", schema)?,
-        file(alloc, "d/t.csv", table)?,
-        file(alloc, "q", query)?,
-    ]?;
+    shelf_of(alloc, schema, &[("d/t.csv", table)], query)
+}
+
+/// The same with the files of tables, each under its name.
+pub fn shelf_of(
+    alloc: Global,
+    schema: &[u8],
+    tables: &[(&str, &[u8])],
+    query: &[u8],
+) -> Result<MemoryShelf, AllocError> {
+    let mut files = vec![in alloc; file(alloc, "s", schema)?, file(alloc, "q", query)?]?;
+    for (name, table) in tables {
+        files.push(file(alloc, name, table)?)?;
+    }
     Ok(MemoryShelf::new(files, 7, Vec::new(alloc)))
 }
 
@@ -104,25 +113,17 @@ pub fn words(alloc: Global, texts: &[&str]) -> Result<Vec<String>, AllocError> {
 
 /// The statement that selects the first column where it compares so with the literal.
 pub fn asking(alloc: Global, comparison: Comparison, literal: i64) -> Result<Query, AllocError>
+    ensures table { IfOk result (λ query. query.table ≡ 0) }
     ensures columns { IfOk result (λ query. query.columns ≡ 0 ∷ []) }
     ensures tested { IfOk result (λ query. query.tested ≡ 0) }
 {
     let columns = vec![in alloc; 0]?;
-    Ok(Query::new(columns, 0, comparison, literal))
-}
-
-/// The file of a table of INTEGER NOT NULL columns, loaded.
-pub fn loaded_integers(alloc: Global, table: &Table, file: &[u8]) -> Result<Loaded, LoadFault>
-    requires { AreIntegers table.now.columns }
-    ensures { IfOk result (λ loaded. AreIntegerKinds loaded.columns) }
-{
-    let loaded = load(alloc, table, file)?;
-    Ok(loaded)
+    Ok(Query::new(0, columns, 0, comparison, literal))
 }
 
 /// A bench of `SELECT A FROM T WHERE A > 5` over a table's file, before its first turn.
 pub fn bench_of(alloc: Global, table: &Table, file: &[u8], limits: Limits) -> Result<Bench, Fail>
-    requires integers { AreIntegers table.now.columns }
+    requires integer { IsIntegerAt table.now.columns 0 }
     requires pages { (1 ≤ limits.pages) × (limits.pages ≤ MAX_PAGES) }
     requires steps { 1 ≤ limits.steps }
 {
@@ -136,16 +137,14 @@ pub fn bench_or_fault(
     file: &[u8],
     limits: Limits,
 ) -> Result<Result<Bench, BenchFault>, Fail>
-    requires integers { AreIntegers table.now.columns }
+    requires integer { IsIntegerAt table.now.columns 0 }
     requires pages { (1 ≤ limits.pages) × (limits.pages ≤ MAX_PAGES) }
     requires steps { 1 ≤ limits.steps }
 {
-    let loaded = loaded_integers(alloc, table, file)?;
-    if loaded.width() == 0 {
-        return Err("no column".into());
-    }
+    let loaded = load(alloc, table, file)?;
     let query = asking(alloc, Comparison::Greater, 5)?;
+    let layout = layout_of(alloc, &query)?;
     let valid = validate(alloc, module_of(alloc, &query)?)?;
-    let job = Job::new(query, valid);
-    Ok(Bench::new(alloc, &loaded, job, limits))
+    let jobs = vec![in alloc; Job::new(valid, layout)]?;
+    Ok(Bench::new(alloc, &[loaded], jobs, &[limits]))
 }

@@ -11,6 +11,7 @@ use std::test::Fail;
 mod file_limits;
 mod refused_texts;
 mod sizes;
+mod two_tables;
 
 const SCHEMA: &[u8] = b"CREATE TABLE T (A INTEGER NOT NULL);";
 
@@ -27,8 +28,15 @@ const WIDE_SCHEMA: &[u8] =
 
 const WIDE_TABLE: &[u8] = b"A,B,C\n1,20,-300\n2,-10,400\n3,30,500\n";
 
+// Two INTEGER columns, and beside them columns of the other types, which may be null.
+const MIXED_SCHEMA: &[u8] =
+    b"CREATE TABLE T (P DECIMAL(9,2), A INTEGER NOT NULL, D DATE, N VARCHAR(5), B INTEGER NOT NULL)";
+
+const MIXED_TABLE: &[u8] =
+    b"P,A,D,N,B\n1.50,4,2020-02-29,ab,1\n,7,,,-2\n-0.05,8,1999-12-31,\"a,b\",3\n";
+
 // A schema, a table, a query, the end of their run and its report.
-const RUNS: [(&[u8], &[u8], &[u8], Status, &[u8]); 22] = [
+const RUNS: [(&[u8], &[u8], &[u8], Status, &[u8]); 17] = [
     (SCHEMA, TABLE, QUERY, Status::Done, SEVEN),
     (
         b"create table t ( a integer not null )",
@@ -129,41 +137,12 @@ const RUNS: [(&[u8], &[u8], &[u8], Status, &[u8]); 22] = [
         Status::Done,
         b"QUERY 1 ROWS 1\nB,A,B\n-10,2,-10\n",
     ),
-    (SCHEMA, b"A\nx\n", QUERY, Status::TableFileRefused, b""),
     (
-        SCHEMA,
-        b"A\n2147483648\n",
-        b"no query",
-        Status::TableFileRefused,
-        b"",
-    ),
-    (
-        WIDE_SCHEMA,
-        b"A,B,C\n1,2\n",
-        QUERY,
-        Status::TableFileRefused,
-        b"",
-    ),
-    (
-        b"CREATE TABLE T (A INTEGER)",
-        b"x\n",
-        QUERY,
-        Status::SchemaRefused,
-        b"",
-    ),
-    (
-        b"CREATE TABLE T (A INTEGER NOT NULL, A INTEGER NOT NULL)",
-        TABLE,
-        QUERY,
-        Status::SchemaRefused,
-        b"",
-    ),
-    (
-        b"CREATE TABLE T (A INTEGER NOT NULL);;",
-        TABLE,
-        QUERY,
-        Status::SchemaRefused,
-        b"",
+        MIXED_SCHEMA,
+        MIXED_TABLE,
+        b"SELECT B, A FROM T WHERE A > 5",
+        Status::Done,
+        b"QUERY 1 ROWS 2\nB,A\n-2,7\n3,8\n",
     ),
 ];
 
@@ -181,7 +160,7 @@ fn run<F: Shelf, O: Sink>(
     Ok((status, kept))
 }
 
-// The end, the report and the bench of a run over these files, whose words are read. Nothing is noted.
+// The end, the report and the bench of a run over these files, whose words are read and which are accepted. Nothing is noted.
 fn report_of(
     alloc: Global,
     schema: &[u8],
@@ -204,7 +183,7 @@ fn files_and_their_reports(rt: HostRuntime) -> Result<(), Fail> {
         let (status, out, kept) = report_of(rt.alloc(), schema, table, query)?;
         assert_eq!(rt; status, end);
         assert_eq!(rt; out.bytes(), report);
-        assert_eq!(rt; kept.is_some(), end == Status::Done);
+        assert!(rt; kept.is_some());
     }
     Ok(())
 }
@@ -298,28 +277,48 @@ fn words_and_faults(rt: HostRuntime) -> Result<(), Fail> {
     Ok(())
 }
 
-// A file that is refused ends the run, whatever is wrong with the files behind it, and nothing is noted.
+// A file that is refused ends the run, whatever is wrong with the files behind it.
 #[test]
 fn the_first_refusal_ends_a_run(rt: HostRuntime) -> Result<(), Fail> {
     let alloc = rt.alloc();
-    let cases: [(&[u8], &[u8], [&str; 4], Status); 4] = [
-        (b"x", TABLE, ["run", "s", "d", "Q"], Status::SchemaRefused),
-        (b"x", TABLE, ["run", "s", "e", "q"], Status::SchemaRefused),
+    let cases: [(&[u8], &[u8], [&str; 4], Status, &[u8]); 4] = [
+        (
+            b"x",
+            TABLE,
+            ["run", "s", "d", "Q"],
+            Status::SchemaRefused,
+            b"schema: not grammar in statement 1\n",
+        ),
+        (
+            b"x",
+            TABLE,
+            ["run", "s", "e", "q"],
+            Status::SchemaRefused,
+            b"schema: not grammar in statement 1\n",
+        ),
         (
             SCHEMA,
             b"x",
             ["run", "s", "d", "Q"],
             Status::TableFileRefused,
+            b"T: bad header\n",
         ),
-        (b"x", b"x", ["run", "s", "d", "-"], Status::WordsRefused),
+        (
+            b"x",
+            b"x",
+            ["run", "s", "d", "-"],
+            Status::WordsRefused,
+            b"",
+        ),
     ];
-    for (schema, table, texts, end) in cases {
+    for (schema, table, texts, end, line) in cases {
         let mut files = shelf(alloc, schema, table, QUERY)?;
         let mut out = MemorySink::new(alloc, 1, Vec::new(alloc));
         let mut notes = MemorySink::new(alloc, 1, Vec::new(alloc));
         let (status, _) = run(alloc, &mut files, &texts, &mut out, &mut notes)?;
         assert_eq!(rt; status, end);
-        assert!(rt; out.bytes().is_empty() && notes.bytes().is_empty());
+        assert_eq!(rt; notes.bytes(), line);
+        assert!(rt; out.bytes().is_empty());
     }
     Ok(())
 }

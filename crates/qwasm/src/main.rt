@@ -64,11 +64,13 @@ fn end<F: Shelf, O: Sink, E: Sink>(
     ensures refused { IfErr words (λ error. error_kind error ≢ ErrorKind.OutOfMemory
         → (exit_status result ≡ 2) × (E.taken notes.new ≡ E.taken notes.old)) }
 {
-    let status = match words {
-        Ok(words) => qwasm(alloc, words.as_slice(), files, out, notes, &mut None),
-        Err(error) => end_without_words(&error, notes),
-    };
-    ExitCode::from(status.code())
+    match words {
+        Ok(words) => {
+            let status = qwasm(alloc, words.as_slice(), files, out, notes, &mut None);
+            ExitCode::from(status.code())
+        }
+        Err(error) => ExitCode::from(end_without_words(&error, notes).code()),
+    }
 }
 
 fn main(rt: HostRuntime) -> ExitCode {

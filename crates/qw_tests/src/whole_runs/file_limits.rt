@@ -1,7 +1,7 @@
 // Files of exactly their greatest length, and of one octet more.
 
 use super::refused_texts::noted_on;
-use super::{QUERY, SCHEMA, SEVEN, TABLE, report_of, run};
+use super::{QUERY, SCHEMA, SEVEN, TABLE, run};
 use crate::tables::{WORDS, shelf};
 use qw_io::{IoFault, MemoryShelf, MemorySink, Shelf};
 use qw_top::status::Status;
@@ -18,23 +18,23 @@ fn padded(alloc: Global, text: &[u8], octets: usize) -> Result<Vec<u8>, AllocErr
 #[test]
 fn texts_of_the_greatest_length(rt: HostRuntime) -> Result<(), Fail> {
     let alloc = rt.alloc();
-    let cases: [(usize, Status, Status, &[u8]); 2] = [
-        (1_048_576, Status::Done, Status::Done, b""),
+    let cases: [(usize, [Status; 2], [&[u8]; 2]); 2] = [
+        (1_048_576, [Status::Done, Status::Done], [b"", b""]),
         (
             1_048_577,
-            Status::SchemaRefused,
-            Status::QueriesRefused,
-            b"queries: too long\n",
+            [Status::SchemaRefused, Status::QueriesRefused],
+            [b"schema: too long\n", b"queries: too long\n"],
         ),
     ];
-    for (octets, with_schema, with_query, line) in cases {
+    for (octets, ends, lines) in cases {
         let schema = padded(alloc, SCHEMA, octets)?;
         let query = padded(alloc, QUERY, octets)?;
-        let (status, _, _) = report_of(alloc, schema.as_slice(), TABLE, QUERY)?;
-        assert_eq!(rt; status, with_schema);
-        let (status, notes) = noted_on(alloc, SCHEMA, query.as_slice())?;
-        assert_eq!(rt; status, with_query);
-        assert_eq!(rt; notes.bytes(), line);
+        let (status, notes) = noted_on(alloc, schema.as_slice(), TABLE, QUERY)?;
+        assert_eq!(rt; status, ends[0]);
+        assert_eq!(rt; notes.bytes(), lines[0]);
+        let (status, notes) = noted_on(alloc, SCHEMA, TABLE, query.as_slice())?;
+        assert_eq!(rt; status, ends[1]);
+        assert_eq!(rt; notes.bytes(), lines[1]);
     }
     Ok(())
 }
@@ -71,11 +71,11 @@ impl Shelf for LongTable {
 #[test]
 fn table_files_of_the_greatest_length(rt: HostRuntime) -> Result<(), Fail> {
     let alloc = rt.alloc();
-    let cases: [(u64, Status, &[u8]); 2] = [
-        (268_435_456, Status::Done, SEVEN),
-        (268_435_457, Status::TableFileRefused, b""),
+    let cases: [(u64, Status, &[u8], &[u8]); 2] = [
+        (268_435_456, Status::Done, SEVEN, b""),
+        (268_435_457, Status::TableFileRefused, b"", b"T: too long\n"),
     ];
-    for (octets, end, report) in cases {
+    for (octets, end, report, line) in cases {
         let mut files = LongTable {
             texts: shelf(alloc, SCHEMA, b"", QUERY)?,
             octets,
@@ -85,6 +85,7 @@ fn table_files_of_the_greatest_length(rt: HostRuntime) -> Result<(), Fail> {
         let (status, _) = run(alloc, &mut files, &WORDS, &mut out, &mut notes)?;
         assert_eq!(rt; status, end);
         assert_eq!(rt; out.bytes(), report);
+        assert_eq!(rt; notes.bytes(), line);
     }
     Ok(())
 }

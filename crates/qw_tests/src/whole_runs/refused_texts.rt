@@ -1,19 +1,20 @@
 // The lines on texts that are refused: one for each cause that a run meets.
 
-use super::{SCHEMA, TABLE, run};
-use crate::tables::{WORDS, shelf};
+use super::{QUERY, SCHEMA, TABLE, run};
+use crate::tables::{WORDS, file_of, shelf};
 use qw_io::MemorySink;
 use qw_top::status::Status;
 use std::alloc::Global;
 use std::test::Fail;
 
-// The end of a run over these texts and the table, and what was noted.
+// The end of a run over these files, and what was noted.
 pub(super) fn noted_on(
     alloc: Global,
     schema: &[u8],
+    table: &[u8],
     query: &[u8],
 ) -> Result<(Status, MemorySink), Fail> {
-    let mut files = shelf(alloc, schema, TABLE, query)?;
+    let mut files = shelf(alloc, schema, table, query)?;
     let mut out = MemorySink::new(alloc, 4_096, Vec::new(alloc));
     let mut notes = MemorySink::new(alloc, 5, Vec::new(alloc));
     let (status, _) = run(alloc, &mut files, &WORDS, &mut out, &mut notes)?;
@@ -64,10 +65,130 @@ const QUERIES: [(&[u8], &[u8]); 13] = [
 #[test]
 fn refused_queries_are_noted(rt: HostRuntime) -> Result<(), Fail> {
     for (query, line) in QUERIES {
-        let (status, notes) = noted_on(rt.alloc(), SCHEMA, query)?;
+        let (status, notes) = noted_on(rt.alloc(), SCHEMA, TABLE, query)?;
         assert_eq!(rt; status, Status::QueriesRefused);
         assert_eq!(rt; notes.bytes(), line);
     }
+    Ok(())
+}
+
+// A schema file, and the line on it.
+const SCHEMAS: [(&[u8], &[u8]); 9] = [
+    (b"CREATE TABLE T (A INTEGER\xFF", b"schema: not utf-8\n"),
+    (b"CREATE ?", b"schema: not a token at 7\n"),
+    (b"", b"schema: not grammar in statement 1\n"),
+    (
+        b"CREATE TABLE T (A INTEGER NOT NULL);;",
+        b"schema: not grammar in statement 2\n",
+    ),
+    (
+        b"CREATE TABLE T (A INTEGER); (((((((((((((((((((((((((((((((((",
+        b"schema: too deep in statement 2\n",
+    ),
+    (
+        b"CREATE TABLE T (A INTEGER NOT NULL, A INTEGER NOT NULL)",
+        b"schema: duplicate in statement 1\n",
+    ),
+    (
+        b"CREATE TABLE T (A INTEGER); CREATE TABLE t (B DATE); x",
+        b"schema: duplicate in statement 2\n",
+    ),
+    (
+        b"CREATE TABLE T (A VARCHAR(0))",
+        b"schema: bad size in statement 1\n",
+    ),
+    (
+        b"CREATE TABLE T (A DECIMAL(19,0))",
+        b"schema: bad size in statement 1\n",
+    ),
+];
+
+#[test]
+fn refused_schemas_are_noted(rt: HostRuntime) -> Result<(), Fail> {
+    for (schema, line) in SCHEMAS {
+        let (status, notes) = noted_on(rt.alloc(), schema, b"x", b"x")?;
+        assert_eq!(rt; status, Status::SchemaRefused);
+        assert_eq!(rt; notes.bytes(), line);
+    }
+    Ok(())
+}
+
+// A schema of one table more than are taken.
+#[test]
+fn many_tables_are_noted(rt: HostRuntime) -> Result<(), Fail> {
+    let alloc = rt.alloc();
+    let schema = file_of(alloc, b"", b"CREATE TABLE T (A INTEGER);", 33)?;
+    let (status, notes) = noted_on(alloc, schema.as_slice(), TABLE, QUERY)?;
+    assert_eq!(rt; status, Status::SchemaRefused);
+    assert_eq!(rt;
+        notes.bytes(),
+        b"schema: too many tables in statement 1, limit 32\n".as_slice()
+    );
+    Ok(())
+}
+
+// A schema, the file of its table, and the line on that.
+const TABLES: [(&[u8], &[u8], &[u8]); 12] = [
+    (SCHEMA, b"", b"T: bad header\n"),
+    (b"CREATE TABLE T (A INTEGER)", b"x\n", b"T: bad header\n"),
+    (SCHEMA, b"A\n7\n7,8\n", b"T record 2: field count\n"),
+    (
+        b"CREATE TABLE T (A INTEGER NOT NULL, B DATE)",
+        b"A,B\n1\n",
+        b"T record 1: field count\n",
+    ),
+    (
+        SCHEMA,
+        b"A\n\"\"\n",
+        b"T record 1 column A: null forbidden\n",
+    ),
+    (SCHEMA, b"A\nx\n", b"T record 1 column A: not a number\n"),
+    (
+        SCHEMA,
+        b"A\n7\n2147483648\nx\n",
+        b"T record 2 column A: too large\n",
+    ),
+    (SCHEMA, b"A\n7.5\n", b"T record 1 column A: too fine\n"),
+    (
+        b"CREATE TABLE T (A INTEGER NOT NULL, B DATE)",
+        b"A,B\n1,2020-02-30\n",
+        b"T record 1 column B: not a date\n",
+    ),
+    (
+        b"CREATE TABLE T (A VARCHAR(2))",
+        b"A\nabc\n",
+        b"T record 1 column A: text too long\n",
+    ),
+    (
+        b"CREATE TABLE T (A VARCHAR(2))",
+        b"A\n\xFF\n",
+        b"T record 1 column A: not utf-8\n",
+    ),
+    (
+        b"CREATE TABLE t (A VARCHAR(2), price DECIMAL(4,2))",
+        b"A,PRICE\nab,99.99\n,100\n",
+        b"T record 2 column PRICE: too large\n",
+    ),
+];
+
+#[test]
+fn refused_tables_are_noted(rt: HostRuntime) -> Result<(), Fail> {
+    for (schema, table, line) in TABLES {
+        let (status, notes) = noted_on(rt.alloc(), schema, table, b"x")?;
+        assert_eq!(rt; status, Status::TableFileRefused);
+        assert_eq!(rt; notes.bytes(), line);
+    }
+    Ok(())
+}
+
+// A table of one row more than are taken.
+#[test]
+fn many_rows_are_noted(rt: HostRuntime) -> Result<(), Fail> {
+    let alloc = rt.alloc();
+    let table = file_of(alloc, b"A\n", b"7\n", 1_000_001)?;
+    let (status, notes) = noted_on(alloc, SCHEMA, table.as_slice(), QUERY)?;
+    assert_eq!(rt; status, Status::TableFileRefused);
+    assert_eq!(rt; notes.bytes(), b"T: too many rows\n".as_slice());
     Ok(())
 }
 
@@ -80,7 +201,7 @@ fn a_long_select_list_is_noted(rt: HostRuntime) -> Result<(), Fail> {
         query.extend_from_slice(b", A")?;
     }
     query.extend_from_slice(b" FROM T WHERE A > 5")?;
-    let (status, notes) = noted_on(alloc, SCHEMA, query.as_slice())?;
+    let (status, notes) = noted_on(alloc, SCHEMA, TABLE, query.as_slice())?;
     assert_eq!(rt; status, Status::QueriesRefused);
     assert_eq!(rt;
         notes.bytes(),
