@@ -1,5 +1,5 @@
 -- The statement that tests ask of a table's first column.
-use Rattle.std.proofs.Common.{◌≡◌, ℕ, List, [], ◌∷◌}
+use Rattle.std.proofs.Common.{◌≡◌, [], ◌∷◌}
 use Rattle.qw_types.specs.declared.schema.Table.{Table}
 use Rattle.qw_meaning.specs.Statement.{Statement}
 use Rattle.qw_top.specs.Inner.Inputs.{IsIntegerAt, IsStatementOf}

@@ -146,5 +146,6 @@ pub fn bench_or_fault(
     let layout = layout_of(alloc, &query)?;
     let valid = validate(alloc, module_of(alloc, &query)?)?;
     let jobs = vec![in alloc; Job::new(valid, layout)]?;
-    Ok(Bench::new(alloc, &[loaded], jobs, &[limits]))
+    let tables = vec![in alloc; loaded]?;
+    Ok(Bench::new(alloc, tables.as_slice(), jobs, &[limits]))
 }

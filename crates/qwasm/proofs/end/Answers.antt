@@ -1,0 +1,14 @@
+use Rattle.std.proofs.Common.{◌∙◌}
+use Rattle.qwasm.proofs.end.Goals as goal
+
+-- What `qwasm` leaves is what the program leaves.
+pub returns-in-Ok-clause-run : goal.returns-in-Ok-clause-run
+returns-in-Ok-clause-run g c =
+    rw (c.in-Ok.is) (record {
+      status = c.qwasm-status.result;
+      number = c.from.ensures ∙ c.code.ensures;
+      explained = rw (← c.as_slice.ensures.value) c.qwasm-status.ensures.explained;
+      kept = c.qwasm-status.new.kept;
+      left = rw (← c.as_slice.ensures.value) c.qwasm-status.ensures.left;
+      noted = rw (← c.as_slice.ensures.value) c.qwasm-status.ensures.noted;
+    })
