@@ -277,45 +277,47 @@ fn words_and_faults(rt: HostRuntime) -> Result<(), Fail> {
     Ok(())
 }
 
+// A schema file, the file of T, the words, the end of the run, and what is noted.
+const REFUSALS: [(&[u8], &[u8], &[&str], Status, &[u8]); 4] = [
+    (
+        b"x",
+        TABLE,
+        &["run", "s", "d", "Q"],
+        Status::SchemaRefused,
+        b"schema: not grammar in statement 1\n",
+    ),
+    (
+        b"x",
+        TABLE,
+        &["run", "s", "e", "q"],
+        Status::SchemaRefused,
+        b"schema: not grammar in statement 1\n",
+    ),
+    (
+        SCHEMA,
+        b"x",
+        &["run", "s", "d", "Q"],
+        Status::TableFileRefused,
+        b"T: bad header\n",
+    ),
+    (
+        b"x",
+        b"x",
+        &["run", "s", "d", "-"],
+        Status::WordsRefused,
+        b"",
+    ),
+];
+
 // A file that is refused ends the run, whatever is wrong with the files behind it.
 #[test]
 fn the_first_refusal_ends_a_run(rt: HostRuntime) -> Result<(), Fail> {
     let alloc = rt.alloc();
-    let cases: [(&[u8], &[u8], [&str; 4], Status, &[u8]); 4] = [
-        (
-            b"x",
-            TABLE,
-            ["run", "s", "d", "Q"],
-            Status::SchemaRefused,
-            b"schema: not grammar in statement 1\n",
-        ),
-        (
-            b"x",
-            TABLE,
-            ["run", "s", "e", "q"],
-            Status::SchemaRefused,
-            b"schema: not grammar in statement 1\n",
-        ),
-        (
-            SCHEMA,
-            b"x",
-            ["run", "s", "d", "Q"],
-            Status::TableFileRefused,
-            b"T: bad header\n",
-        ),
-        (
-            b"x",
-            b"x",
-            ["run", "s", "d", "-"],
-            Status::WordsRefused,
-            b"",
-        ),
-    ];
-    for (schema, table, texts, end, line) in cases {
+    for (schema, table, texts, end, line) in REFUSALS {
         let mut files = shelf(alloc, schema, table, QUERY)?;
         let mut out = MemorySink::new(alloc, 1, Vec::new(alloc));
         let mut notes = MemorySink::new(alloc, 1, Vec::new(alloc));
-        let (status, _) = run(alloc, &mut files, &texts, &mut out, &mut notes)?;
+        let (status, _) = run(alloc, &mut files, texts, &mut out, &mut notes)?;
         assert_eq!(rt; status, end);
         assert_eq!(rt; notes.bytes(), line);
         assert!(rt; out.bytes().is_empty());
