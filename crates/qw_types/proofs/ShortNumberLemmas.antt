@@ -34,7 +34,7 @@ eight (a ∷ b ∷ c ∷ d ∷ e ∷ f ∷ g ∷ []) long = absurd (omega (arith
 eight (a ∷ b ∷ c ∷ d ∷ e ∷ f ∷ g ∷ h ∷ i ∷ xs) long = absurd (omega (arith, long))
 
 -- whether all eight pass a test
-eight_pass : (a b c d e f g h : Bool) → ((((a && b) && c) && d) && (((e && f) && g) && h)) ≡ (a && (b && (c && (d && (e && (f && (g && (h && true))))))))
+eight_pass : (a b c d e f g h : Bool) → (((((((a && b) && c) && d) && e) && f) && g) && h) ≡ (a && (b && (c && (d && (e && (f && (g && (h && true))))))))
 eight_pass false b c d e f g h = refl
 eight_pass true false c d e f g h = refl
 eight_pass true true false d e f g h = refl
@@ -48,9 +48,9 @@ eight_pass true true true true true true true false = refl
 digit_is : (c : ℕ) → is_ascii_digit c ≡ true → digit_value c + 48 ≡ c
 digit_is c is = grind (arith, nat_tests)
 
--- the number of eight digits, from the numbers of their octets one behind the other
+-- the number of eight digits, from the numbers of their octets, each by the power of ten of its place
 pub eight_value : (a b c d e f g h : ℕ) → list_all is_ascii_digit (a ∷ b ∷ c ∷ d ∷ e ∷ f ∷ g ∷ h ∷ []) ≡ true
-    → (((((((a * 10 + b) * 10 + c) * 10 + d) * 10 + e) * 10 + f) * 10 + g) * 10 + h) ≡ digits_value 10 (a ∷ b ∷ c ∷ d ∷ e ∷ f ∷ g ∷ h ∷ []) + 533333328
+    → (a * 10000000 + b * 1000000 + c * 100000 + d * 10000) + (e * 1000 + f * 100 + g * 10 + h) ≡ digits_value 10 (a ∷ b ∷ c ∷ d ∷ e ∷ f ∷ g ∷ h ∷ []) + 533333328
 eight_value a b c d e f g h all =
     let (da, rest_b) = and_parts (is_ascii_digit a) _ all in
     let (db, rest_c) = and_parts (is_ascii_digit b) _ rest_b in
@@ -63,24 +63,24 @@ eight_value a b c d e f g h all =
     omega (arith, digit_is a da, digit_is b db, digit_is c dc, digit_is d dd, digit_is e de, digit_is f df, digit_is g dg, digit_is h dh)
 
 -- the same of a list
-pub eight_counted : (xs : List ℕ) (four all : ℕ) → length xs ≡ 8 → list_all is_ascii_digit xs ≡ true
-    → four ≡ ((slice_index_or xs 0 0 * 10 + slice_index_or xs 1 0) * 10 + slice_index_or xs 2 0) * 10 + slice_index_or xs 3 0
-    → all ≡ (((four * 10 + slice_index_or xs 4 0) * 10 + slice_index_or xs 5 0) * 10 + slice_index_or xs 6 0) * 10 + slice_index_or xs 7 0
-    → all ≡ digits_value 10 xs + 533333328
-eight_counted xs four all long digits hf ha =
+pub eight_counted : (xs : List ℕ) (high low : ℕ) → length xs ≡ 8 → list_all is_ascii_digit xs ≡ true
+    → high ≡ slice_index_or xs 0 0 * 10000000 + slice_index_or xs 1 0 * 1000000 + slice_index_or xs 2 0 * 100000 + slice_index_or xs 3 0 * 10000
+    → low ≡ slice_index_or xs 4 0 * 1000 + slice_index_or xs 5 0 * 100 + slice_index_or xs 6 0 * 10 + slice_index_or xs 7 0
+    → high + low ≡ digits_value 10 xs + 533333328
+eight_counted xs high low long digits hf ha =
     let is = eight xs long in
     let value = eight_value (slice_index_or xs 0 0) (slice_index_or xs 1 0) (slice_index_or xs 2 0) (slice_index_or xs 3 0) (slice_index_or xs 4 0) (slice_index_or xs 5 0) (slice_index_or xs 6 0) (slice_index_or xs 7 0) (rw is at digits) in
     let same : digits_value 10 xs ≡ digits_value 10 (slice_index_or xs 0 0 ∷ slice_index_or xs 1 0 ∷ slice_index_or xs 2 0 ∷ slice_index_or xs 3 0 ∷ slice_index_or xs 4 0 ∷ slice_index_or xs 5 0 ∷ slice_index_or xs 6 0 ∷ slice_index_or xs 7 0 ∷ []) = ap (digits_value 10) is in
     omega (arith, hf, ha, value, same)
 
-pub eight_all : (xs : List ℕ) (first last : Bool) → length xs ≡ 8
-    → first ≡ (((is_ascii_digit (slice_index_or xs 0 0) && is_ascii_digit (slice_index_or xs 1 0)) && is_ascii_digit (slice_index_or xs 2 0)) && is_ascii_digit (slice_index_or xs 3 0))
-    → last ≡ (((is_ascii_digit (slice_index_or xs 4 0) && is_ascii_digit (slice_index_or xs 5 0)) && is_ascii_digit (slice_index_or xs 6 0)) && is_ascii_digit (slice_index_or xs 7 0))
-    → (first && last) ≡ list_all is_ascii_digit xs
-eight_all xs first last long hf hl =
+pub eight_all : (xs : List ℕ) (all : Bool) → length xs ≡ 8
+    → all ≡ (((((((is_ascii_digit (slice_index_or xs 0 0) && is_ascii_digit (slice_index_or xs 1 0)) && is_ascii_digit (slice_index_or xs 2 0)) && is_ascii_digit (slice_index_or xs 3 0))
+    && is_ascii_digit (slice_index_or xs 4 0)) && is_ascii_digit (slice_index_or xs 5 0)) && is_ascii_digit (slice_index_or xs 6 0)) && is_ascii_digit (slice_index_or xs 7 0))
+    → all ≡ list_all is_ascii_digit xs
+eight_all xs all long is =
     let pass = eight_pass (is_ascii_digit (slice_index_or xs 0 0)) (is_ascii_digit (slice_index_or xs 1 0)) (is_ascii_digit (slice_index_or xs 2 0)) (is_ascii_digit (slice_index_or xs 3 0))
     (is_ascii_digit (slice_index_or xs 4 0)) (is_ascii_digit (slice_index_or xs 5 0)) (is_ascii_digit (slice_index_or xs 6 0)) (is_ascii_digit (slice_index_or xs 7 0)) in
-    rw (hf, hl) (pass ∙ sym (ap (list_all is_ascii_digit) (eight xs long)))
+    is ∙ (pass ∙ sym (ap (list_all is_ascii_digit) (eight xs long)))
 
 -- one digit more
 pub digit_more : (octets : List ℕ) (i number next : ℕ) → i < length octets → is_ascii_digit (get_or octets i 0) ≡ true
@@ -229,3 +229,11 @@ pub integer_is : (bytes text : List ℕ) (m : ℕ) (negative : Bool) → text �
 integer_is bytes text m negative hu hn digits value some small =
     let (leading, after) = all_are_digits text digits in
     short_is ty.Integer bytes text m negative tt tt hu hn (rw leading some) (rw after refl) (rw after (omega arith)) (rw (leading, after, append-nil text) (omega (arith, value))) small
+
+-- digits alone begin with no minus sign
+pub unsigned : (text : List ℕ) → list_all is_ascii_digit text ≡ true → starts_with_minus text ≡ false
+unsigned [] digits = refl
+unsigned (c ∷ cs) digits = no_minus c (and_parts (is_ascii_digit c) (list_all is_ascii_digit cs) digits).0
+  where
+    no_minus : (c : ℕ) → is_ascii_digit c ≡ true → (c == 45) ≡ false
+    no_minus c is = grind (arith, nat_tests)

@@ -30,14 +30,14 @@ pub(crate) fn short_number(bytes: &[u8], ty: &Ty) -> Option<i64>
 }
 
 /// The INTEGER that a text of digits shows, a minus sign before them or none. None where it has another form, or shows no INTEGER.
+/// The sign is asked for only where there aren't digits alone.
 #[inline(always)]
 pub(crate) fn short_integer(bytes: &[u8]) -> Option<i32>
     ensures { IfSome result (IsNumberOf Integer bytes.now) }
 {
-    if begins_with_minus(bytes) {
+    let Some(number) = digits_alone(bytes) else {
         return negative_integer(bytes);
-    }
-    let number = digits_alone(bytes)?;
+    };
     if number > 2_147_483_647 {
         return None;
     }
@@ -45,10 +45,13 @@ pub(crate) fn short_integer(bytes: &[u8]) -> Option<i32>
 }
 
 /// The INTEGER that a minus sign and digits show. None where the text has another form, or shows no INTEGER.
+#[inline(always)]
 fn negative_integer(bytes: &[u8]) -> Option<i32>
-    requires { starts_with_minus bytes.now ≡ true }
     ensures { IfSome result (IsNumberOf Integer bytes.now) }
 {
+    if !begins_with_minus(bytes) {
+        return None;
+    }
     let magnitude = digits_alone(without_minus(bytes))?;
     if magnitude > 2_147_483_648 {
         return None;
@@ -66,7 +69,7 @@ fn digits_alone(text: &[u8]) -> Option<u64>
     if text.is_empty() || text.len() > 18 {
         return None;
     }
-    let first = eight_digits(text);
+    let first = first_digits(text)?;
     let mut number = first.number;
     for index in first.count..text.len() {
         let octet = text[index];
@@ -211,15 +214,32 @@ fn eight_digits(octets: &[u8]) -> Digits
     ensures within { result.count ≤ length octets.now }
     ensures few { result.count ≤ 8 }
 {
-    match octets.first_chunk::<8>() {
-        Some(eight) if are_digits(eight) => Digits {
-            number: number_of(eight),
-            count: 8,
-        },
-        _ => Digits {
+    match first_digits(octets) {
+        Some(first) => first,
+        None => Digits {
             number: 0,
             count: 0,
         },
+    }
+}
+
+/// The first eight octets of a text, or none of them where it has fewer. None where one of the eight is no digit.
+fn first_digits(octets: &[u8]) -> Option<Digits>
+    ensures digits { IfSome result (λ d. list_all is_ascii_digit (take d.count octets.now) ≡ true) }
+    ensures number { IfSome result (λ d. d.number ≡ digits_value 10 (take d.count octets.now)) }
+    ensures within { IfSome result (λ d. d.count ≤ length octets.now) }
+    ensures few { IfSome result (λ d. d.count ≤ 8) }
+{
+    match octets.first_chunk::<8>() {
+        Some(eight) if are_digits(eight) => Some(Digits {
+            number: number_of(eight),
+            count: 8,
+        }),
+        Some(_) => None,
+        None => Some(Digits {
+            number: 0,
+            count: 0,
+        }),
     }
 }
 
@@ -229,27 +249,37 @@ fn are_digits(octets: &[u8; 8]) -> bool
     ensures { result ≡ list_all is_ascii_digit octets.now }
 {
     let [a, b, c, d, e, f, g, h] = *octets;
-    let first = a.is_ascii_digit() & b.is_ascii_digit() & c.is_ascii_digit() & d.is_ascii_digit();
-    let last = e.is_ascii_digit() & f.is_ascii_digit() & g.is_ascii_digit() & h.is_ascii_digit();
-    first & last
+    a.is_ascii_digit()
+        & b.is_ascii_digit()
+        & c.is_ascii_digit()
+        & d.is_ascii_digit()
+        & e.is_ascii_digit()
+        & f.is_ascii_digit()
+        & g.is_ascii_digit()
+        & h.is_ascii_digit()
 }
 
-/// What eight digits count to. The octets count for the digits, and what each is above its digit is taken away at once, at the end.
+/// What eight digits count to. The octets count for the digits, each by the power of ten of its place, so that all can be counted at
+/// once; what each is above its digit is taken away at the end.
 fn number_of(octets: &[u8; 8]) -> u64
     requires eight { length octets.now ≡ 8 }
     requires digits { list_all is_ascii_digit octets.now ≡ true }
     ensures { result ≡ digits_value 10 octets.now }
 {
     let [a, b, c, d, e, f, g, h] = *octets;
-    let four = behind(behind(behind(u64::from(a), b), c), d);
-    let all = behind(behind(behind(behind(four, e), f), g), h);
-    all - 48 * 11_111_111
+    let high = scaled(a, 10_000_000)
+        + scaled(b, 1_000_000)
+        + scaled(c, 100_000)
+        + scaled(d, 10_000);
+    let low = scaled(e, 1_000) + scaled(f, 100) + scaled(g, 10) + scaled(h, 1);
+    let number = high + low - 48 * 11_111_111;
+    u64::from(number)
 }
 
-/// An octet's number behind the digits of another.
-fn behind(number: u64, octet: u8) -> u64
-    requires { number < 10 ^ 10 }
-    ensures { result ≡ number * 10 + octet }
+/// An octet's number times the power of ten of its place.
+fn scaled(octet: u8, place: u32) -> u32
+    requires { place ≤ 10000000 }
+    ensures { result ≡ octet * place }
 {
-    number * 10 + u64::from(octet)
+    u32::from(octet) * place
 }
