@@ -18,7 +18,7 @@ use Rattle.qw_token.specs.Token.{Lexeme}
 use Rattle.qw_ast.specs.declared.script.Sign.{Sign}
 use Rattle.qw_ast.specs.declared.script.Sign.TheVariants.{Plus, Minus}
 use Rattle.qw_ast.specs.Grammar.{folded, reserved}
-use Rattle.qw_ast.specs.Syntax.{Days, Expression, null, number, text, date, column, signed, arithmetic, extract, searched_case, simple_case, coalesce, null_if, Condition, comparison, between, among, is_null, both, either, negation_of, is, Clause, condition, expression, Expressions, last, further, Branching, otherwise, when, SelectItem, Selected, all_columns, items, Select}
+use Rattle.qw_ast.specs.Syntax.{Days, Expression, null, number, text, date, column, signed, arithmetic, extract, searched_case, simple_case, coalesce, null_if, Condition, comparison, between, among, is_null, both, either, negation_of, is, bracketed, Clause, condition, expression, Expressions, last, further, Branching, otherwise, when, SelectItem, Selected, all_columns, items, Select}
 
 -- ---- tokens (5.2, 5.4)
 
@@ -261,7 +261,7 @@ pub data IsPredicate (Inner : Clause → List Lexeme → List Lexeme → Type 0)
 -- a boolean primary (8.12): a predicate, or a condition in brackets
 pub data IsBooleanPrimary (Inner : Clause → List Lexeme → List Lexeme → Type 0) : Condition → List Lexeme → List Lexeme → Type 0 where
   predicate : (c : Condition) (ts rest : List Lexeme) → IsPredicate Inner c ts rest → IsBooleanPrimary Inner c ts rest
-  condition_brackets : (c : Condition) (opening closing : Lexeme) (ts rest : List Lexeme) → IsTrue (is_symbol (codes "(") opening) → Inner (condition c) ts (closing ∷ rest) → IsTrue (is_symbol (codes ")") closing) → IsBooleanPrimary Inner c (opening ∷ ts) rest
+  condition_brackets : (c : Condition) (opening closing : Lexeme) (ts rest : List Lexeme) → IsTrue (is_symbol (codes "(") opening) → Inner (condition c) ts (closing ∷ rest) → IsTrue (is_symbol (codes ")") closing) → IsBooleanPrimary Inner (bracketed c) (opening ∷ ts) rest
 
 -- a boolean test (8.12)
 pub data IsBooleanTest (Inner : Clause → List Lexeme → List Lexeme → Type 0) : Condition → List Lexeme → List Lexeme → Type 0 where

@@ -43,6 +43,8 @@ mutual
     either : Condition → Condition → Condition
     negation_of : Condition → Condition
     is : Bool → Condition → Truth → Condition
+    -- a condition in brackets: they tell which conjuncts a condition has
+    bracketed : Condition → Condition
 
   -- one of the two
   pub data Clause : Type 0 where

@@ -13,8 +13,8 @@ use Rattle.qw_ast.specs.declared.script.SelectList.TheVariants.{All, Items}
 use Rattle.qw_ast.specs.declared.script.Statement.{Statement}
 use Rattle.qw_ast.specs.declared.script.Script.{Script}
 use Rattle.qw_ast.specs.declared.script.Expr.TheVariants.{Null, Number, Text, Date, Column, Signed', Arithmetic', Extract', Case', Match', Coalesce', NullIf'}
-use Rattle.qw_ast.specs.declared.script.Cond.TheVariants.{Compare', Between', In', IsNull', And', Or', Not', Is'}
-use Rattle.qw_ast.specs.Syntax.{Days, Expression, null, number, text, date, column, signed, arithmetic, extract, searched_case, simple_case, coalesce, null_if, Condition, comparison, between, among, is_null, both, either, negation_of, is, Clause, condition, expression, Expressions, last, further, Branching, otherwise, when, SelectItem, Selected, all_columns, items, Select}
+use Rattle.qw_ast.specs.declared.script.Cond.TheVariants.{Compare', Between', In', IsNull', And', Or', Not', Is', Bracketed'}
+use Rattle.qw_ast.specs.Syntax.{Days, Expression, null, number, text, date, column, signed, arithmetic, extract, searched_case, simple_case, coalesce, null_if, Condition, comparison, between, among, is_null, both, either, negation_of, is, bracketed, Clause, condition, expression, Expressions, last, further, Branching, otherwise, when, SelectItem, Selected, all_columns, items, Select}
 
 -- octets that may be there
 abbrev pub octets_of : Option (Bor (List ℕ)) → Option (List ℕ)
@@ -47,6 +47,7 @@ abbrev mutual
   condition_of (Or' _ c _ d) = either (condition_of c) (condition_of d)
   condition_of (Not' _ c) = negation_of (condition_of c)
   condition_of (Is' negated _ c t) = is negated (condition_of c) t
+  condition_of (Bracketed' _ c) = bracketed (condition_of c)
 
   pub clause_of : Phrase → Clause
   clause_of (Phrase.Condition c) = condition (condition_of c)

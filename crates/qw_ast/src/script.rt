@@ -68,6 +68,8 @@ pub enum Cond<'a> {
     Not(Box<Cond<'a>>),
     /// `operand IS [NOT] truth`.
     Is(bool, Box<Cond<'a>>, Truth),
+    /// `(condition)`.
+    Bracketed(Box<Cond<'a>>),
 }
 
 /// A condition or an expression.

@@ -8,13 +8,13 @@ use Rattle.qw_token.specs.Token.{Lexeme}
 use Rattle.qw_token.specs.declared.token.Kind.TheVariants.{Word}
 use Rattle.qw_meaning.specs.declared.query.Comparison.{Comparison}
 use Rattle.qw_ast.specs.Grammar.{folded}
-use Rattle.qw_ast.specs.Syntax.{Expression, Condition, comparison, between, among, is_null, both, either, negation_of, is, Clause, condition, expression}
+use Rattle.qw_ast.specs.Syntax.{Expression, Condition, comparison, between, among, is_null, both, either, negation_of, is, bracketed, Clause, condition, expression}
 use Rattle.qw_ast.specs.ScriptGrammar.{is_word, is_symbol, comparison_of, truth_of, first, IsOperator, operator, AreFurther, IsExpressionOf, arguments, IsOptionalNot, not_absent, not_there, IsValueExpression, IsPredicate, a_comparison, a_between, an_in, a_null_test, IsBooleanPrimary, predicate, condition_brackets, IsBooleanTest, no_test, a_test, IsBooleanFactor, no_negation, a_negation, is_and, is_or, IsBooleanTerm, IsSearchCondition, IsClause, IsNested}
 use Rattle.qw_script.specs.Inner.Readers.{token_at, word_at, symbol_at, further_at, not_at, expression_at, condition_at, the_expression, the_condition, sum_at, between_at, in_at, compare_at, null_test_at, condition_clause, ranged_at, tail_at, predicate_at, truth_test_at, test_at, boolean_factor_at, join_and, join_or, boolean_term_at, clause_at, nested_at}
 use Rattle.qw_script.proofs.LoopLemmas.{bind_some, some_same, cases_option}
 use Rattle.qw_script.proofs.TokenLemmas.{word_is, Front, front, one_takes, one_is, one_not, Found, found, token_takes, token_is, strength, Stops, stops_at, stops_weaker, stops_one, stops_token, strong_symbol, strong_word}
 use Rattle.qw_script.proofs.ExactLemmas.{Starts, starts_at, Exact, no_comma, further_takes, further_is, further_stops, other_word, not_takes, not_is, not_shorter}
-use Rattle.qw_script.proofs.PrimaryLemmas.{the_expression_is, Of, IsBracketed, bracketed, expression_takes, expression_is, expression_exact, closing_ends, further_down}
+use Rattle.qw_script.proofs.PrimaryLemmas.{the_expression_is, Of, IsBracketed, between_brackets, expression_takes, expression_is, expression_exact, closing_ends, further_down}
 use Rattle.qw_script.proofs.SumLemmas.{sum_exact, expression_no_not, bracketed_no_not}
 use Rattle.qw_script.proofs.RankLemmas.{rank_exact}
 
@@ -220,7 +220,7 @@ module _ (Inner : Clause → List Lexeme → List Lexeme → Type 0) (inner : Li
   -- ---- a predicate, or an expression alone
 
   primary_of_condition : (c : Condition) (ts rest : List Lexeme) → IsBracketed Inner c ts rest → IsBooleanPrimary Inner c ts rest
-  primary_of_condition _ _ _ (bracketed c o k ts rest f h g) = condition_brackets c o k ts rest f h g
+  primary_of_condition _ _ _ (between_brackets c o k ts rest f h g) = condition_brackets c o k ts rest f h g
 
   to_primary : (c : Clause) (ts rest : List Lexeme) → Of (IsValueExpression Inner) (IsPredicate Inner) c ts rest → Of (IsValueExpression Inner) (IsBooleanPrimary Inner) c ts rest
   to_primary (expression e) ts rest h = h
@@ -307,7 +307,7 @@ module _ (Inner : Clause → List Lexeme → List Lexeme → Type 0) (inner : Li
 
   primary_is : (c : Condition) (ts rest : List Lexeme) → IsBooleanPrimary Inner c ts rest → Stops 5 rest → predicate_at inner ts ≡ Some (condition c, rest)
   primary_is _ _ _ (predicate c ts rest h) ends = predicate_is c ts rest h ends
-  primary_is _ _ _ (condition_brackets c o k ts rest f h g) ends = brackets_is c (o ∷ ts) rest (bracketed c o k ts rest f h g) ends
+  primary_is _ _ _ (condition_brackets c o k ts rest f h g) ends = brackets_is (bracketed c) (o ∷ ts) rest (between_brackets c o k ts rest f h g) ends
 
   tail_alone : (x : Expression) (ts : List Lexeme) → Stops 3 ts → tail_at inner x ts ≡ Some (expression x, ts)
   unfolding tail_at ranged_at
@@ -351,14 +351,14 @@ module _ (Inner : Clause → List Lexeme → List Lexeme → Type 0) (inner : Li
   primary_begins _ _ _ (predicate _ _ _ (a_between x a b negated word t ts us vs ws rest h n f i g j)) = sum_begins x ts us h
   primary_begins _ _ _ (predicate _ _ _ (an_in x e es negated word o c ts us vs ws rest h n f g i j k)) = sum_begins x ts us h
   primary_begins _ _ _ (predicate _ _ _ (a_null_test x negated w v ts us rest h f n g)) = sum_begins x ts (w ∷ us) h
-  primary_begins _ _ _ (condition_brackets c o k ts rest f h g) = (sum_exact Inner inner reads).begins (condition c) (o ∷ ts) rest (bracketed c o k ts rest f h g)
+  primary_begins _ _ _ (condition_brackets c o k ts rest f h g) = (sum_exact Inner inner reads).begins (condition (bracketed c)) (o ∷ ts) rest (between_brackets c o k ts rest f h g)
 
   primary_no_not : (c : Condition) (ts rest : List Lexeme) → IsBooleanPrimary Inner c ts rest → word_at (codes "NOT") ts ≡ None
   primary_no_not _ _ _ (predicate _ _ _ (a_comparison a b op t ts us rest h f i)) = expression_no_not Inner inner reads a ts (t ∷ us) h
   primary_no_not _ _ _ (predicate _ _ _ (a_between x a b negated word t ts us vs ws rest h n f i g j)) = expression_no_not Inner inner reads x ts us h
   primary_no_not _ _ _ (predicate _ _ _ (an_in x e es negated word o c ts us vs ws rest h n f g i j k)) = expression_no_not Inner inner reads x ts us h
   primary_no_not _ _ _ (predicate _ _ _ (a_null_test x negated w v ts us rest h f n g)) = expression_no_not Inner inner reads x ts (w ∷ us) h
-  primary_no_not _ _ _ (condition_brackets c o k ts rest f h g) = bracketed_no_not Inner inner reads c (o ∷ ts) rest (bracketed c o k ts rest f h g)
+  primary_no_not _ _ _ (condition_brackets c o k ts rest f h g) = bracketed_no_not Inner inner reads (bracketed c) (o ∷ ts) rest (between_brackets c o k ts rest f h g)
 
   -- ---- a test
 

@@ -7,7 +7,7 @@ use Rattle.qw_token.specs.declared.token.Kind.{Kind}
 use Rattle.qw_token.specs.declared.token.Kind.TheVariants.{Word, DelimitedIdentifier, CharacterString, Number, Symbol}
 use Rattle.qw_meaning.specs.declared.expression.Field.{Field}
 use Rattle.qw_ast.specs.Grammar.{folded}
-use Rattle.qw_ast.specs.Syntax.{Expression, null, extract, searched_case, simple_case, coalesce, null_if, Condition, Clause, condition, expression}
+use Rattle.qw_ast.specs.Syntax.{Expression, null, extract, searched_case, simple_case, coalesce, null_if, Condition, bracketed, Clause, condition, expression}
 use Rattle.qw_ast.specs.ScriptGrammar.{is_word_kind, is_string_kind, is_number_kind, is_symbol_kind, is_word, is_symbol, is_number, is_string, is_name, field_of, is_when, is_condition, IsOperator, operator, AreFurther, IsResult, null_result, result, Branch, IsBranch, branch, AreBranches, IsElse, no_else, else_result, IsExpressionOf, arguments, branching, IsPrimary, a_searched_case, a_simple_case, a_coalesce, a_null_if, an_extract}
 use Rattle.qw_script.specs.Inner.Readers.{token_at, one_at, word_at, symbol_at, further_at, expression_at, the_expression, result_at, same, branch_at, branches_at, else_at, case_operand_at, is_absent, case_with, case_at, coalesce_of, coalesce_at, null_if_at, extract_at, as_clause}
 use Rattle.qw_script.proofs.LoopLemmas.{bind_some, some_same, cases_option}
@@ -122,7 +122,7 @@ Of E C (condition c) ts rest = C c ts rest
 
 -- a condition in brackets
 pub data IsBracketed (Inner : Clause → List Lexeme → List Lexeme → Type 0) : Condition → List Lexeme → List Lexeme → Type 0 where
-  bracketed : (c : Condition) (opening closing : Lexeme) (ts rest : List Lexeme) → IsTrue (is_symbol (codes "(") opening) → Inner (condition c) ts (closing ∷ rest) → IsTrue (is_symbol (codes ")") closing) → IsBracketed Inner c (opening ∷ ts) rest
+  between_brackets : (c : Condition) (opening closing : Lexeme) (ts rest : List Lexeme) → IsTrue (is_symbol (codes "(") opening) → Inner (condition c) ts (closing ∷ rest) → IsTrue (is_symbol (codes ")") closing) → IsBracketed Inner (bracketed c) (opening ∷ ts) rest
 
 -- what stops a primary: no point, and what stops a date
 pub record EndsPrimary (ts : List Lexeme) : Type 0 where

@@ -9,12 +9,12 @@ use Rattle.qw_ast.specs.declared.script.Sign.{Sign}
 use Rattle.qw_ast.specs.Grammar.{folded}
 use Rattle.qw_ast.specs.Syntax.{Expression, number, text, date, column, signed, arithmetic, Condition, Clause, condition, expression}
 use Rattle.qw_ast.specs.ScriptGrammar.{is_word, is_symbol, is_number, is_string, is_name, sign_of, addition_of, multiplication_of, Series, first, IsOperator, operator, Dated, IsPrimary, a_number, a_string, a_date, a_column, a_qualified_column, brackets, a_searched_case, a_simple_case, a_coalesce, a_null_if, an_extract, IsFactor, unsigned_factor, signed_factor, IsTerm, IsValueExpression}
-use Rattle.qw_script.specs.Inner.Readers.{◌>>=◌, token_at, word_at, symbol_at, octets_if, the_expression, case_at, coalesce_at, null_if_at, extract_at, brackets_at, column_at, date_at, as_clause, primary_of, primary_at, interval_sign_at, factor_at, join_arithmetic, term_at, sum_at}
+use Rattle.qw_script.specs.Inner.Readers.{◌>>=◌, token_at, word_at, symbol_at, octets_if, the_expression, case_at, coalesce_at, null_if_at, extract_at, brackets_at, column_at, date_at, as_clause, in_brackets, primary_of, primary_at, interval_sign_at, factor_at, join_arithmetic, term_at, sum_at}
 use Rattle.qw_script.proofs.LoopLemmas.{bind_some, some_same, cases_option, series_begins}
 use Rattle.qw_script.proofs.TokenLemmas.{word_is, symbol_is, Front, front, one_takes, one_is, one_not, Found, found, token_takes, token_is, token_not, octets_found, octets_are, choose, strength, Stops, stops_at, stops_weaker, stops_one, stops_token, strong_symbol}
 use Rattle.qw_script.proofs.RankLemmas.{rank_exact}
 use Rattle.qw_script.proofs.ExactLemmas.{starts, Starts, starts_at, starts_not, Exact, other_word, date_takes, date_is, date_shorter, date_begins}
-use Rattle.qw_script.proofs.PrimaryLemmas.{the_expression_is, string_no_number, name_kind, name_no_symbol, name_no_word, number_no_symbol, string_no_symbol, number_no_word, string_no_word, Of, IsBracketed, bracketed, EndsPrimary, as_clause_some, as_clause_is, case_takes, searched_is, simple_is, coalesce_takes, coalesce_is, null_if_takes, null_if_is, extract_takes, extract_is, closing_ends, branches_shorter, else_shorter, further_down}
+use Rattle.qw_script.proofs.PrimaryLemmas.{the_expression_is, string_no_number, name_kind, name_no_symbol, name_no_word, number_no_symbol, string_no_symbol, number_no_word, string_no_word, Of, IsBracketed, between_brackets, EndsPrimary, as_clause_some, as_clause_is, case_takes, searched_is, simple_is, coalesce_takes, coalesce_is, null_if_takes, null_if_is, extract_takes, extract_is, closing_ends, branches_shorter, else_shorter, further_down}
 
 -- ---- what the operators are
 
@@ -104,19 +104,19 @@ stops_factor n ts le h = record {
 module _ (Inner : Clause → List Lexeme → List Lexeme → Type 0) (inner : List Lexeme → Option (Clause × List Lexeme)) (reads : Exact Inner (Stops 1) inner) where
   -- ---- brackets and columns
 
-  brackets_made : (c : Clause) (t : Lexeme) (ts us rest : List Lexeme) → IsTrue (is_symbol (codes "(") t) → Inner c ts us → Front (is_symbol (codes ")")) us rest → Of (IsPrimary Inner) (IsBracketed Inner) c (t ∷ ts) rest
+  brackets_made : (c : Clause) (t : Lexeme) (ts us rest : List Lexeme) → IsTrue (is_symbol (codes "(") t) → Inner c ts us → Front (is_symbol (codes ")")) us rest → Of (IsPrimary Inner) (IsBracketed Inner) (in_brackets c) (t ∷ ts) rest
   brackets_made (expression e) t ts _ rest f h (front c _ g) = brackets e t c ts rest f h g
-  brackets_made (condition d) t ts _ rest f h (front c _ g) = bracketed d t c ts rest f h g
+  brackets_made (condition d) t ts _ rest f h (front c _ g) = between_brackets d t c ts rest f h g
 
   brackets_takes : (t : Lexeme) → IsTrue (is_symbol (codes "(") t) → (ts : List Lexeme) (x : Clause × List Lexeme) → brackets_at inner ts ≡ Some x → Of (IsPrimary Inner) (IsBracketed Inner) x.0 (t ∷ ts) x.1
   unfolding brackets_at
   brackets_takes t f ts x e =
       let c = bind_some (inner ts) _ x e in
       let rest = bind_some (symbol_at (codes ")") c.0.1) _ x c.2 in
-      subst (λ (y : Clause × List Lexeme). Of (IsPrimary Inner) (IsBracketed Inner) y.0 (t ∷ ts) y.1) (some_same (c.0.0, rest.0) x rest.2)
+      subst (λ (y : Clause × List Lexeme). Of (IsPrimary Inner) (IsBracketed Inner) y.0 (t ∷ ts) y.1) (some_same (in_brackets c.0.0, rest.0) x rest.2)
       (brackets_made c.0.0 t ts c.0.1 rest.0 f (reads.takes ts c.0 c.1) (one_takes (is_symbol (codes ")")) c.0.1 rest.0 rest.1))
 
-  brackets_are : (c : Clause) (closing : Lexeme) (ts rest : List Lexeme) → Inner c ts (closing ∷ rest) → IsTrue (is_symbol (codes ")") closing) → brackets_at inner ts ≡ Some (c, rest)
+  brackets_are : (c : Clause) (closing : Lexeme) (ts rest : List Lexeme) → Inner c ts (closing ∷ rest) → IsTrue (is_symbol (codes ")") closing) → brackets_at inner ts ≡ Some (in_brackets c, rest)
   unfolding brackets_at
   brackets_are c closing ts rest h g = rw (reads.is c ts (closing ∷ rest) h (closing_ends Inner inner reads closing rest g), one_is (is_symbol (codes ")")) closing rest g) refl
 
@@ -243,7 +243,7 @@ module _ (Inner : Clause → List Lexeme → List Lexeme → Type 0) (inner : Li
 
   pub bracketed_is : (c : Condition) (ts rest : List Lexeme) → IsBracketed Inner c ts rest → primary_at inner ts ≡ Some (condition c, rest)
   unfolding primary_at
-  bracketed_is _ _ _ (bracketed c opening closing ts rest f h g) = let is = symbol_is (codes "(") opening f in rw (is.0, is.1) (brackets_are (condition c) closing ts rest h g)
+  bracketed_is _ _ _ (between_brackets c opening closing ts rest f h g) = let is = symbol_is (codes "(") opening f in rw (is.0, is.1) (brackets_are (condition c) closing ts rest h g)
 
   clause_is : (c : Clause) (ts rest : List Lexeme) → Of (IsPrimary Inner) (IsBracketed Inner) c ts rest → EndsPrimary rest → primary_at inner ts ≡ Some (c, rest)
   clause_is (expression e) ts rest h ends = primary_is e ts rest h ends
@@ -301,10 +301,10 @@ module _ (Inner : Clause → List Lexeme → List Lexeme → Type 0) (inner : Li
   primary_begins _ _ _ (an_extract field e t o n m c ts rest w f g h i k) = word_starts (codes "EXTRACT") t (o ∷ n ∷ m ∷ ts) refl refl w
 
   bracketed_shorter : (c : Condition) (ts rest : List Lexeme) → IsBracketed Inner c ts rest → length rest < length ts
-  bracketed_shorter _ _ _ (bracketed c opening closing ts rest f h g) = let s = reads.shorter (condition c) ts (closing ∷ rest) h in omega (arith, s)
+  bracketed_shorter _ _ _ (between_brackets c opening closing ts rest f h g) = let s = reads.shorter (condition c) ts (closing ∷ rest) h in omega (arith, s)
 
   bracketed_begins : (c : Condition) (ts rest : List Lexeme) → IsBracketed Inner c ts rest → Starts ts
-  bracketed_begins _ _ _ (bracketed c opening closing ts rest f h g) = symbol_starts (codes "(") opening ts refl f
+  bracketed_begins _ _ _ (between_brackets c opening closing ts rest f h g) = symbol_starts (codes "(") opening ts refl f
 
   -- ---- a factor
 
@@ -334,7 +334,7 @@ module _ (Inner : Clause → List Lexeme → List Lexeme → Type 0) (inner : Li
   primary_no_sign _ _ _ (an_extract field e t o n m c ts rest w f g h i k) = no_sign_word (codes "EXTRACT") t (o ∷ n ∷ m ∷ ts) w
 
   bracketed_no_sign : (c : Condition) (ts rest : List Lexeme) → IsBracketed Inner c ts rest → token_at sign_of ts ≡ None
-  bracketed_no_sign _ _ _ (bracketed c opening closing ts rest f h g) = let is = symbol_is (codes "(") opening f in no_sign_of opening ts (rw (is.0, is.1) refl) (rw (is.0, is.1) refl)
+  bracketed_no_sign _ _ _ (between_brackets c opening closing ts rest f h g) = let is = symbol_is (codes "(") opening f in no_sign_of opening ts (rw (is.0, is.1) refl) (rw (is.0, is.1) refl)
 
   signed_made : (s : Sign) (c : Clause) (e : Expression) (ts us rest : List Lexeme) → Found sign_of s ts us → Of (IsPrimary Inner) (IsBracketed Inner) c us rest → c ≡ expression e → IsFactor Inner (signed s e) ts rest
   signed_made _ c e _ us rest (found s t _ f) h same = signed_factor s e t us rest f (subst (λ y. Of (IsPrimary Inner) (IsBracketed Inner) y us rest) same h)
@@ -431,7 +431,7 @@ module _ (Inner : Clause → List Lexeme → List Lexeme → Type 0) (inner : Li
       series_begins (λ us. word_at (codes "NOT") us ≡ None) (λ a us vs f. series_begins (λ us. word_at (codes "NOT") us ≡ None) factor_no_not a us vs f) e ts rest h
 
   pub bracketed_no_not : (c : Condition) (ts rest : List Lexeme) → IsBracketed Inner c ts rest → word_at (codes "NOT") ts ≡ None
-  bracketed_no_not _ _ _ (bracketed c opening closing ts rest f h g) = no_not_of opening ts (no_not_symbol (codes "(") opening f)
+  bracketed_no_not _ _ _ (between_brackets c opening closing ts rest f h g) = no_not_of opening ts (no_not_symbol (codes "(") opening f)
 
 -- ---- terms and sums
 

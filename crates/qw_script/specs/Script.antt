@@ -5,7 +5,7 @@ use Rattle.qw_types.specs.Octets.{single_quote}
 use Rattle.qw_token.specs.Token.{Lexeme, AreTokens, StopsAt}
 use Rattle.qw_ast.specs.SchemaGrammar.{IsTooDeep, statements}
 use Rattle.qw_ast.specs.ScriptGrammar.{IsSelectOf}
-use Rattle.qw_ast.specs.Syntax.{Expression, null, number, text, date, column, signed, arithmetic, extract, searched_case, simple_case, coalesce, null_if, Condition, comparison, between, among, is_null, both, either, negation_of, is, Clause, condition, expression, Expressions, last, further, Branching, otherwise, when, SelectItem, Selected, all_columns, items, Select}
+use Rattle.qw_ast.specs.Syntax.{Expression, null, number, text, date, column, signed, arithmetic, extract, searched_case, simple_case, coalesce, null_if, Condition, comparison, between, among, is_null, both, either, negation_of, is, bracketed, Clause, condition, expression, Expressions, last, further, Branching, otherwise, when, SelectItem, Selected, all_columns, items, Select}
 use Rattle.qw_script.specs.declared.fault.Count.TheVariants.{Statements, SelectItems, Nodes, LiteralOctets}
 use Rattle.qw_script.specs.declared.fault.ParseFault.{ParseFault}
 use Rattle.qw_script.specs.declared.fault.ParseFault.TheVariants.{NotUtf8, NotToken, NotGrammar, TooDeep, TooMany}
@@ -23,7 +23,7 @@ abbrev pub string_value : List ℕ → List ℕ
 string_value octets = undoubled (take (length octets - 2) (drop 1 octets))
 
 -- Nodes: each literal, column reference, operator, predicate, function and CASE. A date with its intervals is one literal; the word
--- NULL as a result is none.
+-- NULL as a result is none, and brackets are none.
 abbrev mutual
   pub nodes : Expression → ℕ
   nodes null = 0
@@ -48,6 +48,7 @@ abbrev mutual
   nodes_condition (either c d) = 1 + (nodes_condition c + nodes_condition d)
   nodes_condition (negation_of c) = 1 + nodes_condition c
   nodes_condition (is negated c truth) = 1 + nodes_condition c
+  nodes_condition (bracketed c) = nodes_condition c
 
   pub nodes_clause : Clause → ℕ
   nodes_clause (condition c) = nodes_condition c
@@ -86,6 +87,7 @@ abbrev mutual
   octets_condition (either c d) = octets_condition c + octets_condition d
   octets_condition (negation_of c) = octets_condition c
   octets_condition (is negated c truth) = octets_condition c
+  octets_condition (bracketed c) = octets_condition c
 
   pub octets_clause : Clause → ℕ
   octets_clause (condition c) = octets_condition c

@@ -5,7 +5,7 @@ ghost use Rattle.qw_meaning.specs.declared.expression.Operator.TheVariants.{Add,
 ghost use Rattle.qw_meaning.specs.declared.query.Comparison.TheVariants.{Equal, Greater};
 ghost use Rattle.qw_token.specs.Token.{Lexeme};
 ghost use Rattle.qw_ast.specs.declared.script.Sign.TheVariants.{Minus};
-ghost use Rattle.qw_ast.specs.Syntax.{Select, arithmetic, between, both, comparison, condition, date, either, expression, negation_of, null, number, otherwise, searched_case, signed, text, when};
+ghost use Rattle.qw_ast.specs.Syntax.{Select, arithmetic, between, both, bracketed, comparison, condition, date, either, expression, negation_of, null, number, otherwise, searched_case, signed, text, when};
 ghost use Rattle.qw_ast.specs.ScriptGrammar.{IsSelectOf};
 ghost use Rattle.qw_script.specs.declared.fault.ParseFault.{ParseFault};
 ghost use Rattle.qw_script.specs.Script.{IsScriptRefused, ReadsScript, nodes, nodes_condition, octets};
@@ -36,12 +36,13 @@ pub fn worked_expressions()
     ensures sign { Says (s (codes "-") ∷ w (codes "a") ∷ s (codes "*") ∷ w (codes "b") ∷ []) (expression (arithmetic Multiply (signed Minus (the_column (codes "a"))) (the_column (codes "b")))) }
 {}
 
-/// Brackets hold an expression or a condition, whichever stands in them, and are no part of the tree.
+/// Brackets hold an expression or a condition, whichever stands in them. Round a condition they are part of the tree, so that
+/// `(a AND b) AND c` has two conjuncts and `a AND b AND c` three; round an expression they aren't.
 pub fn worked_brackets()
     ensures operand { Says (s (codes "(") ∷ w (codes "a") ∷ s (codes ")") ∷ s (codes "=") ∷ n (codes "1") ∷ []) (condition (equals (codes "a") (codes "1"))) }
-    ensures predicate { Says (s (codes "(") ∷ w (codes "a") ∷ s (codes "=") ∷ n (codes "1") ∷ s (codes ")") ∷ []) (condition (equals (codes "a") (codes "1"))) }
+    ensures predicate { Says (s (codes "(") ∷ w (codes "a") ∷ s (codes "=") ∷ n (codes "1") ∷ s (codes ")") ∷ []) (condition (bracketed (equals (codes "a") (codes "1")))) }
     ensures sum { Says (s (codes "(") ∷ s (codes "(") ∷ w (codes "a") ∷ s (codes ")") ∷ s (codes "+") ∷ n (codes "1") ∷ s (codes ")") ∷ s (codes ">") ∷ n (codes "2") ∷ []) (condition (comparison Greater (arithmetic Add (the_column (codes "a")) (number (codes "1"))) (number (codes "2")))) }
-    ensures nested { Says (s (codes "(") ∷ s (codes "(") ∷ w (codes "a") ∷ s (codes "=") ∷ n (codes "1") ∷ s (codes ")") ∷ w (codes "AND") ∷ w (codes "b") ∷ s (codes "=") ∷ n (codes "2") ∷ s (codes ")") ∷ []) (condition (both (equals (codes "a") (codes "1")) (equals (codes "b") (codes "2")))) }
+    ensures nested { Says (s (codes "(") ∷ s (codes "(") ∷ w (codes "a") ∷ s (codes "=") ∷ n (codes "1") ∷ s (codes ")") ∷ w (codes "AND") ∷ w (codes "b") ∷ s (codes "=") ∷ n (codes "2") ∷ s (codes ")") ∷ []) (condition (bracketed (both (bracketed (equals (codes "a") (codes "1"))) (equals (codes "b") (codes "2"))))) }
 {}
 
 /// Nodes and literal octets: NULL as a result is no node, two quotes in a string are one octet, and a date has none.

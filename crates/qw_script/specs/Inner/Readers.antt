@@ -6,7 +6,7 @@ use Rattle.qw_meaning.specs.declared.expression.Operator.{Operator}
 use Rattle.qw_meaning.specs.declared.query.Comparison.{Comparison}
 use Rattle.qw_token.specs.Token.{Lexeme}
 use Rattle.qw_ast.specs.declared.script.Sign.{Sign}
-use Rattle.qw_ast.specs.Syntax.{Expression, null, number, text, date, column, signed, arithmetic, extract, searched_case, simple_case, coalesce, null_if, Condition, comparison, between, among, is_null, both, either, negation_of, is, Clause, condition, expression, Branching, SelectItem, Selected, all_columns, items, Select}
+use Rattle.qw_ast.specs.Syntax.{Expression, null, number, text, date, column, signed, arithmetic, extract, searched_case, simple_case, coalesce, null_if, Condition, comparison, between, among, is_null, both, either, negation_of, is, bracketed, Clause, condition, expression, Branching, SelectItem, Selected, all_columns, items, Select}
 use Rattle.qw_ast.specs.ScriptGrammar.{is_word, is_symbol, is_number, is_string, is_integer, is_regular, is_name, sign_of, addition_of, multiplication_of, comparison_of, field_of, truth_of, appended, is_comma, Dated, moved, arguments, Branch, is_condition, is_when, branching, is_and, is_or}
 
 abbrev pub Reader : Type 0 → Type 0
@@ -182,9 +182,14 @@ unfoldable pub extract_at : Reader Clause → Reader Expression
 extract_at inner ts =
     symbol_at (codes "(") ts >>= (λ us. token_at field_of us >>= (λ field. word_at (codes "FROM") field.1 >>= (λ vs. expression_at inner vs >>= (λ e. symbol_at (codes ")") e.1 >>= (λ rest. Some (extract field.0 e.0, rest))))))
 
+-- what brackets round a clause say
+abbrev pub in_brackets : Clause → Clause
+in_brackets (condition c) = condition (bracketed c)
+in_brackets (expression e) = expression e
+
 -- what stands behind `(`
 unfoldable pub brackets_at : Reader Clause → Reader Clause
-brackets_at inner ts = inner ts >>= (λ c. symbol_at (codes ")") c.1 >>= (λ rest. Some (c.0, rest)))
+brackets_at inner ts = inner ts >>= (λ c. symbol_at (codes ")") c.1 >>= (λ rest. Some (in_brackets c.0, rest)))
 
 unfoldable pub column_at : Reader Expression
 column_at ts =
