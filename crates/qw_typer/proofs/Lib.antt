@@ -1,0 +1,5 @@
+mod CaseLemmas
+mod DateLemmas
+mod DayLemmas
+mod LawLemmas
+mod SoundLemmas

@@ -1,0 +1,5 @@
+use Rattle.qw_typer.proofs.LawLemmas.{typed_query}
+use Rattle.qw_typer.proofs.laws.meanings_are_typed.Goals as goal
+
+pub returns : goal.returns
+returns c = typed_query

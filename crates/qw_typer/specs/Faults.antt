@@ -1,0 +1,180 @@
+-- The faults of a query's expressions and conditions (ISO/IEC 9075:1992, 4.1, 5.3, 6.4, 6.6, 6.9, 6.11, 6.12, 8.2, 9.3). Each fault is one of
+-- one construct, and names a token of it. A construct whose operands have faults has none of its own.
+use Rattle.std.specs.Prelude.{ℕ, ◌+◌, nat_le, Bool, true, false, not, ◌&&◌, List, [], ◌∷◌, ◌++◌, Option, Some, None, is_none}
+use Rattle.std.specs.Str.{bytes_eq}
+use Rattle.qw_types.specs.declared.kind.Kind.{Kind}
+use Rattle.qw_meaning.specs.declared.expression.Operator.{Operator}
+use Rattle.qw_meaning.specs.declared.expression.Operator.TheVariants.{Add, Subtract, Multiply, Divide}
+use Rattle.qw_meaning.specs.Expression as meaning
+use Rattle.qw_meaning.specs.Typing.{agree, are_comparable, has_kind, is_date, is_number, joined, kind_of}
+use Rattle.qw_ast.specs.Grammar.{name_of}
+use Rattle.qw_ast.specs.Syntax.{Expression, null, number, text, date, column, signed, arithmetic, extract, searched_case, simple_case, coalesce, null_if, Condition, comparison, between, among, is_null, both, either, negation_of, is, bracketed, Clause, condition, expression, Expressions, last, further, Branching, otherwise, when}
+use Rattle.qw_typer.specs.declared.fault.FaultKind.{FaultKind}
+use Rattle.qw_typer.specs.declared.fault.FaultKind.TheVariants.{UnknownTable, UnknownColumn, Clash, ScaleTooLarge, LiteralTooLong, BadDate}
+use Rattle.qw_typer.specs.Literal.{date_of, number_of}
+use Rattle.qw_typer.specs.Meant.{Scope, all_meant, choices, column_named, matches, meant}
+
+-- a fault, and the token that it names: of a name as it is kept, of a literal as it is written
+pub record Fault : Type 0 where
+  pub kind : FaultKind
+  pub name : List ℕ
+
+-- the fault, where there is one
+abbrev pub fault_where : Bool → FaultKind → List ℕ → List Fault
+fault_where true kind name = record { kind = kind; name = name } ∷ []
+fault_where false kind name = []
+
+-- the faults of operands; without one those of the construct itself
+abbrev pub or_own : List Fault → List Fault → List Fault
+or_own [] own = own
+or_own (f ∷ fs) own = f ∷ fs
+
+-- the first literal of an expression, or the name of its first column where that comes before; NULL alone has none
+abbrev mutual
+  pub first_token : Expression → List ℕ
+  first_token null = []
+  first_token (number octets) = octets
+  first_token (text octets) = octets
+  first_token (date string intervals) = string
+  first_token (column qualifier name) = name_of name
+  first_token (signed sign a) = first_token a
+  first_token (arithmetic operator a b) = first_token a
+  first_token (extract field a) = first_token a
+  first_token (searched_case branches) = first_of_branches branches
+  first_token (simple_case x branches) = first_token x
+  first_token (coalesce es) = first_of_all es
+  first_token (null_if a b) = first_token a
+
+  pub first_of_condition : Condition → List ℕ
+  first_of_condition (comparison op a b) = first_token a
+  first_of_condition (between negated x a b) = first_token x
+  first_of_condition (among negated x es) = first_token x
+  first_of_condition (is_null negated a) = first_token a
+  first_of_condition (both c d) = first_of_condition c
+  first_of_condition (either c d) = first_of_condition c
+  first_of_condition (negation_of c) = first_of_condition c
+  first_of_condition (is negated c t) = first_of_condition c
+  first_of_condition (bracketed c) = first_of_condition c
+
+  pub first_of_all : Expressions → List ℕ
+  first_of_all (last e) = first_token e
+  first_of_all (further e es) = first_token e
+
+  pub first_of_branches : Branching → List ℕ
+  first_of_branches (otherwise e) = first_token e
+  first_of_branches (when (condition c) e rest) = first_of_condition c
+  first_of_branches (when (expression v) e rest) = first_token v
+
+-- ---- the faults of one construct, its operands having none
+
+-- whether a qualifier, where there is one, is the name of the entry (6.4)
+abbrev pub is_known : Scope → Option (List ℕ) → Bool
+is_known scope None = true
+is_known scope (Some qualifier) = bytes_eq (name_of qualifier) scope.name
+
+abbrev pub qualifier_of : Option (List ℕ) → List ℕ
+qualifier_of None = []
+qualifier_of (Some qualifier) = name_of qualifier
+
+-- a qualifier that is no entry of FROM; a name that is no column of the entry (6.4)
+abbrev pub column_faults : Scope → Option (List ℕ) → List ℕ → List Fault
+column_faults scope qualifier name =
+    or_own (fault_where (not (is_known scope qualifier)) UnknownTable (qualifier_of qualifier)) (fault_where (is_none (column_named scope.columns (name_of name))) UnknownColumn (name_of name))
+
+-- an operand of an arithmetic operator that is no number (6.12)
+abbrev pub sign_faults : List ℕ → meaning.Expression → List Fault
+sign_faults token x = fault_where (not (is_number (kind_of x))) Clash token
+
+-- no result's scale is above 18 (6.12, which leaves the greatest scale to the implementation)
+abbrev pub is_allowed : Operator → ℕ → ℕ → Bool
+is_allowed Add s t = true
+is_allowed Subtract s t = true
+is_allowed Multiply s t = nat_le (s + t) 18
+is_allowed Divide s t = nat_le (s + t) 18
+
+abbrev pub arithmetic_faults : List ℕ → Operator → meaning.Expression → meaning.Expression → List Fault
+arithmetic_faults token operator x y =
+    or_own (fault_where (not (is_number (kind_of x) && is_number (kind_of y))) Clash token) (fault_where (not (is_allowed operator (meaning.scale_of x) (meaning.scale_of y))) ScaleTooLarge token)
+
+-- a field of what is no date (6.6)
+abbrev pub field_faults : List ℕ → meaning.Expression → List Fault
+field_faults token x = fault_where (not (is_date (kind_of x))) Clash token
+
+-- operands of kinds that don't compare (8.2)
+abbrev pub comparison_faults : List ℕ → meaning.Expression → meaning.Expression → List Fault
+comparison_faults token x y = fault_where (not (are_comparable (kind_of x) (kind_of y))) Clash token
+
+abbrev pub among_faults : List ℕ → meaning.Expression → meaning.Expressions → List Fault
+among_faults token x (meaning.last v) = comparison_faults token x v
+among_faults token x (meaning.more v vs) = comparison_faults token x v ++ among_faults token x vs
+
+-- the kind of the results of a CASE together, and whether they are of one (6.9, 9.3)
+abbrev pub results_kind : meaning.Choices → Option Kind
+results_kind (meaning.otherwise e) = kind_of e
+results_kind (meaning.when c e rest) = joined (kind_of e) (results_kind rest)
+
+abbrev pub results_agree : meaning.Choices → Bool
+results_agree (meaning.otherwise e) = true
+results_agree (meaning.when c e rest) = agree (kind_of e) (results_kind rest) && results_agree rest
+
+-- results of two kinds, or no result but NULL
+abbrev pub case_faults : List ℕ → meaning.Choices → List Fault
+case_faults token results = fault_where (not (results_agree results && has_kind (results_kind results))) Clash token
+
+-- what has no kind can't be an item of a select list
+abbrev pub item_faults : List ℕ → meaning.Expression → List Fault
+item_faults token x = fault_where (not (has_kind (kind_of x))) Clash token
+
+-- a WHEN that has an expression where a condition belongs, or the reverse, or a CASE with an operand and without a WHEN; no text has one
+abbrev pub misplaced : List ℕ → List Fault
+misplaced token = record { kind = Clash; name = token } ∷ []
+
+abbrev pub branch_faults : List ℕ → Branching → List Fault
+branch_faults token (otherwise e) = misplaced token
+branch_faults token (when c e rest) = []
+
+-- ---- the faults of all constructs
+
+abbrev mutual
+  pub faults : Scope → Expression → List Fault
+  faults scope null = []
+  faults scope (number octets) = fault_where (is_none (number_of octets)) LiteralTooLong octets
+  faults scope (text octets) = []
+  faults scope (date string intervals) = fault_where (is_none (date_of string intervals)) BadDate string
+  faults scope (column qualifier name) = column_faults scope qualifier name
+  faults scope (signed sign a) = or_own (faults scope a) (sign_faults (first_token a) (meant scope a))
+  faults scope (arithmetic operator a b) = or_own (faults scope a ++ faults scope b) (arithmetic_faults (first_token a) operator (meant scope a) (meant scope b))
+  faults scope (extract field a) = or_own (faults scope a) (field_faults (first_token a) (meant scope a))
+  faults scope (searched_case branches) = or_own (choices_faults scope branches) (case_faults (first_of_branches branches) (choices scope branches))
+  faults scope (simple_case x branches) =
+      or_own (faults scope x) (or_own (branch_faults (first_token x) branches ++ matches_faults scope (first_token x) (meant scope x) branches) (case_faults (first_token x) (matches scope (meant scope x) branches)))
+  faults scope (coalesce es) = or_own (all_faults scope es) (case_faults (first_of_all es) (meaning.coalesced (all_meant scope es)))
+  faults scope (null_if a b) = or_own (faults scope a ++ faults scope b) (comparison_faults (first_token a) (meant scope a) (meant scope b))
+
+  pub condition_faults : Scope → Condition → List Fault
+  condition_faults scope (comparison op a b) = or_own (faults scope a ++ faults scope b) (comparison_faults (first_token a) (meant scope a) (meant scope b))
+  condition_faults scope (between negated x a b) =
+      or_own (faults scope x ++ (faults scope a ++ faults scope b)) (comparison_faults (first_token x) (meant scope x) (meant scope a) ++ comparison_faults (first_token x) (meant scope x) (meant scope b))
+  condition_faults scope (among negated x es) = or_own (faults scope x ++ all_faults scope es) (among_faults (first_token x) (meant scope x) (all_meant scope es))
+  condition_faults scope (is_null negated a) = faults scope a
+  condition_faults scope (both c d) = condition_faults scope c ++ condition_faults scope d
+  condition_faults scope (either c d) = condition_faults scope c ++ condition_faults scope d
+  condition_faults scope (negation_of c) = condition_faults scope c
+  condition_faults scope (is negated c t) = condition_faults scope c
+  condition_faults scope (bracketed c) = condition_faults scope c
+
+  pub all_faults : Scope → Expressions → List Fault
+  all_faults scope (last e) = faults scope e
+  all_faults scope (further e es) = faults scope e ++ all_faults scope es
+
+  pub choices_faults : Scope → Branching → List Fault
+  choices_faults scope (otherwise e) = faults scope e
+  choices_faults scope (when (condition c) e rest) = condition_faults scope c ++ (faults scope e ++ choices_faults scope rest)
+  choices_faults scope (when (expression v) e rest) = misplaced (first_token v)
+
+  -- each value compares with the operand
+  pub matches_faults : Scope → List ℕ → meaning.Expression → Branching → List Fault
+  matches_faults scope token x (otherwise e) = faults scope e
+  matches_faults scope token x (when (condition c) e rest) = misplaced token
+  matches_faults scope token x (when (expression v) e rest) =
+      or_own (faults scope v) (comparison_faults token x (meant scope v)) ++ (faults scope e ++ matches_faults scope token x rest)

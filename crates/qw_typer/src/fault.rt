@@ -1,0 +1,36 @@
+//! Why a query has no meaning over a schema.
+
+use qw_types::Text;
+use thiserror::Error;
+
+/// What is wrong with a construct of a query.
+#[derive(Clone, Copy, Debug, PartialEq, Eq)]
+pub enum FaultKind {
+    /// A name in FROM that is no table of the schema, or a qualifier that is no entry of FROM (ISO/IEC 9075:1992, 6.3, 6.4).
+    UnknownTable,
+    /// A name that is no column of the table (6.4).
+    UnknownColumn,
+    /// Operands or results of kinds that don't go together (6.6, 6.9, 6.12, 8.2).
+    Clash,
+    /// A product or a quotient whose operands have more than 18 digits behind their points, together (6.12).
+    ScaleTooLarge,
+    /// A number of more than 18 digits (5.3).
+    LiteralTooLong,
+    /// A string that is no day of the years 1 to 9999, an interval that isn't 1 to 7 digits, or a sum out of these years (5.3, 6.14).
+    BadDate,
+}
+
+/// Why a script has no meaning over a schema.
+#[derive(Debug, Drop, Error)]
+pub enum TypeFault {
+    /// The first statement with a fault, counted from 1; one of its faults; and a token of the construct at fault, a name as it
+    /// is kept and a literal as it is written.
+    #[error("statement {statement}: {kind:?}")]
+    Fault {
+        statement: usize,
+        kind: FaultKind,
+        name: Text,
+    },
+    #[error("want of memory")]
+    NoMemory,
+}
