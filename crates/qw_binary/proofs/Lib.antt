@@ -1,8 +1,12 @@
+mod Apart
+mod Followed
+mod FollowedSteps
 mod FunctionLemmas
 mod ImportLemmas
 mod LocalsLemmas
 mod ModuleLaws
 mod NumberedBodies
+mod Refusals
 mod WriteCodes
 mod WriteExpression
 mod WriteSections

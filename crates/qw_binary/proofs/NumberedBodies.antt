@@ -1,112 +1,41 @@
 -- Bodies that octets spell are numbered: what is read of an expression names only sequences that have ended, and labels that were read.
-use Rattle.std.proofs.Common.{◌≡◌, ℕ, zero, suc, ◌+◌, ◌<◌, ◌≤◌, Bool, true, false, cond, List, [], ◌∷◌, ◌++◌, length, get_or, Option, Some, None, Result, Ok, Err, refl, sym, ap, subst, arith}
+use Rattle.std.proofs.Common.{◌≡◌, ℕ, zero, suc, ◌+◌, ◌<◌, ◌≤◌, Bool, true, false, cond, List, [], ◌∷◌, ◌++◌, length, get_or, Option, Some, None, Result, Ok, Err, refl, sym, subst, arith}
 use Rattle.std.specs.Prelude.{◌==◌, unwrap_or, slice_get}
 use Rattle.std.specs.List.{AllByRecursion}
 use Rattle.std.proofs.lemmas.List.{length-append}
 use Rattle.qw_grammar.specs.declared.fault.BinaryFault.{BinaryFault}
 use Rattle.qw_grammar.specs.declared.fault.BinaryFault.TheVariants.{NotModule}
-use Rattle.qw_grammar.specs.Grammar.{Next, goes_on, ends, Grammar, is, refuse, after, within, pick, settle, Chain, Spells, SpellsAll}
-use Rattle.qw_grammar.specs.Numbers.{u32, s32, s64}
+use Rattle.qw_grammar.specs.Grammar.{Next, goes_on, ends, Grammar, is, after, within, settle, Chain, Spells, SpellsAll}
+use Rattle.qw_grammar.specs.Numbers.{u32}
 use Rattle.qw_grammar.specs.Vectors.{counted, vector, name}
 use Rattle.qw_module.specs.declared.instruction.ValType.{ValType}
-use Rattle.qw_module.specs.declared.instruction.Const.TheVariants as const
-use Rattle.qw_module.specs.declared.instruction.Op.{Op}
-use Rattle.qw_module.specs.declared.instruction.Op.TheVariants as o
 use Rattle.qw_module.specs.declared.instruction.Instr.{Instr}
 use Rattle.qw_module.specs.declared.instruction.Instr.TheVariants as i
 use Rattle.qw_module.specs.Syntax.{Sequences, NamesBelow, IsNumbered}
 use Rattle.qw_binary.specs.Contents.{FunctionContents, Contents}
 use Rattle.qw_binary.specs.Types.{block_type, func_type, limits}
-use Rattle.qw_binary.specs.Instructions.{given, indexed_by, load_by, store_by, mem_arg, zero_octet, numeric_by, numeric_or_fault, plain_by, simple, Opener, block, loop, first, second, Open, Progress, at_first, with_instruction, with_table, begun, instruction_of, at_end, else_of, with_else, at_else, opener_by, instruction, expression}
+use Rattle.qw_binary.specs.Instructions.{simple, Opener, block, loop, first, second, Open, Progress, at_first, with_instruction, with_table, begun, instruction_of, at_end, else_of, with_else, at_else, opener_by, instruction, expression}
 use Rattle.qw_binary.specs.Sections.{imports, global, export, locals, code, next_function, functions, Sections, no_sections, with_types, with_imports, with_indices, with_memories, with_globals, with_exports, with_functions, content, section_by, section}
 use Rattle.qw_binary.specs.Modules.{SpellsModule}
-
--- ---- what a grammar spells, taken apart
-
-some_is : {A : Type 0} (x y : A) → Some x ≡ Some y → x ≡ y
-some_is x y e = cc
-
-abbrev done : {A : Type 0} → A → Result A BinaryFault
-done x = Ok x
-
-ok_is : {A : Type 0} (x y : A) → done x ≡ done y → x ≡ y
-ok_is x y e = cc
-
-by_cond : {A : Type 0} (P : Type 0) (b : Bool) (x y z : A) → (x ≡ z → P) → (y ≡ z → P) → cond b x y ≡ z → P
-by_cond P true x y z f g e = f e
-by_cond P false x y z f g e = g e
-
-by_pick : {A : Type 0} (P : Type 0) (b : Bool) (g h : Grammar A) (x : A) (text : List ℕ) → (Spells g x text → P) → (Spells h x text → P) → Spells (pick b g h) x text → P
-by_pick P true g h x text f k s = f s
-by_pick P false g h x text f k s = k s
-
-by_given : {A B : Type 0} (P : Type 0) (o : Option B) (k : B → Grammar A) (g : Grammar A) (x : A) (text : List ℕ) → ((y : B) → o ≡ Some y → Spells (k y) x text → P) → (Spells g x text → P) → Spells (given o k g) x text → P
-by_given P (Some y) k g x text f h s = f y refl s
-by_given P None k g x text f h s = h s
-
-by_after : {A B : Type 0} (P : Type 0) (g : Grammar B) (k : B → Grammar A) (x : A) (text : List ℕ) → ((y : B) (front rest : List ℕ) → Spells g y front → Spells (k y) x rest → P) → Spells (after g k) x text → P
-unfolding Spells
-by_after P g k x text f (y, front, rest, e, s, t) = f y front rest s t
-
-it_is : {A : Type 0} (a x : A) (text : List ℕ) → Spells (is a) x text → a ≡ x
-unfolding Spells
-it_is a x text s = s.0
-
-nothing : {A : Type 0} (x : A) (text : List ℕ) (f : BinaryFault) → Spells (refuse f) x text → ⊥
-unfolding Spells
-nothing x text f s = s
-
-settled : {A : Type 0} (r : Result A BinaryFault) (x : A) (text : List ℕ) → Spells (settle r) x text → r ≡ Ok x
-unfolding Spells
-settled (Ok y) x text s = ap Ok s.0
-settled (Err f) x text s = absurd s
+use Rattle.qw_binary.specs.Inner.Followed.{IsAlone}
+use Rattle.qw_binary.proofs.Apart.{some_is, ok_is, by_cond, by_pick, by_given, by_after, it_is, nothing, settled, simple_alone}
 
 -- ---- instructions that name no sequence and no labels
 
 abbrev NamesNone : Instr → Type 0
 NamesNone instruction = (count n : ℕ) → NamesBelow count n instruction
 
-indexed_names : (code : ℕ) (make : ℕ → Instr) → indexed_by code ≡ Some make → (n : ℕ) → NamesNone (make n)
-indexed_names code make = at (code == 0x0C) (λ label. i.Br label) (λ n c m. tt) _
-    (at (code == 0x0D) (λ label. i.BrIf label) (λ n c m. tt) _
-    (at (code == 0x10) (λ index. i.Call index) (λ n c m. tt) _
-    (at (code == 0x20) (λ index. i.Op (o.LocalGet index)) (λ n c m. tt) _
-    (at (code == 0x21) (λ index. i.Op (o.LocalSet index)) (λ n c m. tt) _
-    (at (code == 0x22) (λ index. i.Op (o.LocalTee index)) (λ n c m. tt) _
-    (at (code == 0x23) (λ index. i.Op (o.GlobalGet index)) (λ n c m. tt) _
-    (at (code == 0x24) (λ index. i.Op (o.GlobalSet index)) (λ n c m. tt) _ (λ e. absurd cc))))))))
-  where
-    at : (b : Bool) (f : ℕ → Instr) → ((n : ℕ) → NamesNone (f n)) → (rest : Option (ℕ → Instr)) → (rest ≡ Some make → (n : ℕ) → NamesNone (make n)) → cond b (Some f) rest ≡ Some make → (n : ℕ) → NamesNone (make n)
-    at b f names rest later = by_cond ((n : ℕ) → NamesNone (make n)) b (Some f) rest (Some make) (λ e. subst (λ (g : ℕ → Instr). (n : ℕ) → NamesNone (g n)) (some_is f make e) names) later
-
-numeric_names : (found : Option Op) (code : ℕ) (x : Instr) → numeric_or_fault found code ≡ Ok x → NamesNone x
-numeric_names (Some op) code x e = subst NamesNone (ok_is (i.Op op) x e) (λ c n. tt)
-numeric_names None code x e = absurd cc
-
-plain_names : (code : ℕ) (x : Instr) → plain_by code ≡ Ok x → NamesNone x
-plain_names code x = at (code == 0x00) i.Unreachable (λ c n. tt) _
-    (at (code == 0x01) (i.Op o.Nop) (λ c n. tt) _
-    (at (code == 0x0F) i.Return (λ c n. tt) _
-    (at (code == 0x1A) (i.Op o.Drop) (λ c n. tt) _
-    (at (code == 0x1B) (i.Op o.Select) (λ c n. tt) _ (numeric_names (numeric_by code) code x)))))
-  where
-    at : (b : Bool) (y : Instr) → NamesNone y → (rest : Result Instr BinaryFault) → (rest ≡ Ok x → NamesNone x) → cond b (Ok y) rest ≡ Ok x → NamesNone x
-    at b y names rest later = by_cond (NamesNone x) b (Ok y) rest (Ok x) (λ e. subst NamesNone (ok_is y x e) names) later
-
--- one immediate, by which the instruction is made
-made_names : {B : Type 0} (g : Grammar B) (make : B → Instr) (x : Instr) (text : List ℕ) → ((y : B) → NamesNone (make y)) → Spells (after g (λ y. is (make y))) x text → NamesNone x
-made_names g make x text names = by_after (NamesNone x) g (λ y. is (make y)) x text (λ y front rest s t. subst NamesNone (it_is (make y) x rest t) (names y))
-
-simple_names : (code : ℕ) (x : Instr) (text : List ℕ) → Spells (simple code) x text → NamesNone x
-simple_names code x text =
-    by_given (NamesNone x) (indexed_by code) _ _ x text (λ make e. made_names u32 make x text (indexed_names code make e))
-    (by_given (NamesNone x) (load_by code) _ _ x text (λ load e. made_names mem_arg (λ arg. i.Op (o.Load load arg)) x text (λ y c n. tt))
-    (by_given (NamesNone x) (store_by code) _ _ x text (λ store e. made_names mem_arg (λ arg. i.Op (o.Store store arg)) x text (λ y c n. tt))
-    (by_pick (NamesNone x) (code == 0x3F) _ _ x text (made_names zero_octet (λ y. i.Op o.MemorySize) x text (λ y c n. tt))
-    (by_pick (NamesNone x) (code == 0x40) _ _ x text (made_names zero_octet (λ y. i.Op o.MemoryGrow) x text (λ y c n. tt))
-    (by_pick (NamesNone x) (code == 0x41) _ _ x text (made_names s32 (λ n. i.Op (o.Const (const.I32 n))) x text (λ y c n. tt))
-    (by_pick (NamesNone x) (code == 0x42) _ _ x text (made_names s64 (λ n. i.Op (o.Const (const.I64 n))) x text (λ y c n. tt))
-    (λ s. plain_names code x (settled (plain_by code) x text s))))))))
+names_none : (x : Instr) → IsAlone x → NamesNone x
+names_none (i.Op operator) h = λ c n. tt
+names_none i.Unreachable h = λ c n. tt
+names_none (i.Block result body) h = absurd h
+names_none (i.Loop result body) h = absurd h
+names_none (i.If result a b) h = absurd h
+names_none (i.Br label) h = λ c n. tt
+names_none (i.BrIf label) h = λ c n. tt
+names_none (i.BrTable start count default) h = absurd h
+names_none i.Return h = λ c n. tt
+names_none (i.Call index) h = λ c n. tt
 
 -- ---- sequences that name only lower ones, and labels that are there
 
@@ -285,7 +214,7 @@ fine_next p code next text fine =
     (λ type front rest s t. subst IsFineNext (it_is (goes_on (begun p (make type))) next rest t) (fine_begun p (make type) fine (opener_below code make e type (length p.ended)))))
     (by_pick (IsFineNext next) (code == 0x0E) _ _ next text (by_after (IsFineNext next) (vector u32) _ next text (λ labels front rest s. by_after (IsFineNext next) u32 _ next rest
     (λ default here behind r t. subst IsFineNext (it_is (goes_on (with_table p labels default)) next behind t) (fine_table p labels default fine))))
-    (by_after (IsFineNext next) (simple code) _ next text (λ x front rest s t. subst IsFineNext (it_is (goes_on (with_instruction p x)) next rest t) (fine_instruction p x fine (simple_names code x front s)))))))
+    (by_after (IsFineNext next) (simple code) _ next text (λ x front rest s t. subst IsFineNext (it_is (goes_on (with_instruction p x)) next rest t) (fine_instruction p x fine (names_none x (simple_alone code x front s))))))))
 
 fine_chain : (n : ℕ) (r : Next Progress Sequences) (x : Sequences) (text : List ℕ) → IsFineNext r → Chain (λ p b next t. Spells (instruction p b) next t) n r x text → IsNumbered x
 fine_chain zero (ends y) x text fine c = subst IsNumbered c.0 fine

@@ -5,7 +5,8 @@ use Rattle.std.proofs.lemmas.Option.{slice_get_within, slice_get_cases, get_or_f
 use Rattle.std.proofs.Math.Seq.{take-suc, take-length, take-add}
 use Rattle.qw_grammar.specs.declared.fault.BinaryFault.{BinaryFault}
 use Rattle.qw_grammar.specs.Grammar.{Next, goes_on, ends, octet, settle}
-use Rattle.qw_grammar.specs.Writing.{Puts, AwaitsItems}
+use Rattle.qw_grammar.specs.Writing.{Puts}
+use Rattle.qw_grammar.specs.Inner.Awaiting.{AwaitsItems}
 use Rattle.qw_grammar.proofs.WriteLaws.{puts_octet, puts_is, puts_after, items_begin, items_next, items_end}
 use Rattle.qw_module.specs.declared.instruction.ValType.{ValType}
 use Rattle.qw_module.specs.declared.instruction.Instr.{Instr}

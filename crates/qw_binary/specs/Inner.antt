@@ -1,6 +1,7 @@
 -- What restates code for proofs. No public clause rests on it.
 pub mod Codes
 pub mod Decoding
+pub mod Followed
 pub mod Imported
 pub mod Indexed
 pub mod Parts

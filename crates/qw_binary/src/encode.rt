@@ -1,8 +1,9 @@
 //! Writing a module.
 
-ghost use Rattle.std.specs.Prelude.{◌≡◌, IfOk};
+ghost use Rattle.std.specs.Prelude.{◌≡◌, IfErr, IfOk};
+ghost use Rattle.qw_grammar.specs.declared.write.WriteFault.TheVariants.{NotSpelled};
 ghost use Rattle.qw_binary.specs.Contents.{contents_of};
-ghost use Rattle.qw_binary.specs.Modules.{SpellsModule};
+ghost use Rattle.qw_binary.specs.Modules.{IsSpelled, SpellsModule};
 
 use crate::write::sections::{
     put_code_section, put_export_section, put_function_section, put_global_section,
@@ -17,11 +18,13 @@ use std::alloc::Global;
 ///
 /// # Errors
 ///
-/// `NotSpelled` where no octets spell the module: a body whose sequences don't have the numbers that a reader gives them, an import
-/// twice, 2^32 locals or more, a count or size from 2^32 on. `NoMemory` anywhere.
+/// `NotSpelled` only where no octets spell the module: a body whose sequences don't have the numbers that a reader gives them, an
+/// import twice, 2^32 locals or more. `NoMemory` anywhere; it is also the answer where a count or a size would be 2^32 or more.
 pub fn encode(alloc: Global, module: &Module) -> Result<Vec<u8>, WriteFault>
     // What is written spells the module.
-    ensures { IfOk result (λ octets. SpellsModule (contents_of «module».now) octets.items) }
+    ensures written { IfOk result (λ octets. SpellsModule (contents_of «module».now) octets.items) }
+    // A module is refused only where no octets spell it.
+    ensures refused { IfErr result (λ e. e ≡ NotSpelled → IsSpelled (contents_of «module».now) → ⊥) }
 {
     let mut out = Vec::new(alloc);
     out.extend_from_slice(&[0x00, 0x61, 0x73, 0x6D, 0x01, 0x00, 0x00, 0x00])?;

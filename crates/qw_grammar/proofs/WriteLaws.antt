@@ -8,7 +8,8 @@ use Rattle.qw_grammar.specs.declared.fault.BinaryFault.TheVariants.{NotModule}
 use Rattle.qw_grammar.specs.Grammar.{Next, goes_on, ends, Grammar, is, refuse, octet, after, within, items, pick, Spells, SpellsAll}
 use Rattle.qw_grammar.specs.Numbers.{u32}
 use Rattle.qw_grammar.specs.Vectors.{counted, one_more, vector, name}
-use Rattle.qw_grammar.specs.Writing.{Puts, Awaits, AwaitsItems, AwaitsAll}
+use Rattle.qw_grammar.specs.Writing.{Puts}
+use Rattle.qw_grammar.specs.Inner.Awaiting.{Awaits, AwaitsItems, AwaitsAll}
 
 -- nothing is put
 pub puts_is : {A : Type 0} (x : A) (old : List ℕ) → Puts (is x) x old old

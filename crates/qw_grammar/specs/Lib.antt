@@ -1,4 +1,5 @@
 pub mod Grammar
+pub mod Inner
 pub mod Numbers
 pub mod Reading
 pub mod Vectors

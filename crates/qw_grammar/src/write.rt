@@ -8,7 +8,7 @@ ghost use Rattle.qw_grammar.specs.Writing.{Puts};
 use std::alloc::{AllocError, AllocFailed};
 use thiserror::Error;
 
-/// Why something was not written.
+/// Why something was not written. Writers that refuse nothing answer `AllocError` alone.
 #[derive(Clone, Copy, Debug, PartialEq, Eq, Error)]
 pub enum WriteFault {
     #[error("want of memory")]
@@ -19,12 +19,20 @@ pub enum WriteFault {
 }
 
 impl From<AllocError> for WriteFault {
+    ghost use Rattle.qw_grammar.specs.declared.write.WriteFault.TheVariants.{NoMemory};
+
+    ghost from_gives = { λ _ e. e ≡ NoMemory };
+
     fn from(_e: AllocError) -> WriteFault {
         WriteFault::NoMemory
     }
 }
 
 impl<T: Drop> From<AllocFailed<T>> for WriteFault {
+    ghost use Rattle.qw_grammar.specs.declared.write.WriteFault.TheVariants.{NoMemory};
+
+    ghost from_gives = { λ _ e. e ≡ NoMemory };
+
     fn from(_e: AllocFailed<T>) -> WriteFault {
         WriteFault::NoMemory
     }
@@ -60,7 +68,7 @@ fn put_leb(
     bits: u32,
     value: u64,
     out: &mut Vec<u8>,
-) -> Result<(), WriteFault>
+) -> Result<(), AllocError>
     requires width { (1 ≤ bits) × (bits ≤ 64) × (bits ≤ 7 * most) }
     requires value { value < 2 ^ bits }
     ensures { OnOk result (Puts (leb signed most bits) value out.old.items out.new.items) }
@@ -78,39 +86,40 @@ fn put_leb(
 }
 
 /// Writes an unsigned number of 32 bits.
-pub fn put_u32(value: u32, out: &mut Vec<u8>) -> Result<(), WriteFault>
+pub fn put_u32(value: u32, out: &mut Vec<u8>) -> Result<(), AllocError>
     ensures { OnOk result (Puts u32_grammar value out.old.items out.new.items) }
 {
     put_leb(false, 5, 32, value as u64, out)
 }
 
 /// Writes a signed number of 32 bits, given by its unsigned reading.
-pub fn put_s32(value: u32, out: &mut Vec<u8>) -> Result<(), WriteFault>
+pub fn put_s32(value: u32, out: &mut Vec<u8>) -> Result<(), AllocError>
     ensures { OnOk result (Puts s32_grammar value out.old.items out.new.items) }
 {
     put_leb(true, 5, 32, value as u64, out)
 }
 
 /// Writes a signed number of 64 bits, given by its unsigned reading.
-pub fn put_s64(value: u64, out: &mut Vec<u8>) -> Result<(), WriteFault>
+pub fn put_s64(value: u64, out: &mut Vec<u8>) -> Result<(), AllocError>
     ensures { OnOk result (Puts s64_grammar value out.old.items out.new.items) }
 {
     put_leb(true, 10, 64, value, out)
 }
 
-/// Writes a size or a count, which is spelled if it is below 2^32.
-pub fn put_size(size: usize, out: &mut Vec<u8>) -> Result<(), WriteFault>
+/// Writes a size or a count. From 2^32 on none is spelled, and what it tells of would take 4 GiB at least: that counts as want of
+/// memory.
+pub fn put_size(size: usize, out: &mut Vec<u8>) -> Result<(), AllocError>
     ensures { OnOk result (Puts u32_grammar size out.old.items out.new.items) }
 {
     match u32::try_from(size) {
         Ok(size) => put_u32(size, out),
-        Err(_) => Err(WriteFault::NotSpelled),
+        Err(_) => Err(AllocError),
     }
 }
 
 /// Writes a vector of unsigned numbers of 32 bits.
 #[tactic(auto, using(crate::proofs::WriteLaws::vector_put))]
-pub fn put_number_vector(numbers: &[u32], out: &mut Vec<u8>) -> Result<(), WriteFault>
+pub fn put_number_vector(numbers: &[u32], out: &mut Vec<u8>) -> Result<(), AllocError>
     ensures { OnOk result (Puts (vector u32_grammar) numbers.now out.old.items out.new.items) }
 {
     put_size(numbers.len(), out)?;
@@ -121,7 +130,7 @@ pub fn put_number_vector(numbers: &[u32], out: &mut Vec<u8>) -> Result<(), Write
 }
 
 /// Writes a name.
-pub fn put_name(text: &str, out: &mut Vec<u8>) -> Result<(), WriteFault>
+pub fn put_name(text: &str, out: &mut Vec<u8>) -> Result<(), AllocError>
     ensures { OnOk result (Puts name text.now out.old.items out.new.items) }
 {
     put_size(text.len(), out)?;

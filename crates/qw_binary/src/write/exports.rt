@@ -7,8 +7,9 @@ ghost use Rattle.qw_binary.specs.Contents.{export_contents};
 ghost use Rattle.qw_binary.specs.Sections.{kind_by, export_kind, export as export_grammar};
 ghost use Rattle.qw_binary.specs.Inner.Parts.{MakesKind};
 
-use qw_grammar::write::{WriteFault, put_name, put_size, put_u32};
+use qw_grammar::write::{put_name, put_size, put_u32};
 use qw_module::module::{Export, ExportKind};
+use std::alloc::AllocError;
 
 /// The code of what is exported, and its index.
 fn exported(kind: ExportKind) -> (u8, u32)
@@ -23,7 +24,7 @@ fn exported(kind: ExportKind) -> (u8, u32)
 
 /// Writes what is exported.
 #[tactic(auto, using(crate::proofs::WriteSimple::puts_kind))]
-fn put_export_kind(kind: ExportKind, out: &mut Vec<u8>) -> Result<(), WriteFault>
+fn put_export_kind(kind: ExportKind, out: &mut Vec<u8>) -> Result<(), AllocError>
     ensures { OnOk result (Puts export_kind kind out.old.items out.new.items) }
 {
     let (code, index) = exported(kind);
@@ -33,7 +34,7 @@ fn put_export_kind(kind: ExportKind, out: &mut Vec<u8>) -> Result<(), WriteFault
 
 /// Writes an export.
 #[tactic(auto, using(crate::proofs::WriteSimple::puts_export))]
-fn put_export(export: &Export, out: &mut Vec<u8>) -> Result<(), WriteFault>
+fn put_export(export: &Export, out: &mut Vec<u8>) -> Result<(), AllocError>
     ensures { OnOk result (Puts export_grammar (export_contents export.now) out.old.items out.new.items) }
 {
     put_name(&export.name, out)?;
@@ -42,7 +43,7 @@ fn put_export(export: &Export, out: &mut Vec<u8>) -> Result<(), WriteFault>
 
 /// Writes a vector of exports.
 #[tactic(auto, using(qw_grammar::proofs::WriteLaws::views_put))]
-pub fn put_exports(exports: &[Export], out: &mut Vec<u8>) -> Result<(), WriteFault>
+pub fn put_exports(exports: &[Export], out: &mut Vec<u8>) -> Result<(), AllocError>
     ensures { OnOk result (Puts (vector export_grammar) (map export_contents exports.now) out.old.items out.new.items) }
 {
     put_size(exports.len(), out)?;

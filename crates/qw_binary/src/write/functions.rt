@@ -1,6 +1,8 @@
 //! The code of functions (WebAssembly Core Specification 1.0, 5.5.13).
 
-ghost use Rattle.std.specs.Prelude.{OnOk, map};
+ghost use Rattle.std.specs.Prelude.{◌≡◌, ℕ, List, IfErr, OnOk, map};
+ghost use Rattle.qw_grammar.specs.Grammar.{Spells};
+ghost use Rattle.qw_grammar.specs.declared.write.WriteFault.TheVariants.{NotSpelled};
 ghost use Rattle.qw_grammar.specs.Numbers.{u32 as u32_grammar};
 ghost use Rattle.qw_grammar.specs.Vectors.{vector};
 ghost use Rattle.qw_grammar.specs.Writing.{Puts};
@@ -13,11 +15,11 @@ use crate::write::expression::put_expression;
 use crate::write::types::put_val_type;
 use qw_grammar::write::{WriteFault, put_size, put_u32};
 use qw_module::module::{Function, Locals};
-use std::alloc::Global;
+use std::alloc::{AllocError, Global};
 
 /// Writes a run of locals of one type.
 #[tactic(auto, using(crate::proofs::WriteSimple::puts_run))]
-fn put_locals_run(run: Locals, out: &mut Vec<u8>) -> Result<(), WriteFault>
+fn put_locals_run(run: Locals, out: &mut Vec<u8>) -> Result<(), AllocError>
     ensures { OnOk result (Puts locals_run run out.old.items out.new.items) }
 {
     put_u32(run.count, out)?;
@@ -26,7 +28,7 @@ fn put_locals_run(run: Locals, out: &mut Vec<u8>) -> Result<(), WriteFault>
 
 /// Writes runs of locals, however many locals they have.
 #[tactic(auto, using(qw_grammar::proofs::WriteLaws::vector_put))]
-fn put_runs(runs: &[Locals], out: &mut Vec<u8>) -> Result<(), WriteFault>
+fn put_runs(runs: &[Locals], out: &mut Vec<u8>) -> Result<(), AllocError>
     ensures { OnOk result (Puts (vector locals_run) runs.now out.old.items out.new.items) }
 {
     put_size(runs.len(), out)?;
@@ -39,18 +41,21 @@ fn put_runs(runs: &[Locals], out: &mut Vec<u8>) -> Result<(), WriteFault>
 /// Writes the locals of a function, which are spelled if they are fewer than 2^32.
 #[tactic(auto, using(crate::proofs::WriteSimple::puts_locals))]
 fn put_locals(runs: &[Locals], out: &mut Vec<u8>) -> Result<(), WriteFault>
-    ensures { OnOk result (Puts locals_grammar runs.now out.old.items out.new.items) }
+    ensures written { OnOk result (Puts locals_grammar runs.now out.old.items out.new.items) }
+    ensures refused { IfErr result (λ e. e ≡ NotSpelled → (text : List ℕ) → Spells locals_grammar runs.now text → ⊥) }
 {
     if !are_few(runs) {
         return Err(WriteFault::NotSpelled);
     }
-    put_runs(runs, out)
+    put_runs(runs, out)?;
+    Ok(())
 }
 
 /// Writes the code of a function behind its size.
 #[tactic(auto, using(crate::proofs::WriteSimple::puts_code))]
 fn put_code(alloc: Global, function: &Function, out: &mut Vec<u8>) -> Result<(), WriteFault>
-    ensures { OnOk result (Puts (code function.now.type_index) (function_contents function.now) out.old.items out.new.items) }
+    ensures written { OnOk result (Puts (code function.now.type_index) (function_contents function.now) out.old.items out.new.items) }
+    ensures refused { IfErr result (λ e. e ≡ NotSpelled → (type_index : ℕ) (text : List ℕ) → Spells (code type_index) (function_contents function.now) text → ⊥) }
 {
     let mut inner = Vec::new(alloc);
     put_locals(&function.locals, &mut inner)?;
@@ -63,7 +68,8 @@ fn put_code(alloc: Global, function: &Function, out: &mut Vec<u8>) -> Result<(),
 /// Writes the code of functions.
 #[tactic(auto, using(crate::proofs::WriteSimple::codes_put))]
 pub fn put_codes(alloc: Global, functions: &[Function], out: &mut Vec<u8>) -> Result<(), WriteFault>
-    ensures { OnOk result (Puts (functions_grammar (map type_index_of functions.now)) (map function_contents functions.now) out.old.items out.new.items) }
+    ensures written { OnOk result (Puts (functions_grammar (map type_index_of functions.now)) (map function_contents functions.now) out.old.items out.new.items) }
+    ensures refused { IfErr result (λ e. e ≡ NotSpelled → (indices : List ℕ) (text : List ℕ) → Spells (functions_grammar indices) (map function_contents functions.now) text → ⊥) }
 {
     put_size(functions.len(), out)?;
     for function in functions {
@@ -74,7 +80,7 @@ pub fn put_codes(alloc: Global, functions: &[Function], out: &mut Vec<u8>) -> Re
 
 /// Writes the indices of the types of functions (5.5.6).
 #[tactic(auto, using(qw_grammar::proofs::WriteLaws::views_put))]
-pub fn put_type_indices(functions: &[Function], out: &mut Vec<u8>) -> Result<(), WriteFault>
+pub fn put_type_indices(functions: &[Function], out: &mut Vec<u8>) -> Result<(), AllocError>
     ensures { OnOk result (Puts (vector u32_grammar) (map type_index_of functions.now) out.old.items out.new.items) }
 {
     put_size(functions.len(), out)?;

@@ -7,18 +7,20 @@ ghost use Rattle.qw_module.specs.declared.instruction.Instr.TheVariants as i;
 ghost use Rattle.qw_module.specs.declared.instruction.Op.TheVariants as o;
 ghost use Rattle.qw_binary.specs.Instructions.{mem_arg};
 ghost use Rattle.qw_binary.specs.Inner.Codes.{IsIndexed, IsPlain};
+ghost use Rattle.qw_binary.specs.Inner.Followed.{IsAlone};
 ghost use Rattle.qw_binary.specs.Inner.Writer.{PutsInstruction};
 
 use crate::write::codes::{
     binary_code, conversion_code, division_code, eqz_code, load_code, relation_code, store_code,
     unary_code,
 };
-use qw_grammar::write::{WriteFault, put_s32, put_s64, put_u32};
+use qw_grammar::write::{put_s32, put_s64, put_u32};
 use qw_module::instruction::{Const, Instr, Load, MemArg, Op, Store};
+use std::alloc::AllocError;
 
 /// Writes a code with an index behind it.
 #[tactic(auto, using(crate::proofs::WriteCodes::instruction_put))]
-fn put_indexed(code: u8, index: u32, out: &mut Vec<u8>) -> Result<(), WriteFault>
+fn put_indexed(code: u8, index: u32, out: &mut Vec<u8>) -> Result<(), AllocError>
     ensures { OnOk result ((i : AnyInstr) → IsIndexed code index i → PutsInstruction i out.old.items out.new.items) }
 {
     out.push(code)?;
@@ -27,7 +29,7 @@ fn put_indexed(code: u8, index: u32, out: &mut Vec<u8>) -> Result<(), WriteFault
 
 /// Writes a code with nothing behind it.
 #[tactic(auto, using(crate::proofs::WriteCodes::instruction_put))]
-fn put_plain(code: u8, out: &mut Vec<u8>) -> Result<(), WriteFault>
+fn put_plain(code: u8, out: &mut Vec<u8>) -> Result<(), AllocError>
     ensures { OnOk result ((i : AnyInstr) → IsPlain code i → PutsInstruction i out.old.items out.new.items) }
 {
     out.push(code)?;
@@ -36,7 +38,7 @@ fn put_plain(code: u8, out: &mut Vec<u8>) -> Result<(), WriteFault>
 
 /// Writes the immediates of an access.
 #[tactic(auto, using(crate::proofs::WriteSimple::puts_mem_arg))]
-fn put_mem_arg(arg: MemArg, out: &mut Vec<u8>) -> Result<(), WriteFault>
+fn put_mem_arg(arg: MemArg, out: &mut Vec<u8>) -> Result<(), AllocError>
     ensures { OnOk result (Puts mem_arg arg out.old.items out.new.items) }
 {
     put_u32(arg.align, out)?;
@@ -45,7 +47,7 @@ fn put_mem_arg(arg: MemArg, out: &mut Vec<u8>) -> Result<(), WriteFault>
 
 /// Writes a load.
 #[tactic(auto, using(crate::proofs::WriteCodes::instruction_put))]
-fn put_load(load: Load, arg: MemArg, out: &mut Vec<u8>) -> Result<(), WriteFault>
+fn put_load(load: Load, arg: MemArg, out: &mut Vec<u8>) -> Result<(), AllocError>
     ensures { OnOk result (PutsInstruction (i.Op (o.Load load arg)) out.old.items out.new.items) }
 {
     out.push(load_code(load))?;
@@ -54,7 +56,7 @@ fn put_load(load: Load, arg: MemArg, out: &mut Vec<u8>) -> Result<(), WriteFault
 
 /// Writes a store.
 #[tactic(auto, using(crate::proofs::WriteCodes::instruction_put))]
-fn put_store(store: Store, arg: MemArg, out: &mut Vec<u8>) -> Result<(), WriteFault>
+fn put_store(store: Store, arg: MemArg, out: &mut Vec<u8>) -> Result<(), AllocError>
     ensures { OnOk result (PutsInstruction (i.Op (o.Store store arg)) out.old.items out.new.items) }
 {
     out.push(store_code(store))?;
@@ -63,7 +65,7 @@ fn put_store(store: Store, arg: MemArg, out: &mut Vec<u8>) -> Result<(), WriteFa
 
 /// Writes a constant, which is signed.
 #[tactic(auto, using(crate::proofs::WriteCodes::instruction_put))]
-pub fn put_const(constant: Const, out: &mut Vec<u8>) -> Result<(), WriteFault>
+pub fn put_const(constant: Const, out: &mut Vec<u8>) -> Result<(), AllocError>
     ensures { OnOk result (PutsInstruction (i.Op (o.Const constant)) out.old.items out.new.items) }
 {
     match constant {
@@ -80,7 +82,7 @@ pub fn put_const(constant: Const, out: &mut Vec<u8>) -> Result<(), WriteFault>
 
 /// Writes an access to the size of the memory, whose code an octet 00 follows.
 #[tactic(auto, using(crate::proofs::WriteCodes::instruction_put))]
-fn put_memory_size(out: &mut Vec<u8>) -> Result<(), WriteFault>
+fn put_memory_size(out: &mut Vec<u8>) -> Result<(), AllocError>
     ensures { OnOk result (PutsInstruction (i.Op o.MemorySize) out.old.items out.new.items) }
 {
     out.push(0x3F)?;
@@ -90,7 +92,7 @@ fn put_memory_size(out: &mut Vec<u8>) -> Result<(), WriteFault>
 
 /// Writes a growth of the memory, whose code an octet 00 follows.
 #[tactic(auto, using(crate::proofs::WriteCodes::instruction_put))]
-fn put_memory_grow(out: &mut Vec<u8>) -> Result<(), WriteFault>
+fn put_memory_grow(out: &mut Vec<u8>) -> Result<(), AllocError>
     ensures { OnOk result (PutsInstruction (i.Op o.MemoryGrow) out.old.items out.new.items) }
 {
     out.push(0x40)?;
@@ -99,7 +101,7 @@ fn put_memory_grow(out: &mut Vec<u8>) -> Result<(), WriteFault>
 }
 
 /// Writes an instruction that is none of control.
-fn put_op(op: Op, out: &mut Vec<u8>) -> Result<(), WriteFault>
+fn put_op(op: Op, out: &mut Vec<u8>) -> Result<(), AllocError>
     ensures { OnOk result (PutsInstruction (i.Op op) out.old.items out.new.items) }
 {
     match op {
@@ -126,7 +128,8 @@ fn put_op(op: Op, out: &mut Vec<u8>) -> Result<(), WriteFault>
 }
 
 /// Writes an instruction that holds no sequence and names no labels.
-pub fn put_simple(instruction: Instr, out: &mut Vec<u8>) -> Result<(), WriteFault>
+pub fn put_simple(instruction: Instr, out: &mut Vec<u8>) -> Result<(), AllocError>
+    requires { IsAlone instruction }
     ensures { OnOk result (PutsInstruction instruction out.old.items out.new.items) }
 {
     match instruction {
@@ -136,6 +139,6 @@ pub fn put_simple(instruction: Instr, out: &mut Vec<u8>) -> Result<(), WriteFaul
         Instr::BrIf(label) => put_indexed(0x0D, label, out),
         Instr::Return => put_plain(0x0F, out),
         Instr::Call(index) => put_indexed(0x10, index, out),
-        _ => Err(WriteFault::NotSpelled),
+        _ => unreachable!(),
     }
 }

@@ -7,13 +7,14 @@ ghost use Rattle.qw_module.specs.Validity.{signature_of};
 ghost use Rattle.qw_binary.specs.Types.{val_type, block_type, func_type, limits as limits_grammar};
 
 use crate::write::codes::{block_type_code, val_type_code};
-use qw_grammar::write::{WriteFault, put_size, put_u32};
+use qw_grammar::write::{put_size, put_u32};
 use qw_module::instruction::{BlockType, ValType};
 use qw_module::module::{FuncType, Limits};
+use std::alloc::AllocError;
 
 /// Writes a value type.
 #[tactic(auto, using(crate::proofs::WriteCodes::puts_val_type))]
-pub fn put_val_type(ty: ValType, out: &mut Vec<u8>) -> Result<(), WriteFault>
+pub fn put_val_type(ty: ValType, out: &mut Vec<u8>) -> Result<(), AllocError>
     ensures { OnOk result (Puts val_type ty out.old.items out.new.items) }
 {
     out.push(val_type_code(ty))?;
@@ -22,7 +23,7 @@ pub fn put_val_type(ty: ValType, out: &mut Vec<u8>) -> Result<(), WriteFault>
 
 /// Writes a type of blocks.
 #[tactic(auto, using(crate::proofs::WriteCodes::puts_block_type))]
-pub fn put_block_type(ty: BlockType, out: &mut Vec<u8>) -> Result<(), WriteFault>
+pub fn put_block_type(ty: BlockType, out: &mut Vec<u8>) -> Result<(), AllocError>
     ensures { OnOk result (Puts block_type ty out.old.items out.new.items) }
 {
     out.push(block_type_code(ty))?;
@@ -31,7 +32,7 @@ pub fn put_block_type(ty: BlockType, out: &mut Vec<u8>) -> Result<(), WriteFault
 
 /// Writes a vector of value types.
 #[tactic(auto, using(qw_grammar::proofs::WriteLaws::vector_put))]
-fn put_val_types(types: &[ValType], out: &mut Vec<u8>) -> Result<(), WriteFault>
+fn put_val_types(types: &[ValType], out: &mut Vec<u8>) -> Result<(), AllocError>
     ensures { OnOk result (Puts (vector val_type) types.now out.old.items out.new.items) }
 {
     put_size(types.len(), out)?;
@@ -43,7 +44,7 @@ fn put_val_types(types: &[ValType], out: &mut Vec<u8>) -> Result<(), WriteFault>
 
 /// Writes the type of a function.
 #[tactic(auto, using(crate::proofs::WriteSimple::puts_func_type))]
-fn put_func_type(ty: &FuncType, out: &mut Vec<u8>) -> Result<(), WriteFault>
+fn put_func_type(ty: &FuncType, out: &mut Vec<u8>) -> Result<(), AllocError>
     ensures { OnOk result (Puts func_type (signature_of ty.now) out.old.items out.new.items) }
 {
     out.push(0x60)?;
@@ -53,7 +54,7 @@ fn put_func_type(ty: &FuncType, out: &mut Vec<u8>) -> Result<(), WriteFault>
 
 /// Writes a vector of types of functions.
 #[tactic(auto, using(qw_grammar::proofs::WriteLaws::views_put))]
-pub fn put_func_types(types: &[FuncType], out: &mut Vec<u8>) -> Result<(), WriteFault>
+pub fn put_func_types(types: &[FuncType], out: &mut Vec<u8>) -> Result<(), AllocError>
     ensures { OnOk result (Puts (vector func_type) (map signature_of types.now) out.old.items out.new.items) }
 {
     put_size(types.len(), out)?;
@@ -65,7 +66,7 @@ pub fn put_func_types(types: &[FuncType], out: &mut Vec<u8>) -> Result<(), Write
 
 /// Writes limits.
 #[tactic(auto, using(crate::proofs::WriteSimple::puts_least, crate::proofs::WriteSimple::puts_both))]
-pub fn put_limits(limits: Limits, out: &mut Vec<u8>) -> Result<(), WriteFault>
+pub fn put_limits(limits: Limits, out: &mut Vec<u8>) -> Result<(), AllocError>
     ensures { OnOk result (Puts limits_grammar limits out.old.items out.new.items) }
 {
     match limits.max {
@@ -83,7 +84,7 @@ pub fn put_limits(limits: Limits, out: &mut Vec<u8>) -> Result<(), WriteFault>
 
 /// Writes a vector of limits, the memories.
 #[tactic(auto, using(qw_grammar::proofs::WriteLaws::vector_put))]
-pub fn put_memories(memories: &[Limits], out: &mut Vec<u8>) -> Result<(), WriteFault>
+pub fn put_memories(memories: &[Limits], out: &mut Vec<u8>) -> Result<(), AllocError>
     ensures { OnOk result (Puts (vector limits_grammar) memories.now out.old.items out.new.items) }
 {
     put_size(memories.len(), out)?;

@@ -1,7 +1,7 @@
 use Rattle.std.proofs.Common.{◌-◌, length, take}
 use Rattle.qw_grammar.specs.Numbers.{u32}
 use Rattle.qw_grammar.specs.Vectors.{counted, one_more, vector}
-use Rattle.qw_grammar.specs.Writing.{Awaits}
+use Rattle.qw_grammar.specs.Inner.Awaiting.{Awaits}
 use Rattle.qw_grammar.proofs.write.put_number_vector.Given as goal
 
 abbrev pub invariant-loop-number : goal.invariant-loop-number
