@@ -1,5 +1,5 @@
 -- Literals, what is known, and what stays at every scale.
-use Rattle.std.proofs.Common.{◌≡◌, ℕ, ℤ, pos, negsuc, ◌+◌, List, [], ◌∷◌, ◌++◌, length, FitsSigned, unsigned_abs, Option, Some, None, Result, Ok, Err, false, slice_get, slice_set, refl, sym, ap, ◌∙◌, subst, arith, w64}
+use Rattle.std.proofs.Common.{◌≡◌, ℕ, ℤ, pos, negsuc, ◌+◌, List, [], ◌∷◌, ◌++◌, length, FitsSigned, unsigned_abs, Option, Some, None, Result, Ok, Err, false, slice_get, slice_set, refl, sym, ap, ◌∙◌, subst, arith, w32, w64}
 use Rattle.std.proofs.lemmas.Int.{ints}
 use Rattle.qw_types.specs.Arithmetic.{◌>>=◌}
 use Rattle.qw_types.specs.Kind.{IsDateNumber}
@@ -10,12 +10,12 @@ use Rattle.qw_types.specs.declared.value.Val.{Val}
 use Rattle.qw_types.specs.declared.value.Val.TheVariants as val
 use Rattle.qw_meaning.specs.declared.expression.Field.{Field}
 use Rattle.qw_meaning.specs.Evaluation.{Environment, raised, value_of}
-use Rattle.qw_meaning.specs.Expression.{Expression, number, date, extract, brought, scale_of}
+use Rattle.qw_meaning.specs.Expression.{Expression, null, number, date, extract, brought, scale_of}
 use Rattle.qw_meaning.specs.Typing.{IsTyped, IsValueOf, at_scale, is_number, kind_of}
 use Rattle.qw_meaning.proofs.TypingLemmas.{typed_value}
 use Rattle.qw_map.proofs.TurnFacts.{slice_get-set_same}
 use Rattle.qw_module.specs.declared.instruction.ValType.{ValType}
-use Rattle.qw_module.specs.declared.instruction.ValType.TheVariants.{I64}
+use Rattle.qw_module.specs.declared.instruction.ValType.TheVariants.{I32, I64}
 use Rattle.qw_module.specs.declared.instruction.Const.TheVariants as const
 use Rattle.qw_low.specs.Syntax.{Statement, constant_of, seq, assign}
 use Rattle.qw_low.specs.State.{Number, LowState}
@@ -33,6 +33,7 @@ use Rattle.qw_expr.specs.Emits.{Emits, free_of}
 use Rattle.qw_expr.specs.Inner.Nulls.{unless_null}
 use Rattle.qw_expr.specs.Inner.Fields.{field_block}
 use Rattle.qw_expr.specs.Inner.Operated.{number_at}
+use Rattle.qw_expr.specs.Inner.Truths.{i32, AddsTest}
 use Rattle.qw_expr.specs.Inner.Literals.{AddsWord, AddsField, limit_of}
 use Rattle.qw_expr.proofs.Binary.{if_ok_is, first_declared}
 use Rattle.qw_expr.proofs.Unary.{extract_computes}
@@ -80,6 +81,10 @@ number_emits known v scale old new n most typed most_is adds =
 pub date_fits : (d : ℤ) → IsDateNumber d → FitsSigned w64 d
 date_fits (pos n) is = small (pos n) (omega (arith, ints, is.1))
 date_fits (negsuc n) is = absurd (omega (arith, ints, is.0))
+
+pub date_small : (d : ℤ) → IsDateNumber d → FitsSigned w32 d
+date_small (pos n) is = omega (arith, ints, is.1)
+date_small (negsuc n) is = absurd (omega (arith, ints, is.0))
 
 pub date_emits : (known : List Known) (d : ℤ) (old new : Emitter) (n : ℕ) → IsTyped (date d) → AddsWord d old new n →
     Emits known (date d) old new (record { cell = record { value = n; length = n; null = None }; kind = Some kind.Date; scale = 0; most = 0 })
@@ -150,3 +155,28 @@ unscaled_emits known a scale start old operand typed other ea =
         typed = ea.computes.typed;
       };
     }
+
+-- ---- the null value
+abbrev pub null_at : ℕ → Operand
+null_at n = record { cell = record { value = n; length = n; null = Some n }; kind = None; scale = 0; most = 0 }
+
+null_computes : (known : List Known) (next : ℕ) → Computes known null next (null_at next) (assign next (i32 1)) (I32 ∷ [])
+null_computes known next = record {
+  kind_is = refl;
+  scale_is = refl;
+  below = (omega arith, omega arith, omega arith);
+  runs = λ pages fuel more row s enough within held has room.
+      comes_assign pages fuel more (omega (arith, enough)) (λ w t. Kept next s t × Holds (null_at next) w t) val.Null next (i32 1) (Number 1) s refl (omega (arith, room))
+      (Kept-one s next (Number 1), (slice_get-set_same s.locals next (Number 1) (omega (arith, room)), tt));
+  typed = λ types declared all. ((I32, first_declared types next I32 all, (omega arith, refl)), (tt, first_declared types next I32 all));
+}
+
+pub null_emits : (known : List Known) (old new : Emitter) (n : ℕ) → AddsTest (i32 1) old new n → Emits known null old new (null_at n)
+null_emits known old new n adds = record {
+  first_is = adds.first_is;
+  statement = assign (free_of old) (i32 1);
+  own = I32 ∷ [];
+  code_is = subst (λ k. new.block.code.items ≡ old.block.code.items ++ steps_of (assign k (i32 1))) adds.local_is adds.code_is;
+  own_is = adds.own_is;
+  computes = subst (λ k. Computes known null (free_of old) (null_at k) (assign (free_of old) (i32 1)) (I32 ∷ [])) (sym adds.local_is) (null_computes known (free_of old));
+}

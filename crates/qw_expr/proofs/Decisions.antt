@@ -1,5 +1,5 @@
 -- Comparisons of emitted expressions.
-use Rattle.std.proofs.Common.{◌≡◌, ℕ, ℤ, pos, negsuc, ◌+◌, ◌≤◌, Ordering, IsTrue, unsigned_abs, List, [], ◌∷◌, ◌++◌, length, Option, Some, None, Ok, slice_get, refl, sym, ap, subst, arith}
+use Rattle.std.proofs.Common.{◌≡◌, ℕ, ℤ, pos, negsuc, ◌+◌, ◌≤◌, Ordering, IsTrue, unsigned_abs, List, [], ◌∷◌, ◌++◌, length, length-append, Option, Some, None, Ok, slice_get, refl, sym, ap, subst, arith}
 use Rattle.std.proofs.lemmas.Int.{ints}
 use Rattle.qw_types.specs.Arithmetic.{◌>>=◌, order_of}
 use Rattle.qw_types.specs.Kind.{IsDateNumber}
@@ -20,20 +20,22 @@ use Rattle.qw_low.specs.Typing as low
 use Rattle.qw_low.specs.Syntax.{Statement, seq, assign}
 use Rattle.qw_low.specs.State.{LowState}
 use Rattle.qw_low.specs.Raising.{Kept}
+use Rattle.qw_low.specs.Held.{SaysValue}
 use Rattle.qw_low.proofs.Results.{Kept-then, Comes, comes_weaker, comes_then}
 use Rattle.qw_wide.specs.Numbers.{HasNumber, Compares}
 use Rattle.qw_wide.proofs.OrderRuns.{same_scale}
 use Rattle.qw_wide.proofs.Words.{below_fits}
 use Rattle.qw_expr.specs.declared.operand.Operand.{Operand}
-use Rattle.qw_expr.specs.Cells.{Holds, HoldsTruth, IsBelowNull, DeclaresNull, DeclaresKind, DeclaresValue}
-use Rattle.qw_expr.specs.Units.{units_of}
+use Rattle.qw_expr.specs.Cells.{Holds, HoldsTruth, IsBelowNull, DeclaresNull, DeclaresKind, DeclaresValue, Declares}
+use Rattle.qw_expr.specs.Units.{octets_of, units_of}
 use Rattle.qw_expr.specs.Computes.{Known, AreHeld, AreBelow, Computes, Decides}
 use Rattle.qw_expr.specs.Inner.Nulls.{join_block, joined_null}
 use Rattle.qw_expr.specs.Inner.Truths.{zero_test, zero_if_null}
 use Rattle.qw_expr.proofs.Nulls.{value_kept, known_kept, below_more}
-use Rattle.qw_expr.proofs.Binary.{NumberOrNull, number_of_typed, if_ok_is, joined_below, three_long, third, declares_first, declares_rest, join_typed, operand_declared}
+use Rattle.qw_expr.proofs.Binary.{NumberOrNull, number_of_typed, if_ok_is, joined_below, first_declared, declares_first, declares_rest, join_typed, operand_declared}
 use Rattle.qw_expr.proofs.Unary.{date_of, no_number, no_text, date_declared}
-use Rattle.qw_expr.proofs.Comparisons.{decided}
+use Rattle.qw_expr.proofs.Comparisons.{ordered}
+use Rattle.qw_expr.proofs.Unknowns.{decided}
 
 compared_left : (o : Comparison) (x : Val) (sa : ℕ) (y : Val) (sb : ℕ) → x ≡ val.Null → compared o x sa y sb ≡ Unknown
 compared_left o x sa y sb is = rw is refl
@@ -48,7 +50,12 @@ zero_typed : (types : List ValType) (null : Option ℕ) (t : ℕ) (body : Statem
 zero_typed types None t body declared is typed = typed
 zero_typed types (Some n) t body declared is typed = (declared, (I32, is, (omega arith, refl)), typed)
 
-test_typed : (types : List ValType) (o : Comparison) (n : ℕ) → slice_get types n ≡ Some I64 → low.HasType types (zero_test o n) I32
+second_declared : (types : List ValType) (n : ℕ) (mine : List ValType) → Declares types n (I32 ∷ I32 ∷ mine) → (slice_get types n ≡ Some I32) × (slice_get types (n + 1) ≡ Some I32) × Declares types (n + 2) mine
+second_declared types n mine declares =
+    let zeroth : n + 0 ≡ n = omega arith in
+    (subst (λ k. slice_get types k ≡ Some I32) zeroth (declares 0 I32 refl), declares 1 I32 refl, declares_rest types n (I32 ∷ I32 ∷ []) mine declares)
+
+pub test_typed : (types : List ValType) (o : Comparison) (n : ℕ) → slice_get types n ≡ Some I64 → low.HasType types (zero_test o n) I32
 test_typed types o n is = (is, (omega arith, refl), refl)
 
 module _ (known : List Known) (next : ℕ) (low_known : AreBelow next known) (o : Comparison) (a b : Expression) (oa ob : Operand) (sa sb : Statement) (owna ownb : List ValType)
@@ -62,22 +69,25 @@ module _ (known : List Known) (next : ℕ) (low_known : AreBelow next known) (o 
   abbrev pub cell : Cell
   cell = record { value = m + 1; length = m + 1; null = null }
 
-  module _ (order : ℤ → ℤ → Ordering) (f : Statement) (ma mb : ℕ) (compares : Compares order oa.cell.value ma ob.cell.value mb (m + 2) f)
-      (numbers : (row : List Val) (x y : Val) (u : LowState) → HaveColumns (HoldsIn row) (comparison o a b) → value_of a (record { row = row }) ≡ Ok x → value_of b (record { row = row }) ≡ Ok y → Holds oa x u → Holds ob y u → (x ≡ val.Null → ⊥) → (y ≡ val.Null → ⊥) →
-      (v w : ℤ) × HasNumber oa.cell.value ma v u × HasNumber ob.cell.value mb w u × (compared o x (scale_of a) y (scale_of b) ≡ truth_if (answers o (order v w))))
-      (declared_a : (types : List ValType) → DeclaresValue types oa → slice_get types oa.cell.value ≡ Some I64) (declared_b : (types : List ValType) → DeclaresValue types ob → slice_get types ob.cell.value ≡ Some I64) where
+  module _ (body : Statement) (mine : List ValType)
+      (does : (pages fuel more : ℕ) (row : List Val) (x y : Val) (u t : LowState) → 1 + (octets_of (Ok x) + octets_of (Ok y)) ≤ more → more ≤ fuel → HaveColumns (HoldsIn row) (comparison o a b) → value_of a (record { row = row }) ≡ Ok x → value_of b (record { row = row }) ≡ Ok y →
+      Holds oa x u → Holds ob y u → (x ≡ val.Null → ⊥) → (y ≡ val.Null → ⊥) → Kept m u t → SaysValue t null → m + 2 + length mine ≤ length u.locals →
+      Comes pages fuel more (λ v w. Kept m u w × HoldsTruth cell v w) (Ok (compared o x (scale_of a) y (scale_of b))) body t)
+      (typed_body : (types : List ValType) → DeclaresValue types oa → DeclaresValue types ob → slice_get types (m + 1) ≡ Some I32 → Declares types (m + 2) mine → low.IsTyped types body) where
     abbrev tail : Statement
-    tail = seq (join_block m oa.cell.null ob.cell.null) (zero_if_null null (m + 1) (seq f (assign (m + 1) (zero_test o (m + 2)))))
+    tail = seq (join_block m oa.cell.null ob.cell.null) (zero_if_null null (m + 1) body)
 
     abbrev own : List ValType
-    own = owna ++ (ownb ++ (I32 ∷ I32 ∷ I64 ∷ []))
+    own = owna ++ (ownb ++ (I32 ∷ I32 ∷ mine))
+
+    long : length own ≡ length owna + length ownb + (2 + length mine)
+    long = omega (arith, length-append owna (ownb ++ (I32 ∷ I32 ∷ mine)), length-append ownb (I32 ∷ I32 ∷ mine))
 
     runs : (pages fuel more : ℕ) (row : List Val) (s : LowState) → 1 + units_of (comparison o a b) (record { row = row }) ≤ more → more ≤ fuel → AreHeld known row s → HaveColumns (HoldsIn row) (comparison o a b) →
         next + length own ≤ length s.locals → Comes pages fuel more (λ v t. Kept next s t × HoldsTruth cell v t) (truth_of (comparison o a b) (record { row = row })) (seq sa (seq sb tail)) s
     runs pages fuel more row s enough within held columns room =
         let env : Environment = record { row = row } in
         let some : 1 ≤ more = omega (arith, enough) in
-        let long = three_long owna ownb I32 I32 I64 in
         comes_then pages fuel more (λ v t. Kept next s t × Holds oa v t) (λ v t. Kept next s t × HoldsTruth cell v t) (value_of a env) (λ x. value_of b env >>= (λ y. Ok (compared o x (scale_of a) y (scale_of b)))) sa (seq sb tail) s
         (ca.runs pages fuel more row s (omega (arith, enough)) within held columns.0 (omega (arith, room, long)))
         (λ x t is_x left.
@@ -86,33 +96,49 @@ module _ (known : List Known) (next : ℕ) (low_known : AreBelow next known) (o 
         (λ y w is_y right.
         let r : Truth = compared o x (scale_of a) y (scale_of b) in
         let first : Holds oa x w = (value_kept (next + length owna) t w oa.cell x right.0 ca.below left.1.0, left.1.1) in
+        let octets_x : octets_of (value_of a env) ≡ octets_of (Ok x) = ap octets_of is_x in
+        let octets_y : octets_of (value_of b env) ≡ octets_of (Ok y) = ap octets_of is_y in
+        let wide : m + 2 + length mine ≤ length w.locals = omega (arith, room, long, left.0.many, right.0.many) in
         comes_weaker pages fuel more (λ v v'. Kept m w v' × HoldsTruth cell v v') (λ v v'. Kept next s v' × HoldsTruth cell v v') (Ok r) tail w
         (λ v z is kept. (Kept-then next m s w z (omega arith) (Kept-then next (next + length owna) s t w (omega arith) left.0 right.0) kept.0, kept.1))
-        (decided pages fuel more some w m oa ob (below_more (next + length owna) m oa.cell (omega arith) ca.below) cb.below (omega (arith, room, long, left.0.many, right.0.many)) o order f ma mb compares x y r
-        (compared_left o x (scale_of a) y (scale_of b)) (compared_right o x (scale_of a) y (scale_of b)) (λ nx ny. numbers row x y w columns is_x is_y first right.1 nx ny) first right.1)))
+        (decided pages fuel more some w m oa ob (below_more (next + length owna) m oa.cell (omega arith) ca.below) cb.below (omega (arith, wide)) body x y r
+        (compared_left o x (scale_of a) y (scale_of b)) (compared_right o x (scale_of a) y (scale_of b))
+        (λ nx ny z kept says. does pages fuel more row x y w z (omega (arith, enough, octets_x, octets_y)) within columns is_x is_y first right.1 nx ny kept says wide) first right.1)))
 
     pub comparison_decides : Decides known (comparison o a b) next cell (seq sa (seq sb tail)) own
     comparison_decides = record {
       below =
-          let long = three_long owna ownb I32 I32 I64 in
-          let most : next + length own ≡ m + 2 + 1 = omega (arith, long) in (
+          let most : next + length own ≡ m + (1 + length mine) + 1 = omega (arith, long) in (
             omega (arith, long),
             omega (arith, long),
             subst (λ k. IsBelowNull k null) (sym most)
-                (joined_below m (m + 2) oa.cell.null ob.cell.null (omega arith) (below_more (next + length owna) m oa.cell (omega arith) ca.below).2 cb.below.2),
+                (joined_below m (m + (1 + length mine)) oa.cell.null ob.cell.null (omega arith) (below_more (next + length owna) m oa.cell (omega arith) ca.below).2 cb.below.2),
           );
       runs = runs;
       typed = λ types declared declares.
-          let rest = declares_rest types next owna (ownb ++ (I32 ∷ I32 ∷ I64 ∷ [])) declares in
-          let last = third types m I32 I32 I64 (declares_rest types (next + length owna) ownb (I32 ∷ I32 ∷ I64 ∷ []) rest) in
-          let place : m + 1 + 1 ≡ m + 2 = omega arith in
-          let number_is : slice_get types (m + 2) ≡ Some I64 = subst (λ k. slice_get types k ≡ Some I64) place last.2 in
-          let first = ca.typed types declared (declares_first types next owna (ownb ++ (I32 ∷ I32 ∷ I64 ∷ [])) declares) in
-          let second = cb.typed types declared (declares_first types (next + length owna) ownb (I32 ∷ I32 ∷ I64 ∷ []) rest) in
-          let joined = join_typed types m oa.cell.null ob.cell.null first.1.1 second.1.1 last.0 in
-          let done = compares.typed types (declared_a types first.1) (declared_b types second.1) number_is in
-          ((first.0, (second.0, (joined.0, zero_typed types null (m + 1) (seq f (assign (m + 1) (zero_test o (m + 2)))) joined.1 last.1 (done, (I32, last.1, test_typed types o (m + 2) number_is))))), (last.1, joined.1));
+          let rest = declares_rest types next owna (ownb ++ (I32 ∷ I32 ∷ mine)) declares in
+          let last = declares_rest types (next + length owna) ownb (I32 ∷ I32 ∷ mine) rest in
+          let words = second_declared types m mine last in
+          let first = ca.typed types declared (declares_first types next owna (ownb ++ (I32 ∷ I32 ∷ mine)) declares) in
+          let second = cb.typed types declared (declares_first types (next + length owna) ownb (I32 ∷ I32 ∷ mine) rest) in
+          let joined = join_typed types m oa.cell.null ob.cell.null first.1.1 second.1.1 words.0 in
+          ((first.0, (second.0, (joined.0, zero_typed types null (m + 1) body joined.1 words.1 (typed_body types first.1 second.1 words.1 words.2)))), (words.1, joined.1));
     }
+
+  -- by the order of two numbers
+  module _ (order : ℤ → ℤ → Ordering) (f : Statement) (ma mb : ℕ) (compares : Compares order oa.cell.value ma ob.cell.value mb (m + 2) f)
+      (numbers : (row : List Val) (x y : Val) (u : LowState) → HaveColumns (HoldsIn row) (comparison o a b) → value_of a (record { row = row }) ≡ Ok x → value_of b (record { row = row }) ≡ Ok y → Holds oa x u → Holds ob y u → (x ≡ val.Null → ⊥) → (y ≡ val.Null → ⊥) →
+      (v w : ℤ) × HasNumber oa.cell.value ma v u × HasNumber ob.cell.value mb w u × (compared o x (scale_of a) y (scale_of b) ≡ truth_if (answers o (order v w))))
+      (declared_a : (types : List ValType) → DeclaresValue types oa → slice_get types oa.cell.value ≡ Some I64) (declared_b : (types : List ValType) → DeclaresValue types ob → slice_get types ob.cell.value ≡ Some I64) where
+    pub order_decides : Decides known (comparison o a b) next cell (seq sa (seq sb (seq (join_block m oa.cell.null ob.cell.null) (zero_if_null null (m + 1) (seq f (assign (m + 1) (zero_test o (m + 2)))))))) (owna ++ (ownb ++ (I32 ∷ I32 ∷ I64 ∷ [])))
+    order_decides = comparison_decides (seq f (assign (m + 1) (zero_test o (m + 2)))) (I64 ∷ [])
+        (λ pages fuel more row x y u t enough within columns is_x is_y one other nx ny kept says room.
+        let found = numbers row x y u columns is_x is_y one other nx ny in
+        rw (found.4)
+        (ordered pages fuel more (omega (arith, enough)) u m oa ob (below_more (next + length owna) m oa.cell (omega arith) ca.below) cb.below (omega (arith, room)) o order f ma mb compares found.0 found.1 found.2 found.3 t kept says))
+        (λ types da db word declares.
+        let number_is : slice_get types (m + 2) ≡ Some I64 = first_declared types (m + 2) I64 declares in
+        (compares.typed types (declared_a types da) (declared_b types db) number_is, (I32, word, test_typed types o (m + 2) number_is)))
 
 -- ---- numbers and dates
 number_in : (known : List Known) (e : Expression) (row : List Val) (x : Val) (o : Operand) (u : LowState) → IsTyped e → IsTrue (is_number (kind_of e)) → HasColumns (HoldsIn row) e → value_of e (record { row = row }) ≡ Ok x → Holds o x u → (x ≡ val.Null → ⊥) →
@@ -134,7 +160,7 @@ pub numbers_decide : (known : List Known) (next : ℕ) → AreBelow next known �
     Decides known (comparison o a b) next (record { value = m + 1; length = m + 1; null = null })
     (seq sa (seq sb (seq (join_block m oa.cell.null ob.cell.null) (zero_if_null null (m + 1) (seq f (assign (m + 1) (zero_test o (m + 2)))))))) (owna ++ (ownb ++ (I32 ∷ I32 ∷ I64 ∷ [])))
 numbers_decide known next low_known o a b oa ob sa sb f owna ownb typed na nb ca cb compares =
-    comparison_decides known next low_known o a b oa ob sa sb owna ownb ca cb (λ v w. order_of v (scale_of a) w (scale_of b)) f oa.most ob.most compares
+    order_decides known next low_known o a b oa ob sa sb owna ownb ca cb (λ v w. order_of v (scale_of a) w (scale_of b)) f oa.most ob.most compares
     (λ row x y u columns is_x is_y one other nx ny.
     let first = number_in known a row x oa u typed.0.0 na columns.0 is_x one nx in
     let second = number_in known b row y ob u typed.0.1 nb columns.1 is_y other ny in
@@ -167,7 +193,7 @@ pub dates_decide : (known : List Known) (next : ℕ) → AreBelow next known →
     Decides known (comparison o a b) next (record { value = m + 1; length = m + 1; null = null })
     (seq sa (seq sb (seq (join_block m oa.cell.null ob.cell.null) (zero_if_null null (m + 1) (seq f (assign (m + 1) (zero_test o (m + 2)))))))) (owna ++ (ownb ++ (I32 ∷ I32 ∷ I64 ∷ [])))
 dates_decide known next low_known o a b oa ob sa sb f owna ownb typed da db ca cb compares =
-    comparison_decides known next low_known o a b oa ob sa sb owna ownb ca cb (λ v w. order_of v 0 w 0) f 99991231 99991231 compares
+    order_decides known next low_known o a b oa ob sa sb owna ownb ca cb (λ v w. order_of v 0 w 0) f 99991231 99991231 compares
     (λ row x y u columns is_x is_y one other nx ny.
     let first = date_in a row x oa u typed.0.0 da columns.0 is_x one nx in
     let second = date_in b row y ob u typed.0.1 db columns.1 is_y other ny in

@@ -1,12 +1,24 @@
+mod Abbreviations
 pub mod Binary
+mod Choices
+mod ChoicesEmitted
+mod Comparable
 pub mod Comparisons
 pub mod Connectives
 mod Constants
+mod Copies
 pub mod Decisions
 mod Emitted
 pub mod Junctions
 pub mod JunctionsDecide
+mod JunctionsEmitted
+mod Lookups
 mod NullTests
 pub mod Nulls
+mod Shared
+mod TextDecisions
+mod TreeChoices
+mod Trees
 mod TruthsEmitted
 pub mod Unary
+mod Unknowns

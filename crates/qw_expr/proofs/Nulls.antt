@@ -29,7 +29,7 @@ pub value_says : (n : ℕ) (s t : LowState) (null : Option ℕ) → Kept n s t �
 value_says n s t None kept low says = says
 value_says n s t (Some x) kept low says = kept.below x low ∙ says
 
-sizes : (n : ℕ) (s t : LowState) (p : Part) → Kept n s t → size_of t p ≡ size_of s p
+pub sizes : (n : ℕ) (s t : LowState) (p : Part) → Kept n s t → size_of t p ≡ size_of s p
 sizes n s t (Column k) kept = ap (λ (u : LowState). slice_get u.columns k) kept.others
 sizes n s t (Own k) kept = ap (λ (u : LowState). slice_get u.own k) kept.others
 
@@ -48,7 +48,7 @@ text_kept n s t address count octets kept low_a low_c holds = record {
   };
 }
 
-number_kept : (n : ℕ) (s t : LowState) (x : ℕ) (v : ℤ) → Kept n s t → x < n → HoldsNumber s x v → HoldsNumber t x v
+pub number_kept : (n : ℕ) (s t : LowState) (x : ℕ) (v : ℤ) → Kept n s t → x < n → HoldsNumber s x v → HoldsNumber t x v
 number_kept n s t x v kept low holds = (holds.0, kept.below x low ∙ holds.1, holds.2, holds.3)
 
 pub value_kept : (n : ℕ) (s t : LowState) (c : Cell) (v : Val) → Kept n s t → IsBelow n c → HoldsValue c v s → HoldsValue c v t

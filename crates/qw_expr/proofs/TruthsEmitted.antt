@@ -24,7 +24,7 @@ use Rattle.qw_types.specs.declared.truth.Truth.TheVariants.{True, False}
 use Rattle.qw_expr.proofs.Connectives.{negation_decides, is_false_decides, is_true_decides}
 use Rattle.qw_expr.proofs.Decisions.{numbers_decide, dates_decide}
 
-zero_steps : (null : Option ℕ) (t : ℕ) (body : Statement) → before_zero null t ++ (steps_of body ++ after_unless null) ≡ steps_of (zero_if_null null t body)
+pub zero_steps : (null : Option ℕ) (t : ℕ) (body : Statement) → before_zero null t ++ (steps_of body ++ after_unless null) ≡ steps_of (zero_if_null null t body)
 zero_steps None t body = nil (steps_of body)
 zero_steps (Some n) t body = refl
 
@@ -55,6 +55,25 @@ compared_adds operator order x mx y my left right old new out c2 c3 c4 c5 p t n 
       out_is = out_is ∙ ap (λ k. let c : Cell = record { value = k; length = k; null = null } in c) t_is ∙ ap (λ (k : Option ℕ). let c : Cell = record { value = m + 1; length = m + 1; null = k } in c) null_at;
     }
 
+-- what is emitted of two expressions, which were emitted one after the other
+pub pair_emits : (known : List Known) (c : Condition) (a b : Expression) (start mid old new : Emitter) (left right : Operand) (out : Cell) (ea : Emits known a start mid left) (eb : Emits known b mid old right) (tail : ℕ → Statement) (mine : List ValType) (cell : ℕ → Cell) →
+    new.first ≡ old.first → new.own.items ≡ old.own.items ++ mine → new.block.code.items ≡ old.block.code.items ++ steps_of (tail (free_of old)) → out ≡ cell (free_of old) →
+    (Computes known b (free_of start + length ea.own) right eb.statement eb.own → free_of old ≡ free_of start + length ea.own + length eb.own →
+    Decides known c (free_of start) (cell (free_of start + length ea.own + length eb.own)) (seq ea.statement (seq eb.statement (tail (free_of start + length ea.own + length eb.own)))) (ea.own ++ (eb.own ++ mine))) → EmitsTruth known c start new out
+pair_emits known c a b start mid old new left right out ea eb tail mine cell first_is own_is code_is out_is decides =
+    let m : ℕ = free_of start + length ea.own + length eb.own in
+    let at_mid : free_of mid ≡ free_of start + length ea.own = free_after known a start mid left ea in
+    let at_old : free_of old ≡ m = free_after known b mid old right eb ∙ ap (λ k. k + length eb.own) at_mid in
+    let code : new.block.code.items ≡ old.block.code.items ++ steps_of (tail m) = subst (λ k. new.block.code.items ≡ old.block.code.items ++ steps_of (tail k)) at_old code_is in
+    record {
+      first_is = first_is ∙ eb.first_is ∙ ea.first_is;
+      statement = seq ea.statement (seq eb.statement (tail m));
+      own = ea.own ++ (eb.own ++ mine);
+      code_is = three start.block.code.items mid.block.code.items old.block.code.items new.block.code.items (steps_of ea.statement) (steps_of eb.statement) (steps_of (tail m)) ea.code_is eb.code_is code;
+      own_is = three start.own.items mid.own.items old.own.items new.own.items ea.own eb.own mine ea.own_is eb.own_is own_is;
+      decides = subst (λ (o : Cell). Decides known c (free_of start) o (seq ea.statement (seq eb.statement (tail m))) (ea.own ++ (eb.own ++ mine))) (ap cell (sym at_old) ∙ sym out_is) (decides (subst (λ k. Computes known b k right eb.statement eb.own) at_mid eb.computes) at_old);
+    }
+
 -- two expressions and a test of them
 module _ (known : List Known) (operator : Comparison) (order : ℤ → ℤ → Ordering) (mx my : ℕ) (a b : Expression) (start mid old new : Emitter) (left right : Operand) (out : Cell) (ea : Emits known a start mid left) (eb : Emits known b mid old right)
     (adds : AddsComparison operator order left.cell.value mx right.cell.value my left.cell.null right.cell.null old new out) where
@@ -67,28 +86,12 @@ module _ (known : List Known) (operator : Comparison) (order : ℤ → ℤ → O
   abbrev own : List ValType
   own = ea.own ++ (eb.own ++ (I32 ∷ I32 ∷ I64 ∷ []))
 
-  at_mid : free_of mid ≡ free_of start + length ea.own
-  at_mid = free_after known a start mid left ea
-
-  at_old : free_of old ≡ m
-  at_old = free_after known b mid old right eb ∙ ap (λ k. k + length eb.own) at_mid
-
   pub comparison_emits : (Computes known b (free_of start + length ea.own) right eb.statement eb.own → Compares order left.cell.value mx right.cell.value my (m + 2) adds.f →
       Decides known (comparison operator a b) (free_of start) (record { value = m + 1; length = m + 1; null = joined_null m left.cell.null right.cell.null }) (seq ea.statement (seq eb.statement (tail m))) own) →
       EmitsTruth known (comparison operator a b) start new out
   comparison_emits decides =
-      let cb = subst (λ k. Computes known b k right eb.statement eb.own) at_mid eb.computes in
-      let code : new.block.code.items ≡ old.block.code.items ++ steps_of (tail m) = subst (λ k. new.block.code.items ≡ old.block.code.items ++ steps_of (tail k)) at_old adds.code_is in
-      record {
-        first_is = adds.first_is ∙ eb.first_is ∙ ea.first_is;
-        statement = seq ea.statement (seq eb.statement (tail m));
-        own = own;
-        code_is = three start.block.code.items mid.block.code.items old.block.code.items new.block.code.items (steps_of ea.statement) (steps_of eb.statement) (steps_of (tail m)) ea.code_is eb.code_is code;
-        own_is = three start.own.items mid.own.items old.own.items new.own.items ea.own eb.own (I32 ∷ I32 ∷ I64 ∷ []) ea.own_is eb.own_is adds.own_is;
-        decides = subst (λ (c : Cell). Decides known (comparison operator a b) (free_of start) c (seq ea.statement (seq eb.statement (tail m))) own)
-            (ap (λ k. let c : Cell = record { value = k + 1; length = k + 1; null = joined_null k left.cell.null right.cell.null } in c) (sym at_old) ∙ sym adds.out_is)
-            (decides cb (subst (λ k. Compares order left.cell.value mx right.cell.value my (k + 2) adds.f) at_old adds.compares));
-      }
+      pair_emits known (comparison operator a b) a b start mid old new left right out ea eb tail (I32 ∷ I32 ∷ I64 ∷ []) (λ k. record { value = k + 1; length = k + 1; null = joined_null k left.cell.null right.cell.null }) adds.first_is adds.own_is adds.code_is adds.out_is
+      (λ cb at. decides cb (subst (λ k. Compares order left.cell.value mx right.cell.value my (k + 2) adds.f) at adds.compares))
 
 pub numbers_emit : (known : List Known) (operator : Comparison) (a b : Expression) (start mid old new : Emitter) (left right : Operand) (out : Cell) → AreTyped (comparison operator a b) → IsTrue (is_number (kind_of a)) → IsTrue (is_number (kind_of b)) →
     AreBelow (free_of start) known → Emits known a start mid left → Emits known b mid old right →
@@ -107,7 +110,7 @@ dates_emit known operator a b start mid old new left right out typed da db low e
     (λ cb compares. dates_decide known (free_of start) low operator a b left right ea.statement eb.statement adds.f ea.own eb.own typed da db ea.computes cb compares)
 
 -- ---- conditions of one condition
-truth_after : (known : List Known) (c : Condition) (old new : Emitter) (out : Cell) (h : EmitsTruth known c old new out) → free_of new ≡ free_of old + length h.own
+pub truth_after : (known : List Known) (c : Condition) (old new : Emitter) (out : Cell) (h : EmitsTruth known c old new out) → free_of new ≡ free_of old + length h.own
 truth_after known c old new out h =
     let long : length new.own.items ≡ length old.own.items + length h.own = ap length h.own_is ∙ length-append old.own.items h.own in
     omega (arith, h.first_is, long)

@@ -3,3 +3,7 @@ pub mod Fields
 pub mod Operated
 pub mod Literals
 pub mod Truths
+pub mod Junctions
+pub mod Choices
+pub mod Texts
+pub mod Made

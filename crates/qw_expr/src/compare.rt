@@ -3,9 +3,10 @@
 ghost use Rattle.std.specs.Prelude.{◌≡◌, ◌+◌, ◌<◌, ◌≤◌, ◌^◌, ◌++◌, List, IsTrue, IfOk, OnOk};
 ghost use Rattle.qw_types.specs.Arithmetic.{order_of};
 ghost use Rattle.qw_meaning.specs.Expression.{Expression, comparison};
-ghost use Rattle.qw_meaning.specs.Typing.{AreTyped, is_date, is_number, kind_of};
+ghost use Rattle.qw_meaning.specs.Typing.{AreTyped, are_comparable, is_date, is_number, kind_of};
 ghost use Rattle.qw_low.specs.Syntax.{assign};
 ghost use Rattle.qw_low.specs.Steps.{steps_of};
+ghost use Rattle.qw_expr.specs.Cells.{IsBelow};
 ghost use Rattle.qw_expr.specs.declared.emitter.Emitter.{Emitter};
 ghost use Rattle.qw_expr.specs.Computes.{Known, AreBelow};
 ghost use Rattle.qw_expr.specs.Emits.{Emits, EmitsTruth, free_of};
@@ -18,7 +19,7 @@ use qw_low::cell::{Cell, Local};
 use qw_low::step::LowStep;
 use qw_meaning::query::Comparison;
 use qw_module::instruction::{Const, Op, Relation, Sign, ValType};
-use qw_types::NoMemory;
+use qw_types::{Kind, NoMemory};
 use qw_wide::arithmetic::Scaled;
 use qw_wide::order::emit_cmp_scaled;
 
@@ -54,7 +55,7 @@ impl Operand {
 
 impl Emitter {
     /// Begins what is done where no value is null, and leaves 0 in `t` where one is.
-    fn begin_zero(&mut self, null: Option<Local>, t: Local) -> Result<(), NoMemory>
+    pub(crate) fn begin_zero(&mut self, null: Option<Local>, t: Local) -> Result<(), NoMemory>
         ensures code { OnOk result (self.new.block.code.items ≡ self.old.block.code.items ++ before_zero null t) }
         ensures same { OnOk result ((self.new.first ≡ self.old.first) × (self.new.own.items ≡ self.old.own.items)) }
     {
@@ -71,7 +72,12 @@ impl Emitter {
     }
 
     /// Adds the test of a number against 0.
-    fn test_zero(&mut self, operator: Comparison, n: Local, t: Local) -> Result<(), NoMemory>
+    pub(crate) fn test_zero(
+        &mut self,
+        operator: Comparison,
+        n: Local,
+        t: Local,
+    ) -> Result<(), NoMemory>
         ensures code { OnOk result (self.new.block.code.items ≡ self.old.block.code.items ++ steps_of (assign t (zero_test operator n))) }
         ensures same { OnOk result ((self.new.first ≡ self.old.first) × (self.new.own.items ≡ self.old.own.items)) }
     {
@@ -151,5 +157,26 @@ impl Emitter {
             right.dated(),
             right.cell.null,
         )
+    }
+
+    /// Adds a comparison of two expressions that were emitted before, the left one first (ISO/IEC 9075:1992, 8.2).
+    pub fn compare(
+        &mut self,
+        operator: Comparison,
+        left: Operand,
+        right: Operand,
+    ) -> Result<Cell, NoMemory>
+        requires scales { (left.scale ≤ 18) × (right.scale ≤ 18) }
+        requires comparable { IsTrue (are_comparable left.kind right.kind) }
+        requires below { IsBelow (free_of self.old) left.cell × IsBelow (free_of self.old) right.cell }
+        ensures { IfOk result (λ out. (known : List Known) (a b : Expression) (start mid : Emitter) → AreTyped (comparison operator a b) →
+            AreBelow (free_of start) known → Emits known a start mid left → Emits known b mid self.old right → EmitsTruth known (comparison operator a b) start self.new out) }
+    {
+        match left.kind {
+            Some(Kind::Date) => self.compare_dates(operator, left, right),
+            Some(Kind::Number(_)) => self.compare_numbers(operator, left, right),
+            Some(Kind::Text) => self.compare_texts(operator, left, right),
+            None => unreachable!(),
+        }
     }
 }

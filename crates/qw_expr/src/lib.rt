@@ -2,16 +2,23 @@
 //!
 //! - [`emitter::Emitter`]: what is emitted so far.
 //! - [`operand`]: where the value of an expression is.
-//! - [`arithmetic`], [`literal`], [`compare`], [`truth`]: what is emitted, an operator at a time.
+//! - [`tree`]: whole expressions and conditions, one call each.
+//! - [`known`]: columns and text literals that are in locals.
+//! - [`arithmetic`], [`literal`], [`compare`], [`text`], [`truth`]: what is emitted, an operator at a time.
 //! - [`worked_laws`]: cases with numbers.
 //! - `specs/Cells`: what the locals of a value hold.
 //! - `specs/Computes`, `specs/Emits`: what the block of an expression promises, and what emitting it does.
 #![tactic(auto)]
 
 pub mod arithmetic;
+mod choice;
 pub mod compare;
 pub mod emitter;
+mod junction;
+pub mod known;
 pub mod literal;
 pub mod operand;
+pub mod text;
+pub mod tree;
 pub mod truth;
 pub mod worked_laws;

@@ -72,6 +72,23 @@ impl Emitter {
         })
     }
 
+    /// Adds the null value.
+    pub fn null(&mut self) -> Result<Operand, NoMemory>
+        ensures { IfOk result (λ out. (known : List Known) → Emits known null self.old self.new out) }
+    {
+        let n = self.flag(1)?;
+        Ok(Operand {
+            cell: Cell {
+                value: n,
+                length: n,
+                null: Some(n),
+            },
+            kind: None,
+            scale: 0,
+            most: 0,
+        })
+    }
+
     /// Adds the steps of a field of a date.
     fn field_steps(&mut self, field: Field, n: Local, x: Local) -> Result<(), NoMemory>
         ensures code { OnOk result (self.new.block.code.items ≡ self.old.block.code.items ++ steps_of (field_block field n x)) }

@@ -1,7 +1,7 @@
-//! Conditions of one operand (ISO/IEC 9075:1992, 8.12): NOT, IS TRUE, IS FALSE, and IS NULL (8.6).
+//! Conditions of one operand (ISO/IEC 9075:1992, 8.12): NOT, IS TRUE, IS FALSE, IS UNKNOWN, and IS NULL (8.6).
 
 ghost use Rattle.std.specs.Prelude.{◌≡◌, ◌++◌, List, None, IfOk, OnOk};
-ghost use Rattle.qw_types.specs.declared.truth.Truth.TheVariants.{True, False};
+ghost use Rattle.qw_types.specs.declared.truth.Truth.TheVariants.{True, False, Unknown};
 ghost use Rattle.qw_meaning.specs.Expression.{Expression, Condition, is_null, negation_of, is};
 ghost use Rattle.qw_low.specs.Syntax.{assign};
 ghost use Rattle.qw_low.specs.Steps.{steps_of};
@@ -15,7 +15,7 @@ use crate::operand::Operand;
 use qw_low::cell::{Cell, Local};
 use qw_low::step::LowStep;
 use qw_module::instruction::{Binary, Const, Op, ValType};
-use qw_types::NoMemory;
+use qw_types::{NoMemory, Truth};
 
 /// The truth of a condition's being true, where the condition's own is: it has the same word, and is never unknown.
 pub fn is_true(operand: Cell) -> Cell
@@ -87,13 +87,13 @@ impl Emitter {
         Ok(sure(t))
     }
 
-    /// Adds 0 in a local of its own.
-    fn zero_word(&mut self) -> Result<Local, NoMemory>
-        ensures { IfOk result (λ t. AddsTest (i32 0) self.old self.new t) }
+    /// Adds a number of 32 bits in a local of its own.
+    pub(crate) fn flag(&mut self, value: u32) -> Result<Local, NoMemory>
+        ensures { IfOk result (λ t. AddsTest (i32 value) self.old self.new t) }
     {
         let t = self.fresh(ValType::I32)?;
         self.block.code.extend_from_slice(&[
-            LowStep::Op(Op::Const(Const::I32(0))),
+            LowStep::Op(Op::Const(Const::I32(value))),
             LowStep::Op(Op::LocalSet(t)),
         ])?;
         Ok(t)
@@ -106,9 +106,33 @@ impl Emitter {
         match operand.cell.null {
             Some(n) => Ok(sure(n)),
             None => {
-                let t = self.zero_word()?;
+                let t = self.flag(0)?;
                 Ok(sure(t))
             }
+        }
+    }
+
+    /// Adds IS UNKNOWN of a condition that was emitted before: the word that says so, and 0 where it has none.
+    pub fn is_unknown(&mut self, operand: Cell) -> Result<Cell, NoMemory>
+        ensures { IfOk result (λ out. (known : List Known) (c : Condition) (start : Emitter) → EmitsTruth known c start self.old operand → EmitsTruth known (is c Unknown) start self.new out) }
+    {
+        match operand.null {
+            Some(n) => Ok(sure(n)),
+            None => {
+                let t = self.flag(0)?;
+                Ok(sure(t))
+            }
+        }
+    }
+
+    /// Adds IS of a truth, of a condition that was emitted before.
+    pub fn is_truth(&mut self, operand: Cell, wanted: Truth) -> Result<Cell, NoMemory>
+        ensures { IfOk result (λ out. (known : List Known) (c : Condition) (start : Emitter) → EmitsTruth known c start self.old operand → EmitsTruth known (is c wanted) start self.new out) }
+    {
+        match wanted {
+            Truth::True => Ok(is_true(operand)),
+            Truth::False => self.is_false(operand),
+            Truth::Unknown => self.is_unknown(operand),
         }
     }
 }

@@ -9,5 +9,5 @@ returns-in-Some c known a start emitted = subst (EmitsTruth known (is_null a) st
 
 pub returns-in_ok-t-in-None : goal.returns-in_ok-t-in-None
 returns-in_ok-t-in-None c known a start emitted =
-    subst (EmitsTruth known (is_null a) start c.zero_word.new.self) (sym c.sure-in-None.ensures)
-    (never_emits known a start c.args.self.now c.zero_word.new.self c.args.operand c.in_ok-t-in-None.t c.in-None.is emitted c.in_ok-t-in-None.ensures)
+    subst (EmitsTruth known (is_null a) start c.flag.new.self) (sym c.sure-in-None.ensures)
+    (never_emits known a start c.args.self.now c.flag.new.self c.args.operand c.in_ok-t-in-None.t c.in-None.is emitted c.in_ok-t-in-None.ensures)

@@ -1,0 +1,162 @@
+-- What the functions over trees make of what they called.
+use Rattle.std.proofs.Common.{◌≡◌, ◌⊎◌, ℕ, ◌+◌, ◌≤◌, max, Bool, List, [], ◌∷◌, length, length-append, Err, refl, sym, ap, ◌∙◌, subst, inl, inr, arith}
+use Rattle.qw_types.specs.declared.code.Code.{Code}
+use Rattle.qw_types.specs.declared.value.Val.{Val}
+use Rattle.qw_meaning.specs.declared.expression.Operator.{Operator}
+use Rattle.qw_meaning.specs.declared.expression.Operator.TheVariants as op
+use Rattle.qw_meaning.specs.declared.query.Comparison.{Comparison}
+use Rattle.qw_meaning.specs.Columns.{HasColumns, HaveColumns, HoldsIn}
+use Rattle.qw_meaning.specs.Evaluation.{Environment, truth_of, value_of}
+use Rattle.qw_meaning.specs.Expression.{Expression, Condition, null, number, date, text, column, arithmetic, negative, extract, brought, choice, comparison, scale_after, scale_of}
+use Rattle.qw_meaning.specs.Typing.{AreTyped, IsTyped, ScalesAllowed, kind_of}
+use Rattle.qw_low.specs.declared.cell.Cell.{Cell}
+use Rattle.qw_low.specs.Syntax as low
+use Rattle.qw_expr.specs.declared.emitter.Emitter.{Emitter}
+use Rattle.qw_expr.specs.declared.operand.Operand.{Operand}
+use Rattle.qw_expr.specs.Bindings.{IsAmong, IsServed}
+use Rattle.qw_expr.specs.Cells.{IsBelow}
+use Rattle.qw_expr.specs.Units.{units, units_of}
+use Rattle.qw_expr.specs.Computes.{Known, AreBelow}
+use Rattle.qw_expr.specs.Emits.{Emits, EmitsTruth, free_of}
+use Rattle.qw_expr.specs.Inner.Junctions.{Begins}
+use Rattle.qw_expr.specs.Inner.Made.{Includes, Made, MadeTruth, with_operand}
+use Rattle.qw_expr.proofs.Emitted.{free_after}
+use Rattle.qw_expr.proofs.TruthsEmitted.{truth_after}
+use Rattle.qw_expr.proofs.Nulls.{below_more, known_below_more}
+use Rattle.qw_expr.proofs.Shared.{known_emits, shared_emits, shared_decides}
+
+-- ---- scales
+scales_low : (operator : Operator) (sa sb : ℕ) → sa ≤ 18 → sb ≤ 18 → ScalesAllowed operator sa sb → scale_after operator sa sb ≤ 18
+scales_low op.Add sa sb la lb h = omega (arith, la, lb)
+scales_low op.Subtract sa sb la lb h = omega (arith, la, lb)
+scales_low op.Multiply sa sb la lb h = h
+scales_low op.Divide sa sb la lb h = la
+
+pub scale_low : (e : Expression) → IsTyped e → scale_of e ≤ 18
+scale_low null h = omega arith
+scale_low (number v s) h = h.1
+scale_low (date d) h = omega arith
+scale_low (text t) h = omega arith
+scale_low (column i ty) h = h
+scale_low (arithmetic operator a b) h = scales_low operator (scale_of a) (scale_of b) (scale_low a h.0.0) (scale_low b h.0.1) h.1.1
+scale_low (negative a) h = scale_low a h.0
+scale_low (extract field a) h = omega arith
+scale_low (brought a s) h = h.1.1
+scale_low (choice c a b) h =
+    let one = scale_low a h.1.0.0 in
+    let other = scale_low b h.1.0.1 in
+    omega (arith, one, other)
+
+-- ---- what is known
+pub includes_same : (known : List Known) → Includes known known
+includes_same known = λ k among. among
+
+pub served_more : (m n : ℕ) (known : List Known) → m ≤ n → IsServed m known → IsServed n known
+served_more m n known le served = (known_below_more m n known le served.0, served.1)
+
+described : (n : ℕ) (known : List Known) (k : Known) → IsServed n known → IsAmong k known → (k.operand.kind ≡ kind_of k.expression) × (k.operand.scale ≡ scale_of k.expression)
+described n [] k served among = absurd among
+described n (first ∷ known) k served (inl same) = subst (λ (x : Known). (x.operand.kind ≡ kind_of x.expression) × (x.operand.scale ≡ scale_of x.expression)) (sym same) (served.1.0)
+described n (first ∷ known) k served (inr among) = described n known k (served.0.1, served.1.1) among
+
+-- ---- what is made
+pub made_of : (known : List Known) (e : Expression) (old new : Emitter) (out : Operand) → IsTyped e → IsServed (free_of old) known → ((more : List Known) → Includes more known → AreBelow (free_of old) more → Emits more e old new out) → Made known e old new out
+made_of known e old new out typed served emits =
+    let done = emits known (includes_same known) served.0 in
+    let at = free_after known e old new out done in
+    record {
+      emits = emits;
+      kind_is = done.computes.kind_is;
+      scale_is = done.computes.scale_is;
+      scale_low = subst (λ k. k ≤ 18) (sym done.computes.scale_is) (scale_low e typed);
+      below = subst (λ k. IsBelow k out.cell) (sym at) done.computes.below;
+      grows = omega (arith, at);
+      served = served_more (free_of old) (free_of new) known (omega (arith, at)) served;
+    }
+
+pub truth_made_of : (known : List Known) (c : Condition) (old new : Emitter) (out : Cell) → IsServed (free_of old) known → ((more : List Known) → Includes more known → AreBelow (free_of old) more → EmitsTruth more c old new out) → MadeTruth known c old new out
+truth_made_of known c old new out served emits =
+    let done = emits known (includes_same known) served.0 in
+    let at = truth_after known c old new out done in
+    record {
+      emits = emits;
+      below = subst (λ k. IsBelow k out) (sym at) done.decides.below;
+      grows = omega (arith, at);
+      served = served_more (free_of old) (free_of new) known (omega (arith, at)) served;
+    }
+
+-- a column or a text literal
+pub leaf_made : (known : List Known) (e : Expression) (now : Emitter) (o : Operand) → IsTyped e → IsServed (free_of now) known → IsAmong (record { expression = e; operand = o }) known → Made known e now now o
+leaf_made known e now o typed served among =
+    let is = described (free_of now) known (record { expression = e; operand = o }) served among in
+    made_of known e now now o typed served (λ more all low. known_emits more e o now low (all (record { expression = e; operand = o }) among) is.0 is.1)
+
+-- what goes on one expression, and on two
+pub one_made : (known : List Known) (a e : Expression) (old mid new : Emitter) (oa out : Operand) → IsTyped e → IsServed (free_of old) known → Made known a old mid oa →
+    ((more : List Known) → AreBelow (free_of old) more → Emits more a old mid oa → Emits more e old new out) → Made known e old new out
+one_made known a e old mid new oa out typed served ma goes = made_of known e old new out typed served (λ more all low. goes more low (ma.emits more all low))
+
+pub two_made : (known : List Known) (a b e : Expression) (old mid cur new : Emitter) (oa ob out : Operand) → IsTyped e → IsServed (free_of old) known → Made known a old mid oa → Made known b mid cur ob →
+    ((more : List Known) → AreBelow (free_of old) more → Emits more a old mid oa → Emits more b mid cur ob → Emits more e old new out) → Made known e old new out
+two_made known a b e old mid cur new oa ob out typed served ma mb goes =
+    made_of known e old new out typed served (λ more all low. goes more low (ma.emits more all low) (mb.emits more all (known_below_more (free_of old) (free_of mid) more ma.grows low)))
+
+pub tested_made : (known : List Known) (a : Expression) (c : Condition) (old mid new : Emitter) (oa : Operand) (out : Cell) → IsServed (free_of old) known → Made known a old mid oa → ((more : List Known) → Emits more a old mid oa → EmitsTruth more c old new out) → MadeTruth known c old new out
+tested_made known a c old mid new oa out served ma goes = truth_made_of known c old new out served (λ more all low. goes more (ma.emits more all low))
+
+pub turned_made : (known : List Known) (c d : Condition) (old mid new : Emitter) (one out : Cell) → IsServed (free_of old) known → MadeTruth known c old mid one → ((more : List Known) → EmitsTruth more c old mid one → EmitsTruth more d old new out) → MadeTruth known d old new out
+turned_made known c d old mid new one out served mc goes = truth_made_of known d old new out served (λ more all low. goes more (mc.emits more all low))
+
+-- two conditions, between which a right side begins
+pub begun_at : (e : low.Expression) (old new : Emitter) → Begins e old new → free_of new ≡ free_of old
+begun_at e old new begins =
+    let long : length new.own.items ≡ length old.own.items = ap length begins.own_is in
+    omega (arith, begins.first_is, long)
+
+pub junction_made : (known : List Known) (c d e : Condition) (test : low.Expression) (old mid begun cur new : Emitter) (one two out : Cell) → IsServed (free_of old) known → MadeTruth known c old mid one → Begins test mid begun → MadeTruth known d begun cur two →
+    ((more : List Known) → AreBelow (free_of old) more → EmitsTruth more c old mid one → EmitsTruth more d begun cur two → EmitsTruth more e old new out) → MadeTruth known e old new out
+junction_made known c d e test old mid begun cur new one two out served mc begins md goes =
+    truth_made_of known e old new out served
+    (λ more all low. goes more low (mc.emits more all low) (md.emits more all (subst (λ k. AreBelow k more) (sym (begun_at test mid begun begins)) (known_below_more (free_of old) (free_of mid) more mc.grows low))))
+
+-- ---- an operand that is known beside the rest
+pub with_served : (known : List Known) (e : Expression) (old new : Emitter) (out : Operand) → Made known e old new out → IsServed (free_of new) (with_operand e out known)
+with_served known e old new out made = ((made.below, made.served.0), ((made.kind_is, made.scale_is), made.served.1))
+
+more_with : (more known : List Known) (e : Expression) (o : Operand) → Includes more known → Includes (with_operand e o more) (with_operand e o known)
+more_with more known e o all k (inl same) = inl same
+more_with more known e o all k (inr among) = inr (all k among)
+
+below_with : (n : ℕ) (more : List Known) (e : Expression) (o : Operand) → IsBelow n o.cell → AreBelow n more → AreBelow n (with_operand e o more)
+below_with n more e o low all = (low, all)
+
+pub shared_made : (known : List Known) (x e : Expression) (old mid new : Emitter) (ox out : Operand) → IsTyped e → IsServed (free_of old) known → Made known x old mid ox → Made (with_operand x ox known) e mid new out →
+    ((env : Environment) (code : Code) → value_of x env ≡ Err code → value_of e env ≡ Err code) → ((env : Environment) → units x env ≤ units e env) → ((row : List Val) → HasColumns (HoldsIn row) e → HasColumns (HoldsIn row) x) → Made known e old new out
+shared_made known x e old mid new ox out typed served mx me needs weighs columns =
+    made_of known e old new out typed served
+    (λ more all low. shared_emits more x e old mid new ox out low (mx.emits more all low)
+    (me.emits (with_operand x ox more) (more_with more known x ox all) (below_with (free_of mid) more x ox mx.below (known_below_more (free_of old) (free_of mid) more mx.grows low))) needs weighs columns)
+
+pub shared_truth_made : (known : List Known) (x : Expression) (c : Condition) (old mid new : Emitter) (ox : Operand) (out : Cell) → IsServed (free_of old) known → Made known x old mid ox → MadeTruth (with_operand x ox known) c mid new out →
+    ((env : Environment) (code : Code) → value_of x env ≡ Err code → truth_of c env ≡ Err code) → ((env : Environment) → units x env ≤ units_of c env) → ((row : List Val) → HaveColumns (HoldsIn row) c → HasColumns (HoldsIn row) x) → MadeTruth known c old new out
+shared_truth_made known x c old mid new ox out served mx mc needs weighs columns =
+    truth_made_of known c old new out served
+    (λ more all low. shared_decides more x c old mid new ox out low (mx.emits more all low)
+    (mc.emits (with_operand x ox more) (more_with more known x ox all) (below_with (free_of mid) more x ox mx.below (known_below_more (free_of old) (free_of mid) more mx.grows low))) needs weighs columns)
+
+-- the operand that is known, as an expression of its own; what else is known serves too
+pub operand_emits : (known more : List Known) (x : Expression) (ox : Operand) (now : Emitter) → IsServed (free_of now) (with_operand x ox known) → Includes more (with_operand x ox known) → AreBelow (free_of now) more → Emits more x now now ox
+operand_emits known more x ox now served all low = known_emits more x ox now low (all (record { expression = x; operand = ox }) (inl refl)) (served.1.0.0) (served.1.0.1)
+
+pub includes_rest : (more known : List Known) (x : Expression) (ox : Operand) → Includes more (with_operand x ox known) → Includes more known
+includes_rest more known x ox all = λ k among. all k (inr among)
+
+pub rest_served : (n : ℕ) (known : List Known) (x : Expression) (ox : Operand) → IsServed n (with_operand x ox known) → IsServed n known
+rest_served n known x ox served = (served.0.1, served.1.1)
+
+-- a known operand, compared
+pub compared_made : (known : List Known) (e r : Expression) (operator : Comparison) (x : Operand) (old cur new : Emitter) (y : Operand) (out : Cell) → IsServed (free_of old) (with_operand e x known) → Made known r old cur y →
+    ((more : List Known) → AreBelow (free_of old) more → Emits more e old old x → Emits more r old cur y → EmitsTruth more (comparison operator e r) old new out) → MadeTruth (with_operand e x known) (comparison operator e r) old new out
+compared_made known e r operator x old cur new y out served my goes =
+    truth_made_of (with_operand e x known) (comparison operator e r) old new out served
+    (λ more include low. goes more low (operand_emits known more e x old served include low) (my.emits more (includes_rest more known e x include) low))

@@ -1,0 +1,6 @@
+mod BlocksCompare
+mod EqualityEnds
+mod OrderEnds
+mod OwnLocals
+mod TextFacts
+mod WalkEnds

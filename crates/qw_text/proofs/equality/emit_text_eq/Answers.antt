@@ -1,0 +1,10 @@
+use Rattle.qw_text.specs.Inner.Blocks.{equality_block}
+use Rattle.qw_text.proofs.BlocksCompare.{equality_compares}
+use Rattle.qw_text.proofs.equality.emit_text_eq.Goals as goal
+
+pub returns-clause-block : goal.returns-clause-block
+returns-clause-block c = (
+  equality_block c.args.left.value c.args.left.length c.args.right.value c.args.right.length c.args.free,
+  c.in_ok-push_equality.ensures,
+  equality_compares c.args.left c.args.right c.args.free c.requires.left.0 c.requires.left.1 c.requires.right.0 c.requires.right.1,
+)

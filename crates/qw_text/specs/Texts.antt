@@ -1,0 +1,42 @@
+-- What blocks that compare two texts promise (ISO/IEC 9075:1992, 8.2).
+use Rattle.std.specs.Prelude.{◌≡◌, ℕ, ◌+◌, ◌*◌, ◌≤◌, ℤ, pos, List, [], ◌∷◌, length, Some, slice_get}
+use Rattle.std.specs.Ordering.{int_cmp, is_eq}
+use Rattle.qw_types.specs.TextOrder.{text_order}
+use Rattle.qw_module.specs.declared.instruction.ValType.{ValType}
+use Rattle.qw_module.specs.declared.instruction.ValType.TheVariants.{I32, I64}
+use Rattle.qw_module.specs.Numbers.{truth}
+use Rattle.qw_low.specs.declared.cell.Cell.{Cell}
+use Rattle.qw_low.specs.Syntax.{Statement}
+use Rattle.qw_low.specs.State.{Number, LowState}
+use Rattle.qw_low.specs.Meaning.{meaning}
+use Rattle.qw_low.specs.Typing.{IsTyped}
+use Rattle.qw_low.specs.Size.{size}
+use Rattle.qw_low.specs.Promise.{Ends}
+use Rattle.qw_low.specs.Raising.{Kept}
+use Rattle.qw_low.specs.Held.{HoldsNumber, HoldsText}
+
+-- the types of a block's own locals, in their order
+abbrev pub own_types : List ValType
+own_types = I32 ∷ I32 ∷ I64 ∷ I64 ∷ []
+
+-- a text's address and its length are declared as i32
+abbrev pub DeclaresText : List ValType → Cell → Type 0
+DeclaresText types c = (slice_get types c.value ≡ Some I32) × (slice_get types c.length ≡ Some I32)
+
+-- A block that begins with two texts in their locals, and whose own locals begin at `free`. Within as many instructions as it has, times
+-- one more than the octets of both texts, it is completed, and what is said of the texts holds; it changes nothing but its own locals.
+pub record Compares (says : (left right : List ℕ) → LowState → Type 0) (left right : Cell) (free : ℕ) (a : Statement) : Type 0 where
+  pub runs : (pages fuel more : ℕ) (s : LowState) (v w : List ℕ) → 1 + (length v + length w) ≤ more → more ≤ fuel →
+      HoldsText s left.value left.length v → HoldsText s right.value right.length w → free + length own_types ≤ length s.locals →
+      Ends (size a * more) (λ t. Kept free s t × says v w t) (λ t. ⊥) (λ code. ⊥) (meaning pages fuel a s)
+  pub typed : (types : List ValType) → DeclaresText types left → DeclaresText types right →
+      ((i : ℕ) (t : ValType) → slice_get own_types i ≡ Some t → slice_get types (free + i) ≡ Some t) → IsTyped types a
+  pub short : size a ≤ 60
+
+-- a local has 1 where two texts are the same, and 0 where they are not
+abbrev pub SaysSame : (out : ℕ) → (left right : List ℕ) → LowState → Type 0
+SaysSame out v w t = slice_get t.locals out ≡ Some (Number (truth (is_eq (text_order v w))))
+
+-- a local has a number that is below, at or above 0 as one text comes before another, is the same, or comes after it
+abbrev pub SaysOrder : (out : ℕ) → (left right : List ℕ) → LowState → Type 0
+SaysOrder out v w t = (z : ℤ) × HoldsNumber t out z × (int_cmp z (pos 0) ≡ text_order v w)
