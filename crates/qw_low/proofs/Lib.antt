@@ -1,15 +1,16 @@
 pub mod Appended
 pub mod BeginLemmas
 pub mod BlockSteps
+mod Calls
 pub mod CellLemmas
-mod CodeSize
-mod CodeTyped
+pub mod CodeSize
+pub mod CodeTyped
 mod Countdown
 pub mod ExactSteps
 pub mod ExpressionRuns
 mod FuelLemmas
 pub mod Grants
-mod OpenOutcomes
+pub mod OpenOutcomes
 mod PageUse
 pub mod PromisedRuns
 pub mod Promises

@@ -1,8 +1,9 @@
 //! Flat steps become a numbered body.
 
 ghost use Rattle.std.specs.Prelude.{◌≡◌, [], ◌∷◌, length, OnOk, IfOk};
+ghost use Rattle.std.specs.List.{AllByRecursion};
 ghost use Rattle.qw_module.specs.Syntax.{done, IsNumbered};
-ghost use Rattle.qw_module.specs.Validity.{code_of_body, sequences_of};
+ghost use Rattle.qw_module.specs.Validity.{CallsBelow, code_of_body, items_of, sequences_of};
 ghost use Rattle.qw_low.specs.Inner.Writing.{writing_of, adds, opens, finishes, all_written, written};
 ghost use Rattle.qw_low.specs.Steps.{steps_of};
 ghost use Rattle.qw_low.specs.Syntax.{Statement};
@@ -125,10 +126,11 @@ impl Writer {
     }
 }
 
-/// The body of these steps. Where they are those of a statement, it is the statement's code.
+/// The body of these steps. Where they are those of a statement, it is the statement's code. It calls no function but the first.
 pub fn body_of(alloc: Global, code: &[LowStep]) -> Result<Body, NoMemory>
     ensures code { IfOk result (λ b. (s : Statement) → code.now ≡ steps_of s → code_of_body b ≡ statement_code s done) }
     ensures numbered { IfOk result (λ b. (s : Statement) → code.now ≡ steps_of s → IsNumbered (sequences_of b)) }
+    ensures calls { IfOk result (λ b. AllByRecursion (AllByRecursion (CallsBelow 1)) (items_of b.sequences.items)) }
 {
     let mut writer = Writer {
         finished: Vec::new(alloc),

@@ -2,6 +2,7 @@ use Rattle.std.proofs.Common.{◌≡◌, ℕ, List, arith, refl, sym, ap, subst}
 use Rattle.qw_module.specs.Syntax.{done, code_of, IsNumbered}
 use Rattle.qw_low.specs.Translation.{statement_code}
 use Rattle.qw_low.specs.Inner.Writing.{Writing, sequences, writing_of}
+use Rattle.qw_low.proofs.Calls.{calls_written}
 use Rattle.qw_low.proofs.StepsWritten.{step-left, none-left, written_code, written_numbered}
 use Rattle.qw_low.proofs.body.body_of.Goals as goal
 
@@ -25,3 +26,9 @@ returns-clause-numbered c = λ s code_is.
     (written_numbered s c.args.code.now code_is (writing_of c.loop-step.writer)
     (none-left c.args.code.now c.loop-step.step-index (writing_of c.loop-step.writer) _ (omega arith) c.loop-step.invariant) _
     (ap (λ (w : Writing). w.finished) c.in_ok-finish.ensures.finished))
+
+pub returns-clause-calls : goal.returns-clause-calls
+returns-clause-calls c =
+    calls_written c.args.code.now (writing_of c.loop-step.writer)
+    (none-left c.args.code.now c.loop-step.step-index (writing_of c.loop-step.writer) _ (omega arith) c.loop-step.invariant) _
+    (ap (λ (w : Writing). w.finished) c.in_ok-finish.ensures.finished)

@@ -1,0 +1,80 @@
+-- From what a statement promises to how the open runs of its module answer.
+use Rattle.std.proofs.Common.{◌≡◌, ℕ, ◌<◌, ◌≤◌, ◌⊎◌, inl, inr, List, Some, None, refl, ap, ◌∙◌, ⊎_elim, arith}
+use Rattle.std.specs.List.{Contains}
+use Rattle.qw_types.specs.declared.code.Code.{Code}
+use Rattle.qw_types.specs.declared.code.Code.TheVariants.{DivZero, OutOfRange}
+use Rattle.qw_types.specs.declared.value.Val.{Val}
+use Rattle.qw_module.specs.Execution.{Returned, Raised}
+use Rattle.qw_meaning.specs.Outcome as meant
+use Rattle.qw_map.specs.Areas.{World}
+use Rattle.qw_map.specs.Layout.{Layout, rows_at}
+use Rattle.qw_map.specs.Runs.{Moment, Behaves}
+use Rattle.qw_map.specs.Turns.{Done, Exception, Pages}
+use Rattle.qw_low.specs.Syntax.{Statement}
+use Rattle.qw_low.specs.State.{LowState}
+use Rattle.qw_low.specs.Meaning.{Outcome, Completed, Exited, Stopped, Wrong, Unfinished, meaning}
+use Rattle.qw_low.specs.Places.{IsOutcome, RunsAs, StandsFor}
+use Rattle.qw_low.specs.Promise.{Ends}
+use Rattle.qw_low.specs.Raising.{code_of}
+use Rattle.qw_code.proofs.PushRuns.{Never}
+use Rattle.qw_code.proofs.Refusals.{WasRefused, Tells, told}
+use Rattle.qw_emit.specs.Compiled.{AnswersAt, raised_for}
+use Rattle.qw_code.proofs.RunWorlds.{Keeps, run-keeps}
+
+raised-same : (code : Code) → code_of code ≡ raised_for code
+raised-same DivZero = refl
+raised-same OutOfRange = refl
+
+-- the codes that a run may raise: a refusal's, and those of the outcome
+abbrev pub IsTold : meant.Outcome → ℕ → Type 0
+IsTold out code = (code ≡ 3) ⊎ ((codes : List Code) × (one : Code) × (out ≡ meant.Raises codes) × Contains codes one × (code ≡ code_of one))
+
+module _ (out : meant.Outcome) (layout : Layout) (most pages descriptor : ℕ) (start : Moment)
+    -- what is promised of the state at a return: no request was refused, and in any memory that stands for it are the rows of the outcome
+    (P : LowState → Type 0)
+    (rows : (t : LowState) (w : World) (memory : List ℕ) → P t → StandsFor w t memory → Keeps start.world w →
+    (t.refused ≡ None) × ((bag : List (List Val)) × (out ≡ meant.Rows bag) × (rows_at layout w memory descriptor ≡ Some bag))) where
+  exception-answers : (code : ℕ) (codes : List Code) (one : Code) (b : Moment) → out ≡ meant.Raises codes → Contains codes one → code ≡ code_of one → b.state ≡ Raised code → AnswersAt out layout most pages descriptor b
+  exception-answers code codes DivZero b is there same at =
+      (Exception 1, rw (at, same) refl, (codes, DivZero, is, there, refl))
+  exception-answers code codes OutOfRange b is there same at =
+      (Exception 2, rw (at, same) refl, (codes, OutOfRange, is, there, refl))
+
+  refusal-answers : (b : Moment) (t : LowState) → b.state ≡ Raised 3 → StandsFor b.world t b.memory → WasRefused pages t → AnswersAt out layout most pages descriptor b
+  refusal-answers b t at stands refused =
+      let asked : b.world.refused ≡ Some refused.0 = stands.fits.refused ∙ refused.1 in
+      (Pages b.world.held refused.0 b.world.limit, rw (at, asked) refl, (refl, refl, omega (arith, refused.2, stands.fits.held, stands.fits.limit), omega (arith, refused.3, stands.fits.held)))
+
+  by_code : (code n : ℕ) (t : LowState) (b : Moment) → IsOutcome (Stopped code n t) b → IsTold out code → Tells pages (Stopped code n t) → AnswersAt out layout most pages descriptor b
+  by_code code n t b is (inr exception) tells = exception-answers code exception.0 exception.1 b exception.2 exception.3 exception.4 is.0
+  by_code code n t b is (inl refusal) tells = ⊎_elim
+      (λ one. absurd (omega (arith, one, refusal)))
+      (λ more. ⊎_elim (λ two. absurd (omega (arith, two, refusal))) (λ three. refusal-answers b t (is.0 ∙ ap (λ (k : ℕ). Raised k) refusal) is.1 three.1) more)
+      tells
+
+  return-answers : (t : LowState) (b : Moment) → b.state ≡ Returned → StandsFor b.world t b.memory → P t → Keeps start.world b.world → AnswersAt out layout most pages descriptor b
+  return-answers t b at stands promised keeps =
+      let all = rows t b.world b.memory promised stands keeps in
+      (Done, rw at refl, (stands.fits.refused ∙ all.0, all.1))
+
+  answered : (n : ℕ) (Q : Moment → Type 0) → n ≤ most → ((b : Moment) → Q b → Keeps start.world b.world → AnswersAt out layout most pages descriptor b) → Behaves n pages Q start →
+      Behaves most pages (AnswersAt out layout most pages descriptor) start
+  answered n Q le answers h = record {
+    goes_on = h.goes_on;
+    fine = h.fine;
+    asks = h.asks;
+    bounded = λ k b c run running. let less : k < n = h.bounded k b c run running in omega arith;
+    ends = λ k b run over. let end = h.ends k b run over in (omega (arith, end.0), answers b end.1 (run-keeps k start b run));
+  }
+
+  by_outcome : (low : Outcome) → RunsAs low pages start → Ends most P Never (IsTold out) low → Tells pages low → Behaves most pages (AnswersAt out layout most pages descriptor) start
+  by_outcome (Completed n t) runs h tells = answered n (IsOutcome (Completed n t)) h.0 (λ b is keeps. return-answers t b is.0 is.1 h.1 keeps) runs.behaves
+  by_outcome (Exited n t) runs h tells = absurd h.1
+  by_outcome (Stopped code n t) runs h tells = answered n (IsOutcome (Stopped code n t)) h.0 (λ b is keeps. by_code code n t b is h.1 tells) runs.behaves
+  by_outcome Wrong runs h tells = absurd h
+  by_outcome Unfinished runs h tells = absurd h
+
+  -- so a statement that promises this answers in every open run
+  pub promised_answers : (fuel : ℕ) (a : Statement) (s : LowState) → RunsAs (meaning pages fuel a s) pages start → Ends most P Never (IsTold out) (meaning pages fuel a s) →
+      Behaves most pages (AnswersAt out layout most pages descriptor) start
+  promised_answers fuel a s runs h = by_outcome (meaning pages fuel a s) runs h (told pages fuel a s)

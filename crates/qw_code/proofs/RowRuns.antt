@@ -1,0 +1,185 @@
+-- A row of the table: its conjuncts, its items, and the row that they make.
+use Rattle.std.proofs.Common.{◌≡◌, ℕ, ◌+◌, ◌*◌, ◌<◌, ◌≤◌, inl, inr, Bool, true, false, List, [], ◌∷◌, length, Option, Some, None, Result, Ok, Err, slice_get, refl, sym, ◌∙◌, subst, arith}
+use Rattle.qw_types.specs.Arithmetic.{◌>>=◌}
+use Rattle.qw_types.specs.declared.code.Code.{Code}
+use Rattle.qw_types.specs.declared.truth.Truth.{Truth}
+use Rattle.qw_types.specs.declared.truth.Truth.TheVariants.{True, False, Unknown}
+use Rattle.qw_types.specs.declared.value.Val.{Val}
+use Rattle.qw_types.specs.declared.value.Val.TheVariants as val
+use Rattle.qw_meaning.specs.Evaluation.{chosen}
+use Rattle.qw_meaning.specs.Typing.{IsValueOf}
+use Rattle.qw_low.specs.declared.cell.Cell.{Cell}
+use Rattle.qw_low.specs.Syntax.{local, Statement, skip, conditional}
+use Rattle.qw_low.specs.State.{Part, Value, Number, Cells, LowState}
+use Rattle.qw_low.specs.Meaning.{meaning}
+use Rattle.qw_low.specs.Size.{size}
+use Rattle.qw_low.specs.Promise.{Ends}
+use Rattle.qw_low.specs.Raising.{Leaves, Raises, Kept}
+use Rattle.qw_low.proofs.Promises.{Ends-more, Ends-weaker, Ends-then, conditional_ends}
+use Rattle.qw_low.proofs.Results.{Kept-same, Kept-then, at_least, comes_then, comes_skip}
+use Rattle.qw_code.specs.Results.{Row, HasResult}
+use Rattle.qw_code.specs.RowCells.{Source, Supplies, AllSupply, Test, tests_block, Item, items_block, outs_of, Uses, UsesNull, Says, Lacks}
+use Rattle.qw_code.proofs.PushRuns.{Never}
+use Rattle.qw_code.proofs.Spending.{spread}
+
+-- ---- what is kept
+pub Kept-less : (m n : ℕ) (s t : LowState) → m ≤ n → Kept n s t → Kept m s t
+Kept-less m n s t le h = record { others = h.others; many = h.many; below = λ i low. h.below i (omega arith) }
+
+-- the result is kept where its locals are
+pub result-kept : (Has : Cells → ℕ → ℕ → List Val → Type 0) (bytes base : ℕ) (found : List Row) (n : ℕ) (s t : LowState) → 5 ≤ n → Kept n s t → HasResult Has bytes base found s → HasResult Has bytes base found t
+result-kept Has bytes base found n s t high kept h =
+    let same : HasResult Has bytes base found (record s { locals = t.locals }) = record {
+      part = h.part;
+      offset = h.offset;
+      behind = h.behind;
+      last = h.last;
+      pages = h.pages;
+      within = h.within;
+      descriptor = kept.below 0 (omega arith) ∙ h.descriptor;
+      free = kept.below 1 (omega arith) ∙ h.free;
+      left = kept.below 2 (omega arith) ∙ h.left;
+      link = kept.below 3 (omega arith) ∙ h.link;
+      count = kept.below 4 (omega arith) ∙ h.count;
+      zeros = h.zeros;
+      rows = h.rows;
+      paid = h.paid;
+    } in
+    subst (HasResult Has bytes base found) (sym kept.others) same
+
+abbrev pub AllUse : (ℕ → Type 0) → List Source → Type 0
+AllUse P [] = Unit {0}
+AllUse P (o ∷ os) = Uses P o.cell × AllUse P os
+
+module _ (Text : Part → ℕ → List ℕ → Type 0) (P : ℕ → Type 0) (xs ys : List Value) (same : (i : ℕ) → P i → slice_get ys i ≡ slice_get xs i) where
+  says-same : (v : ℕ) (null : Option ℕ) → UsesNull P null → Says xs v null → Says ys v null
+  says-same v None uses h = tt
+  says-same v (Some n) uses h = same n uses ∙ h
+
+  lacks-same : (null : Option ℕ) → UsesNull P null → Lacks xs null → Lacks ys null
+  lacks-same None uses h = h
+  lacks-same (Some n) uses h = same n uses ∙ h
+
+  pub supplies-same : (c : Cell) (v : Val) → Uses P c → Supplies Text xs c v → Supplies Text ys c v
+  supplies-same c val.Null uses h = lacks-same c.null uses.2 h
+  supplies-same c (val.Num v) uses h = ((h.0.0, same c.value uses.0 ∙ h.0.1, h.0.2, h.0.3), h.1, says-same 0 c.null uses.2 h.2)
+  supplies-same c (val.Date d) uses h = ((h.0.0, same c.value uses.0 ∙ h.0.1, h.0.2, h.0.3), says-same 0 c.null uses.2 h.1)
+  supplies-same c (val.Text t) uses h = (h.0, h.1, same c.value uses.0 ∙ h.2, same c.length uses.1 ∙ h.3, h.4, h.5, says-same 0 c.null uses.2 h.6)
+
+  pub all-same : (os : List Source) (vs : List Val) → AllUse P os → AllSupply Text xs os vs → AllSupply Text ys os vs
+  all-same [] [] uses h = tt
+  all-same [] (v ∷ vs) uses h = absurd h
+  all-same (o ∷ os) [] uses h = absurd h
+  all-same (o ∷ os) (v ∷ vs) uses h = ((supplies-same o.cell v uses.0 h.0.0, h.0.1), all-same os vs uses.1 h.1)
+
+-- ---- the conjuncts
+abbrev pub truth_word : Truth → ℕ
+truth_word True = 1
+truth_word False = 0
+truth_word Unknown = 0
+
+abbrev pub all_true : List (Result Truth Code) → Result Bool Code
+all_true [] = Ok true
+all_true (r ∷ rs) = r >>= (λ t. chosen t (all_true rs) (Ok false))
+
+abbrev pub all_values : List (Result Val Code) → Result (List Val) Code
+all_values [] = Ok []
+all_values (r ∷ rs) = r >>= (λ v. all_values rs >>= (λ vs. Ok (v ∷ vs)))
+
+module _ (most fuel N n many : ℕ) (some : 1 ≤ N) (Held : LowState → Type 0) (held_kept : (s t : LowState) → Kept n s t → Held s → Held t) where
+  -- a conjunct's block leaves its truth, or raises its exception
+  abbrev pub HasTest : Test → Result Truth Code → Type 0
+  HasTest g r = (s : LowState) → Held s → many ≤ length s.locals →
+      Ends (size g.block * N) (Leaves (λ v t. Kept n s t × (slice_get t.locals g.out ≡ Some (Number (truth_word v)))) r) Never (Raises r) (meaning most fuel g.block s)
+
+  abbrev pub AreTests : List Test → List (Result Truth Code) → Type 0
+  AreTests [] [] = Unit {0}
+  AreTests (g ∷ gs) (r ∷ rs) = HasTest g r × AreTests gs rs
+  AreTests _ _ = ⊥
+
+  module _ (P : LowState → Type 0) (R : ℕ → Type 0) (rest : Statement) (s0 : LowState) where
+    -- what follows the conjuncts, by what they come to
+    pub record Onward (r : Result Bool Code) : Type 0 where
+      pub true_then : r ≡ Ok true → (t : LowState) → Kept n s0 t → Held t → Ends (size rest * N) P Never R (meaning most fuel rest t)
+      pub false_then : r ≡ Ok false → (t : LowState) → Kept n s0 t → P t
+      pub raised_then : (code : ℕ) → Raises r code → R code
+
+    weigh : (a b total : ℕ) → total ≡ a + (1 + 1 + (b + 0)) → a * N + (1 + 1 + b * N) ≤ total * N
+    weigh a b total is =
+        let one : (a + (1 + 1 + (b + 0))) * N ≡ a * N + (1 + 1 + (b + 0)) * N = spread a (1 + 1 + (b + 0)) N in
+        let two : (1 + 1 + (b + 0)) * N ≡ (1 + 1) * N + (b + 0) * N = spread (1 + 1) (b + 0) N in
+        let three : (b + 0) * N ≡ b * N + 0 * N = spread b 0 N in
+        let four : 1 + 1 ≤ (1 + 1) * N = at_least (1 + 1) N some in
+        rw is (omega (arith, one, two, three, four))
+
+    pub tests_end : (gs : List Test) (rs : List (Result Truth Code)) (s : LowState) → AreTests gs rs → Kept n s0 s → Held s → many ≤ length s.locals → Onward (all_true rs) →
+        Ends (size (tests_block gs rest) * N) P Never R (meaning most fuel (tests_block gs rest) s)
+    tests_end [] [] s are kept held room onward = onward.true_then refl s kept held
+    tests_end [] (r ∷ rs) s are kept held room onward = absurd are
+    tests_end (g ∷ gs) [] s are kept held room onward = absurd are
+    tests_end (g ∷ gs) (r ∷ rs) s are kept held room onward =
+        Ends-more P Never R (size g.block * N + (1 + 1 + size (tests_block gs rest) * N)) (size (tests_block (g ∷ gs) rest) * N) _ (weigh (size g.block) (size (tests_block gs rest)) (size (tests_block (g ∷ gs) rest)) refl)
+        (Ends-then P Never R (size g.block * N) (1 + 1 + size (tests_block gs rest) * N) (Leaves (λ v t. Kept n s t × (slice_get t.locals g.out ≡ Some (Number (truth_word v)))) r) (meaning most fuel g.block s) (meaning most fuel (conditional (local g.out) (tests_block gs rest) skip))
+        (Ends-weaker (size g.block * N) (size g.block * N) (Leaves (λ v t. Kept n s t × (slice_get t.locals g.out ≡ Some (Number (truth_word v)))) r) (Leaves (λ v t. Kept n s t × (slice_get t.locals g.out ≡ Some (Number (truth_word v)))) r) Never Never (Raises r) R (meaning most fuel g.block s)
+        (omega arith) (λ t x. x) (λ t x. x) (λ code raised. onward.raised_then code (first_raised r code raised)) (are.0 s held room))
+        (λ t left. chosen_then r onward t left (λ kept_t onward_t. tests_end gs rs t are.1 kept_t (held_kept s t (left_of r t left) held) (omega (arith, (left_of r t left).many, room)) onward_t)))
+      where
+        first_raised : (r : Result Truth Code) (code : ℕ) → Raises r code → Raises (r >>= (λ v. chosen v (all_true rs) (Ok false))) code
+        first_raised (Ok v) code raised = absurd raised
+        first_raised (Err c) code raised = raised
+
+        stays : (t : LowState) → Kept n s t → Kept n s0 t
+        stays t left = Kept-then n n s0 s t (omega arith) kept left
+
+        untrue : (t : LowState) → slice_get t.locals g.out ≡ Some (Number 0) → P t → Ends (1 + 1 + size (tests_block gs rest) * N) P Never R (meaning most fuel (conditional (local g.out) (tests_block gs rest) skip) t)
+        untrue t is post = conditional_ends P Never R most fuel (size (tests_block gs rest) * N) (local g.out) (tests_block gs rest) skip t (inr (is, (omega arith, post)))
+
+        left_of : (r : Result Truth Code) (t : LowState) → Leaves (λ v t. Kept n s t × (slice_get t.locals g.out ≡ Some (Number (truth_word v)))) r t → Kept n s t
+        left_of (Ok v) t left = left.0
+        left_of (Err c) t left = absurd left
+
+        chosen_then : (r : Result Truth Code) → Onward (r >>= (λ v. chosen v (all_true rs) (Ok false))) → (t : LowState) → Leaves (λ v t. Kept n s t × (slice_get t.locals g.out ≡ Some (Number (truth_word v)))) r t →
+            (Kept n s0 t → Onward (all_true rs) → Ends (size (tests_block gs rest) * N) P Never R (meaning most fuel (tests_block gs rest) t)) →
+            Ends (1 + 1 + size (tests_block gs rest) * N) P Never R (meaning most fuel (conditional (local g.out) (tests_block gs rest) skip) t)
+        chosen_then (Err c) onward t left again = absurd left
+        chosen_then (Ok True) onward t left again = conditional_ends P Never R most fuel (size (tests_block gs rest) * N) (local g.out) (tests_block gs rest) skip t
+            (inl (inl (0, left.1), again (stays t left.0) onward))
+        chosen_then (Ok False) onward t left again = untrue t left.1 (onward.false_then refl t (stays t left.0))
+        chosen_then (Ok Unknown) onward t left again = untrue t left.1 (onward.false_then refl t (stays t left.0))
+
+  -- ---- the items
+  module _ (Text : Part → ℕ → List ℕ → Type 0) where
+    abbrev pub Below : ℕ → ℕ → Type 0
+    Below m i = (5 ≤ i) × (i < m)
+
+    -- an item's block leaves its value in locals below those of the next one, or raises its exception
+    abbrev pub HasItem : ℕ → Item → Result Val Code → Type 0
+    HasItem next g r = (s : LowState) → Held s → many ≤ length s.locals →
+        Ends (size g.block * N) (Leaves (λ v t. Kept next s t × (Supplies Text t.locals g.out.cell v × IsValueOf g.out.kind v)) r) Never (Raises r) (meaning most fuel g.block s)
+
+    abbrev pub AreItems : (next : ℕ) → List Item → List (Result Val Code) → Type 0
+    AreItems next [] [] = Unit {0}
+    AreItems next (g ∷ gs) (r ∷ rs) = HasItem next g r × (later : ℕ) × (next ≤ later) × Uses (Below later) g.out.cell × AreItems later gs rs
+    AreItems next _ _ = ⊥
+
+    pub items_end : (gs : List Item) (rs : List (Result Val Code)) (next : ℕ) (s : LowState) → n ≤ next → AreItems next gs rs → Held s → many ≤ length s.locals →
+        Ends (size (items_block gs) * N) (Leaves (λ vs t. Kept next s t × AllSupply Text t.locals (outs_of gs) vs) (all_values rs)) Never (Raises (all_values rs)) (meaning most fuel (items_block gs) s)
+    items_end [] [] next s low are held room = comes_skip most fuel N some {A = List Val} (λ vs t. Kept next s t × AllSupply Text t.locals [] vs) [] s (Kept-same next s, tt)
+    items_end [] (r ∷ rs) next s low are held room = absurd are
+    items_end (g ∷ gs) [] next s low are held room = absurd are
+    items_end (g ∷ gs) (r ∷ rs) next s low are held room =
+        comes_then most fuel N (λ v t. Kept next s t × (Supplies Text t.locals g.out.cell v × IsValueOf g.out.kind v)) (λ vs t. Kept next s t × AllSupply Text t.locals (outs_of (g ∷ gs)) vs) r
+        (λ v. all_values rs >>= (λ vs. Ok (v ∷ vs))) g.block (items_block gs) s (are.0 s held room)
+        (λ v t is first. joined v t (all_values rs) first
+        (items_end gs rs are.1 t (omega (arith, are.2)) are.4 (held_kept s t (Kept-less n next s t low first.0) held) (omega (arith, first.0.many, room))))
+      where
+        joined : (v : Val) (t : LowState) (q : Result (List Val) Code) → Kept next s t × (Supplies Text t.locals g.out.cell v × IsValueOf g.out.kind v) →
+            Ends (size (items_block gs) * N) (Leaves (λ vs u. Kept are.1 t u × AllSupply Text u.locals (outs_of gs) vs) q) Never (Raises q) (meaning most fuel (items_block gs) t) →
+            Ends (size (items_block gs) * N) (Leaves (λ vs u. Kept next s u × AllSupply Text u.locals (outs_of (g ∷ gs)) vs) (q >>= (λ vs. Ok (v ∷ vs)))) Never (Raises (q >>= (λ vs. Ok (v ∷ vs)))) (meaning most fuel (items_block gs) t)
+        joined v t (Err c) first rest = rest
+        joined v t (Ok vs) first rest = Ends-weaker (size (items_block gs) * N) (size (items_block gs) * N) (λ u. Kept are.1 t u × AllSupply Text u.locals (outs_of gs) vs) (λ u. Kept next s u × AllSupply Text u.locals (outs_of (g ∷ gs)) (v ∷ vs)) Never Never (λ code. ⊥) (λ code. ⊥) _ (omega arith)
+            (λ u h. (
+              Kept-then next are.1 s t u are.2 first.0 h.0,
+              ((supplies-same Text (Below are.1) t.locals u.locals (λ i in_it. h.0.below i in_it.1) g.out.cell v are.3 first.1.0, first.1.1), h.1),
+            ))
+            (λ u x. x) (λ code x. x) rest

@@ -1,0 +1,182 @@
+-- The module of a scan is the compiled form of its query specification.
+use Rattle.std.proofs.Common.{◌≡◌, ℕ, zero, suc, ◌+◌, ◌*◌, ◌^◌, ◌<◌, ◌≤◌, List, [], ◌∷◌, length, map, replicate, Some, slice_get, refl, sym, subst, arith}
+use Rattle.std.proofs.lemmas.List.{length-replicate}
+use Rattle.std.proofs.lemmas.Nat.{mul-le}
+use Rattle.qw_types.specs.declared.value.Val.{Val}
+use Rattle.qw_types.specs.declared.value.Val.TheVariants as val
+use Rattle.qw_module.specs.declared.module.Module.{Module}
+use Rattle.qw_module.specs.Validity.{IsShaped}
+use Rattle.qw_meaning.specs.Flow.{rows_of}
+use Rattle.qw_meaning.specs.Outcome.{outcome}
+use Rattle.qw_meaning.specs.Select.{Parts, specification_of}
+use Rattle.qw_map.specs.Areas.{World}
+use Rattle.qw_map.specs.Behaving.{IsRunnable, beginning}
+use Rattle.qw_map.specs.Layout.{Layout, IsReady, IsReadyColumn, descriptor_size, first_world, text_areas, text_cell}
+use Rattle.qw_map.specs.Runs.{Behaves}
+use Rattle.qw_map.specs.declared.layout.Placed.{Placed}
+use Rattle.qw_map.specs.declared.layout.Used.{Used}
+use Rattle.qw_low.specs.Begin.{first_state}
+use Rattle.qw_low.specs.Syntax.{Statement}
+use Rattle.qw_low.specs.State.{Part, Own, Value, Number, Address, LowState}
+use Rattle.qw_low.specs.Meaning.{meaning}
+use Rattle.qw_low.specs.Places.{Means, RunsAs, StandsFor}
+use Rattle.qw_low.specs.Promise.{Ends}
+use Rattle.qw_low.specs.Raising.{Kept}
+use Rattle.qw_low.specs.Size.{size}
+use Rattle.qw_low.proofs.BeginLemmas.{entries-known, head-known, zeros-known}
+use Rattle.qw_low.proofs.Promises.{Ends-weaker}
+use Rattle.qw_emit.specs.Compiled.{AnswersAt, GoesWith, IsCompiled, bound, module_weight, page_bound, units, weight_of}
+use Rattle.qw_code.specs.Results.{HasResult}
+use Rattle.qw_code.specs.RowCells.{HasRow, begin_block, kinds_of, outs_of, row_block, scan_block}
+use Rattle.qw_code.proofs.PushRuns.{Never}
+use Rattle.qw_code.proofs.RowPush.{bytes}
+use Rattle.qw_code.proofs.RunWorlds.{Keeps}
+use Rattle.qw_code.proofs.ScanAnswers.{scan_answers, truths_of, values_in}
+use Rattle.qw_code.proofs.ScanLoop.{spend}
+use Rattle.qw_code.proofs.ScanRuns.{Plan, Promises, Begun, Finished, Since-same, scan_ends}
+use Rattle.qw_code.proofs.StartRuns.{Fresh, Started, begins, empty-result}
+
+-- ---- where a run begins
+pub first-fresh : (layout : Layout) (placed : List Placed) (tables : List (List (List Val))) (descriptor limit : ℕ) (memory : List ℕ) (others : ℕ) (used : Used) →
+    IsReady layout placed tables descriptor limit memory → slice_get layout.columns 0 ≡ Some used → length (rows_of tables used.table) ≤ 1000000 → 7 ≤ others →
+    Fresh (descriptor_size layout) (length (rows_of tables used.table)) (first_state layout placed descriptor limit memory (Address (Own 0) 0 ∷ replicate others (Number 0)))
+first-fresh layout placed tables descriptor limit memory others used ready there few many =
+    let head = head-known layout placed tables descriptor limit memory ready in
+    let entry = entries-known layout placed tables descriptor limit memory ready 0 used there in
+    record {
+      behind = omega arith;
+      small = ready.small;
+      few = few;
+      many = omega (arith, many, length-replicate {A = Value} others (Number 0));
+      own = refl;
+      held = refl;
+      descriptor = refl;
+      count = zero-there others 3 (omega arith);
+      offset = zero-there others 4 (omega arith);
+      free = head.0;
+      root = head.2;
+      rows_are = entry.3;
+      zeros = zeros-known layout placed tables descriptor limit memory ready;
+    }
+  where
+    zero-there : (n i : ℕ) → i < n → slice_get (replicate n (Number 0)) i ≡ Some (Number 0)
+    zero-there zero i low = absurd (omega arith)
+    zero-there (suc n) zero low = refl
+    zero-there (suc n) (suc i) low = zero-there n i (omega arith)
+
+none-there : (columns : List Used) {used : Used} → slice_get columns 0 ≡ Some used → 0 ≡ length columns → ⊥
+none-there [] there many = cc
+none-there (u ∷ columns) there many = omega arith
+
+-- a run of a module, over tables that are ready
+pub record Run : Type 0 where
+  pub descriptor : ℕ
+  pub limit : ℕ
+  pub placed : List Placed
+  pub tables : List (List (List Val))
+  pub memory : List ℕ
+
+module _ (parts : Parts) (layout : Layout) (plan : Plan) (columns : Statement) (others : ℕ) (first_column : Used)
+    (Text : Run → Part → ℕ → List ℕ → Type 0) (each : Run → List Val → ℕ) (Held : Run → List Val → LowState → Type 0) (Bases : Run → LowState → Type 0) where
+  abbrev scan : Statement
+  scan = scan_block plan.start plan.reads (row_block plan.tests plan.items (8 + 16 * length (kinds_of (outs_of plan.items))))
+
+  abbrev rows : Run → List (List Val)
+  rows r = rows_of r.tables parts.table
+
+  abbrev first : Run → LowState
+  first r = first_state layout r.placed r.descriptor r.limit r.memory (Address (Own 0) 0 ∷ replicate others (Number 0))
+
+  abbrev pages : Run → ℕ
+  pages r = page_bound (specification_of parts) r.tables
+
+  abbrev fuel : Run → ℕ
+  fuel r = suc (spend (each r) (rows r))
+
+  -- what is promised of the plan's blocks in each run over tables that are ready
+  pub record Sound (r : Run) : Type 0 where
+    pub columns_end : (s : LowState) → Kept 1 (first r) s → Ends (size columns) (λ t. Kept 8 s t × Bases r t) Never (λ code. ⊥) (meaning (pages r) (fuel r) columns s)
+    pub promises : (s0 : LowState) → Started (descriptor_size layout) (length (rows r)) (Bases r) (first r) s0 →
+        Promises plan (Text r) (rows r) (each r) (Held r) (truths_of (specification_of parts).conjuncts) (values_in (specification_of parts).items) (pages r) (fuel r) s0
+    pub spent : spend (each r) (rows r) ≤ units (specification_of parts) r.tables
+    pub texts : (w : World) (t : LowState) (memory : List ℕ) → StandsFor w t memory → Keeps (first_world layout r.placed r.descriptor r.limit) w →
+        Finished plan (Text r) (rows r) (each r) (Held r) (truths_of (specification_of parts).conjuncts) (values_in (specification_of parts).items) (pages r) (fuel r) t →
+        (p : Part) (off word : ℕ) (octets : List ℕ) → Text r p off octets → Means w (Address p off) word → text_cell (text_areas layout w r.descriptor) memory word (length octets) ≡ Some (val.Text octets)
+
+  -- what holds of the plan itself, and of the layout
+  pub record Planned : Type 0 where
+    pub start_is : plan.start ≡ begin_block (descriptor_size layout) columns
+    pub base_is : plan.base ≡ descriptor_size layout
+    pub many_is : plan.many ≡ suc others
+    pub others_many : 7 ≤ others
+    pub first_is : slice_get layout.columns 0 ≡ Some first_column
+    pub table_is : first_column.table ≡ parts.table
+    pub kinds_are : kinds_of (outs_of plan.items) ≡ map Some layout.cells
+    pub goes_with : GoesWith (specification_of parts) layout
+    pub short : size scan ≤ 2 ^ 22
+
+  module _ (planned : Planned) (sound : (r : Run) → IsReady layout r.placed r.tables r.descriptor r.limit r.memory → Sound r) (m : Module)
+      (runnable : IsRunnable m) (weight_is : module_weight m ≡ size scan) (called_is : (number : ℕ) → IsShaped m number → weight_of m number ≡ size scan)
+      (runs : (most fuel number descriptor limit : ℕ) (layout' : Layout) (placed : List Placed) (tables : List (List (List Val))) (memory : List ℕ) → IsShaped m number → IsReady layout' placed tables descriptor limit memory →
+      RunsAs (meaning most fuel scan (first_state layout' placed descriptor limit memory (Address (Own 0) 0 ∷ replicate others (Number 0)))) most (beginning m number layout' placed descriptor limit memory)) where
+    module _ (number : ℕ) (shape : IsShaped m number) (r : Run) (ready : IsReady layout r.placed r.tables r.descriptor r.limit r.memory) where
+      abbrev s : Sound r
+      s = sound r ready
+
+      few : length (rows r) ≤ 1000000
+      few = first_few r.placed planned.first_is ready.many (ready.columns 0)
+        where
+          first_few : (placed : List Placed) → slice_get layout.columns 0 ≡ Some first_column → length placed ≡ length layout.columns →
+              ((used : Used) (one : Placed) → slice_get layout.columns 0 ≡ Some used → slice_get placed 0 ≡ Some one → IsReadyColumn (rows_of r.tables used.table) r.descriptor r.memory used one) → length (rows r) ≤ 1000000
+          first_few [] there many columns' = absurd (none-there layout.columns there many)
+          first_few (one ∷ placed) there many columns' = subst (λ (table : ℕ). length (rows_of r.tables table) ≤ 1000000) planned.table_is (columns' first_column one there refl).few
+
+      fresh : Fresh (descriptor_size layout) (length (rows r)) (first r)
+      fresh =
+          let few' : length (rows_of r.tables first_column.table) ≤ 1000000 = subst (λ (table : ℕ). length (rows_of r.tables table) ≤ 1000000) (sym planned.table_is) few in
+          subst (λ (table : ℕ). Fresh (descriptor_size layout) (length (rows_of r.tables table)) (first r)) planned.table_is
+          (first-fresh layout r.placed r.tables r.descriptor r.limit r.memory others first_column ready planned.first_is few' planned.others_many)
+
+      begun : (s0 : LowState) → Started (descriptor_size layout) (length (rows r)) (Bases r) (first r) s0 →
+          Begun plan (Text r) (rows r) (each r) (Held r) (truths_of (specification_of parts).conjuncts) (values_in (specification_of parts).items) (pages r) (fuel r) s0
+      begun s0 started = record {
+        promises = s.promises s0 started;
+        ready = record {
+          found = [];
+          values_are = refl;
+          has = subst (λ (base : ℕ). HasResult (HasRow (Text r) (kinds_of (outs_of plan.items))) (bytes (Text r) (kinds_of (outs_of plan.items))) base [] s0) (sym planned.base_is) (empty-result (HasRow (Text r) (kinds_of (outs_of plan.items))) (bytes (Text r) (kinds_of (outs_of plan.items))) (descriptor_size layout) (length (rows r)) (Bases r) (first r) s0 fresh started);
+          since = Since-same plan.known plan.base s0;
+          many = omega (arith, planned.many_is, started.kept.many, length-replicate {A = Value} others (Number 0));
+          offset = started.offset;
+          end = started.end;
+        };
+      }
+
+      abbrev Begins : LowState → Type 0
+      Begins = Begun plan (Text r) (rows r) (each r) (Held r) (truths_of (specification_of parts).conjuncts) (values_in (specification_of parts).items) (pages r) (fuel r)
+
+      start_ends : Ends (size plan.start) Begins Never (λ code. ⊥) (meaning (pages r) (fuel r) plan.start (first r))
+      start_ends = subst (λ (a : Statement). Ends (size a) Begins Never (λ code. ⊥) (meaning (pages r) (fuel r) a (first r))) (sym planned.start_is)
+          (Ends-weaker (size (begin_block (descriptor_size layout) columns)) (size (begin_block (descriptor_size layout) columns)) (Started (descriptor_size layout) (length (rows r)) (Bases r) (first r)) Begins Never Never (λ code. ⊥) (λ code. ⊥)
+          (meaning (pages r) (fuel r) (begin_block (descriptor_size layout) columns) (first r)) (omega arith) begun (λ t x. x) (λ code x. x)
+          (begins (descriptor_size layout) (length (rows r)) (pages r) (fuel r) (Bases r) columns (first r) fresh s.columns_end))
+
+      pub run_behaves : Behaves (bound (specification_of parts) r.tables m number) (pages r)
+          (AnswersAt (outcome (specification_of parts) r.tables) layout (bound (specification_of parts) r.tables m number) (pages r) r.descriptor)
+          (beginning m number layout r.placed r.descriptor r.limit r.memory)
+      run_behaves =
+          let whole : size scan * (1 + spend (each r) (rows r)) ≤ bound (specification_of parts) r.tables m number =
+          rw (called_is number shape) (mul-le (size scan) (1 + spend (each r) (rows r)) (size scan) (1 + units (specification_of parts) r.tables) (omega arith) (omega (arith, s.spent))) in
+          scan_answers parts r.tables layout plan (Text r) (each r) (Held r) (bound (specification_of parts) r.tables m number) (pages r) (fuel r) r.descriptor (beginning m number layout r.placed r.descriptor r.limit r.memory)
+          ready.small refl planned.kinds_are s.texts scan (first r) (size scan * (1 + spend (each r) (rows r))) whole
+          (runs (pages r) (fuel r) number r.descriptor r.limit layout r.placed r.tables r.memory shape ready)
+          (scan_ends plan (Text r) (rows r) (each r) (Held r) (truths_of (specification_of parts).conjuncts) (values_in (specification_of parts).items) (pages r) (fuel r) (first r) (omega arith) start_ends)
+
+    pub scan_compiled : IsCompiled (specification_of parts) layout m
+    scan_compiled = record {
+      runnable = runnable;
+      goes_with = planned.goes_with;
+      short = omega (arith, weight_is, planned.short);
+      light = λ number shape. omega (arith, called_is number shape, planned.short);
+      behaves = λ number descriptor limit placed tables memory shape ready. run_behaves number shape (record { descriptor = descriptor; limit = limit; placed = placed; tables = tables; memory = memory }) ready;
+    }

@@ -1,0 +1,6 @@
+use Rattle.std.proofs.Common.{◌≡◌, take}
+use Rattle.qw_module.specs.Validity.{declared_types}
+use Rattle.qw_code.proofs.module.declared.Given as goal
+
+abbrev pub invariant-loop-ty : goal.invariant-loop-ty
+invariant-loop-ty l = declared_types l.locals.items ≡ take l.ty-index l.types
