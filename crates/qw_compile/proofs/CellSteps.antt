@@ -1,0 +1,53 @@
+-- The steps of the cells of a row, one cell after another, and the readers of columns.
+use Rattle.std.proofs.Common.{◌≡◌, ℕ, suc, ◌+◌, ◌*◌, ◌<◌, ◌≤◌, List, [], ◌∷◌, ◌++◌, length, drop, get_or, drop-cons, refl, sym, ap, ◌∙◌, subst, append_assoc, append-nil, arith}
+use Rattle.std.proofs.lemmas.List.{drop_all}
+use Rattle.qw_low.specs.declared.step.LowStep.{LowStep}
+use Rattle.qw_low.specs.Steps.{steps_of}
+use Rattle.qw_expr.specs.declared.operand.Operand.{Operand}
+use Rattle.qw_map.specs.declared.layout.Used.{Used}
+use Rattle.qw_rows.specs.declared.reader.Reader.{Reader}
+use Rattle.qw_code.specs.RowCells.{cell_block, cells_block, plain_block}
+use Rattle.qw_compile.specs.Emitted.{sources_of}
+use Rattle.qw_compile.specs.Readers.{reader_of, readers_from}
+
+-- what is left of the cells
+abbrev pub left_cells : List Operand → (done : ℕ) → List LowStep
+left_cells os i = steps_of (cells_block (8 + 16 * i) (sources_of (drop i os)))
+
+pub next_cell : (os : List Operand) (i : ℕ) (o : Operand) (old code new : List LowStep) → i < length os → o ≡ get_or os i o → code ++ left_cells os i ≡ old →
+    new ≡ code ++ steps_of (cell_block o.cell.null (8 + 16 * i) (plain_block o.kind o.cell (8 + 16 * i))) → new ++ left_cells os (i + 1) ≡ old
+next_cell os i o old code new less same before added =
+    let one : i + 1 ≡ suc i = omega arith in
+    let place : 8 + 16 * (i + 1) ≡ 8 + 16 * i + 16 = omega arith in
+    let first : drop i os ≡ o ∷ drop (suc i) os = drop-cons os i o less ∙ ap (λ (p : Operand). p ∷ drop (suc i) os) (sym same) in
+    ap (λ (at : ℕ). new ++ steps_of (cells_block at (sources_of (drop (i + 1) os)))) place
+    ∙ (ap (λ (k : ℕ). new ++ steps_of (cells_block (8 + 16 * i + 16) (sources_of (drop k os)))) one
+    ∙ (ap (λ (c : List LowStep). c ++ steps_of (cells_block (8 + 16 * i + 16) (sources_of (drop (suc i) os)))) added
+    ∙ (append_assoc code (steps_of (cell_block o.cell.null (8 + 16 * i) (plain_block o.kind o.cell (8 + 16 * i)))) (steps_of (cells_block (8 + 16 * i + 16) (sources_of (drop (suc i) os))))
+    ∙ (ap (λ (rest : List Operand). code ++ steps_of (cells_block (8 + 16 * i) (sources_of rest))) (sym first) ∙ before))))
+
+pub last_cell : (os : List Operand) (i : ℕ) (old code : List LowStep) → length os ≤ i → code ++ left_cells os i ≡ old → code ≡ old
+last_cell os i old code past before =
+    sym (append-nil code) ∙ (ap (λ (rest : List Operand). code ++ steps_of (cells_block (8 + 16 * i) (sources_of rest))) (sym (drop_all i os past)) ∙ before)
+
+-- what is left of the readers
+abbrev pub left_readers : (cells : ℕ) → List Used → (done : ℕ) → List Reader
+left_readers c used i = readers_from (8 + 3 * i) (c + 3 * i) i (drop i used)
+
+pub next_reader : (c : ℕ) (used : List Used) (i : ℕ) (u : Used) (old code new : List Reader) → i < length used → u ≡ get_or used i u → code ++ left_readers c used i ≡ old →
+    new ≡ code ++ reader_of (8 + 3 * i) (c + 3 * i) i u ∷ [] → new ++ left_readers c used (i + 1) ≡ old
+next_reader c used i u old code new less same before added =
+    let one : i + 1 ≡ suc i = omega arith in
+    let base : 8 + 3 * (i + 1) ≡ 8 + 3 * i + 3 = omega arith in
+    let cell : c + 3 * (i + 1) ≡ c + 3 * i + 3 = omega arith in
+    let first : drop i used ≡ u ∷ drop (suc i) used = drop-cons used i u less ∙ ap (λ (p : Used). p ∷ drop (suc i) used) (sym same) in
+    ap (λ (b : ℕ). new ++ readers_from b (c + 3 * (i + 1)) (i + 1) (drop (i + 1) used)) base
+    ∙ (ap (λ (d : ℕ). new ++ readers_from (8 + 3 * i + 3) d (i + 1) (drop (i + 1) used)) cell
+    ∙ (ap (λ (k : ℕ). new ++ readers_from (8 + 3 * i + 3) (c + 3 * i + 3) (i + 1) (drop k used)) one
+    ∙ (ap (λ (x : List Reader). x ++ readers_from (8 + 3 * i + 3) (c + 3 * i + 3) (i + 1) (drop (suc i) used)) added
+    ∙ (append_assoc code (reader_of (8 + 3 * i) (c + 3 * i) i u ∷ []) (readers_from (8 + 3 * i + 3) (c + 3 * i + 3) (i + 1) (drop (suc i) used))
+    ∙ (ap (λ (rest : List Used). code ++ readers_from (8 + 3 * i) (c + 3 * i) i rest) (sym first) ∙ before)))))
+
+pub last_reader : (c : ℕ) (used : List Used) (i : ℕ) (old code : List Reader) → length used ≤ i → code ++ left_readers c used i ≡ old → code ≡ old
+last_reader c used i old code past before =
+    sym (append-nil code) ∙ (ap (λ (rest : List Used). code ++ readers_from (8 + 3 * i) (c + 3 * i) i rest) (sym (drop_all i used past)) ∙ before)

@@ -1,0 +1,15 @@
+pub mod Bridge
+pub mod CellSteps
+pub mod ColumnSteps
+pub mod Composed
+pub mod Finished
+pub mod Joined
+pub mod Listed
+pub mod Made
+pub mod NestingSteps
+pub mod Promised
+pub mod ReadersLaid
+pub mod RowSteps
+pub mod Sizes
+pub mod Whole
+pub mod WithoutTexts

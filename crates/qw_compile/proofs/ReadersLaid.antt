@@ -1,0 +1,185 @@
+-- The locals of the columns that a scan reads, and what they are known to hold.
+use Rattle.std.proofs.Common.{◌≡◌, ◌≢◌, ℕ, zero, suc, ◌+◌, ◌*◌, ◌<◌, ◌≤◌, inl, inr, Bool, true, false, Option, Some, None, List, [], ◌∷◌, length, map, slice_get, refl, sym, ap, ap₂, ◌∙◌, subst, arith}
+use Rattle.std.specs.List.{AllByRecursion}
+use Rattle.std.proofs.lemmas.Option.{same_Some}
+use Rattle.qw_types.specs.Value.{IsSized, type_scale}
+use Rattle.qw_types.specs.Kind.{type_kind}
+use Rattle.qw_types.specs.declared.value.Ty.{Ty}
+use Rattle.qw_types.specs.declared.value.Ty.TheVariants as ty
+use Rattle.qw_types.specs.declared.value.Val.{Val}
+use Rattle.qw_module.specs.declared.instruction.ValType.{ValType}
+use Rattle.qw_module.specs.declared.instruction.ValType.TheVariants.{I32, I64}
+use Rattle.qw_meaning.specs.Expression.{Expression, column, scale_of}
+use Rattle.qw_meaning.specs.Typing.{kind_of}
+use Rattle.qw_map.specs.Layout.{is_text}
+use Rattle.qw_map.specs.declared.layout.Used.{Used}
+use Rattle.qw_low.specs.State.{Column, Address, Number, Cells, LowState}
+use Rattle.qw_low.specs.Begin.{KnowsEntry}
+use Rattle.qw_expr.specs.Bindings.{IsAmong, Knows, IsServed}
+use Rattle.qw_expr.specs.Cells.{DeclaresValue, DeclaresKind, DeclaresNull}
+use Rattle.qw_expr.specs.Computes.{Known, AreDeclared}
+use Rattle.qw_rows.specs.declared.reader.Reader.{Reader}
+use Rattle.qw_rows.specs.Reading.{known_of, operand_of, HasNullWord, StandsAt, AreBases, IsCellIn, HasBases, DeclaresBases, AreBasesIn, AreCellsIn, HasEntryOf, IsThere}
+use Rattle.qw_rows.proofs.Several.{known_below}
+use Rattle.qw_compile.specs.Readers.{IsRead, null_word, reader_of, readers_from, first_cell, first_own, readers_of, value_type, base_types, cell_types}
+
+-- ---- where they are
+null_there : (b : Bool) (y x : ℕ) → null_word b y ≡ Some x → y ≡ x
+null_there true y x is = absurd cc
+null_there false y x is = same_Some y x is
+
+bases_one : (b c k : ℕ) (u : Used) → AreBases b (b + 3) (reader_of b c k u)
+bases_one b c k u = record {
+  values = (omega arith, omega arith);
+  octets = λ is. (omega arith, omega arith, λ e. omega (arith, e));
+  nulls = λ is. (omega arith, omega arith, (λ e. omega (arith, e)), λ text e. omega (arith, e));
+}
+
+pub bases_in : (b c k below : ℕ) (used : List Used) → b + 3 * length used ≤ below → AreBasesIn b below (readers_from b c k used)
+bases_in b c k below [] low = omega (arith, low)
+bases_in b c k below (u ∷ used) low = (b + 3, bases_one b c k u, bases_in (b + 3) (c + 3) (k + 1) below used (omega (arith, low)))
+
+cell_one : (b c k : ℕ) (u : Used) → IsCellIn c (c + 3) (reader_of b c k u)
+cell_one b c k u = record {
+  value = (omega arith, omega arith);
+  long = omega arith;
+  text = λ is. (omega arith, λ e. omega (arith, e));
+  null = λ x same. let at : c + 2 ≡ x = null_there u.not_null (c + 2) x same in (omega (arith, at), omega (arith, at), (λ e. omega (arith, at, e)), λ text e. omega (arith, at, e));
+}
+
+pub cells_in : (b c k below : ℕ) (used : List Used) → c + 3 * length used ≤ below → AreCellsIn c below (readers_from b c k used)
+cells_in b c k below [] low = omega (arith, low)
+cells_in b c k below (u ∷ used) low = (c + 3, cell_one b c k u, cells_in (b + 3) (c + 3) (k + 1) below used (omega (arith, low)))
+
+null_one : (b : Bool) (x : ℕ) → HasNullWord b (null_word b x)
+null_one true x = refl
+null_one false x = (x, refl)
+
+pub null_words : (b c k : ℕ) (used : List Used) → AllByRecursion (λ (r : Reader). HasNullWord r.not_null r.cell.null) (readers_from b c k used)
+null_words b c k [] = tt
+null_words b c k (u ∷ used) = (null_one u.not_null (c + 2), null_words (b + 3) (c + 3) (k + 1) used)
+
+-- ---- what is known
+described : (b c k : ℕ) (used : List Used) → AllByRecursion (λ (q : Known). (q.operand.kind ≡ kind_of q.expression) × (q.operand.scale ≡ scale_of q.expression)) (map known_of (readers_from b c k used))
+described b c k [] = tt
+described b c k (u ∷ used) = ((refl, refl), described (b + 3) (c + 3) (k + 1) used)
+
+pub served : (used : List Used) → IsServed (first_own used) (map known_of (readers_of used))
+served used = (known_below (first_cell used) (first_own used) (readers_of used) (cells_in 8 (first_cell used) 0 (first_own used) used (omega arith)), described 8 (first_cell used) 0 used)
+
+pub knows : (b c k : ℕ) (used : List Used) (i : ℕ) (t : Ty) → IsRead used i t → Knows (map known_of (readers_from b c k used)) (column i t)
+knows b c k [] i t read = absurd read
+knows b c k (u ∷ used) i t (inl is) =
+    (operand_of (reader_of b c k u), inl (ap₂ (λ (j : ℕ) (s : Ty). record { expression = column j s; operand = operand_of (reader_of b c k u) }) (sym is.0) (sym is.1)))
+knows b c k (u ∷ used) i t (inr read) = let found = knows (b + 3) (c + 3) (k + 1) used i t read in (found.0, inr found.1)
+
+-- ---- how they are declared
+behind : {A : Type 0} (types : List A) (at : ℕ) (x y z : A) (rest : List A) → ((i : ℕ) → slice_get types (at + i) ≡ slice_get (x ∷ y ∷ z ∷ rest) i) → (i : ℕ) → slice_get types (at + 3 + i) ≡ slice_get rest i
+behind types at x y z rest same i =
+    let place : at + 3 + i ≡ at + suc (suc (suc i)) = omega arith in
+    ap (λ (n : ℕ). slice_get types n) place ∙ same (suc (suc (suc i)))
+
+at_first : {A : Type 0} (types : List A) (at : ℕ) (x : A) (rest : List A) → ((i : ℕ) → slice_get types (at + i) ≡ slice_get (x ∷ rest) i) → slice_get types at ≡ Some x
+at_first types at x rest same = let place : at ≡ at + 0 = omega arith in ap (λ (n : ℕ). slice_get types n) place ∙ same 0
+
+pub bases_declared : (types rest : List ValType) (b c k : ℕ) (used : List Used) → ((i : ℕ) → slice_get types (b + i) ≡ slice_get (base_types used rest) i) → AllByRecursion (DeclaresBases types) (readers_from b c k used)
+bases_declared types rest b c k [] same = tt
+bases_declared types rest b c k (u ∷ used) same = (
+  record { values = at_first types b I32 (I32 ∷ I32 ∷ base_types used rest) same; octets = λ is. same 1; nulls = λ is. same 2 },
+  bases_declared types rest (b + 3) (c + 3) (k + 1) used (behind types b I32 I32 I32 (base_types used rest) same),
+)
+
+pub behind_bases : (types rest : List ValType) (b : ℕ) (used : List Used) → ((i : ℕ) → slice_get types (b + i) ≡ slice_get (base_types used rest) i) → (i : ℕ) → slice_get types (b + 3 * length used + i) ≡ slice_get rest i
+behind_bases types rest b [] same i = let place : b + 3 * length {A = Used} [] + i ≡ b + i = omega arith in ap (λ (n : ℕ). slice_get types n) place ∙ same i
+behind_bases types rest b (u ∷ used) same i =
+    let place : b + 3 * length (u ∷ used) + i ≡ b + 3 + 3 * length used + i = omega arith in
+    ap (λ (n : ℕ). slice_get types n) place ∙ behind_bases types rest (b + 3) used (behind types b I32 I32 I32 (base_types used rest) same) i
+
+kind_declared : (types : List ValType) (t : Ty) (c : ℕ) (null : Option ℕ) → slice_get types c ≡ Some (value_type t) → slice_get types (c + 1) ≡ Some I32 → DeclaresKind types (record { value = c; length = c + 1; null = null }) (Some (type_kind t))
+kind_declared types ty.Integer c null v l = v
+kind_declared types (ty.Decimal precision scale) c null v l = v
+kind_declared types ty.Date c null v l = v
+kind_declared types (ty.Varchar limit) c null v l = (v, l)
+
+null_declared : (types : List ValType) (b : Bool) (x : ℕ) → slice_get types x ≡ Some I32 → DeclaresNull types (null_word b x)
+null_declared types true x is = tt
+null_declared types false x is = is
+
+pub cells_declared : (types rest : List ValType) (b c k : ℕ) (used : List Used) → ((i : ℕ) → slice_get types (c + i) ≡ slice_get (cell_types used rest) i) →
+    AllByRecursion (λ (r : Reader). DeclaresValue types (operand_of r)) (readers_from b c k used)
+cells_declared types rest b c k [] same = tt
+cells_declared types rest b c k (u ∷ used) same = (
+  (kind_declared types u.ty c (null_word u.not_null (c + 2)) (at_first types c (value_type u.ty) (I32 ∷ I32 ∷ cell_types used rest) same) (same 1), null_declared types u.not_null (c + 2) (same 2)),
+  cells_declared types rest (b + 3) (c + 3) (k + 1) used (behind types c (value_type u.ty) I32 I32 (cell_types used rest) same),
+)
+
+pub behind_cells : (types rest : List ValType) (c : ℕ) (used : List Used) → ((i : ℕ) → slice_get types (c + i) ≡ slice_get (cell_types used rest) i) → (i : ℕ) → slice_get types (c + 3 * length used + i) ≡ slice_get rest i
+behind_cells types rest c [] same i = let place : c + 3 * length {A = Used} [] + i ≡ c + i = omega arith in ap (λ (n : ℕ). slice_get types n) place ∙ same i
+behind_cells types rest c (u ∷ used) same i =
+    let place : c + 3 * length (u ∷ used) + i ≡ c + 3 + 3 * length used + i = omega arith in
+    ap (λ (n : ℕ). slice_get types n) place ∙ behind_cells types rest (c + 3) used (behind types c (value_type u.ty) I32 I32 (cell_types used rest) same) i
+
+pub all_declared : (types : List ValType) (readers : List Reader) → AllByRecursion (λ (r : Reader). slice_get types r.row ≡ Some I32) readers → AllByRecursion (DeclaresBases types) readers → AllByRecursion (λ (r : Reader). DeclaresValue types (operand_of r)) readers →
+    AllByRecursion (λ (r : Reader). (slice_get types r.row ≡ Some I32) × DeclaresBases types r × DeclaresValue types (operand_of r)) readers
+all_declared types [] rows bases cells = tt
+all_declared types (r ∷ readers) rows bases cells = ((rows.0, bases.0, cells.0), all_declared types readers rows.1 bases.1 cells.1)
+
+pub rows_declared : (types : List ValType) (b c k : ℕ) (used : List Used) → slice_get types 5 ≡ Some I32 → AllByRecursion (λ (r : Reader). slice_get types r.row ≡ Some I32) (readers_from b c k used)
+rows_declared types b c k [] is = tt
+rows_declared types b c k (u ∷ used) is = (is, rows_declared types (b + 3) (c + 3) (k + 1) used is)
+
+-- ---- at each column, by its index
+abbrev pub AtEach : (ℕ → Used → Type 0) → ℕ → List Used → Type 0
+AtEach P k [] = Unit {0}
+AtEach P k (u ∷ used) = P k u × AtEach P (k + 1) used
+
+pub at_each : (P : ℕ → Used → Type 0) (k : ℕ) (used : List Used) → ((i : ℕ) (u : Used) → slice_get used i ≡ Some u → P (k + i) u) → AtEach P k used
+at_each P k [] all = tt
+at_each P k (u ∷ used) all =
+    let here : k + 0 ≡ k = omega arith in (
+      subst (λ (n : ℕ). P n u) here (all 0 u refl),
+      at_each P (k + 1) used (λ i v is. let place : k + suc i ≡ k + 1 + i = omega arith in subst (λ (n : ℕ). P n v) place (all (suc i) v is)),
+    )
+
+pub at_all : (P : ℕ → Used → Type 0) (used : List Used) → ((i : ℕ) (u : Used) → slice_get used i ≡ Some u → P i u) → AtEach P 0 used
+at_all P used all = at_each P 0 used (λ i u same. let place : i ≡ 0 + i = omega arith in subst (λ (n : ℕ). P n u) place (all i u same))
+
+pub entries_of : (cells : Cells) (rows : Used → ℕ) (b c k : ℕ) (used : List Used) → AtEach (λ i u. KnowsEntry cells i u (rows u)) k used → AllByRecursion (HasEntryOf cells) (readers_from b c k used)
+entries_of cells rows b c k [] all = tt
+entries_of cells rows b c k (u ∷ used) all = ((u, rows u, refl, refl, all.0), entries_of cells rows (b + 3) (c + 3) (k + 1) used all.1)
+
+-- ---- at a row
+pub record Standing (values : List Val) (cells : Cells) (columns : List ℕ) (row k : ℕ) (u : Used) : Type 0 where
+  pub v : Val
+  pub value_is : slice_get values u.column ≡ Some v
+  pub stands : StandsAt cells columns k u.ty u.not_null row v
+  pub sized : IsSized u.ty
+
+module _ (n row : ℕ) (values : List Val) (s0 s : LowState) (more : 5 < n) (row_is : slice_get s.locals 5 ≡ Some (Number (4 * row))) (same : (i : ℕ) → 6 ≤ i → i < n → slice_get s.locals i ≡ slice_get s0.locals i) where
+  pub are_there : (b c k : ℕ) (used : List Used) → 6 ≤ b → b + 3 * length used ≤ n → AllByRecursion (λ r. HasBases r s0) (readers_from b c k used) → AtEach (Standing values s.cells s.columns row) k used →
+      AllByRecursion (IsThere n values s) (readers_from b c k used)
+  are_there b c k [] low high bases all = tt
+  are_there b c k (u ∷ used) low high bases all =
+      let one = all.0 in
+      let held = bases.0 in (
+        record {
+          row = row;
+          v = one.v;
+          value_is = one.value_is;
+          stands = one.stands;
+          sized = one.sized;
+          bases = record {
+            values = same b (omega (arith, low)) (omega (arith, high)) ∙ held.values;
+            octets = λ is. same (b + 1) (omega (arith, low)) (omega (arith, high)) ∙ held.octets is;
+            nulls = λ is. same (b + 2) (omega (arith, low)) (omega (arith, high)) ∙ held.nulls is;
+          };
+          row_is = row_is;
+          row_below = more;
+          bases_below = record {
+            values = (omega arith, omega (arith, high));
+            octets = λ is. (omega arith, omega (arith, high), λ e. omega (arith, e));
+            nulls = λ is. (omega arith, omega (arith, high), (λ e. omega (arith, e)), λ text e. omega (arith, e));
+          };
+        },
+        are_there (b + 3) (c + 3) (k + 1) used (omega (arith, low)) (omega (arith, high)) bases.1 all.1,
+      )

@@ -1,0 +1,8 @@
+use Rattle.std.proofs.Common.{map, take}
+use Rattle.qw_meaning.specs.Tree.{condition_of}
+use Rattle.qw_expr.specs.Bindings.{known_of}
+use Rattle.qw_compile.specs.Emitted.{EmitsTests}
+use Rattle.qw_compile.proofs.lists.emit_tests.Given as goal
+
+abbrev pub invariant-loop-conjunct : goal.invariant-loop-conjunct
+invariant-loop-conjunct l = EmitsTests (known_of l.known) (map condition_of (take l.conjunct-index l.conjuncts)) l.initial.emitter l.emitter

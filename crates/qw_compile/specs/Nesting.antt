@@ -1,0 +1,21 @@
+-- The steps around what is done where conjuncts are true.
+use Rattle.std.specs.Prelude.{ℕ, zero, suc, List, [], ◌∷◌, ◌++◌}
+use Rattle.qw_module.specs.declared.instruction.Op.TheVariants as o
+use Rattle.qw_low.specs.declared.step.LowStep.{LowStep}
+use Rattle.qw_low.specs.declared.step.LowStep.TheVariants as step
+use Rattle.qw_low.specs.Steps.{steps_of}
+use Rattle.qw_code.specs.RowCells.{Test}
+
+-- behind a conjunct's block, whose truth is in a local
+abbrev pub opening : ℕ → List LowStep
+opening out = step.Op (o.LocalGet out) ∷ step.If ∷ []
+
+-- the blocks of conjuncts, each within the one before
+abbrev pub openings : List Test → List LowStep
+openings [] = []
+openings (g ∷ gs) = steps_of g.block ++ (opening g.out ++ openings gs)
+
+-- and what ends so many of them
+abbrev pub closings : ℕ → List LowStep
+closings zero = []
+closings (suc n) = step.Else ∷ step.End ∷ closings n

@@ -1,0 +1,20 @@
+//! From a typed query specification to the blocks of its scan.
+//!
+//! - [`compile`]: the module of a specification, and its layout.
+//! - [`readers`]: the columns that a scan reads.
+//! - [`columns`]: columns as a layout has them, and the locals of a scan.
+//! - [`lists`]: the conjuncts and the select list, one after another.
+//! - [`nesting`]: what is done where a conjunct is true stands within its choice.
+//! - [`cells`]: the cells of a result row.
+//! - [`row`]: what is done at a row.
+//! - [`scan`]: the rows one after another.
+#![tactic(auto)]
+
+pub mod cells;
+pub mod columns;
+pub mod compile;
+pub mod lists;
+pub mod nesting;
+pub mod readers;
+pub mod row;
+pub mod scan;
