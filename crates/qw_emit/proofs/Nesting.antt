@@ -9,31 +9,33 @@ use Rattle.qw_emit.specs.Inner.Sequences.{RefersBelow}
 use Rattle.qw_map.specs.Layout.{row_size}
 use Rattle.qw_map.proofs.AreaLemmas.{all-weaker}
 
-pub scan_nests : (scan : Scan) (raise nothing ask row around none last outer : List Instr) →
+pub scan_nests : (scan : Scan) (raise granted ask fits row around none last outer : List Instr) →
     ((named : ℕ → Code) → nested [] named raise ≡ raise_refused) →
-    ((named : ℕ → Code) → nested [] named nothing ≡ done) →
+    ((named : ℕ → Code) → nested [] named granted ≡ done) →
     ((named : ℕ → Code) → nested [] named ask ≡ ask_page (row_size (length scan.cells)) (named 0) (named 1)) →
-    ((named : ℕ → Code) → nested [] named row ≡ scan_row scan (named 2) (named 1)) →
-    ((named : ℕ → Code) → nested [] named around ≡ loop None (named 3) done) →
+    ((named : ℕ → Code) → nested [] named fits ≡ done) →
+    ((named : ℕ → Code) → nested [] named row ≡ scan_row scan (named 2) (named 3)) →
+    ((named : ℕ → Code) → nested [] named around ≡ loop None (named 4) done) →
     ((named : ℕ → Code) → nested [] named none ≡ i32 0 done) →
     ((named : ℕ → Code) → nested [] named last ≡ get 4 done) →
-    ((named : ℕ → Code) → nested [] named outer ≡ scan_frame scan (named 4) (named 5) (named 6)) →
-    code_of (record { each = raise ∷ nothing ∷ ask ∷ row ∷ around ∷ none ∷ last ∷ outer ∷ []; labels = [] }) ≡ scan_code scan
+    ((named : ℕ → Code) → nested [] named outer ≡ scan_frame scan (named 5) (named 6) (named 7)) →
+    code_of (record { each = raise ∷ granted ∷ ask ∷ fits ∷ row ∷ around ∷ none ∷ last ∷ outer ∷ []; labels = [] }) ≡ scan_code scan
 unfolding named_below
-scan_nests scan raise nothing ask row around none last outer raise_is nothing_is ask_is row_is around_is none_is last_is outer_is =
-    let sequences : Sequences = record { each = raise ∷ nothing ∷ ask ∷ row ∷ around ∷ none ∷ last ∷ outer ∷ []; labels = [] } in
+scan_nests scan raise granted ask fits row around none last outer raise_is granted_is ask_is fits_is row_is around_is none_is last_is outer_is =
+    let sequences : Sequences = record { each = raise ∷ granted ∷ ask ∷ fits ∷ row ∷ around ∷ none ∷ last ∷ outer ∷ []; labels = [] } in
     let zeroth : named_below sequences 2 0 ≡ raise_refused = raise_is (named_below sequences 0) in
-    let one : named_below sequences 2 1 ≡ done = nothing_is (named_below sequences 1) in
-    let two : named_below sequences 3 2 ≡ ask_page (row_size (length scan.cells)) raise_refused done =
+    let one : named_below sequences 2 1 ≡ done = granted_is (named_below sequences 1) in
+    let two : named_below sequences 4 2 ≡ ask_page (row_size (length scan.cells)) raise_refused done =
     ask_is (named_below sequences 2) ∙ ap₂ (ask_page (row_size (length scan.cells))) zeroth one in
-    let three : named_below sequences 4 3 ≡ scan_row scan (ask_page (row_size (length scan.cells)) raise_refused done) done =
-    row_is (named_below sequences 3) ∙ ap₂ (scan_row scan) two (nothing_is (named_below sequences 1)) in
-    let four : named_below sequences 7 4 ≡ loop None (scan_row scan (ask_page (row_size (length scan.cells)) raise_refused done) done) done =
-    around_is (named_below sequences 4) ∙ ap (λ (c : Code). loop None c done) three in
-    outer_is (named_below sequences 7)
-    ∙ ap (λ (c : Code). scan_frame scan c (named_below sequences 7 5) (named_below sequences 7 6)) four
+    let three : named_below sequences 4 3 ≡ done = fits_is (named_below sequences 3) in
+    let four : named_below sequences 5 4 ≡ scan_row scan (ask_page (row_size (length scan.cells)) raise_refused done) done =
+    row_is (named_below sequences 4) ∙ ap₂ (scan_row scan) two three in
+    let five : named_below sequences 8 5 ≡ loop None (scan_row scan (ask_page (row_size (length scan.cells)) raise_refused done) done) done =
+    around_is (named_below sequences 5) ∙ ap (λ (c : Code). loop None c done) four in
+    outer_is (named_below sequences 8)
+    ∙ ap (λ (c : Code). scan_frame scan c (named_below sequences 8 6) (named_below sequences 8 7)) five
     ∙ ap₂ (scan_frame scan (loop None (scan_row scan (ask_page (row_size (length scan.cells)) raise_refused done) done) done))
-    (none_is (named_below sequences 5)) (last_is (named_below sequences 6))
+    (none_is (named_below sequences 6)) (last_is (named_below sequences 7))
 
 -- sequences of which each refers only to those below it are numbered, and call only the first function
 refers-calls : (sequences : List (List Instr)) (from : ℕ) →
@@ -55,16 +57,16 @@ refers-down sequences some refers = (
   refers-calls sequences 0 (λ n. let same : 0 + n ≡ n = omega arith in rw same (refers n)),
 )
 
-pub scan_refers : (raise nothing ask row around none last outer : List Instr) →
-    AllByRecursion (RefersBelow 0) raise → AllByRecursion (RefersBelow 1) nothing → AllByRecursion (RefersBelow 2) ask →
-    AllByRecursion (RefersBelow 3) row → AllByRecursion (RefersBelow 4) around → AllByRecursion (RefersBelow 5) none →
-    AllByRecursion (RefersBelow 6) last → AllByRecursion (RefersBelow 7) outer →
-    IsNumbered (record { each = raise ∷ nothing ∷ ask ∷ row ∷ around ∷ none ∷ last ∷ outer ∷ []; labels = [] })
-    × AllByRecursion (AllByRecursion (CallsBelow 1)) (raise ∷ nothing ∷ ask ∷ row ∷ around ∷ none ∷ last ∷ outer ∷ [])
-scan_refers raise nothing ask row around none last outer a b c d e f g h =
-    refers-down (raise ∷ nothing ∷ ask ∷ row ∷ around ∷ none ∷ last ∷ outer ∷ []) (omega arith) refers
+pub scan_refers : (raise granted ask fits row around none last outer : List Instr) →
+    AllByRecursion (RefersBelow 0) raise → AllByRecursion (RefersBelow 1) granted → AllByRecursion (RefersBelow 2) ask →
+    AllByRecursion (RefersBelow 3) fits → AllByRecursion (RefersBelow 4) row → AllByRecursion (RefersBelow 5) around →
+    AllByRecursion (RefersBelow 6) none → AllByRecursion (RefersBelow 7) last → AllByRecursion (RefersBelow 8) outer →
+    IsNumbered (record { each = raise ∷ granted ∷ ask ∷ fits ∷ row ∷ around ∷ none ∷ last ∷ outer ∷ []; labels = [] })
+    × AllByRecursion (AllByRecursion (CallsBelow 1)) (raise ∷ granted ∷ ask ∷ fits ∷ row ∷ around ∷ none ∷ last ∷ outer ∷ [])
+scan_refers raise granted ask fits row around none last outer a b c d e f g h i =
+    refers-down (raise ∷ granted ∷ ask ∷ fits ∷ row ∷ around ∷ none ∷ last ∷ outer ∷ []) (omega arith) refers
   where
-    refers : (n : ℕ) → AllByRecursion (RefersBelow n) (unwrap_or (slice_get (raise ∷ nothing ∷ ask ∷ row ∷ around ∷ none ∷ last ∷ outer ∷ []) n) [])
+    refers : (n : ℕ) → AllByRecursion (RefersBelow n) (unwrap_or (slice_get (raise ∷ granted ∷ ask ∷ fits ∷ row ∷ around ∷ none ∷ last ∷ outer ∷ []) n) [])
     refers zero = a
     refers (suc zero) = b
     refers (suc (suc zero)) = c
@@ -73,4 +75,5 @@ scan_refers raise nothing ask row around none last outer a b c d e f g h =
     refers (suc (suc (suc (suc (suc zero))))) = f
     refers (suc (suc (suc (suc (suc (suc zero)))))) = g
     refers (suc (suc (suc (suc (suc (suc (suc zero))))))) = h
-    refers (suc (suc (suc (suc (suc (suc (suc (suc n)))))))) = tt
+    refers (suc (suc (suc (suc (suc (suc (suc (suc zero)))))))) = i
+    refers (suc (suc (suc (suc (suc (suc (suc (suc (suc n))))))))) = tt

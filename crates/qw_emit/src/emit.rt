@@ -39,20 +39,23 @@ const RAISE_INDEX: u32 = 0;
 /// The index of the module's own function `run`, behind the imported ones.
 const RUN_INDEX: u32 = 1;
 
-/// The body of `run`, inner sequences before those that hold them.
+/// The body of `run`, each sequence at the number that a reader gives it.
 fn body_of(alloc: Global, shape: &ScanShape) -> Result<Body, NoMemory>
     ensures code { IfOk result (λ b. code_of_body b ≡ emit.scan_code shape.now) }
     ensures refers { IfOk result (λ b. emit.RefersDown b) }
 {
     let raise = raise_sequence(alloc)?;
-    let nothing = Vec::new(alloc);
+    let granted = Vec::new(alloc);
     let ask = ask_sequence(alloc, row_size(shape.cells().len()))?;
+    let fits = Vec::new(alloc);
     let row = row_sequence(alloc, shape)?;
     let all_rows = vec![in alloc; repeat(ROW)]?;
     let no_row = vec![in alloc; i32_const(0)]?;
     let last_row = vec![in alloc; get(LINK)]?;
     let outer = outer_sequence(alloc, shape)?;
-    let sequences = vec![in alloc; raise, nothing, ask, row, all_rows, no_row, last_row, outer]?;
+    let sequences = vec![in alloc;
+        raise, granted, ask, fits, row, all_rows, no_row, last_row, outer,
+    ]?;
     let labels = Vec::new(alloc);
     Ok(Body { sequences, labels })
 }

@@ -41,7 +41,7 @@ fn minus(number: u32) -> u32
 /// Reads the address of the compared column's last value, and that of four octets before its first.
 fn push_addresses(sequence: &mut Vec<Instr>, tested: u32) -> Result<(), NoMemory>
     requires { tested ≤ most_columns }
-    ensures { OnOk result (Adds 7 sequence.old.items sequence.new.items (λ named rest.
+    ensures { OnOk result (Adds 8 sequence.old.items sequence.new.items (λ named rest.
         emit.get emit.descriptor_local (emit.load_i32 (layout.entry_offset tested) (emit.i32 (2 ^ 32 - 4) (op (o.Binary I32 Add) (emit.tee emit.value_address_local
         (emit.get emit.descriptor_local (emit.load_i32 (layout.entry_offset tested + 12) (emit.i32 4 (op (o.Binary I32 Mul) (op (o.Binary I32 Add) (emit.set emit.last_value_address_local rest)))))))))))) }
 {
@@ -74,7 +74,7 @@ fn push_distance(
     requires tested { tested ≤ most_columns }
     requires number { number ≤ most_columns }
     requires index { index ≤ most_columns }
-    ensures { OnOk result (Adds 7 sequence.old.items sequence.new.items (λ named rest. emit.read_distances tested number (index ∷ []) rest)) }
+    ensures { OnOk result (Adds 8 sequence.old.items sequence.new.items (λ named rest. emit.read_distances tested number (index ∷ []) rest)) }
 {
     sequence.extend_from_slice(&[
         get(DESCRIPTOR),
@@ -92,7 +92,7 @@ fn push_distances(sequence: &mut Vec<Instr>, tested: u32, others: &[u32]) -> Res
     requires tested { tested ≤ most_columns }
     requires few { length others.now ≤ most_columns }
     requires small { AllByRecursion (λ index. index ≤ most_columns) others.now }
-    ensures { OnOk result (Adds 7 sequence.old.items sequence.new.items (λ named rest. emit.read_distances tested 0 others.now rest)) }
+    ensures { OnOk result (Adds 8 sequence.old.items sequence.new.items (λ named rest. emit.read_distances tested 0 others.now rest)) }
 {
     for (number, index) in others.iter().enumerate() {
         push_distance(sequence, tested, number as u32, *index)?;
@@ -103,10 +103,10 @@ fn push_distances(sequence: &mut Vec<Instr>, tested: u32, others: &[u32]) -> Res
 /// Reads where the first row, of so many octets, stands, and the last that fits its page; then looks at all rows.
 fn push_rows(sequence: &mut Vec<Instr>, size: u32) -> Result<(), NoMemory>
     requires { 1 ≤ size }
-    ensures { OnOk result (Adds 7 sequence.old.items sequence.new.items (λ named rest.
+    ensures { OnOk result (Adds 8 sequence.old.items sequence.new.items (λ named rest.
         emit.get emit.descriptor_local (emit.load_i32 0 (emit.set emit.next_row_local
         (emit.get emit.descriptor_local (emit.load_i32 4 (emit.i32 (2 ^ 32 - size) (op (o.Binary I32 Add) (emit.set emit.last_start_local
-        (emit.get emit.descriptor_local (emit.i32 8 (op (o.Binary I32 Add) (emit.set emit.link_local (block None (named 4) rest)))))))))))))) }
+        (emit.get emit.descriptor_local (emit.i32 8 (op (o.Binary I32 Add) (emit.set emit.link_local (block None (named 5) rest)))))))))))))) }
 {
     sequence.extend_from_slice(&[
         get(DESCRIPTOR),
@@ -128,9 +128,9 @@ fn push_rows(sequence: &mut Vec<Instr>, size: u32) -> Result<(), NoMemory>
 
 /// Writes the next free address, the last row and the number of rows.
 fn push_end(sequence: &mut Vec<Instr>) -> Result<(), NoMemory>
-    ensures { OnOk result (Adds 7 sequence.old.items sequence.new.items (λ named rest.
+    ensures { OnOk result (Adds 8 sequence.old.items sequence.new.items (λ named rest.
         emit.get emit.descriptor_local (emit.get emit.next_row_local (emit.store_i32 0
-        (emit.get emit.descriptor_local (emit.get emit.count_local (emit.i64 0 (op (o.Relation I64 Eq) (if_else (Some I32) (named 5) (named 6)
+        (emit.get emit.descriptor_local (emit.get emit.count_local (emit.i64 0 (op (o.Relation I64 Eq) (if_else (Some I32) (named 6) (named 7)
         (emit.store_i32 12 (emit.get emit.descriptor_local (emit.get emit.count_local (emit.store_i64 16 rest))))))))))))) }
 {
     sequence.extend_from_slice(&[
@@ -152,8 +152,8 @@ fn push_end(sequence: &mut Vec<Instr>) -> Result<(), NoMemory>
 
 /// The outermost sequence.
 pub fn outer_sequence(alloc: Global, shape: &ScanShape) -> Result<Vec<Instr>, NoMemory>
-    ensures code { IfOk result (λ v. (named : ℕ → Code) → nested [] named v.items ≡ emit.scan_frame shape.now (named 4) (named 5) (named 6)) }
-    ensures refers { IfOk result (λ v. AllByRecursion (RefersBelow 7) v.items) }
+    ensures code { IfOk result (λ v. (named : ℕ → Code) → nested [] named v.items ≡ emit.scan_frame shape.now (named 5) (named 6) (named 7)) }
+    ensures refers { IfOk result (λ v. AllByRecursion (RefersBelow 8) v.items) }
 {
     let mut sequence = Vec::new(alloc);
     push_addresses(&mut sequence, shape.tested())?;

@@ -24,7 +24,7 @@ use super::locals::{
     value_of_other,
 };
 use super::scan_shape::ScanShape;
-use super::sequences::{ASK, NOTHING, RAISE};
+use super::sequences::{ASK, FITS, GRANTED, RAISE};
 use crate::layout::INTEGER_SIZE;
 use qw_linear::linear::PAGE;
 use qw_map::layout::{CELL_OFFSET, CELL_SIZE, NEXT_OFFSET, row_size};
@@ -65,7 +65,7 @@ pub fn ask_sequence(alloc: Global, size: u32) -> Result<Vec<Instr>, NoMemory>
         tee(NEXT_ROW),
         i32_const(REFUSAL),
         relation(ValType::I32, Relation::Eq),
-        choice(RAISE, NOTHING),
+        choice(RAISE, GRANTED),
         get(NEXT_ROW),
         i32_const(PAGE as u32),
         binary(ValType::I32, Binary::Mul),
@@ -92,7 +92,7 @@ fn rejecting(comparison: Comparison) -> Relation
 
 /// Leaves the loop after the last row, and goes to the next. Where its compared value is rejected, the loop begins again.
 fn push_test(sequence: &mut Vec<Instr>, shape: &ScanShape) -> Result<(), NoMemory>
-    ensures { OnOk result (Adds 3 sequence.old.items sequence.new.items (λ named rest.
+    ensures { OnOk result (Adds 4 sequence.old.items sequence.new.items (λ named rest.
         emit.get emit.value_address_local (emit.get emit.last_value_address_local (op (o.Relation I32 Eq) (br_if 1
         (emit.get emit.value_address_local (emit.i32 4 (op (o.Binary I32 Add) (emit.tee emit.value_address_local (emit.load_value (emit.tee emit.value_local
         (emit.i64 (cast_unsigned w64 shape.now.literal) (op (o.Relation I64 (emit.rejects shape.now.comparison)) (br_if 0 rest)))))))))))))) }
@@ -117,15 +117,15 @@ fn push_test(sequence: &mut Vec<Instr>, shape: &ScanShape) -> Result<(), NoMemor
 
 /// Asks for a page where the next result row does not fit this one, and links the row to those before.
 fn push_room(sequence: &mut Vec<Instr>) -> Result<(), NoMemory>
-    ensures { OnOk result (Adds 3 sequence.old.items sequence.new.items (λ named rest.
-        emit.get emit.next_row_local (emit.get emit.last_start_local (op (o.Relation I32 (Gt Unsigned)) (if_else None (named 2) (named 1)
+    ensures { OnOk result (Adds 4 sequence.old.items sequence.new.items (λ named rest.
+        emit.get emit.next_row_local (emit.get emit.last_start_local (op (o.Relation I32 (Gt Unsigned)) (if_else None (named 2) (named 3)
         (emit.get emit.link_local (emit.get emit.next_row_local (emit.tee emit.link_local (emit.store_i32 0 rest))))))))) }
 {
     sequence.extend_from_slice(&[
         get(NEXT_ROW),
         get(LAST_START),
         relation(ValType::I32, Relation::Gt(Sign::Unsigned)),
-        choice(ASK, NOTHING),
+        choice(ASK, FITS),
         get(LINK),
         get(NEXT_ROW),
         tee(LINK),
@@ -137,7 +137,7 @@ fn push_room(sequence: &mut Vec<Instr>) -> Result<(), NoMemory>
 /// Reads the value of the other column of this number.
 fn push_value(sequence: &mut Vec<Instr>, number: u32) -> Result<(), NoMemory>
     requires { number ≤ most_columns }
-    ensures { OnOk result (Adds 3 sequence.old.items sequence.new.items (λ named rest.
+    ensures { OnOk result (Adds 4 sequence.old.items sequence.new.items (λ named rest.
         emit.get emit.value_address_local (emit.get (emit.distance_of number) (op (o.Binary I32 Add) (emit.load_value (emit.set (emit.value_of_other number) rest)))))) }
 {
     sequence.extend_from_slice(&[
@@ -153,7 +153,7 @@ fn push_value(sequence: &mut Vec<Instr>, number: u32) -> Result<(), NoMemory>
 /// Writes the cell of this number.
 fn push_cell(sequence: &mut Vec<Instr>, number: u32, local: u32) -> Result<(), NoMemory>
     requires { number ≤ most_items }
-    ensures { OnOk result (Adds 3 sequence.old.items sequence.new.items (λ named rest. emit.write_cells number (local ∷ []) rest)) }
+    ensures { OnOk result (Adds 4 sequence.old.items sequence.new.items (λ named rest. emit.write_cells number (local ∷ []) rest)) }
 {
     sequence.extend_from_slice(&[
         get(NEXT_ROW),
@@ -171,7 +171,7 @@ fn push_piece(
     element: u32,
 ) -> Result<(), NoMemory>
     requires { number ≤ most_items }
-    ensures { OnOk result (Adds 3 sequence.old.items sequence.new.items (λ named rest. each piece number (element ∷ []) rest)) }
+    ensures { OnOk result (Adds 4 sequence.old.items sequence.new.items (λ named rest. each piece number (element ∷ []) rest)) }
 {
     match piece {
         Piece::Value => push_value(sequence, number),
@@ -182,7 +182,7 @@ fn push_piece(
 /// Does the piece for each element of a list, in turn.
 fn push_each(sequence: &mut Vec<Instr>, piece: Piece, elements: &[u32]) -> Result<(), NoMemory>
     requires { length elements.now ≤ most_items }
-    ensures { OnOk result (Adds 3 sequence.old.items sequence.new.items (λ named rest. each piece 0 elements.now rest)) }
+    ensures { OnOk result (Adds 4 sequence.old.items sequence.new.items (λ named rest. each piece 0 elements.now rest)) }
 {
     for (number, element) in elements.iter().enumerate() {
         push_piece(sequence, piece, number as u32, *element)?;
@@ -192,7 +192,7 @@ fn push_each(sequence: &mut Vec<Instr>, piece: Piece, elements: &[u32]) -> Resul
 
 /// Goes behind the row, counts it, and begins the loop again.
 fn push_count(sequence: &mut Vec<Instr>, size: u32) -> Result<(), NoMemory>
-    ensures { OnOk result (Adds 3 sequence.old.items sequence.new.items (λ named rest.
+    ensures { OnOk result (Adds 4 sequence.old.items sequence.new.items (λ named rest.
         emit.get emit.next_row_local (emit.i32 size (op (o.Binary I32 Add) (emit.set emit.next_row_local
         (emit.get emit.count_local (emit.i64 1 (op (o.Binary I64 Add) (emit.set emit.count_local (br 0 rest)))))))))) }
 {
@@ -212,8 +212,8 @@ fn push_count(sequence: &mut Vec<Instr>, size: u32) -> Result<(), NoMemory>
 
 /// The loop's body, which looks at one row of the table.
 pub fn row_sequence(alloc: Global, shape: &ScanShape) -> Result<Vec<Instr>, NoMemory>
-    ensures code { IfOk result (λ v. (named : ℕ → Code) → nested [] named v.items ≡ emit.scan_row shape.now (named 2) (named 1)) }
-    ensures refers { IfOk result (λ v. AllByRecursion (RefersBelow 3) v.items) }
+    ensures code { IfOk result (λ v. (named : ℕ → Code) → nested [] named v.items ≡ emit.scan_row shape.now (named 2) (named 3)) }
+    ensures refers { IfOk result (λ v. AllByRecursion (RefersBelow 4) v.items) }
 {
     let mut sequence = Vec::new(alloc);
     push_test(&mut sequence, shape)?;

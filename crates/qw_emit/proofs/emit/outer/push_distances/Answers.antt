@@ -3,7 +3,7 @@ use Rattle.qw_emit.proofs.Pieces.{Adds-none, Adds-next, Adds-past, read_distance
 use Rattle.qw_emit.proofs.emit.outer.push_distances.Goals as goal
 
 pub loop-number-init : goal.loop-number-init
-loop-number-init c = Adds-none 7 _
+loop-number-init c = Adds-none 8 _
 
 pub loop-number-preserved : goal.loop-number-preserved
 loop-number-preserved c =

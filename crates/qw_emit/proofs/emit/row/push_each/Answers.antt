@@ -3,7 +3,7 @@ use Rattle.qw_emit.proofs.Pieces.{Adds-none_each, Adds-next, Adds-past, piece-ea
 use Rattle.qw_emit.proofs.emit.row.push_each.Goals as goal
 
 pub loop-number-init : goal.loop-number-init
-loop-number-init c = Adds-none_each 3 c.args.piece _
+loop-number-init c = Adds-none_each 4 c.args.piece _
 
 pub loop-number-preserved : goal.loop-number-preserved
 loop-number-preserved c =
