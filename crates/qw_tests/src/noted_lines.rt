@@ -17,8 +17,7 @@ fn lines(rt: HostRuntime) -> Result<(), Fail> {
     let whole = String::from_str(alloc, "queries: too long\n")?;
     let cut = String::from_str(alloc, "queries: too long\n")?;
     let pages = String::from_str(alloc, "total pages 65536\n")?;
-    let cases: [(Stop<'_>, &[u64], Status, &[u8]); 9] = [
-        (Stop::Words, &[0], Status::WordsRefused, b""),
+    let cases: [(Stop<'_>, &[u64], Status, &[u8]); 8] = [
         (
             refused(Refusal::TotalPages, pages),
             &[],

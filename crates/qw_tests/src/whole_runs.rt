@@ -8,6 +8,7 @@ use qw_top::top::qwasm;
 use std::alloc::{AllocError, Global};
 use std::test::Fail;
 
+mod commands;
 mod file_limits;
 mod refused_texts;
 mod sizes;
@@ -193,25 +194,7 @@ const NEVER: u64 = 99;
 
 // The words, the call of the report's sink that fails, the one of the notes' sink, the end, what was written to both,
 // and whether a bench is kept. Both sinks take an octet a call.
-const FAULTS: [(&[&str], u64, u64, Status, &[u8], &[u8], bool); 9] = [
-    (
-        &["run", "s"],
-        NEVER,
-        NEVER,
-        Status::WordsRefused,
-        b"",
-        b"",
-        false,
-    ),
-    (
-        &["run", "s", "d", "-q"],
-        NEVER,
-        0,
-        Status::WordsRefused,
-        b"",
-        b"",
-        false,
-    ),
+const FAULTS: [(&[&str], u64, u64, Status, &[u8], &[u8], bool); 7] = [
     (
         &["run", "S", "d", "q"],
         NEVER,
@@ -278,7 +261,7 @@ fn words_and_faults(rt: HostRuntime) -> Result<(), Fail> {
 }
 
 // A schema file, the file of T, the words, the end of the run, and what is noted.
-const REFUSALS: [(&[u8], &[u8], &[&str], Status, &[u8]); 4] = [
+const REFUSALS: [(&[u8], &[u8], &[&str], Status, &[u8]); 3] = [
     (
         b"x",
         TABLE,
@@ -299,13 +282,6 @@ const REFUSALS: [(&[u8], &[u8], &[&str], Status, &[u8]); 4] = [
         &["run", "s", "d", "Q"],
         Status::TableFileRefused,
         b"T: bad header\n",
-    ),
-    (
-        b"x",
-        b"x",
-        &["run", "s", "d", "-"],
-        Status::WordsRefused,
-        b"",
     ),
 ];
 

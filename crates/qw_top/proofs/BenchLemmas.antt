@@ -26,13 +26,13 @@ use Rattle.qw_types.specs.Limits.{most_tables}
 use Rattle.qw_parse.proofs.SchemaLemmas.{ReadsSchema-tables}
 use Rattle.qw_sink.specs.declared.sink.Head.{Head}
 use Rattle.qw_top.specs.Limits.{default_limits, quantum}
-use Rattle.qw_top.specs.Top.{Asked, Asks, Files, HaveRoom, TablesAre, asked_by, columns_of, header_of, same_limits}
+use Rattle.qw_top.specs.Top.{Asked, Files, HasQueries, HaveRoom, Names, TablesAre, asked_by, columns_of, header_of, same_limits}
 use Rattle.qw_top.specs.declared.stop.Stop.{Stop}
 use Rattle.qw_top.specs.declared.stop.Stop.TheVariants.{NoMemory}
 use Rattle.qw_top.specs.Inner.Inputs.{IsIntegerAt, IsStatementOf}
-use Rattle.qw_top.specs.Inner.Stages.{AreContentsOf, HasAsked, Stops, StopsToRun}
+use Rattle.qw_top.specs.Inner.Stages.{AreContentsOf, FilesStop, HasAsked, StopsToRun}
 use Rattle.qw_top.proofs.RunLemmas.{end_is, many_tasks}
-use Rattle.qw_top.proofs.StopLemmas.{run_stops, want_stops}
+use Rattle.qw_top.proofs.StopLemmas.{run_stops}
 
 -- ---- the columns of a statement are INTEGERs
 
@@ -139,8 +139,8 @@ same_many [] (one ∷ tables) are = absurd are
 same_many (table ∷ schema) [] are = absurd are
 same_many (table ∷ schema) (one ∷ tables) are = ap suc (same_many schema tables are.1)
 
-pub few_tables : (files : Files) (words : List (List ℕ)) (schema : List Table) (tables : List Contents) (queries : List Asked) → Asks files words schema tables queries → length schema ≤ most_tables
-few_tables files words schema tables queries (names, are, held) =
+pub few_tables : (files : Files) (names : Names) (schema : List Table) (tables : List Contents) (queries : List Asked) → HasQueries files names schema tables queries → length schema ≤ most_tables
+few_tables files names schema tables queries held =
     (ReadsSchema-tables held.before.declared.text schema held.before.declared.reads).few
 
 -- ---- turns from a start on, after which all instances have ended
@@ -171,22 +171,22 @@ HasRun-from limits quantum tables queries programs before b room compiled tasks 
 
 -- ---- from what was read to what was run
 
-module _ (files : Files) (words : List (List ℕ)) (schema : List Table) (tables : List Contents) (statement : Statement) where
-  -- what was read: a statement over the schema, which the words and the files ask for
+module _ (files : Files) (names : Names) (schema : List Table) (tables : List Contents) (statement : Statement) where
+  -- what was read: a statement over the schema, which the files ask for
   abbrev pub Accepted : Type 0
-  Accepted = IsStatementOf schema statement × Asks files words schema tables (asked_by schema statement ∷ [])
+  Accepted = IsStatementOf schema statement × HasQueries files names schema tables (asked_by schema statement ∷ [])
 
   pub accepted_few : Accepted → length schema ≤ most_tables
-  accepted_few (is, asks) = few_tables files words schema tables (asked_by schema statement ∷ []) asks
+  accepted_few (is, asks) = few_tables files names schema tables (asked_by schema statement ∷ []) asks
 
   pub accepted_statement : Accepted → IsStatementOf schema statement
   accepted_statement (is, asks) = is
 
   pub accepted_contents : Accepted → AreContentsOf schema tables
-  accepted_contents (is, (names, are, held)) = contents_of files names.folder schema tables held.before.loaded
+  accepted_contents (is, held) = contents_of files names.folder schema tables held.before.loaded
 
   pub accepted_run : (header : List Head) (b : Standing) → Accepted → HasRun default_limits quantum tables (asked_by schema statement ∷ []) b → header ≡ header_of schema statement →
-      HasAsked files words (header ∷ []) b
+      HasAsked files names (header ∷ []) b
   accepted_run header b (is, asks) run header_is = record {
     schema = schema;
     tables = tables;
@@ -196,8 +196,5 @@ module _ (files : Files) (words : List (List ℕ)) (schema : List Table) (tables
     headers_are = ap (λ (h : List Head). h ∷ []) header_is;
   }
 
-  pub accepted_wants : Accepted → Stops files words NoMemory
-  accepted_wants (is, asks) = want_stops files words schema tables (asked_by schema statement ∷ []) asks
-
-  pub accepted_stops : (stop : Stop) → Accepted → StopsToRun tables (asked_by schema statement ∷ []) stop → Stops files words stop
-  accepted_stops stop (is, asks) stops = run_stops files words schema tables (asked_by schema statement ∷ []) stop asks stops
+  pub accepted_stops : (stop : Stop) → Accepted → StopsToRun tables (asked_by schema statement ∷ []) stop → FilesStop files names stop
+  accepted_stops stop (is, asks) stops = run_stops files names schema tables (asked_by schema statement ∷ []) stop asks stops

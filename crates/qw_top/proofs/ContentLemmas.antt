@@ -15,7 +15,7 @@ use Rattle.qw_parse.proofs.SchemaLemmas.{IsRefused-unique, ReadsSchema-unique, r
 use Rattle.qw_top.specs.Causes.{Cause, queries_refused, schema_refused, table_refused}
 use Rattle.qw_top.specs.FileNames.{table_file_of}
 use Rattle.qw_top.specs.Limits.{most_table_octets, most_text_octets}
-use Rattle.qw_top.specs.Top.{AreNames, Asked, HasQueries, HasTables, IsFile, IsNextTable, IsTooLong, Names, QueriesAre, ReadsScript, SchemaIs, TableIs, TablesAre, asked_by}
+use Rattle.qw_top.specs.Top.{Asked, HasQueries, HasTables, IsFile, IsNextTable, IsTooLong, Names, QueriesAre, ReadsScript, SchemaIs, TableIs, TablesAre, asked_by}
 use Rattle.qw_top.specs.Inner.Inputs.{IsNoQuery, IsNoSchema, IsNoTable}
 
 -- ---- one file
@@ -28,23 +28,6 @@ same_octets (Some file) a b h k = cc
 short_or_long : (o : Option (List ℕ)) (a : List ℕ) (limit : ℕ) → IsSomeAnd o (λ file. file ≡ a) → length a ≤ limit → IsSomeAnd o (λ file. limit < length file) → ⊥
 short_or_long None a limit h short long = h
 short_or_long (Some file) a limit h short long = let e : length file ≡ length a = ap length h in omega arith
-
--- words give one list of names
-abbrev named : (schema folder queries : List ℕ) → Names
-named schema folder queries = record { schema = schema; folder = folder; queries = queries }
-
-same_names : (a b : Names) → a.schema ≡ b.schema → a.folder ≡ b.folder → a.queries ≡ b.queries → a ≡ b
-same_names a b h k m =
-    ap (λ s. named s a.folder a.queries) h ∙ ap (λ f. named b.schema f a.queries) k ∙ ap (λ q. named b.schema b.folder q) m
-
-pub AreNames-unique : (words : List (List ℕ)) (a b : Names) → AreNames words a → AreNames words b → a ≡ b
-AreNames-unique words a b h k =
-    let e = h.words_are in
-    let f = k.words_are in
-    let schema : a.schema ≡ b.schema = cc in
-    let folder : a.folder ≡ b.folder = cc in
-    let queries : a.queries ≡ b.queries = cc in
-    same_names a b schema folder queries
 
 module _ (told : List ℕ → Option (List ℕ)) where
   pub IsFile-unique : (name : List ℕ) (limit : ℕ) (a b : List ℕ) → IsFile (Some told) name limit a → IsFile (Some told) name limit b → a ≡ b

@@ -1,5 +1,7 @@
 pub mod BenchLemmas
+mod CallLemmas
 mod CauseLemmas
+mod CommandLemmas
 mod ContentLemmas
 mod DeliverLemmas
 mod OutputLemmas
@@ -8,4 +10,5 @@ mod RunLemmas
 mod SettleLemmas
 mod StatementLemmas
 mod StopLemmas
+mod StoppedLemmas
 mod WholeFileLemmas

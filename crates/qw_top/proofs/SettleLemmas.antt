@@ -11,12 +11,12 @@ use Rattle.qw_emit.specs.Compiled.{page_bound}
 use Rattle.qw_bench.specs.Bench.{rows_in_tables}
 use Rattle.qw_bench.specs.Standing.{total_pages as pages_in_all}
 use Rattle.qw_bench.specs.declared.bench.Limits.{Limits}
-use Rattle.qw_top.specs.Causes.{Cause, words_refused, schema_too_long, schema_refused, table_too_long, table_refused, queries_too_long, queries_refused, total_pages, status_of_cause}
-use Rattle.qw_top.specs.Top.{AreNames, Asked, Asks, AsksOne, Explains, Files, FilesSettle, HasQueries, HasTables, HaveRoom, IsEnough, IsFault, IsNextTable, IsPastSteps, IsRefusal, IsReported, Names, RaisesNothing, Settles, same_limits}
+use Rattle.qw_top.specs.Causes.{Cause, words_refused, statement_out_of_range, schema_too_long, schema_refused, table_too_long, table_refused, queries_too_long, queries_refused, no_statement, module_too_long, module_refused, total_pages, status_of_cause}
+use Rattle.qw_top.specs.Top.{Asked, AsksOne, Files, FilesSettle, HasQueries, HasTables, HaveRoom, IsEnough, IsFault, IsNextTable, IsPastSteps, IsRefusal, IsReported, Names, RaisesNothing, RunExplains, same_limits}
 use Rattle.qw_top.specs.Inner.Inputs.{IsNoQuery, IsNoSchema, IsNoTable}
 use Rattle.qw_top.specs.declared.status.Status.{Status}
 use Rattle.qw_top.specs.declared.status.Status.TheVariants.{Done, WordsRefused, SchemaRefused, TableFileRefused, QueriesRefused, ReadFailed, WriteFailed, Raised, PageLimitMet, StepLimitMet, TotalPages, NoMemory}
-use Rattle.qw_top.proofs.ContentLemmas.{AreNames-unique, HasQueries-unique, HasTables-unique, IsNoQuery-unique, IsNoSchema-unique, IsNoTable-unique, QueriesAre-refused, SchemaIs-refused, next_accepted, one_refused}
+use Rattle.qw_top.proofs.ContentLemmas.{HasQueries-unique, HasTables-unique, IsNoQuery-unique, IsNoSchema-unique, IsNoTable-unique, QueriesAre-refused, SchemaIs-refused, next_accepted, one_refused}
 
 -- ---- where the files settle a cause
 
@@ -30,7 +30,6 @@ pub data SettlesAt (limits : Limits) (files : Files) (names : Names) (cause : Ca
 
 module _ (limits : Limits) (files : Files) (names : Names) where
   settled_at : (cause : Cause) → FilesSettle limits files names cause → SettlesAt limits files names cause
-  settled_at words_refused h = absurd h
   settled_at schema_too_long long = at_schema (inl (refl, long))
   settled_at (schema_refused fault) (text, file, refused) = at_schema (inr (fault, text, refl, file, refused))
   settled_at (table_too_long table) (next, long) = at_table table next (inl (refl, long))
@@ -38,6 +37,7 @@ module _ (limits : Limits) (files : Files) (names : Names) where
   settled_at queries_too_long (schema, tables, held, long) = at_queries schema tables held (inl (refl, long))
   settled_at (queries_refused fault) (schema, tables, text, held, file, refused) = at_queries schema tables held (inr (fault, text, refl, file, refused))
   settled_at (total_pages need) (schema, tables, queries, held, is, large) = at_pages schema tables queries need held refl is large
+  settled_at _ h = absurd h
 
   pub schema_settles : (cause : Cause) → IsNoSchema files names.schema cause → FilesSettle limits files names cause
   schema_settles cause (inl (is, long)) = subst (FilesSettle limits files names) (sym is) long
@@ -115,79 +115,31 @@ module _ (limits : Limits) (told : List ℕ → Option (List ℕ)) (names : Name
       ap (λ (t : List Contents). pages_in_all t (same_limits limits queries)) e.1 ∙ ap (λ (q : List Asked). pages_in_all tables' (same_limits limits q)) e.2 in
       omega (arith, room, pages, needed', large)
 
--- ---- words and files
+-- ---- told files
 
--- the words are none of `run`, or their names have files that settle the cause
-words_or_files : (limits : Limits) (files : Files) (words : List (List ℕ)) (cause : Cause) → Settles limits files words cause →
-    ((cause ≡ words_refused) × ((names : Names) → AreNames words names → ⊥)) ⊎ ((names : Names) × AreNames words names × FilesSettle limits files names cause)
-words_or_files limits files words words_refused h = inl (refl, h)
-words_or_files limits files words schema_too_long h = inr h
-words_or_files limits files words (schema_refused fault) h = inr h
-words_or_files limits files words (table_too_long table) h = inr h
-words_or_files limits files words (table_refused table fault) h = inr h
-words_or_files limits files words queries_too_long h = inr h
-words_or_files limits files words (queries_refused fault) h = inr h
-words_or_files limits files words (total_pages need) h = inr h
-
--- a cause that files settle is one that the words and the files settle
-pub files_settle : (limits : Limits) (files : Files) (words : List (List ℕ)) (names : Names) (cause : Cause) → AreNames words names → FilesSettle limits files names cause → Settles limits files words cause
-files_settle limits files words names words_refused are h = absurd h
-files_settle limits files words names schema_too_long are h = (names, are, h)
-files_settle limits files words names (schema_refused fault) are h = (names, are, h)
-files_settle limits files words names (table_too_long table) are h = (names, are, h)
-files_settle limits files words names (table_refused table fault) are h = (names, are, h)
-files_settle limits files words names queries_too_long are h = (names, are, h)
-files_settle limits files words names (queries_refused fault) are h = (names, are, h)
-files_settle limits files words names (total_pages need) are h = (names, are, h)
-
-module _ (limits : Limits) (told : List ℕ → Option (List ℕ)) (words : List (List ℕ)) where
-  pub one_settled : (cause other : Cause) → Settles limits (Some told) words cause → Settles limits (Some told) words other → cause ≡ other
-  one_settled cause other h k =
-      elim (words_or_files limits (Some told) words cause h) [
-        | inl (is, none) ↦ elim (words_or_files limits (Some told) words other k) [
-          | inl (is', _) ↦ is ∙ sym is'
-          | inr (names, are, _) ↦ absurd (none names are)
-        ]
-        | inr (names, are, why) ↦ elim (words_or_files limits (Some told) words other k) [
-          | inl (_, none) ↦ absurd (none names are)
-          | inr (names', are', why') ↦
-              let e = AreNames-unique words names' names are' are in
-              one_at limits told names cause other (settled_at limits (Some told) names cause why)
-              (settled_at limits (Some told) names other (subst (λ (n : Names). FilesSettle limits (Some told) n other) e why'))
-        ]
-      ]
+module _ (limits : Limits) (told : List ℕ → Option (List ℕ)) (names : Names) where
+  pub one_settled : (cause other : Cause) → FilesSettle limits (Some told) names cause → FilesSettle limits (Some told) names other → cause ≡ other
+  one_settled cause other h k = one_at limits told names cause other (settled_at limits (Some told) names cause h) (settled_at limits (Some told) names other k)
 
   -- where they ask for queries with room for them, they settle no cause
-  pub asked_settles_none : (schema : List Table) (tables : List Contents) (queries : List Asked) (cause : Cause) → Asks (Some told) words schema tables queries → HaveRoom limits tables queries →
-      Settles limits (Some told) words cause → ⊥
-  asked_settles_none schema tables queries cause (names, are, held) room h =
-      elim (words_or_files limits (Some told) words cause h) [
-        | inl (is, none) ↦ none names are
-        | inr (names', are', why) ↦
-            let e = AreNames-unique words names' names are' are in
-            none_settled limits told names schema tables queries cause held room
-            (settled_at limits (Some told) names cause (subst (λ (n : Names). FilesSettle limits (Some told) n cause) e why))
-      ]
-
-  -- what they ask for is one
-  pub Asks-unique : (schema other_schema : List Table) (tables other_tables : List Contents) (queries other_queries : List Asked) →
-      Asks (Some told) words schema tables queries → Asks (Some told) words other_schema other_tables other_queries →
-      (schema ≡ other_schema) × (tables ≡ other_tables) × (queries ≡ other_queries)
-  Asks-unique schema other_schema tables other_tables queries other_queries (names, are, held) (names', are', held') =
-      let e = AreNames-unique words names' names are' are in
-      HasQueries-unique told names schema other_schema tables other_tables queries other_queries held
-      (subst (λ (n : Names). HasQueries (Some told) n other_schema other_tables other_queries) e held')
+  pub asked_settles_none : (schema : List Table) (tables : List Contents) (queries : List Asked) (cause : Cause) → HasQueries (Some told) names schema tables queries → HaveRoom limits tables queries →
+      FilesSettle limits (Some told) names cause → ⊥
+  asked_settles_none schema tables queries cause held room h = none_settled limits told names schema tables queries cause held room (settled_at limits (Some told) names cause h)
 
 -- ---- kinds of ends
 
 pub cause_is_refusal : (cause : Cause) → IsRefusal (status_of_cause cause)
 cause_is_refusal words_refused = tt
+cause_is_refusal statement_out_of_range = tt
 cause_is_refusal schema_too_long = tt
 cause_is_refusal (schema_refused fault) = tt
 cause_is_refusal (table_too_long table) = tt
 cause_is_refusal (table_refused table fault) = tt
 cause_is_refusal queries_too_long = tt
 cause_is_refusal (queries_refused fault) = tt
+cause_is_refusal (no_statement statement) = tt
+cause_is_refusal module_too_long = tt
+cause_is_refusal (module_refused fault) = tt
 cause_is_refusal (total_pages need) = tt
 
 pub kind_of_end : (status : Status) → IsRefusal status ⊎ IsFault status ⊎ IsReported status
@@ -221,104 +173,82 @@ kinds_apart StepLimitMet = ((λ r f. r), (λ r e. r), (λ f e. f))
 -- ---- the ends that are explained
 
 -- a refusal that is explained is that of a cause
-pub refusal_settled : (limits : Limits) (files : Files) (words : List (List ℕ)) (status : Status) → IsRefusal status → Explains limits files words status →
-    (cause : Cause) × Settles limits files words cause × (status ≡ status_of_cause cause)
-refusal_settled limits files words WordsRefused r why = why
-refusal_settled limits files words SchemaRefused r why = why
-refusal_settled limits files words TableFileRefused r why = why
-refusal_settled limits files words QueriesRefused r why = why
-refusal_settled limits files words TotalPages r why = why
-refusal_settled limits files words ReadFailed r why = absurd r
-refusal_settled limits files words WriteFailed r why = absurd r
-refusal_settled limits files words NoMemory r why = absurd r
-refusal_settled limits files words Done r why = absurd r
-refusal_settled limits files words Raised r why = absurd r
-refusal_settled limits files words PageLimitMet r why = absurd r
-refusal_settled limits files words StepLimitMet r why = absurd r
+pub refusal_settled : (limits : Limits) (files : Files) (names : Names) (status : Status) → IsRefusal status → RunExplains limits files names status →
+    (cause : Cause) × FilesSettle limits files names cause × (status ≡ status_of_cause cause)
+refusal_settled limits files names WordsRefused r why = why
+refusal_settled limits files names SchemaRefused r why = why
+refusal_settled limits files names TableFileRefused r why = why
+refusal_settled limits files names QueriesRefused r why = why
+refusal_settled limits files names TotalPages r why = why
+refusal_settled limits files names ReadFailed r why = absurd r
+refusal_settled limits files names WriteFailed r why = absurd r
+refusal_settled limits files names NoMemory r why = absurd r
+refusal_settled limits files names Done r why = absurd r
+refusal_settled limits files names Raised r why = absurd r
+refusal_settled limits files names PageLimitMet r why = absurd r
+refusal_settled limits files names StepLimitMet r why = absurd r
 
 -- and back
-pub settled_explains : (limits : Limits) (files : Files) (words : List (List ℕ)) (cause : Cause) → Settles limits files words cause → Explains limits files words (status_of_cause cause)
-settled_explains limits files words words_refused h = (words_refused, h, refl)
-settled_explains limits files words schema_too_long h = (schema_too_long, h, refl)
-settled_explains limits files words (schema_refused fault) h = (schema_refused fault, h, refl)
-settled_explains limits files words (table_too_long table) h = (table_too_long table, h, refl)
-settled_explains limits files words (table_refused table fault) h = (table_refused table fault, h, refl)
-settled_explains limits files words queries_too_long h = (queries_too_long, h, refl)
-settled_explains limits files words (queries_refused fault) h = (queries_refused fault, h, refl)
-settled_explains limits files words (total_pages need) h = (total_pages need, h, refl)
+pub settled_explains : (limits : Limits) (files : Files) (names : Names) (cause : Cause) → FilesSettle limits files names cause → RunExplains limits files names (status_of_cause cause)
+settled_explains limits files names schema_too_long h = (schema_too_long, h, refl)
+settled_explains limits files names (schema_refused fault) h = (schema_refused fault, h, refl)
+settled_explains limits files names (table_too_long table) h = (table_too_long table, h, refl)
+settled_explains limits files names (table_refused table fault) h = (table_refused table fault, h, refl)
+settled_explains limits files names queries_too_long h = (queries_too_long, h, refl)
+settled_explains limits files names (queries_refused fault) h = (queries_refused fault, h, refl)
+settled_explains limits files names (total_pages need) h = (total_pages need, h, refl)
+settled_explains limits files names _ h = absurd h
 
 -- an end whose queries were executed asks for them, with room
-pub reported_asks : (limits : Limits) (files : Files) (words : List (List ℕ)) (status : Status) → IsReported status → Explains limits files words status →
-    (schema : List Table) × (tables : List Contents) × (queries : List Asked) × Asks files words schema tables queries × HaveRoom limits tables queries
-reported_asks limits files words Done r why = why
-reported_asks limits files words Raised r (schema, tables, queries, one, asks, room, _, _) = (schema, tables, queries, asks, room)
-reported_asks limits files words PageLimitMet r (schema, tables, queries, one, asks, room, _, _) = (schema, tables, queries, asks, room)
-reported_asks limits files words StepLimitMet r (schema, tables, queries, one, asks, room, _, _) = (schema, tables, queries, asks, room)
-reported_asks limits files words WordsRefused r why = absurd r
-reported_asks limits files words SchemaRefused r why = absurd r
-reported_asks limits files words TableFileRefused r why = absurd r
-reported_asks limits files words QueriesRefused r why = absurd r
-reported_asks limits files words TotalPages r why = absurd r
-reported_asks limits files words ReadFailed r why = absurd r
-reported_asks limits files words WriteFailed r why = absurd r
-reported_asks limits files words NoMemory r why = absurd r
+pub reported_asks : (limits : Limits) (files : Files) (names : Names) (status : Status) → IsReported status → RunExplains limits files names status →
+    (schema : List Table) × (tables : List Contents) × (queries : List Asked) × HasQueries files names schema tables queries × HaveRoom limits tables queries
+reported_asks limits files names Done r why = why
+reported_asks limits files names Raised r (schema, tables, queries, one, asks, room, _, _) = (schema, tables, queries, asks, room)
+reported_asks limits files names PageLimitMet r (schema, tables, queries, one, asks, room, _, _) = (schema, tables, queries, asks, room)
+reported_asks limits files names StepLimitMet r (schema, tables, queries, one, asks, room, _, _) = (schema, tables, queries, asks, room)
+reported_asks limits files names WordsRefused r why = absurd r
+reported_asks limits files names SchemaRefused r why = absurd r
+reported_asks limits files names TableFileRefused r why = absurd r
+reported_asks limits files names QueriesRefused r why = absurd r
+reported_asks limits files names TotalPages r why = absurd r
+reported_asks limits files names ReadFailed r why = absurd r
+reported_asks limits files names WriteFailed r why = absurd r
+reported_asks limits files names NoMemory r why = absurd r
 
 -- beside a cause that is settled comes its status or a fault
-pub settled_ends : (limits : Limits) (told : List ℕ → Option (List ℕ)) (words : List (List ℕ)) (cause : Cause) (status : Status) →
-    Settles limits (Some told) words cause → Explains limits (Some told) words status → (status ≡ status_of_cause cause) ⊎ IsFault status
-settled_ends limits told words cause status h why =
+pub settled_ends : (limits : Limits) (told : List ℕ → Option (List ℕ)) (names : Names) (cause : Cause) (status : Status) →
+    FilesSettle limits (Some told) names cause → RunExplains limits (Some told) names status → (status ≡ status_of_cause cause) ⊎ IsFault status
+settled_ends limits told names cause status h why =
     elim (kind_of_end status) [
       | inl refusal ↦
-          let other = refusal_settled limits (Some told) words status refusal why in
-          inl (other.2 ∙ ap status_of_cause (one_settled limits told words other.0 cause other.1 h))
+          let other = refusal_settled limits (Some told) names status refusal why in
+          inl (other.2 ∙ ap status_of_cause (one_settled limits told names other.0 cause other.1 h))
       | inr (inl fault) ↦ inr fault
       | inr (inr reported) ↦
-          let asked = reported_asks limits (Some told) words status reported why in
-          absurd (asked_settles_none limits told words asked.0 asked.1 asked.2 cause asked.3 asked.4 h)
+          let asked = reported_asks limits (Some told) names status reported why in
+          absurd (asked_settles_none limits told names asked.0 asked.1 asked.2 cause asked.3 asked.4 h)
     ]
 
--- refused words explain no other end
-pub words_first : (limits : Limits) (files : Files) (words : List (List ℕ)) (status : Status) → Settles limits files words words_refused → Explains limits files words status → status ≡ WordsRefused
-words_first limits files words status none why =
-    elim (kind_of_end status) [
-      | inl refusal ↦
-          let other = refusal_settled limits files words status refusal why in
-          elim (words_or_files limits files words other.0 other.1) [
-            | inl (is, _) ↦ other.2 ∙ ap status_of_cause is
-            | inr (names, are, _) ↦ absurd (none names are)
-          ]
-      | inr (inl fault) ↦ fault_named status fault why
-      | inr (inr reported) ↦
-          let asked = reported_asks limits files words status reported why in absurd (none asked.3.0 asked.3.1)
-    ]
-  where
-    fault_named : (status : Status) → IsFault status → Explains limits files words status → status ≡ WordsRefused
-    fault_named ReadFailed f why = absurd (none why.0 why.1)
-    fault_named WriteFailed f why = absurd (none why.0 why.1)
-    fault_named NoMemory f why = absurd (none why.0 why.1)
-    fault_named WordsRefused f why = absurd f
-    fault_named SchemaRefused f why = absurd f
-    fault_named TableFileRefused f why = absurd f
-    fault_named QueriesRefused f why = absurd f
-    fault_named TotalPages f why = absurd f
-    fault_named Done f why = absurd f
-    fault_named Raised f why = absurd f
-    fault_named PageLimitMet f why = absurd f
-    fault_named StepLimitMet f why = absurd f
+-- a fault of the outside and want of memory are explained
+pub fault_explains : (limits : Limits) (files : Files) (names : Names) (status : Status) → IsFault status → RunExplains limits files names status
+fault_explains limits files names ReadFailed f = tt
+fault_explains limits files names WriteFailed f = tt
+fault_explains limits files names NoMemory f = tt
+fault_explains limits files names _ f = absurd f
 
--- ---- what the call promises of told files
+-- ---- what a run promises of told files
 
-module _ (limits : Limits) (files : Files) (words : List (List ℕ)) (result : Status) (why : Explains limits files words result) where
-  pub exactly_explained : (told : List ℕ → Option (List ℕ)) (cause : Cause) → files ≡ Some told → Settles limits (Some told) words cause → (result ≡ status_of_cause cause) ⊎ IsFault result
-  exactly_explained told cause is h = settled_ends limits told words cause result h (subst (λ (f : Files). Explains limits f words result) is why)
+module _ (limits : Limits) (files : Files) (names : Names) (result : Status) (why : RunExplains limits files names result) where
+  pub exactly_explained : (told : List ℕ → Option (List ℕ)) (cause : Cause) → files ≡ Some told → FilesSettle limits (Some told) names cause → (result ≡ status_of_cause cause) ⊎ IsFault result
+  exactly_explained told cause is h = settled_ends limits told names cause result h (subst (λ (f : Files). RunExplains limits f names result) is why)
 
   pub runs_explained : (told : List ℕ → Option (List ℕ)) (schema : List Table) (tables : List Contents) (queries : List Asked) → files ≡ Some told →
-      Asks (Some told) words schema tables queries → HaveRoom limits tables queries → IsReported result ⊎ IsFault result
+      HasQueries (Some told) names schema tables queries → HaveRoom limits tables queries → IsReported result ⊎ IsFault result
   runs_explained told schema tables queries is asks room =
       elim (kind_of_end result) [
         | inl refusal ↦
-            let other = refusal_settled limits (Some told) words result refusal (subst (λ (f : Files). Explains limits f words result) is why) in
-            absurd (asked_settles_none limits told words schema tables queries other.0 asks room other.1)
+            let other = refusal_settled limits (Some told) names result refusal (subst (λ (f : Files). RunExplains limits f names result) is why) in
+            absurd (asked_settles_none limits told names schema tables queries other.0 asks room other.1)
         | inr (inl fault) ↦ inr fault
         | inr (inr reported) ↦ inl reported
       ]
@@ -329,31 +259,31 @@ all_contains P [] x all among = absurd (omega (arith, among.1))
 all_contains P (y ∷ xs) x all (zero, within, is) = subst P is all.0
 all_contains P (y ∷ xs) x all (suc k, within, is) = all_contains P xs x all.1 (k, omega (arith, within), is)
 
-module _ (limits : Limits) (told : List ℕ → Option (List ℕ)) (words : List (List ℕ)) (schema : List Table) (tables : List Contents) (queries : List Asked)
-    (asks : Asks (Some told) words schema tables queries) where
+module _ (limits : Limits) (told : List ℕ → Option (List ℕ)) (names : Names) (schema : List Table) (tables : List Contents) (queries : List Asked)
+    (asks : HasQueries (Some told) names schema tables queries) where
   -- what holds of each query holds of the one that they ask for
-  asked_one : (P Q : List Contents → Asked → Type 0) → ((one : Asked) → P tables one → Q tables one → ⊥) → AllByRecursion (P tables) queries → AsksOne limits (Some told) words Q → ⊥
+  asked_one : (P Q : List Contents → Asked → Type 0) → ((one : Asked) → P tables one → Q tables one → ⊥) → AllByRecursion (P tables) queries → AsksOne limits (Some told) names Q → ⊥
   asked_one P Q apart all (schema', tables', queries', one, asks', room, among, holds) =
-      let e = Asks-unique limits told words schema schema' tables tables' queries queries' asks asks' in
+      let e = HasQueries-unique told names schema schema' tables tables' queries queries' asks asks' in
       let here : AllByRecursion (P tables) queries' = subst (λ (qs : List Asked). AllByRecursion (P tables) qs) e.2 all in
       apart one (all_contains (P tables) queries' one here among) (subst (λ (t : List Contents). Q t one) (sym e.1) holds)
 
-  pub pages_enough : AllByRecursion (IsEnough limits (rows_in_tables tables)) queries → Explains limits (Some told) words PageLimitMet → ⊥
+  pub pages_enough : AllByRecursion (IsEnough limits (rows_in_tables tables)) queries → RunExplains limits (Some told) names PageLimitMet → ⊥
   pages_enough enough met = asked_one (λ t one. IsEnough limits (rows_in_tables t) one) (λ t one. limits.pages < page_bound one.specification (rows_in_tables t))
       (λ one is above. let within = is.pages in omega (arith, within, above)) enough met
 
-  pub steps_enough : AllByRecursion (IsEnough limits (rows_in_tables tables)) queries → Explains limits (Some told) words StepLimitMet → ⊥
+  pub steps_enough : AllByRecursion (IsEnough limits (rows_in_tables tables)) queries → RunExplains limits (Some told) names StepLimitMet → ⊥
   steps_enough enough met = asked_one (λ t one. IsEnough limits (rows_in_tables t) one) (λ t one. IsPastSteps limits.steps (rows_in_tables t) one)
       (λ one is past. is.steps past) enough met
 
-  pub raises_nothing : AllByRecursion (RaisesNothing (rows_in_tables tables)) queries → Explains limits (Some told) words Raised → ⊥
+  pub raises_nothing : AllByRecursion (RaisesNothing (rows_in_tables tables)) queries → RunExplains limits (Some told) names Raised → ⊥
   raises_nothing none raised = asked_one (λ t one. RaisesNothing (rows_in_tables t) one) (λ t one. (codes : List Code) × (outcome one.specification (rows_in_tables t) ≡ Raises codes))
       (λ one is out. is out.0 out.1) none raised
 
-module _ (limits : Limits) (files : Files) (words : List (List ℕ)) (result : Status) (why : Explains limits files words result) (told : List ℕ → Option (List ℕ)) (schema : List Table)
-    (tables : List Contents) (queries : List Asked) (is : files ≡ Some told) (asks : Asks (Some told) words schema tables queries) where
-  abbrev here : Explains limits (Some told) words result
-  here = subst (λ (f : Files). Explains limits f words result) is why
+module _ (limits : Limits) (files : Files) (names : Names) (result : Status) (why : RunExplains limits files names result) (told : List ℕ → Option (List ℕ)) (schema : List Table)
+    (tables : List Contents) (queries : List Asked) (is : files ≡ Some told) (asks : HasQueries (Some told) names schema tables queries) where
+  abbrev here : RunExplains limits (Some told) names result
+  here = subst (λ (f : Files). RunExplains limits f names result) is why
 
   within_limits : (status : Status) → IsReported status → (status ≡ PageLimitMet → ⊥) → (status ≡ StepLimitMet → ⊥) → (status ≡ Done) ⊎ (status ≡ Raised)
   within_limits Done reported pages steps = inl refl
@@ -371,10 +301,10 @@ module _ (limits : Limits) (files : Files) (words : List (List ℕ)) (result : S
 
   pub enough_explained : HaveRoom limits tables queries → AllByRecursion (IsEnough limits (rows_in_tables tables)) queries → (result ≡ Done) ⊎ (result ≡ Raised) ⊎ IsFault result
   enough_explained room enough =
-      elim (runs_explained limits files words result why told schema tables queries is asks room) [
+      elim (runs_explained limits files names result why told schema tables queries is asks room) [
         | inl reported ↦ elim (within_limits result reported
-            (λ same. pages_enough limits told words schema tables queries asks enough (subst (λ (s : Status). Explains limits (Some told) words s) same here))
-            (λ same. steps_enough limits told words schema tables queries asks enough (subst (λ (s : Status). Explains limits (Some told) words s) same here))) [
+            (λ same. pages_enough limits told names schema tables queries asks enough (subst (λ (s : Status). RunExplains limits (Some told) names s) same here))
+            (λ same. steps_enough limits told names schema tables queries asks enough (subst (λ (s : Status). RunExplains limits (Some told) names s) same here))) [
               | inl done ↦ inl done
               | inr raised ↦ inr (inl raised)
             ]
@@ -382,4 +312,4 @@ module _ (limits : Limits) (files : Files) (words : List (List ℕ)) (result : S
       ]
 
   pub plain_explained : AllByRecursion (RaisesNothing (rows_in_tables tables)) queries → result ≡ Raised → ⊥
-  plain_explained none same = raises_nothing limits told words schema tables queries asks none (subst (λ (s : Status). Explains limits (Some told) words s) same here)
+  plain_explained none same = raises_nothing limits told names schema tables queries asks none (subst (λ (s : Status). RunExplains limits (Some told) names s) same here)

@@ -15,17 +15,16 @@ use Rattle.qw_parse.specs.Query.{IsQueryRefused}
 use Rattle.qw_top.specs.Causes.{Cause, queries_refused, schema_refused, table_refused, total_pages}
 use Rattle.qw_top.specs.FileNames.{table_file_of}
 use Rattle.qw_top.specs.Limits.{default_limits, most_table_octets, most_text_octets}
-use Rattle.qw_top.specs.Top.{AreNames, Asked, Asks, Files, FilesSettle, HasQueries, HasTables, IsFile, IsFileOf, IsNextTable, Names, QueriesAre, SchemaIs, TableIs, TablesAre}
+use Rattle.qw_top.specs.Top.{Asked, Files, FilesSettle, HasQueries, HasTables, IsFile, IsFileOf, IsNextTable, Names, QueriesAre, SchemaIs, TableIs, TablesAre}
 use Rattle.qw_top.specs.declared.stop.Stop.{Stop}
-use Rattle.qw_top.specs.declared.stop.Stop.TheVariants.{Words, Refused, Unread, NoMemory}
+use Rattle.qw_top.specs.declared.stop.Stop.TheVariants.{Refused, Unread, NoMemory}
 use Rattle.qw_top.specs.Inner.Inputs.{IsNoQuery, IsNoSchema, IsNoTable, StopsAtTables}
-use Rattle.qw_top.specs.Inner.Stages.{FilesStop, Stops, StopsToRun}
+use Rattle.qw_top.specs.Inner.Stages.{FilesStop, StopsToRun}
 use Rattle.qw_top.specs.Inner.Stop.{StopsAs, StopsFor}
 use Rattle.qw_top.proofs.SettleLemmas.{queries_settle, schema_settles, table_settles}
 
 -- a stop for a cause that is one of a stage's reasons
 pub StopsFor-stage : (reason : Cause → Type 0) (name : List ℕ) (cause : Cause) (stop : Stop) → reason cause → StopsFor cause stop → StopsAs reason name stop
-StopsFor-stage reason name cause Words holds stops = absurd stops
 StopsFor-stage reason name cause (Refused refusal line) holds stops = (cause, holds, stops)
 StopsFor-stage reason name cause (Unread file) holds stops = absurd stops
 StopsFor-stage reason name cause NoMemory holds stops = tt
@@ -110,7 +109,6 @@ tables_stop_at files now folder schema i table contents stop within is same load
 
 -- a stage's stop for a reason that is one of another's
 pub StopsAs-weaker : (P Q : Cause → Type 0) (name : List ℕ) (stop : Stop) → ((cause : Cause) → P cause → Q cause) → StopsAs P name stop → StopsAs Q name stop
-StopsAs-weaker P Q name Words weaker stops = absurd stops
 StopsAs-weaker P Q name (Refused refusal line) weaker (cause, holds, is) = (cause, weaker cause holds, is)
 StopsAs-weaker P Q name (Unread file) weaker stops = stops
 StopsAs-weaker P Q name NoMemory weaker stops = tt
@@ -118,7 +116,6 @@ StopsAs-weaker P Q name NoMemory weaker stops = tt
 -- a stage that stopped for a reason that files settle, or at a file that a run may read
 pub StopsAs-files : (files : Files) (names : Names) (reason : Cause → Type 0) (name : List ℕ) (stop : Stop) → ((cause : Cause) → reason cause → FilesSettle default_limits files names cause) →
     IsFileOf files names name → StopsAs reason name stop → FilesStop files names stop
-StopsAs-files files names reason name Words settle named stops = absurd stops
 StopsAs-files files names reason name (Refused refusal line) settle named (cause, holds, is) = (cause, settle cause holds, is)
 StopsAs-files files names reason name (Unread file) settle named is = subst (λ (octets : List ℕ). IsFileOf files names octets) (sym is) named
 StopsAs-files files names reason name NoMemory settle named stops = tt
@@ -176,29 +173,13 @@ TablesAre-more files folder [] (first ∷ contents) table one are is = absurd ar
 TablesAre-more files folder (first ∷ tables) [] table one are is = absurd are
 TablesAre-more files folder (first ∷ tables) (held ∷ contents) table one are is = (are.0, TablesAre-more files folder tables contents table one are.1 is)
 
--- ---- words and files
+-- ---- after what was asked for was read
 
--- where the reading of the files stopped
-pub Stops-files : (files : Files) (words : List (List ℕ)) (names : Names) (stop : Stop) → AreNames words names → FilesStop files names stop → Stops files words stop
-Stops-files files words names Words are why = absurd why
-Stops-files files words names (Refused refusal line) are why = (names, are, why)
-Stops-files files words names (Unread file) are why = (names, are, why)
-Stops-files files words names NoMemory are why = (names, are, why)
-
-pub IfErr-Stops : {T : Type 0} (files : Files) (words : List (List ℕ)) (names : Names) (result : Result T Stop) → AreNames words names →
-    IfErr result (λ stop. FilesStop files names stop) → IfErr result (λ stop. Stops files words stop)
-IfErr-Stops files words names (Ok run) are why = why
-IfErr-Stops files words names (Err stop) are why = Stops-files files words names stop are why
-
--- where a run stopped before its bench, what was asked for having been read
-pub run_stops : (files : Files) (words : List (List ℕ)) (schema : List Table) (tables : List Contents) (queries : List Asked) (stop : Stop) →
-    Asks files words schema tables queries → StopsToRun tables queries stop → Stops files words stop
-run_stops files words schema tables queries stop (names, are, held) (inl is) = subst (Stops files words) (sym is) (names, are, tt)
-run_stops files words schema tables queries Words (names, are, held) (inr (large, stops)) = absurd stops
-run_stops files words schema tables queries (Refused refusal line) (names, are, held) (inr (large, stops)) =
-    (names, are, (total_pages _, (schema, tables, queries, held, refl, large), stops))
-run_stops files words schema tables queries (Unread file) (names, are, held) (inr (large, stops)) = absurd stops
-run_stops files words schema tables queries NoMemory (names, are, held) (inr (large, stops)) = (names, are, tt)
-
-pub want_stops : (files : Files) (words : List (List ℕ)) (schema : List Table) (tables : List Contents) (queries : List Asked) → Asks files words schema tables queries → Stops files words NoMemory
-want_stops files words schema tables queries (names, are, held) = (names, are, tt)
+-- where a run stopped before its bench
+pub run_stops : (files : Files) (names : Names) (schema : List Table) (tables : List Contents) (queries : List Asked) (stop : Stop) →
+    HasQueries files names schema tables queries → StopsToRun tables queries stop → FilesStop files names stop
+run_stops files names schema tables queries stop held (inl is) = subst (FilesStop files names) (sym is) tt
+run_stops files names schema tables queries (Refused refusal line) held (inr (large, stops)) =
+    (total_pages _, (schema, tables, queries, held, refl, large), stops)
+run_stops files names schema tables queries (Unread file) held (inr (large, stops)) = absurd stops
+run_stops files names schema tables queries NoMemory held (inr (large, stops)) = tt

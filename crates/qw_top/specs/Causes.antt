@@ -18,30 +18,45 @@ use Rattle.qw_parse.specs.declared.parse.SchemaFault.{SchemaFault}
 use Rattle.qw_parse.specs.declared.parse.SchemaFault.TheVariants as schema
 use Rattle.qw_parse.specs.declared.parse.TypeFault.{TypeFault}
 use Rattle.qw_parse.specs.declared.parse.TypeFault.TheVariants.{UnknownTable, UnknownColumn, LiteralTooLong, Clash}
+use Rattle.qw_grammar.specs.declared.fault.What.{What}
+use Rattle.qw_grammar.specs.declared.fault.What.TheVariants as what
+use Rattle.qw_valid.specs.declared.valid.Part.{Part}
+use Rattle.qw_valid.specs.declared.valid.Part.TheVariants as part
+use Rattle.qw_check.specs.declared.check.CheckFault.{CheckFault}
+use Rattle.qw_check.specs.declared.check.CheckFault.TheVariants as check
 use Rattle.qw_top.specs.declared.status.Status.{Status}
 use Rattle.qw_top.specs.declared.status.Status.TheVariants.{WordsRefused, SchemaRefused, TableFileRefused, QueriesRefused, TotalPages}
 
--- What the words and the files settle: no words of a command; a file that is longer than its limit; a text that is no schema, a
--- table file that stands for no rows, a text that is no query over the schema, each with its fault; or more pages than a memory has.
+-- What the words and the files settle: no words of a command, or words whose number of a statement is out of range; a file that is
+-- longer than its limit; a text that is no schema, a table file that stands for no rows, a text that is no query over the schema,
+-- octets that are no valid module, each with its fault; a statement that isn't there; or more pages than a memory has.
 pub data Cause : Type 0 where
   words_refused : Cause
+  statement_out_of_range : Cause
   schema_too_long : Cause
   schema_refused : SchemaFault → Cause
   table_too_long : Table → Cause
   table_refused : Table → LoadFault → Cause
   queries_too_long : Cause
   queries_refused : QueryFault → Cause
+  no_statement : (statement : ℕ) → Cause
+  module_too_long : Cause
+  module_refused : CheckFault → Cause
   total_pages : (need : ℕ) → Cause
 
 -- the status of a run that ends for it
 abbrev pub status_of_cause : Cause → Status
 status_of_cause words_refused = WordsRefused
+status_of_cause statement_out_of_range = WordsRefused
 status_of_cause schema_too_long = SchemaRefused
 status_of_cause (schema_refused fault) = SchemaRefused
 status_of_cause (table_too_long table) = TableFileRefused
 status_of_cause (table_refused table fault) = TableFileRefused
 status_of_cause queries_too_long = QueriesRefused
 status_of_cause (queries_refused fault) = QueriesRefused
+status_of_cause (no_statement statement) = QueriesRefused
+status_of_cause module_too_long = QueriesRefused
+status_of_cause (module_refused fault) = QueriesRefused
 status_of_cause (total_pages need) = TotalPages
 
 -- ---- the words
@@ -130,15 +145,46 @@ table_cause table (load.Field row index why) = in_record table row ++ codes " co
 table_cause table load.TooManyRows = table.name ++ codes ": too many rows"
 table_cause table load.NoMemory = codes "want of memory"
 
--- what is said of a cause: of words that are none nothing
+-- the name of what is out of the profile
+abbrev pub what_words : What → List ℕ
+what_words what.Float = codes "Float"
+what_words what.CallIndirect = codes "CallIndirect"
+what_words what.Table = codes "Table"
+what_words what.Start = codes "Start"
+what_words what.Element = codes "Element"
+what_words what.DataSection = codes "DataSection"
+what_words what.Import = codes "Import"
+
+-- the name of a part of a module
+abbrev pub part_words : Part → List ℕ
+part_words part.Types = codes "Types"
+part_words part.Imports = codes "Imports"
+part_words part.Functions = codes "Functions"
+part_words part.Memory = codes "Memory"
+part_words part.Globals = codes "Globals"
+part_words part.Exports = codes "Exports"
+
+-- why octets are no valid module
+abbrev pub module_cause : CheckFault → List ℕ
+module_cause check.NotModule = codes "not a module"
+module_cause (check.OutOfProfile what) = codes "out of profile " ++ what_words what
+module_cause (check.Part part) = codes "invalid " ++ part_words part
+module_cause (check.Body func at) = codes "invalid function " ++ decimal func ++ codes " at " ++ decimal at
+module_cause check.NoMemory = codes "want of memory"
+
+-- what is said of a cause; of words that are none what clap says, which isn't fixed
 abbrev pub words_of_cause : Cause → Option (List ℕ)
 words_of_cause words_refused = None
+words_of_cause statement_out_of_range = Some (codes "words: statement out of range")
 words_of_cause schema_too_long = Some (codes "schema: " ++ too_long)
 words_of_cause (schema_refused fault) = Some (codes "schema: " ++ schema_cause fault)
 words_of_cause (table_too_long table) = Some (table.name ++ codes ": " ++ too_long)
 words_of_cause (table_refused table fault) = Some (table_cause table fault)
 words_of_cause queries_too_long = Some (codes "queries: " ++ too_long)
 words_of_cause (queries_refused fault) = Some (codes "queries: " ++ query_cause fault)
+words_of_cause (no_statement statement) = Some (codes "queries: no statement " ++ decimal statement)
+words_of_cause module_too_long = Some (codes "module: " ++ too_long)
+words_of_cause (module_refused fault) = Some (codes "module: " ++ module_cause fault)
 words_of_cause (total_pages need) = Some (codes "total pages " ++ decimal need)
 
 -- and the line on it

@@ -15,7 +15,7 @@ use Rattle.qw_sink.specs.Sink.{report_of_rows, report_of_exception, report_of_pa
 use Rattle.qw_top.specs.Causes.{Cause, line_of_cause, status_of_cause}
 use Rattle.qw_top.specs.Notes.{read_fault_line, want_of_memory_line}
 use Rattle.qw_top.specs.Output.{TookFront, with_text}
-use Rattle.qw_top.specs.Top.{Asked, Asks, Files, HaveRoom, IsNamed, Settles, same_limits}
+use Rattle.qw_top.specs.Top.{Asked, Files, HasQueries, HaveRoom, Names, same_limits}
 use Rattle.qw_top.specs.declared.status.Status.{Status}
 use Rattle.qw_top.specs.declared.status.Status.TheVariants.{Done, ReadFailed, WriteFailed, Raised, PageLimitMet, StepLimitMet, NoMemory}
 
@@ -80,13 +80,13 @@ abbrev pub status_of_ends : List (Option End) → Status
 status_of_ends ends =
     if list_any is_pages ends then PageLimitMet else (if list_any is_steps ends then StepLimitMet else (if list_any is_exception ends then Raised else Done))
 
--- The words and the files ask for queries, this bench has run them, the report shows their ends, and this is the status of a run
+-- The files of these names ask for queries, this bench has run them, the report shows their ends, and this is the status of a run
 -- with those ends.
-pub record Reports (limits : Limits) (quantum : ℕ) (files : Files) (words : List (List ℕ)) (b : Standing) (report : List ℕ) (status : Status) : Type 0 where
+pub record Reports (limits : Limits) (quantum : ℕ) (files : Files) (names : Names) (b : Standing) (report : List ℕ) (status : Status) : Type 0 where
   pub schema : List Table
   pub tables : List Contents
   pub queries : List Asked
-  pub asks : Asks files words schema tables queries
+  pub asks : HasQueries files names schema tables queries
   pub run : HasRun limits quantum tables queries b
   pub shows : ShowsEnds tables queries b 0 report
   pub status_is : status ≡ status_of_ends (ends_below b (length queries))
@@ -96,50 +96,51 @@ abbrev pub LeavesNothing : (kept : Option Standing) → (old new : Option (List 
 LeavesNothing kept old new = (kept ≡ None) × (new ≡ old)
 
 -- the bench is there, and its report, at this status, has the property
-abbrev pub LeavesBench : (limits : Limits) → (quantum : ℕ) → Files → (words : List (List ℕ)) → (kept : Option Standing) → (Status → List ℕ → Type 0) → Type 0
-LeavesBench limits quantum files words kept P =
-    (b : Standing) × (report : List ℕ) × (status : Status) × (kept ≡ Some b) × Reports limits quantum files words b report status × P status report
+abbrev pub LeavesBench : (limits : Limits) → (quantum : ℕ) → Files → Names → (kept : Option Standing) → (Status → List ℕ → Type 0) → Type 0
+LeavesBench limits quantum files names kept P =
+    (b : Standing) × (report : List ℕ) × (status : Status) × (kept ≡ Some b) × Reports limits quantum files names b report status × P status report
 
 -- the bench is there, and its report, of this status, was written whole
-abbrev pub LeavesReport : (limits : Limits) → (quantum : ℕ) → Files → (words : List (List ℕ)) → Status → (kept : Option Standing) → (old new : Option (List ℕ)) → Type 0
-LeavesReport limits quantum files words result kept old new =
-    LeavesBench limits quantum files words kept (λ status report. (status ≡ result) × (new ≡ with_text old report))
+abbrev pub LeavesReport : (limits : Limits) → (quantum : ℕ) → Files → Names → Status → (kept : Option Standing) → (old new : Option (List ℕ)) → Type 0
+LeavesReport limits quantum files names result kept old new =
+    LeavesBench limits quantum files names kept (λ status report. (status ≡ result) × (new ≡ with_text old report))
 
 -- What a run leaves, by its status: the bench that it kept, and what a sink had taken before of the report and has taken now.
 -- Memory may be wanted before there is a bench, or while the report is made and written; and a line on what went wrong may
 -- fail to be written.
-abbrev pub Leaves : (limits : Limits) → (quantum : ℕ) → Files → (words : List (List ℕ)) → Status → (kept : Option Standing) → (old new : Option (List ℕ)) → Type 0
-Leaves limits quantum files words Done kept old new = LeavesReport limits quantum files words Done kept old new
-Leaves limits quantum files words Raised kept old new = LeavesReport limits quantum files words Raised kept old new
-Leaves limits quantum files words PageLimitMet kept old new = LeavesReport limits quantum files words PageLimitMet kept old new
-Leaves limits quantum files words StepLimitMet kept old new = LeavesReport limits quantum files words StepLimitMet kept old new
-Leaves limits quantum files words WriteFailed kept old new =
-    LeavesNothing kept old new ⊎ LeavesBench limits quantum files words kept (λ status report. TookFront old new report)
-Leaves limits quantum files words NoMemory kept old new =
-    LeavesNothing kept old new ⊎ LeavesBench limits quantum files words kept (λ status report. TookFront old new report)
-Leaves limits quantum files words status kept old new = LeavesNothing kept old new
+abbrev pub RunLeaves : (limits : Limits) → (quantum : ℕ) → Files → Names → Status → (kept : Option Standing) → (old new : Option (List ℕ)) → Type 0
+RunLeaves limits quantum files names Done kept old new = LeavesReport limits quantum files names Done kept old new
+RunLeaves limits quantum files names Raised kept old new = LeavesReport limits quantum files names Raised kept old new
+RunLeaves limits quantum files names PageLimitMet kept old new = LeavesReport limits quantum files names PageLimitMet kept old new
+RunLeaves limits quantum files names StepLimitMet kept old new = LeavesReport limits quantum files names StepLimitMet kept old new
+RunLeaves limits quantum files names WriteFailed kept old new =
+    LeavesNothing kept old new ⊎ LeavesBench limits quantum files names kept (λ status report. TookFront old new report)
+RunLeaves limits quantum files names NoMemory kept old new =
+    LeavesNothing kept old new ⊎ LeavesBench limits quantum files names kept (λ status report. TookFront old new report)
+RunLeaves limits quantum files names status kept old new = LeavesNothing kept old new
 
--- a line that a run may note
-abbrev pub IsLine : (limits : Limits) → Files → (words : List (List ℕ)) → List ℕ → Type 0
-IsLine limits files words line = (line ≡ want_of_memory_line)
-    ⊎ ((name : List ℕ) × IsNamed files words name × (line ≡ read_fault_line name))
-    ⊎ ((cause : Cause) × Settles limits files words cause × (line ≡ line_of_cause cause))
+-- A command may settle causes, and may read files of names; these are given where what is noted is said of it.
 
--- the line of the cause that the words and the files settle, and whose status this is
-abbrev pub NotesCause : (limits : Limits) → Files → (words : List (List ℕ)) → Status → (old new : Option (List ℕ)) → Type 0
-NotesCause limits files words status old new =
-    (cause : Cause) × Settles limits files words cause × (status ≡ status_of_cause cause) × (new ≡ with_text old (line_of_cause cause))
+-- a line that is noted
+abbrev pub IsLine : (settles : Cause → Type 0) → (named : List ℕ → Type 0) → List ℕ → Type 0
+IsLine settles named line = (line ≡ want_of_memory_line)
+    ⊎ ((name : List ℕ) × named name × (line ≡ read_fault_line name))
+    ⊎ ((cause : Cause) × settles cause × (line ≡ line_of_cause cause))
 
--- What a run notes, by its status: at a refusal the line of its cause; at ReadFailed the line of a name that a run may read, which
--- is the name of the last fault that the shelf counted, where it tells that; at NoMemory and WriteFailed a front of a line that
--- a run may note; and where a report was written nothing.
-abbrev pub Notes : (limits : Limits) → Files → (words : List (List ℕ)) → (fault_name : Option (List ℕ)) → Status → (old new : Option (List ℕ)) → Type 0
-Notes limits files words fault_name ReadFailed old new =
-    (name : List ℕ) × IsNamed files words name × IfSome fault_name (λ last. last ≡ name) × (new ≡ with_text old (read_fault_line name))
-Notes limits files words fault_name NoMemory old new = (line : List ℕ) × IsLine limits files words line × TookFront old new line
-Notes limits files words fault_name WriteFailed old new = (line : List ℕ) × IsLine limits files words line × TookFront old new line
-Notes limits files words fault_name Done old new = new ≡ old
-Notes limits files words fault_name Raised old new = new ≡ old
-Notes limits files words fault_name PageLimitMet old new = new ≡ old
-Notes limits files words fault_name StepLimitMet old new = new ≡ old
-Notes limits files words fault_name status old new = NotesCause limits files words status old new
+-- the line of the cause that is settled, and whose status this is
+abbrev pub NotesCause : (settles : Cause → Type 0) → Status → (old new : Option (List ℕ)) → Type 0
+NotesCause settles status old new = (cause : Cause) × settles cause × (status ≡ status_of_cause cause) × (new ≡ with_text old (line_of_cause cause))
+
+-- What is noted, by the status: at a refusal the line of its cause; at ReadFailed the line of a name that may be read, which is the
+-- name of the last fault that the shelf counted, where it tells that; at NoMemory and WriteFailed a front of a line that may be
+-- noted; and where the work was done nothing.
+abbrev pub CommandNotes : (settles : Cause → Type 0) → (named : List ℕ → Type 0) → (fault_name : Option (List ℕ)) → Status → (old new : Option (List ℕ)) → Type 0
+CommandNotes settles named fault_name ReadFailed old new =
+    (name : List ℕ) × named name × IfSome fault_name (λ last. last ≡ name) × (new ≡ with_text old (read_fault_line name))
+CommandNotes settles named fault_name NoMemory old new = (line : List ℕ) × IsLine settles named line × TookFront old new line
+CommandNotes settles named fault_name WriteFailed old new = (line : List ℕ) × IsLine settles named line × TookFront old new line
+CommandNotes settles named fault_name Done old new = new ≡ old
+CommandNotes settles named fault_name Raised old new = new ≡ old
+CommandNotes settles named fault_name PageLimitMet old new = new ≡ old
+CommandNotes settles named fault_name StepLimitMet old new = new ≡ old
+CommandNotes settles named fault_name status old new = NotesCause settles status old new

@@ -1,5 +1,6 @@
 -- What restates code for proofs. No public clause rests on it.
 pub mod Causes
+pub mod Compiling
 pub mod Inputs
 pub mod Noted
 pub mod Reports

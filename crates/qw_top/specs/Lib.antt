@@ -1,3 +1,4 @@
+pub mod Call
 pub mod Causes
 pub mod Delivered
 pub mod FileNames
@@ -7,5 +8,4 @@ pub mod Notes
 pub mod Output
 pub mod Status
 pub mod Top
-pub mod Words
 pub mod Worked

@@ -10,6 +10,10 @@ most_text_octets = 1048576
 abbrev pub most_table_octets : ℕ
 most_table_octets = 268435456
 
+-- octets of the file of a module
+abbrev pub most_module_octets : ℕ
+most_module_octets = 67108864
+
 -- instructions of a turn
 abbrev pub quantum : ℕ
 quantum = 10000

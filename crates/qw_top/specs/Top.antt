@@ -25,10 +25,10 @@ use Rattle.qw_bench.specs.Bench.{rows_in_tables}
 use Rattle.qw_bench.specs.Standing.{total_pages as pages_in_all}
 use Rattle.qw_bench.specs.declared.bench.Limits.{Limits}
 use Rattle.qw_sink.specs.declared.sink.Head.{Head}
-use Rattle.qw_top.specs.Causes.{Cause, words_refused, schema_too_long, schema_refused, table_too_long, table_refused, queries_too_long, queries_refused, total_pages, status_of_cause}
+pub use Rattle.qw_words.specs.Words.{Names}
+use Rattle.qw_top.specs.Causes.{Cause, schema_too_long, schema_refused, table_too_long, table_refused, queries_too_long, queries_refused, total_pages, status_of_cause}
 use Rattle.qw_top.specs.FileNames.{table_file_of}
 use Rattle.qw_top.specs.Limits.{most_table_octets, most_text_octets}
-use Rattle.qw_top.specs.Words.{IsRun}
 use Rattle.qw_top.specs.declared.status.Status.{Status}
 use Rattle.qw_top.specs.declared.status.Status.TheVariants.{Done, WordsRefused, SchemaRefused, TableFileRefused, QueriesRefused, ReadFailed, WriteFailed, Raised, PageLimitMet, StepLimitMet, TotalPages, NoMemory}
 
@@ -101,16 +101,6 @@ pub record QueriesAre (files : Files) (name : List ℕ) (schema : List Table) (q
   pub file : IsFile files name most_text_octets text
   pub reads : ReadsScript schema text queries
 
--- what the words of `run` name: the schema file, the folder of the table files, the queries file
-pub record Names : Type 0 where
-  pub schema : List ℕ
-  pub folder : List ℕ
-  pub queries : List ℕ
-
--- the words are those of `run` with these names
-abbrev pub AreNames : List (List ℕ) → Names → Type 0
-AreNames words names = IsRun words names.schema names.folder names.queries
-
 -- the schema file declares these tables, and their files stand for these rows
 pub record HasTables (files : Files) (names : Names) (schema : List Table) (tables : List Contents) : Type 0 where
   pub declared : SchemaIs files names.schema schema
@@ -136,10 +126,6 @@ IsFileOf files names name = (name ≡ names.schema)
     ⊎ ((table : Table) × IsNextTable files names table × (name ≡ table_file_of names.folder table.name))
     ⊎ ((schema : List Table) × (tables : List Contents) × HasTables files names schema tables × (name ≡ names.queries))
 
--- the same of the words that give the names
-abbrev pub IsNamed : Files → (words : List (List ℕ)) → List ℕ → Type 0
-IsNamed files words name = (names : Names) × AreNames words names × IsFileOf files names name
-
 -- ---- which cause they settle
 
 -- the limits of queries, each the same
@@ -149,7 +135,6 @@ same_limits limits queries = map (λ (asked : Asked). limits) queries
 -- The files of these names settle the cause for which a run ends before it has a bench, under limits for each query. A file is
 -- refused only where all files before it were accepted.
 abbrev pub FilesSettle : (limits : Limits) → Files → Names → Cause → Type 0
-FilesSettle limits files names words_refused = ⊥
 FilesSettle limits files names schema_too_long = IsTooLong files names.schema most_text_octets
 FilesSettle limits files names (schema_refused fault) = (text : List ℕ) × IsFile files names.schema most_text_octets text × IsRefused text fault
 FilesSettle limits files names (table_too_long table) =
@@ -162,27 +147,18 @@ FilesSettle limits files names (queries_refused fault) = (schema : List Table) �
     × HasTables files names schema tables × IsFile files names.queries most_text_octets text × IsQueryRefused schema text fault
 FilesSettle limits files names (total_pages need) = (schema : List Table) × (tables : List Contents) × (queries : List Asked)
     × HasQueries files names schema tables queries × (need ≡ pages_in_all tables (same_limits limits queries)) × (most_pages < need)
-
--- The words and the files settle the cause: the words are none of `run`, or they give names whose files settle it. Words come
--- first, so another cause comes only where they were read.
-abbrev pub Settles : (limits : Limits) → Files → List (List ℕ) → Cause → Type 0
-Settles limits files words words_refused = (names : Names) → AreNames words names → ⊥
-Settles limits files words cause = (names : Names) × AreNames words names × FilesSettle limits files names cause
+FilesSettle limits files names _ = ⊥
 
 -- ---- which ends they explain
-
--- the words and the files ask for these queries over these tables
-abbrev pub Asks : Files → List (List ℕ) → List Table → List Contents → List Asked → Type 0
-Asks files words schema tables queries = (names : Names) × AreNames words names × HasQueries files names schema tables queries
 
 -- the pages of the tables' columns and all that the queries may hold under the limits fit a memory
 abbrev pub HaveRoom : (limits : Limits) → List Contents → List Asked → Type 0
 HaveRoom limits tables queries = pages_in_all tables (same_limits limits queries) ≤ most_pages
 
--- they ask for queries, which have room, and of which one has the property
-abbrev pub AsksOne : (limits : Limits) → Files → List (List ℕ) → (List Contents → Asked → Type 0) → Type 0
-AsksOne limits files words P = (schema : List Table) × (tables : List Contents) × (queries : List Asked) × (one : Asked)
-    × Asks files words schema tables queries × HaveRoom limits tables queries × Contains queries one × P tables one
+-- the files ask for queries, which have room, and of which one has the property
+abbrev pub AsksOne : (limits : Limits) → Files → Names → (List Contents → Asked → Type 0) → Type 0
+AsksOne limits files names P = (schema : List Table) × (tables : List Contents) × (queries : List Asked) × (one : Asked)
+    × HasQueries files names schema tables queries × HaveRoom limits tables queries × Contains queries one × P tables one
 
 -- a refusal, which the words and the files settle
 abbrev pub IsRefusal : Status → Type 0
@@ -222,16 +198,16 @@ pub record IsEnough (limits : Limits) (tables : List (List (List Val))) (one : A
 abbrev pub RaisesNothing : (tables : List (List (List Val))) → Asked → Type 0
 RaisesNothing tables one = (codes : List Code) → outcome one.specification tables ≡ Raises codes → ⊥
 
--- The words and the files explain how a run under limits ended: they settle a cause of a refusal; or they ask for queries that
--- have room, of which one raises, where an exception was raised, and has bounds that are past the limits, where one was met. A
--- fault comes only where the words were read.
-abbrev pub Explains : (limits : Limits) → Files → List (List ℕ) → Status → Type 0
-Explains limits files words Done =
-    (schema : List Table) × (tables : List Contents) × (queries : List Asked) × Asks files words schema tables queries × HaveRoom limits tables queries
-Explains limits files words Raised = AsksOne limits files words (λ tables one. (codes : List Code) × (outcome one.specification (rows_in_tables tables) ≡ Raises codes))
-Explains limits files words PageLimitMet = AsksOne limits files words (λ tables one. limits.pages < page_bound one.specification (rows_in_tables tables))
-Explains limits files words StepLimitMet = AsksOne limits files words (λ tables one. IsPastSteps limits.steps (rows_in_tables tables) one)
-Explains limits files words ReadFailed = (names : Names) × AreNames words names
-Explains limits files words WriteFailed = (names : Names) × AreNames words names
-Explains limits files words NoMemory = (names : Names) × AreNames words names
-Explains limits files words status = (cause : Cause) × Settles limits files words cause × (status ≡ status_of_cause cause)
+-- The files of these names explain how a run under limits ended: they settle a cause of a refusal; or they ask for queries that
+-- have room, of which one raises, where an exception was raised, and has bounds that are past the limits, where one was met. Of a
+-- fault of the outside and of want of memory nothing is said.
+abbrev pub RunExplains : (limits : Limits) → Files → Names → Status → Type 0
+RunExplains limits files names Done =
+    (schema : List Table) × (tables : List Contents) × (queries : List Asked) × HasQueries files names schema tables queries × HaveRoom limits tables queries
+RunExplains limits files names Raised = AsksOne limits files names (λ tables one. (codes : List Code) × (outcome one.specification (rows_in_tables tables) ≡ Raises codes))
+RunExplains limits files names PageLimitMet = AsksOne limits files names (λ tables one. limits.pages < page_bound one.specification (rows_in_tables tables))
+RunExplains limits files names StepLimitMet = AsksOne limits files names (λ tables one. IsPastSteps limits.steps (rows_in_tables tables) one)
+RunExplains limits files names ReadFailed = Unit {0}
+RunExplains limits files names WriteFailed = Unit {0}
+RunExplains limits files names NoMemory = Unit {0}
+RunExplains limits files names status = (cause : Cause) × FilesSettle limits files names cause × (status ≡ status_of_cause cause)

@@ -1,17 +1,20 @@
-//! Why a run ends before it has a bench, and the line that says so.
+//! Why a call ends before its work is done, and the line that says so.
 
 ghost use Rattle.std.specs.Prelude.{◌≡◌, ◌++◌, IfOk, codes};
 ghost use Rattle.std.specs.Fmt.{decimal};
 ghost use Rattle.std.specs.String.{string_bytes};
-ghost use Rattle.qw_top.specs.Causes.{cell_cause, column_name, counted, in_statement, kind_words, line_of_cause, query_cause, schema_cause, status_of_cause, table_cause, too_many};
+ghost use Rattle.qw_top.specs.Causes.{cell_cause, column_name, counted, in_statement, kind_words, line_of_cause, module_cause, part_words, query_cause, schema_cause, status_of_cause, table_cause, too_many, what_words};
 ghost use Rattle.qw_top.specs.Inner.Causes.{cause_of};
 ghost use Rattle.qw_top.specs.Inner.Stop.{refusal_status};
 
 use crate::stop::Refusal;
+use qw_check::check::CheckFault;
 use qw_csv::CellFault;
 use qw_csv::loading::LoadFault;
+use qw_grammar::fault::What;
 use qw_parse::parse::{Count, QueryFault, SchemaFault, TypeFault};
 use qw_types::{FieldFault, NoMemory, Table};
+use qw_valid::valid::Part;
 use std::alloc::Global;
 
 /// Why a run whose words were read ends before it has a bench.
@@ -23,6 +26,10 @@ pub(crate) enum Cause<'a> {
     Table(&'a Table, &'a LoadFault),
     QueriesTooLong,
     Queries(&'a QueryFault),
+    /// The queries are accepted, and have no statement of this number.
+    NoStatement(u64),
+    ModuleTooLong,
+    Module(&'a CheckFault),
     /// The pages of the columns and of the limits together, which are more than a memory has.
     TotalPages(u64),
 }
@@ -35,7 +42,8 @@ impl Cause<'_> {
         match self {
             Cause::SchemaTooLong | Cause::Schema(_) => Refusal::Schema,
             Cause::TableTooLong(_) | Cause::Table(_, _) => Refusal::TableFile,
-            Cause::QueriesTooLong | Cause::Queries(_) => Refusal::Queries,
+            Cause::QueriesTooLong | Cause::Queries(_) | Cause::NoStatement(_) => Refusal::Queries,
+            Cause::ModuleTooLong | Cause::Module(_) => Refusal::Module,
             Cause::TotalPages(_) => Refusal::TotalPages,
         }
     }
@@ -59,6 +67,14 @@ impl Cause<'_> {
             Cause::Queries(fault) => {
                 let words = query_cause(alloc, fault)?;
                 line_on(alloc, "queries", words.as_str())
+            }
+            Cause::NoStatement(statement) => {
+                Ok(format!(in alloc; "queries: no statement {statement}\n")?)
+            }
+            Cause::ModuleTooLong => line_on(alloc, "module", "too long"),
+            Cause::Module(fault) => {
+                let words = module_cause(alloc, fault)?;
+                line_on(alloc, "module", words.as_str())
             }
             Cause::TotalPages(need) => Ok(format!(in alloc; "total pages {need}\n")?),
         }
@@ -226,5 +242,63 @@ fn cell_cause(fault: CellFault) -> &'static str
         CellFault::NullForbidden => "null forbidden",
         CellFault::TextTooLong => "text too long",
         CellFault::NotUtf8 => "not utf-8",
+    }
+}
+
+/// The words for why octets are no valid module.
+fn module_cause(alloc: Global, fault: &CheckFault) -> Result<String, NoMemory>
+    ensures { IfOk result (λ words. string_bytes words ≡ module_cause fault.now) }
+{
+    match fault {
+        CheckFault::NotModule => Ok(String::from_str(alloc, "not a module")?),
+        CheckFault::OutOfProfile(what) => out_of_profile(alloc, *what),
+        CheckFault::Part(part) => invalid_part(alloc, *part),
+        CheckFault::Body { func, at } => Ok(format!(in alloc; "invalid function {func} at {at}")?),
+        CheckFault::NoMemory => Ok(String::from_str(alloc, "want of memory")?),
+    }
+}
+
+/// The words for a construct that lies outside the profile.
+fn out_of_profile(alloc: Global, what: What) -> Result<String, NoMemory>
+    ensures { IfOk result (λ words. string_bytes words ≡ codes "out of profile " ++ what_words what) }
+{
+    let what = what_words(what);
+    Ok(format!(in alloc; "out of profile {what}")?)
+}
+
+/// The name of what lies outside the profile.
+fn what_words(what: What) -> &'static str
+    ensures { result.now ≡ what_words what }
+{
+    match what {
+        What::Float => "Float",
+        What::CallIndirect => "CallIndirect",
+        What::Table => "Table",
+        What::Start => "Start",
+        What::Element => "Element",
+        What::DataSection => "DataSection",
+        What::Import => "Import",
+    }
+}
+
+/// The words for a part of a module that isn't valid.
+fn invalid_part(alloc: Global, part: Part) -> Result<String, NoMemory>
+    ensures { IfOk result (λ words. string_bytes words ≡ codes "invalid " ++ part_words part) }
+{
+    let part = part_words(part);
+    Ok(format!(in alloc; "invalid {part}")?)
+}
+
+/// The name of a part of a module.
+fn part_words(part: Part) -> &'static str
+    ensures { result.now ≡ part_words part }
+{
+    match part {
+        Part::Types => "Types",
+        Part::Imports => "Imports",
+        Part::Functions => "Functions",
+        Part::Memory => "Memory",
+        Part::Globals => "Globals",
+        Part::Exports => "Exports",
     }
 }

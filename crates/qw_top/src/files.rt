@@ -17,6 +17,9 @@ pub const MAX_TEXT_FILE: usize = 1_048_576;
 /// The greatest length of a table file, in octets.
 pub const MAX_TABLE_FILE: usize = 268_435_456;
 
+/// The greatest length of the file of a module, in octets.
+pub const MAX_MODULE_FILE: usize = 67_108_864;
+
 /// How many octets a call asks a shelf for, at most.
 const PIECE: usize = 65_536;
 

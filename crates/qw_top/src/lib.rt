@@ -3,7 +3,6 @@
 //! The program makes one call, [`qwasm`]. It takes the words of the command line, a shelf of files, a sink for the
 //! report, one for the lines on what went wrong, and a place for the bench, and answers the [`Status`] of the run.
 //!
-//! - [`words`]: the words of the command line.
 //! - [`files`]: a whole file, within its limit.
 //! - [`output`]: a text written whole.
 //! - [`notes`]: the lines on what went wrong.
@@ -24,7 +23,6 @@ pub mod output;
 pub mod status;
 pub mod stop;
 pub mod top;
-pub mod words;
 pub mod worked_laws;
 
 pub use status::Status;

@@ -5,7 +5,7 @@ ghost use Rattle.qw_io.specs.Faults.{IsCounted};
 ghost use Rattle.qw_top.specs.declared.status.Status.{Status};
 ghost use Rattle.qw_top.specs.declared.stop.Stop.{Stop};
 ghost use Rattle.qw_top.specs.Inner.Sinks.{CountsWrite};
-ghost use Rattle.qw_top.specs.Inner.Noted.{NotesLine, NotesStop};
+ghost use Rattle.qw_top.specs.Inner.Noted.{NotesLine, NotesStop, NotesWords};
 ghost use Rattle.qw_top.specs.Notes.{read_fault_line, want_of_memory_line};
 ghost use Rattle.qw_top.specs.Output.{TookFront, with_text};
 
@@ -13,6 +13,7 @@ use crate::output::{end_of_write, write_whole};
 use crate::status::Status;
 use crate::stop::Stop;
 use qw_io::{IoFault, Sink};
+use qw_words::command::WordsFault;
 
 /// Notes why a run stopped, where there is a line on that. Answers how the run ends: with what kept the line from being
 /// written, if that comes.
@@ -25,13 +26,45 @@ pub fn note_stop<E: Sink>(notes: &mut E, stop: &Stop<'_>) -> Status
     ensures no_fault { result ≢ Status.WriteFailed → E.faults notes.new ≡ E.faults notes.old }
 {
     match stop {
-        Stop::Words => Status::WordsRefused,
         Stop::Refused { refusal, line } => {
             end_of_write(write_whole(notes, line.as_bytes()), refusal.status())
         }
         Stop::Unread(name) => note_read_fault(notes, name.as_str()),
         Stop::NoMemory => note_want_of_memory(notes),
     }
+}
+
+/// Notes why words aren't read: what `clap` says of them, or the line on the number of a statement, or that there was no memory
+/// left. Answers how the call ends.
+pub fn note_words<E: Sink>(notes: &mut E, fault: &WordsFault) -> Status
+    ensures noted { NotesWords fault.now result (E.taken notes.old) (E.taken notes.new) }
+    ensures whole { (IsTrue E.takes_memory → ⊥) → result ≡ Status.NoMemory
+        → E.taken notes.new ≡ with_text (E.taken notes.old) want_of_memory_line }
+    ensures fault { result ≡ Status.WriteFailed → IsCounted (E.faults notes.old) (E.faults notes.new) }
+    ensures no_fault { result ≢ Status.WriteFailed → E.faults notes.new ≡ E.faults notes.old }
+{
+    match fault {
+        WordsFault::Refused(text) => note_line(notes, text.as_bytes(), Status::WordsRefused),
+        WordsFault::StatementOutOfRange => {
+            note_line(
+                notes,
+                b"words: statement out of range\n",
+                Status::WordsRefused,
+            )
+        }
+        WordsFault::NoMemory => note_want_of_memory(notes),
+    }
+}
+
+/// Writes this line to the notes, and answers the status, or what kept the line from being written.
+fn note_line<E: Sink>(notes: &mut E, line: &[u8], status: Status) -> Status
+    requires refused { status ≡ Status.WordsRefused }
+    ensures noted { NotesLine line.now status result (E.taken notes.old) (E.taken notes.new) }
+    ensures memory_is_taken { result ≡ Status.NoMemory → IsTrue E.takes_memory }
+    ensures fault { result ≡ Status.WriteFailed → IsCounted (E.faults notes.old) (E.faults notes.new) }
+    ensures no_fault { result ≢ Status.WriteFailed → E.faults notes.new ≡ E.faults notes.old }
+{
+    end_of_write(write_whole(notes, line), status)
 }
 
 /// Notes that there was no memory left, and answers how the run ends.

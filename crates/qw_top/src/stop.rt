@@ -9,7 +9,7 @@ use crate::status::Status;
 use qw_types::NoMemory;
 use std::alloc::Global;
 
-/// What a run refuses whose words were read.
+/// What is refused with a line of its own.
 #[derive(Clone, Copy, Debug, PartialEq, Eq)]
 pub enum Refusal {
     /// The schema file.
@@ -18,6 +18,8 @@ pub enum Refusal {
     TableFile,
     /// The queries file.
     Queries,
+    /// The file of a module.
+    Module,
     /// More pages than a memory has.
     TotalPages,
 }
@@ -30,7 +32,7 @@ impl Refusal {
         match self {
             Refusal::Schema => Status::SchemaRefused,
             Refusal::TableFile => Status::TableFileRefused,
-            Refusal::Queries => Status::QueriesRefused,
+            Refusal::Queries | Refusal::Module => Status::QueriesRefused,
             Refusal::TotalPages => Status::TotalPages,
         }
     }
@@ -57,12 +59,10 @@ impl FileName<'_> {
     }
 }
 
-/// Why a run stopped before it had a bench.
+/// Why a command stopped before its work was done.
 #[derive(Debug, Drop)]
 pub enum Stop<'a> {
-    /// The words are those of no command.
-    Words,
-    /// A file was refused, or more pages are needed than a memory has.
+    /// A file or the number of a statement was refused, or more pages are needed than a memory has.
     Refused {
         refusal: Refusal,
         /// The line on the cause.

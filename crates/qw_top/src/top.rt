@@ -1,4 +1,4 @@
-//! A run, from the words of the command line on.
+//! A call, from the words of the command line on.
 
 ghost use Rattle.std.specs.Prelude.{◌≡◌, ◌≢◌, ◌⊎◌, ℕ, List, map, IfSome, IsTrue, Option, Some};
 ghost use Rattle.std.specs.List.{AllByRecursion};
@@ -8,24 +8,28 @@ ghost use Rattle.qw_types.specs.Contents.{Contents};
 ghost use Rattle.qw_types.specs.declared.schema.Table.{Table};
 ghost use Rattle.qw_bench.specs.Bench.{rows_in_tables};
 ghost use Rattle.qw_bench.specs.declared.bench.Limits.{Limits};
-ghost use Rattle.qw_top.specs.Causes.{Cause, status_of_cause, words_refused};
+ghost use Rattle.qw_words.specs.Words.{no_command, no_number, reading};
+ghost use Rattle.qw_top.specs.Call.{Asks, AsksToCheck, AsksToCompile, Explains, IsNamed, Leaves, LeavesFront, Notes, Settles};
+ghost use Rattle.qw_top.specs.Causes.{Cause, status_of_cause};
 ghost use Rattle.qw_top.specs.Limits.{default_limits, quantum};
 ghost use Rattle.qw_top.specs.declared.status.Status.{Status};
-ghost use Rattle.qw_top.specs.Delivered.{Leaves, LeavesBench, Notes};
 ghost use Rattle.qw_top.specs.Notes.{want_of_memory_line};
-ghost use Rattle.qw_top.specs.Output.{TookFront, with_text};
-ghost use Rattle.qw_top.specs.Top.{Asked, Asks, Explains, Files, HasQueries, HaveRoom, IsEnough, IsFault, IsNamed, IsRefusal, IsReported, Names, RaisesNothing, Settles};
+ghost use Rattle.qw_top.specs.Output.{with_text};
+ghost use Rattle.qw_top.specs.Top.{Asked, Files, HasQueries, HaveRoom, IsEnough, IsFault, IsRefusal, IsReported, Names, RaisesNothing};
 
-use crate::notes::{note_stop, note_want_of_memory};
 use crate::status::Status;
+use perform::perform;
 use qw_bench::bench::Bench;
+use qw_check::laws::one_answer;
 use qw_io::{Shelf, Sink};
-use report::deliver;
-use run::run;
 use std::alloc::Global;
 
+mod answer;
+mod check;
+mod compile;
 mod header;
 mod inputs;
+mod perform;
 mod report;
 mod run;
 
@@ -33,11 +37,11 @@ mod run;
 /// doesn't count, and so few that instances alternate.
 pub const QUANTUM: u64 = 10_000;
 
-/// Runs what the words of a command line ask for, and writes its report to `out`. The words come without
-/// the program's own name. `notes` gets a line where a file couldn't be read or memory is wanted.
+/// Does what the words of a command line ask for, which come without the program's own name: runs queries and writes their report
+/// to `out`, or writes the module of a statement, or says of a file that it is a valid module. `notes` gets a line where it couldn't.
 ///
-/// `kept` holds the bench afterwards where the report was written, and where `out` counted a fault; else, at
-/// `WriteFailed` and `NoMemory`, the bench or nothing; and at any other status nothing.
+/// `kept` holds the bench of a run afterwards where its report was written, and where `out` counted a fault; else, at
+/// `WriteFailed` and `NoMemory`, the bench or nothing; and at any other status, and of the other commands, nothing.
 pub fn qwasm<F: Shelf, O: Sink, E: Sink>(
     alloc: Global,
     words: &[String],
@@ -61,10 +65,13 @@ pub fn qwasm<F: Shelf, O: Sink, E: Sink>(
     ensures plain { (told : List ℕ → Option (List ℕ)) (schema : List Table) (tables : List Contents) (queries : List Asked)
         → F.files files.old ≡ Some told → Asks (Some told) (map string_bytes words.now) schema tables queries
         → AllByRecursion (RaisesNothing (rows_in_tables tables)) queries → result ≢ Status.Raised }
+    ensures compiles { (told : List ℕ → Option (List ℕ)) (one : Asked) → F.files files.old ≡ Some told
+        → AsksToCompile (Some told) (map string_bytes words.now) one → (result ≡ Status.Done) ⊎ IsFault result }
+    ensures checks { (told : List ℕ → Option (List ℕ)) → F.files files.old ≡ Some told
+        → AsksToCheck (Some told) (map string_bytes words.now) → (result ≡ Status.Done) ⊎ IsFault result }
     ensures left { Leaves default_limits quantum (F.files files.old) (map string_bytes words.now) result kept.new (O.taken out.old) (O.taken out.new) }
     ensures kept_at_fault { O.faults out.new ≢ O.faults out.old
-        → LeavesBench default_limits quantum (F.files files.old) (map string_bytes words.now) kept.new
-        (λ status report. TookFront (O.taken out.old) (O.taken out.new) report) }
+        → LeavesFront default_limits quantum (F.files files.old) (map string_bytes words.now) kept.new (O.taken out.old) (O.taken out.new) }
     ensures noted { Notes default_limits (F.files files.old) (map string_bytes words.now) (F.fault_name files.new) result (E.taken notes.old) (E.taken notes.new) }
     ensures noted_whole { (IsTrue E.takes_memory → ⊥) → result ≡ Status.NoMemory
         → E.taken notes.new ≡ with_text (E.taken notes.old) want_of_memory_line }
@@ -81,18 +88,8 @@ pub fn qwasm<F: Shelf, O: Sink, E: Sink>(
     ensures no_write_fault { result ≢ Status.WriteFailed
         → (O.faults out.new ≡ O.faults out.old) × (E.faults notes.new ≡ E.faults notes.old) }
 {
-    *kept = None;
-    match run(alloc, words, files) {
-        Ok(turned) => {
-            let status = deliver(alloc, &turned, out);
-            *kept = Some(turned.bench);
-            match status {
-                Status::NoMemory => note_want_of_memory(notes),
-                status => status,
-            }
-        }
-        Err(stop) => note_stop(notes, &stop),
-    }
+    one_answer();
+    perform(alloc, words, files, out, notes, kept)
 }
 
 /// Refusals, faults and ends of runs whose queries were executed are apart, and each status is one of them.
@@ -106,7 +103,7 @@ pub fn kinds_of_ends()
         × (IsFault status → IsReported status → ⊥) }
 {}
 
-/// Words and told files settle one cause at most, whose status is that of a refusal. So a run that promises `Explains` ends with
+/// Words and told files settle one cause at most, whose status is that of a refusal. So a call that promises `Explains` ends with
 /// this refusal, or with a fault of the outside or want of memory.
 pub fn one_cause()
     ensures one { (limits : Limits) (told : List ℕ → Option (List ℕ)) (words : List (List ℕ)) (cause other : Cause)
@@ -115,12 +112,16 @@ pub fn one_cause()
     ensures ends { (limits : Limits) (told : List ℕ → Option (List ℕ)) (words : List (List ℕ)) (cause : Cause) (status : Status)
         → Settles limits (Some told) words cause → Explains limits (Some told) words status
         → (status ≡ status_of_cause cause) ⊎ IsFault status }
-{}
+{
+    one_answer();
+}
 
-/// Words that are refused explain no other end, not even a fault.
+/// Words that are those of no command, or whose number of a statement is out of range, explain no other end but one that kept what
+/// is noted of them from being written: no file is read.
 pub fn refused_words_come_first()
     ensures { (limits : Limits) (files : Files) (words : List (List ℕ)) (status : Status)
-        → Settles limits files words words_refused → Explains limits files words status → status ≡ Status.WordsRefused }
+        → (reading words ≡ no_command) ⊎ (reading words ≡ no_number) → Explains limits files words status
+        → (status ≡ Status.WordsRefused) ⊎ (status ≡ Status.WriteFailed) ⊎ (status ≡ Status.NoMemory) }
 {}
 
 /// Told files hold one schema, one list of rows of each of its tables, and one list of queries at most.

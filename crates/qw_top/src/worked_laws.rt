@@ -9,7 +9,10 @@ ghost use Rattle.qw_parse.specs.declared.parse.Count.TheVariants.{Columns, Selec
 ghost use Rattle.qw_parse.specs.declared.parse.QueryFault.TheVariants as query;
 ghost use Rattle.qw_parse.specs.declared.parse.SchemaFault.TheVariants as schema;
 ghost use Rattle.qw_parse.specs.declared.parse.TypeFault.TheVariants.{LiteralTooLong, UnknownColumn};
-ghost use Rattle.qw_top.specs.Causes.{line_of_cause, queries_refused, queries_too_long, schema_refused, schema_too_long, table_refused, table_too_long, total_pages, words_refused};
+ghost use Rattle.qw_grammar.specs.declared.fault.What.TheVariants.{DataSection};
+ghost use Rattle.qw_valid.specs.declared.valid.Part.TheVariants.{Exports};
+ghost use Rattle.qw_check.specs.declared.check.CheckFault.TheVariants as check;
+ghost use Rattle.qw_top.specs.Causes.{line_of_cause, module_refused, module_too_long, no_statement, queries_refused, queries_too_long, schema_refused, schema_too_long, statement_out_of_range, table_refused, table_too_long, total_pages};
 ghost use Rattle.qw_top.specs.Delivered.{status_of_ends};
 ghost use Rattle.qw_top.specs.Worked.{worked_table};
 ghost use Rattle.qw_top.specs.declared.status.Status.{Status};
@@ -45,9 +48,8 @@ pub fn worked_table_lines()
     ensures too_many_rows { line_of_cause (table_refused worked_table load.TooManyRows) ≡ codes "T: too many rows\n" }
 {}
 
-/// The lines on a queries file, and on the pages of a run. There is none on the words.
+/// The lines on a queries file, and on the pages of a run.
 pub fn worked_query_lines()
-    ensures words { line_of_cause words_refused ≡ [] }
     ensures too_long { line_of_cause queries_too_long ≡ codes "queries: too long\n" }
     ensures not_token { line_of_cause (queries_refused (query.NotToken 10)) ≡ codes "queries: not a token at 10\n" }
     ensures too_many { line_of_cause (queries_refused (query.TooMany 1 SelectItems 64)) ≡ codes "queries: too many select items in statement 1, limit 64\n" }
@@ -55,4 +57,15 @@ pub fn worked_query_lines()
     ensures literal { line_of_cause (queries_refused (query.Mistyped 1 LiteralTooLong (codes "1000000000000000000")))
         ≡ codes "queries: literal too long 1000000000000000000 in statement 1\n" }
     ensures pages { line_of_cause (total_pages 65536) ≡ codes "total pages 65536\n" }
+{}
+
+/// The lines on a module's file, and on the number of a statement.
+pub fn worked_module_lines()
+    ensures too_long { line_of_cause module_too_long ≡ codes "module: too long\n" }
+    ensures no_module { line_of_cause (module_refused check.NotModule) ≡ codes "module: not a module\n" }
+    ensures profile { line_of_cause (module_refused (check.OutOfProfile DataSection)) ≡ codes "module: out of profile DataSection\n" }
+    ensures part { line_of_cause (module_refused (check.Part Exports)) ≡ codes "module: invalid Exports\n" }
+    ensures function { line_of_cause (module_refused (check.Body 0 3)) ≡ codes "module: invalid function 0 at 3\n" }
+    ensures statement { line_of_cause (no_statement 2) ≡ codes "queries: no statement 2\n" }
+    ensures number { line_of_cause statement_out_of_range ≡ codes "words: statement out of range\n" }
 {}

@@ -3,10 +3,10 @@ use Rattle.std.specs.Prelude.{◌≡◌, ℕ, List, Option}
 use Rattle.std.specs.Process.{exit_status}
 use Rattle.std.specs.declared.process.ExitCode.{ExitCode}
 use Rattle.qw_bench.specs.Standing.{Standing}
-use Rattle.qw_top.specs.Delivered.{Leaves, Notes}
+use Rattle.qw_top.specs.Call.{Explains, Leaves, Notes}
 use Rattle.qw_top.specs.Limits.{default_limits, quantum}
 use Rattle.qw_top.specs.Status.{exit_code}
-use Rattle.qw_top.specs.Top.{Explains, Files}
+use Rattle.qw_top.specs.Top.{Files}
 use Rattle.qw_top.specs.declared.status.Status.{Status}
 
 -- The program ended with the number of a status that the words and the files explain, and with the report and the notes of a

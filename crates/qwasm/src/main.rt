@@ -1,5 +1,6 @@
 //! `qwasm run SCHEMA DIR QUERIES`: runs the queries of a file over table files, each as a WebAssembly
-//! module, and reports their rows on standard output. It ends with the status of the run.
+//! module, and reports their rows on standard output. `qwasm compile SCHEMA QUERIES --statement K` writes such a module,
+//! and `qwasm check MODULE` says whether a file is a valid one. It ends with the status of the call.
 #![tactic(auto)]
 
 ghost use Rattle.std.specs.Prelude.{◌≡◌, ◌≢◌, ◌⊎◌, ℕ, List, Option, map, IfErr, IfOk, Some};

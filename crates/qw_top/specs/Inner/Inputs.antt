@@ -12,18 +12,13 @@ use Rattle.qw_parse.specs.declared.parse.QueryFault.{QueryFault}
 use Rattle.qw_parse.specs.declared.parse.SchemaFault.{SchemaFault}
 use Rattle.qw_parse.specs.Parse.{IsRefused}
 use Rattle.qw_parse.specs.Query.{IsQueryRefused}
-use Rattle.qw_top.specs.declared.words.RunWords.{RunWords}
 use Rattle.qw_top.specs.declared.stop.Stop.{Stop}
 use Rattle.qw_top.specs.declared.stop.Stop.TheVariants.{NoMemory}
 use Rattle.qw_top.specs.Causes.{Cause, schema_too_long, schema_refused, table_too_long, table_refused, queries_too_long, queries_refused}
 use Rattle.qw_top.specs.FileNames.{table_file_of}
 use Rattle.qw_top.specs.Limits.{most_table_octets, most_text_octets}
-use Rattle.qw_top.specs.Top.{Files, IsFile, IsTooLong, Names, TablesAre, columns_of}
+use Rattle.qw_top.specs.Top.{Files, IsFile, IsTooLong, TablesAre, columns_of}
 use Rattle.qw_top.specs.Inner.Stop.{StopsAs}
-
--- the names that words which were read give
-abbrev pub names_of : RunWords → Names
-names_of run = record { schema = run.schema.now; folder = run.folder.now; queries = run.queries.now }
 
 -- the schema file of this name is refused for this cause
 abbrev pub IsNoSchema : Files → List ℕ → Cause → Type 0

@@ -1,6 +1,5 @@
 -- Mirrors what the stages of a run hand on (`top::run::run`, `top::report::deliver`), and how they stop.
 use Rattle.std.specs.Prelude.{◌≡◌, ◌⊎◌, ◌<◌, ℕ, List, [], ◌∷◌, Option, map, length}
-use Rattle.std.specs.String.{string_bytes}
 use Rattle.qw_types.specs.Contents.{Contents, column_type}
 use Rattle.qw_types.specs.declared.schema.Table.{Table}
 use Rattle.qw_linear.specs.Memory.{most_pages}
@@ -9,26 +8,17 @@ use Rattle.qw_sink.specs.declared.sink.Head.{Head}
 use Rattle.qw_top.specs.declared.status.Status.{Status}
 use Rattle.qw_top.specs.declared.status.Status.TheVariants.{Done, Raised, PageLimitMet, StepLimitMet, WriteFailed, NoMemory as EndsInWant}
 use Rattle.qw_top.specs.declared.stop.Stop.{Stop}
-use Rattle.qw_top.specs.declared.stop.Stop.TheVariants.{Words, Refused, Unread, NoMemory}
-use Rattle.qw_top.specs.Causes.{Cause, total_pages, words_refused}
+use Rattle.qw_top.specs.declared.stop.Stop.TheVariants.{NoMemory}
+use Rattle.qw_top.specs.Causes.{total_pages}
 use Rattle.qw_top.specs.Delivered.{HasRun, ShowsEnds, ends_below, status_of_ends}
 use Rattle.qw_top.specs.Limits.{default_limits, quantum}
 use Rattle.qw_top.specs.Output.{TookFront, with_text}
-use Rattle.qw_top.specs.Top.{AreNames, Asked, Asks, Files, FilesSettle, IsFileOf, Names, Settles, same_limits}
-use Rattle.qw_top.specs.Inner.Stop.{IsRefusalFor, StopsFor, octets_of}
+use Rattle.qw_top.specs.Top.{Asked, Files, FilesSettle, HasQueries, IsFileOf, Names, same_limits}
+use Rattle.qw_top.specs.Inner.Stop.{StopsBy, StopsFor}
 
--- the files of these names explain a stop
+-- the files of these names explain a stop of a run
 abbrev pub FilesStop : Files → Names → Stop → Type 0
-FilesStop files names Words = ⊥
-FilesStop files names (Refused refusal line) =
-    (cause : Cause) × FilesSettle default_limits files names cause × IsRefusalFor cause refusal (string_bytes line)
-FilesStop files names (Unread file) = IsFileOf files names (octets_of file)
-FilesStop files names NoMemory = Unit {0}
-
--- the words and the files explain a stop
-abbrev pub Stops : Files → List (List ℕ) → Stop → Type 0
-Stops files words Words = Settles default_limits files words words_refused
-Stops files words stop = (names : Names) × AreNames words names × FilesStop files names stop
+FilesStop files names stop = StopsBy (FilesSettle default_limits files names) (IsFileOf files names) stop
 
 -- the rows of tables are of their columns
 abbrev pub AreContentsOf : List Table → List Contents → Type 0
@@ -44,12 +34,12 @@ StopsForPages need stop = (most_pages < need) × StopsFor (total_pages need) sto
 abbrev pub StopsToRun : List Contents → List Asked → Stop → Type 0
 StopsToRun tables queries stop = (stop ≡ NoMemory) ⊎ StopsForPages (pages_in_all tables (same_limits default_limits queries)) stop
 
--- a bench has run the queries that the words and the files ask for, and these are the headers of their rows
-pub record HasAsked (files : Files) (words : List (List ℕ)) (headers : List (List Head)) (b : Standing) : Type 0 where
+-- a bench has run the queries that the files ask for, and these are the headers of their rows
+pub record HasAsked (files : Files) (names : Names) (headers : List (List Head)) (b : Standing) : Type 0 where
   pub schema : List Table
   pub tables : List Contents
   pub queries : List Asked
-  pub asks : Asks files words schema tables queries
+  pub asks : HasQueries files names schema tables queries
   pub run : HasRun default_limits quantum tables queries b
   pub headers_are : headers ≡ map (λ (asked : Asked). asked.header) queries
 

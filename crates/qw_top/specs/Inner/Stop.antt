@@ -4,9 +4,9 @@ use Rattle.std.specs.String.{string_bytes}
 use Rattle.qw_top.specs.declared.stop.FileName.{FileName}
 use Rattle.qw_top.specs.declared.stop.FileName.TheVariants.{Given, Made}
 use Rattle.qw_top.specs.declared.stop.Refusal.{Refusal}
-use Rattle.qw_top.specs.declared.stop.Refusal.TheVariants.{Schema, TableFile, Queries, TotalPages as MorePages}
+use Rattle.qw_top.specs.declared.stop.Refusal.TheVariants.{Schema, TableFile, Queries, Module, TotalPages as MorePages}
 use Rattle.qw_top.specs.declared.stop.Stop.{Stop}
-use Rattle.qw_top.specs.declared.stop.Stop.TheVariants.{Words, Refused, Unread, NoMemory}
+use Rattle.qw_top.specs.declared.stop.Stop.TheVariants.{Refused, Unread, NoMemory}
 use Rattle.qw_top.specs.Causes.{Cause, line_of_cause, status_of_cause}
 use Rattle.qw_top.specs.declared.status.Status.{Status}
 use Rattle.qw_top.specs.declared.status.Status.TheVariants.{SchemaRefused, TableFileRefused, QueriesRefused, TotalPages}
@@ -21,6 +21,7 @@ abbrev pub refusal_status : Refusal → Status
 refusal_status Schema = SchemaRefused
 refusal_status TableFile = TableFileRefused
 refusal_status Queries = QueriesRefused
+refusal_status Module = QueriesRefused
 refusal_status MorePages = TotalPages
 
 -- a refusal and a line are those of a cause
@@ -29,18 +30,19 @@ IsRefusalFor cause refusal line = (refusal_status refusal ≡ status_of_cause ca
 
 -- a stop for this cause, or for want of memory for its line
 abbrev pub StopsFor : Cause → Stop → Type 0
-StopsFor cause Words = ⊥
 StopsFor cause (Refused refusal line) = IsRefusalFor cause refusal (string_bytes line)
 StopsFor cause (Unread file) = ⊥
 StopsFor cause NoMemory = Unit {0}
 
--- Why a stage that reads a file stopped: for a cause of this kind; or as the file of this name couldn't be read; or for want of
--- memory.
+-- Why a command stopped: for a cause that is settled; or as a file of such a name couldn't be read; or for want of memory.
+abbrev pub StopsBy : (settles : Cause → Type 0) → (named : List ℕ → Type 0) → Stop → Type 0
+StopsBy settles named (Refused refusal line) = (cause : Cause) × settles cause × IsRefusalFor cause refusal (string_bytes line)
+StopsBy settles named (Unread file) = named (octets_of file)
+StopsBy settles named NoMemory = Unit {0}
+
+-- the same of a stage that reads the file of one name
 abbrev pub StopsAs : (reason : Cause → Type 0) → (name : List ℕ) → Stop → Type 0
-StopsAs reason name Words = ⊥
-StopsAs reason name (Refused refusal line) = (cause : Cause) × reason cause × IsRefusalFor cause refusal (string_bytes line)
-StopsAs reason name (Unread file) = octets_of file ≡ name
-StopsAs reason name NoMemory = Unit {0}
+StopsAs reason name stop = StopsBy reason (λ other. other ≡ name) stop
 
 -- the name of the file at which the reading failed that stopped a stage
 abbrev pub failed_at : Stop → Option (List ℕ)

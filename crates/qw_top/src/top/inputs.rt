@@ -1,10 +1,11 @@
-//! From the words of a run to the contents of its files.
+//! From the words of a command to the contents of its files.
 
 ghost use Rattle.std.specs.Prelude.{◌≡◌, ◌≢◌, [], ◌∷◌, IfOk, IfErr};
 ghost use Rattle.qw_top.specs.Causes.{queries_refused, schema_refused, table_refused};
 ghost use Rattle.qw_top.specs.FileNames.{table_file_of};
 ghost use Rattle.qw_top.specs.Inner.Causes.{cause_of};
-ghost use Rattle.qw_top.specs.Inner.Inputs.{IsNoQuery, IsNoSchema, IsNoTable, IsStatementOf, StopsAtTables, names_of};
+ghost use Rattle.qw_top.specs.Inner.Inputs.{IsNoQuery, IsNoSchema, IsNoTable, IsStatementOf, StopsAtTables};
+ghost use Rattle.qw_words.specs.Read.{names_of};
 ghost use Rattle.qw_top.specs.Inner.Stages.{FilesStop};
 ghost use Rattle.qw_top.specs.Inner.Shelves.{HasRead, told_by};
 ghost use Rattle.qw_top.specs.Inner.Stop.{StopsAs, StopsFor, failed_stop, octets_of};
@@ -13,13 +14,13 @@ ghost use Rattle.qw_top.specs.Top.{HasQueries, IsFile, IsTooLong, QueriesAre, Sc
 use crate::causes::Cause;
 use crate::files::{MAX_TABLE_FILE, MAX_TEXT_FILE, ReadFault, read_whole, table_file_name};
 use crate::stop::{FileName, Stop, refused};
-use crate::words::RunWords;
 use qw_csv::Loaded;
 use qw_csv::loading::{LoadFault, load};
 use qw_io::Shelf;
 use qw_meaning::query::Query;
 use qw_parse::parse::{QueryFault, SchemaFault, query_of, schema_of};
 use qw_types::{Schema, Table};
+use qw_words::command::RunWords;
 use std::alloc::Global;
 
 /// What the files of a run hold.
@@ -60,7 +61,7 @@ pub fn prepare<'a, F: Shelf>(
 }
 
 /// The schema of a schema file.
-fn read_schema<'a, F: Shelf>(
+pub(super) fn read_schema<'a, F: Shelf>(
     alloc: Global,
     name: &'a str,
     files: &mut F,
@@ -143,7 +144,7 @@ fn table_stop<'a>(alloc: Global, table: &Table, fault: &LoadFault) -> Stop<'a>
 }
 
 /// The query of a queries file.
-fn read_query<'a, F: Shelf>(
+pub(super) fn read_query<'a, F: Shelf>(
     alloc: Global,
     name: &'a str,
     schema: &Schema,
@@ -174,7 +175,7 @@ fn query_stop<'a>(alloc: Global, fault: &QueryFault) -> Stop<'a>
 }
 
 /// A whole file within its limit. A longer one is refused for this cause.
-fn read_file<'a, F: Shelf>(
+pub(super) fn read_file<'a, F: Shelf>(
     alloc: Global,
     files: &mut F,
     name: FileName<'a>,

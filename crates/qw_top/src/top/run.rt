@@ -1,8 +1,7 @@
-//! From the words of a run to the bench that was turned to its end.
+//! From the files of a run to the bench that was turned to its end.
 
-ghost use Rattle.std.specs.Prelude.{◌≡◌, ◌≤◌, ◌⊎◌, List, [], ◌∷◌, length, map, IfOk, IfErr, OnOk};
+ghost use Rattle.std.specs.Prelude.{◌≡◌, ◌≤◌, ◌⊎◌, List, [], ◌∷◌, length, IfOk, IfErr, OnOk};
 ghost use Rattle.std.specs.List.{AllByRecursion};
-ghost use Rattle.std.specs.String.{string_bytes};
 ghost use Rattle.qw_types.specs.declared.value.Ty.{Ty};
 ghost use Rattle.qw_meaning.specs.Simple.{HasIntegers, simple};
 ghost use Rattle.qw_types.specs.Limits.{most_tables};
@@ -13,18 +12,18 @@ ghost use Rattle.qw_bench.specs.Bench.{IsColumnIn, IsStart};
 ghost use Rattle.qw_bench.specs.Standing.{AreTasksOf, total_pages as pages_in_all};
 ghost use Rattle.qw_top.specs.Delivered.{HasRun};
 ghost use Rattle.qw_top.specs.Inner.Inputs.{IsStatementOf};
-ghost use Rattle.qw_top.specs.Inner.Stages.{AreContentsOf, HasAsked, Stops, StopsForPages, StopsToRun};
+ghost use Rattle.qw_top.specs.Inner.Stages.{AreContentsOf, FilesStop, HasAsked, StopsForPages, StopsToRun};
 ghost use Rattle.qw_top.specs.Inner.Shelves.{HasRead, told_by};
 ghost use Rattle.qw_top.specs.Inner.Stop.{failed_stop};
 ghost use Rattle.qw_top.specs.Limits.{default_limits, quantum};
-ghost use Rattle.qw_top.specs.Top.{Asks, asked_by};
+ghost use Rattle.qw_top.specs.Top.{asked_by};
+ghost use Rattle.qw_words.specs.Read.{names_of};
 
 use super::QUANTUM;
 use super::header::header_of;
 use super::inputs::{Prepared, prepare};
 use crate::causes::Cause;
 use crate::stop::{Stop, refused};
-use crate::words::run_words;
 use qw_bench::bench::{Bench, BenchFault, DEFAULT_LIMITS, Job};
 use qw_csv::Loaded;
 use qw_emit::emit::module_of;
@@ -34,6 +33,7 @@ use qw_meaning::query::Query;
 use qw_sink::sink::Header;
 use qw_types::{NoMemory, Schema};
 use qw_valid::valid::{ValidFault, validate};
+use qw_words::command::RunWords;
 use std::alloc::Global;
 
 /// The headers of the rows of each query, and the bench that was turned to its end.
@@ -43,47 +43,31 @@ pub struct Turned {
     pub bench: Bench,
 }
 
-/// Reads the words and the files, and runs the queries over the tables.
+/// Reads the files that the words name, and runs the queries over the tables.
 ///
 /// # Errors
 ///
-/// A refusal of the words or of a file, more pages than a memory has, the name of a file that couldn't be read, or want of memory.
+/// A refusal of a file, more pages than a memory has, the name of a file that couldn't be read, or want of memory.
 pub fn run<'a, F: Shelf>(
     alloc: Global,
-    words: &'a [String],
+    names: &RunWords<'a>,
     files: &mut F,
 ) -> Result<Turned, Stop<'a>>
-    ensures asked { IfOk result (λ run.
-        HasAsked (F.files files.old) (map string_bytes words.now) run.headers.items run.bench) }
-    ensures stops { IfErr result (λ stop. Stops (F.files files.old) (map string_bytes words.now) stop) }
+    ensures asked { IfOk result (λ run. HasAsked (F.files files.old) (names_of names.now) run.headers.items run.bench) }
+    ensures stops { IfErr result (λ stop. FilesStop (F.files files.old) (names_of names.now) stop) }
     ensures shelf { HasRead (failed_stop result) (told_by F.Shelf files.old) (told_by F.Shelf files.new) }
 {
     let Prepared {
         schema,
         tables,
         query,
-    } = accept(alloc, words, files)?;
+    } = prepare(alloc, names, files)?;
     let header = header_of(alloc, &schema, &query)?;
     let Ok(headers) = vec![in alloc; header] else {
         return Err(Stop::NoMemory);
     };
     let bench = finished(alloc, &schema, tables.as_slice(), &query)?;
     Ok(Turned { headers, bench })
-}
-
-/// Reads the words, and the files that they name.
-fn accept<'a, F: Shelf>(
-    alloc: Global,
-    words: &'a [String],
-    files: &mut F,
-) -> Result<Prepared, Stop<'a>>
-    ensures asks { IfOk result (λ run. IsStatementOf run.schema run.query
-        × Asks (F.files files.old) (map string_bytes words.now) run.schema run.tables.items (asked_by run.schema run.query ∷ [])) }
-    ensures stops { IfErr result (λ stop. Stops (F.files files.old) (map string_bytes words.now) stop) }
-    ensures shelf { HasRead (failed_stop result) (told_by F.Shelf files.old) (told_by F.Shelf files.new) }
-{
-    let names = run_words(words).ok_or(Stop::Words)?;
-    prepare(alloc, &names, files)
 }
 
 /// The bench of a query over loaded tables, after the turns that end it.

@@ -4,4 +4,4 @@ use Rattle.qw_top.proofs.worked_laws.worked_query_lines.Goals as goal
 
 pub returns : goal.returns
 unfolding digits
-returns c = record { words = refl; too_long = refl; not_token = refl; too_many = refl; unknown_column = refl; literal = refl; pages = refl }
+returns c = record { too_long = refl; not_token = refl; too_many = refl; unknown_column = refl; literal = refl; pages = refl }

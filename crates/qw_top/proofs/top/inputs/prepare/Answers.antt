@@ -1,6 +1,6 @@
 use Rattle.std.proofs.Common.{◌∙◌}
 use Rattle.std.proofs.lemmas.Result.{err_from_is_err_and}
-use Rattle.qw_top.specs.Inner.Inputs.{names_of}
+use Rattle.qw_words.specs.Read.{names_of}
 use Rattle.qw_top.proofs.StopLemmas.{all_accepted, queries_stop, schema_stops, tables_accepted, tables_stop}
 use Rattle.qw_top.proofs.top.inputs.prepare.Goals as goal
 

@@ -1,6 +1,7 @@
 use Rattle.std.proofs.Common.{length}
 use Rattle.qw_top.specs.Delivered.{ends_below}
-use Rattle.qw_top.proofs.DeliverLemmas.{TookFront-none, ran_report, written_as, written_fault}
+use Rattle.qw_top.proofs.StoppedLemmas.{TookFront-none}
+use Rattle.qw_top.proofs.DeliverLemmas.{ran_report, written_as, written_fault}
 use Rattle.qw_top.proofs.top.report.deliver.Goals as goal
 
 pub returns-in_default-clause-writes : goal.returns-in_default-clause-writes

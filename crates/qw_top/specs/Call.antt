@@ -1,0 +1,193 @@
+-- What a call promises, by the command that its words are read as.
+use Rattle.std.specs.Prelude.{◌≡◌, ◌⊎◌, ℕ, ◌<◌, ◌-◌, List, Option, Some, None, codes, length, slice_get}
+use Rattle.qw_types.specs.Contents.{Contents}
+use Rattle.qw_types.specs.declared.schema.Table.{Table}
+use Rattle.qw_parse.specs.Parse.{IsRefused}
+use Rattle.qw_parse.specs.Query.{IsQueryRefused}
+use Rattle.qw_module.specs.declared.module.Module.{Module}
+use Rattle.qw_binary.specs.Contents.{contents_of}
+use Rattle.qw_binary.specs.Modules.{SpellsModule}
+use Rattle.qw_check.specs.Check.{HasFault, SpellsValid}
+use Rattle.qw_check.specs.declared.check.CheckFault.TheVariants as check_faults
+use Rattle.qw_map.specs.Layout.{Layout}
+use Rattle.qw_emit.specs.Compiled.{IsCompiled}
+use Rattle.qw_bench.specs.Standing.{Standing}
+use Rattle.qw_bench.specs.declared.bench.Limits.{Limits}
+use Rattle.qw_words.specs.Words.{Command, run, compile, check, Reading, command, no_command, no_number, TextNames, reading}
+use Rattle.qw_top.specs.Causes.{Cause, words_refused, statement_out_of_range, schema_too_long, schema_refused, queries_too_long, queries_refused, no_statement, module_too_long, module_refused, status_of_cause}
+use Rattle.qw_top.specs.Delivered.{CommandNotes, LeavesBench, LeavesNothing, RunLeaves}
+use Rattle.qw_top.specs.Limits.{most_module_octets, most_text_octets}
+use Rattle.qw_top.specs.Output.{TookFront, with_text}
+use Rattle.qw_top.specs.Top.{Asked, Files, FilesSettle, HasQueries, IsFile, IsFileOf, IsTooLong, Names, QueriesAre, RunExplains, SchemaIs}
+use Rattle.qw_top.specs.declared.status.Status.{Status}
+use Rattle.qw_top.specs.declared.status.Status.TheVariants.{Done, WordsRefused, ReadFailed, WriteFailed, NoMemory}
+
+-- ---- `check`
+
+-- the file of this name is a valid module
+abbrev pub IsValidFile : Files → (name : List ℕ) → Type 0
+IsValidFile files name = (octets : List ℕ) × IsFile files name most_module_octets octets × SpellsValid octets
+
+-- it settles the cause
+abbrev pub CheckSettles : Files → (name : List ℕ) → Cause → Type 0
+CheckSettles files name module_too_long = IsTooLong files name most_module_octets
+CheckSettles files name (module_refused fault) =
+    (octets : List ℕ) × IsFile files name most_module_octets octets × HasFault octets fault × (fault ≡ check_faults.NoMemory → ⊥)
+CheckSettles files name _ = ⊥
+
+-- what is written of a valid module
+abbrev pub CheckWrites : Files → (name : List ℕ) → (text : List ℕ) → Type 0
+CheckWrites files name text = IsValidFile files name × (text ≡ codes "valid\n")
+
+-- ---- `compile`
+
+-- the schema file and the queries file of these names ask for these queries
+pub record HasScript (files : Files) (names : TextNames) (schema : List Table) (queries : List Asked) : Type 0 where
+  pub declared : SchemaIs files names.schema schema
+  pub asked : QueriesAre files names.queries schema queries
+
+-- and the statement of this number, counted from 1, asks for this one
+abbrev pub HasStatement : Files → TextNames → (statement : ℕ) → Asked → Type 0
+HasStatement files names statement one =
+    (schema : List Table) × (queries : List Asked) × HasScript files names schema queries × (slice_get queries (statement - 1) ≡ Some one)
+
+-- the files of these names settle the cause, for the statement of this number
+abbrev pub CompileSettles : Files → TextNames → (statement : ℕ) → Cause → Type 0
+CompileSettles files names statement schema_too_long = IsTooLong files names.schema most_text_octets
+CompileSettles files names statement (schema_refused fault) =
+    (text : List ℕ) × IsFile files names.schema most_text_octets text × IsRefused text fault
+CompileSettles files names statement queries_too_long =
+    (schema : List Table) × SchemaIs files names.schema schema × IsTooLong files names.queries most_text_octets
+CompileSettles files names statement (queries_refused fault) = (schema : List Table) × (text : List ℕ)
+    × SchemaIs files names.schema schema × IsFile files names.queries most_text_octets text × IsQueryRefused schema text fault
+CompileSettles files names statement (no_statement number) = (number ≡ statement) × ((schema : List Table) × (queries : List Asked)
+    × HasScript files names schema queries × (length queries < statement))
+CompileSettles files names statement _ = ⊥
+
+-- the name of a file that is read: that of the schema file; where it was accepted, that of the queries file
+abbrev pub IsScriptFile : Files → TextNames → (name : List ℕ) → Type 0
+IsScriptFile files names name = (name ≡ names.schema) ⊎ ((schema : List Table) × SchemaIs files names.schema schema × (name ≡ names.queries))
+
+-- the octets spell a compiled module of the query
+pub record SpellsCompiled (one : Asked) (octets : List ℕ) : Type 0 where
+  pub layout : Layout
+  pub m : Module
+  pub compiled : IsCompiled one.specification layout m
+  pub spelled : SpellsModule (contents_of m) octets
+
+-- what is written of a statement
+abbrev pub CompileWrites : Files → TextNames → (statement : ℕ) → (text : List ℕ) → Type 0
+CompileWrites files names statement text = (one : Asked) × HasStatement files names statement one × SpellsCompiled one text
+
+-- ---- a command that writes one text
+
+-- How it ended is explained: its work can be done; or a cause is settled, whose status this is. Of a fault of the outside and of want
+-- of memory nothing is said.
+abbrev pub TextExplains : (done : Type 0) → (settles : Cause → Type 0) → Status → Type 0
+TextExplains done settles Done = done
+TextExplains done settles ReadFailed = Unit {0}
+TextExplains done settles WriteFailed = Unit {0}
+TextExplains done settles NoMemory = Unit {0}
+TextExplains done settles status = (cause : Cause) × settles cause × (status ≡ status_of_cause cause)
+
+-- a front of a text that the command writes was taken
+abbrev pub TookFrontOf : (writes : List ℕ → Type 0) → (old new : Option (List ℕ)) → Type 0
+TookFrontOf writes old new = (text : List ℕ) × writes text × TookFront old new text
+
+-- What it leaves of what it writes, by its status: the whole; or a front of it, or nothing; or nothing.
+abbrev pub LeavesText : (writes : List ℕ → Type 0) → Status → (old new : Option (List ℕ)) → Type 0
+LeavesText writes Done old new = (text : List ℕ) × writes text × (new ≡ with_text old text)
+LeavesText writes WriteFailed old new = (new ≡ old) ⊎ TookFrontOf writes old new
+LeavesText writes NoMemory old new = (new ≡ old) ⊎ TookFrontOf writes old new
+LeavesText writes status old new = new ≡ old
+
+-- ---- words that are those of no command
+
+-- how a call ends then
+abbrev pub IsEndOfWords : Status → Type 0
+IsEndOfWords WordsRefused = Unit {0}
+IsEndOfWords WriteFailed = Unit {0}
+IsEndOfWords NoMemory = Unit {0}
+IsEndOfWords _ = ⊥
+
+-- some text was taken
+abbrev pub TookText : (old new : Option (List ℕ)) → Type 0
+TookText old new = (text : List ℕ) × (new ≡ with_text old text)
+
+-- ---- a call, by the reading of its words
+
+-- the words and the files settle the cause
+abbrev pub SettlesBy : (limits : Limits) → Files → Reading → Cause → Type 0
+SettlesBy limits files no_command cause = cause ≡ words_refused
+SettlesBy limits files no_number cause = cause ≡ statement_out_of_range
+SettlesBy limits files (command (run names)) cause = FilesSettle limits files names cause
+SettlesBy limits files (command (compile names statement)) cause = CompileSettles files names statement cause
+SettlesBy limits files (command (check name)) cause = CheckSettles files name cause
+
+abbrev pub Settles : (limits : Limits) → Files → (words : List (List ℕ)) → Cause → Type 0
+Settles limits files words cause = SettlesBy limits files (reading words) cause
+
+-- they explain how the call ended
+abbrev pub ExplainsBy : (limits : Limits) → Files → Reading → Status → Type 0
+ExplainsBy limits files no_command status = IsEndOfWords status
+ExplainsBy limits files no_number status = IsEndOfWords status
+ExplainsBy limits files (command (run names)) status = RunExplains limits files names status
+ExplainsBy limits files (command (compile names statement)) status =
+    TextExplains ((one : Asked) × HasStatement files names statement one) (CompileSettles files names statement) status
+ExplainsBy limits files (command (check name)) status = TextExplains (IsValidFile files name) (CheckSettles files name) status
+
+abbrev pub Explains : (limits : Limits) → Files → (words : List (List ℕ)) → Status → Type 0
+Explains limits files words status = ExplainsBy limits files (reading words) status
+
+-- the bench that was kept, and what `out` had taken before and has taken now; a run alone keeps a bench
+abbrev pub LeavesBy : (limits : Limits) → (quantum : ℕ) → Files → Reading → Status → (kept : Option Standing) → (old new : Option (List ℕ)) → Type 0
+LeavesBy limits quantum files (command (run names)) status kept old new = RunLeaves limits quantum files names status kept old new
+LeavesBy limits quantum files (command (compile names statement)) status kept old new = (kept ≡ None) × LeavesText (CompileWrites files names statement) status old new
+LeavesBy limits quantum files (command (check name)) status kept old new = (kept ≡ None) × LeavesText (CheckWrites files name) status old new
+LeavesBy limits quantum files _ status kept old new = LeavesNothing kept old new
+
+abbrev pub Leaves : (limits : Limits) → (quantum : ℕ) → Files → (words : List (List ℕ)) → Status → (kept : Option Standing) → (old new : Option (List ℕ)) → Type 0
+Leaves limits quantum files words status kept old new = LeavesBy limits quantum files (reading words) status kept old new
+
+-- what is left where `out` counted a fault: a run's bench with a front of its report, or a front of a command's text
+abbrev pub LeavesFrontBy : (limits : Limits) → (quantum : ℕ) → Files → Reading → (kept : Option Standing) → (old new : Option (List ℕ)) → Type 0
+LeavesFrontBy limits quantum files (command (run names)) kept old new = LeavesBench limits quantum files names kept (λ status report. TookFront old new report)
+LeavesFrontBy limits quantum files (command (compile names statement)) kept old new = (kept ≡ None) × TookFrontOf (CompileWrites files names statement) old new
+LeavesFrontBy limits quantum files (command (check name)) kept old new = (kept ≡ None) × TookFrontOf (CheckWrites files name) old new
+LeavesFrontBy limits quantum files _ kept old new = ⊥
+
+abbrev pub LeavesFront : (limits : Limits) → (quantum : ℕ) → Files → (words : List (List ℕ)) → (kept : Option Standing) → (old new : Option (List ℕ)) → Type 0
+LeavesFront limits quantum files words kept old new = LeavesFrontBy limits quantum files (reading words) kept old new
+
+-- the name of a file that the call may read
+abbrev pub NamesBy : Files → Reading → (name : List ℕ) → Type 0
+NamesBy files (command (run names)) name = IsFileOf files names name
+NamesBy files (command (compile names statement)) name = IsScriptFile files names name
+NamesBy files (command (check file)) name = name ≡ file
+NamesBy files _ name = ⊥
+
+abbrev pub IsNamed : Files → (words : List (List ℕ)) → (name : List ℕ) → Type 0
+IsNamed files words name = NamesBy files (reading words) name
+
+-- What is noted. Of words that are those of no command it is clap's text, which isn't fixed, as far as the sink takes it.
+abbrev pub NotesBy : (limits : Limits) → Files → Reading → (fault_name : Option (List ℕ)) → Status → (old new : Option (List ℕ)) → Type 0
+NotesBy limits files no_command fault_name status old new = TookText old new
+NotesBy limits files r fault_name status old new = CommandNotes (SettlesBy limits files r) (NamesBy files r) fault_name status old new
+
+abbrev pub Notes : (limits : Limits) → Files → (words : List (List ℕ)) → (fault_name : Option (List ℕ)) → Status → (old new : Option (List ℕ)) → Type 0
+Notes limits files words fault_name status old new = NotesBy limits files (reading words) fault_name status old new
+
+-- ---- what words ask for
+
+-- they are read as `run`, and the files ask for these queries over these tables
+abbrev pub Asks : Files → (words : List (List ℕ)) → List Table → List Contents → List Asked → Type 0
+Asks files words schema tables queries = (names : Names) × (reading words ≡ command (run names)) × HasQueries files names schema tables queries
+
+-- they are read as `compile`, and the statement asks for this query
+abbrev pub AsksToCompile : Files → (words : List (List ℕ)) → Asked → Type 0
+AsksToCompile files words one =
+    (names : TextNames) × (statement : ℕ) × (reading words ≡ command (compile names statement)) × HasStatement files names statement one
+
+-- they are read as `check`, and the file is a valid module
+abbrev pub AsksToCheck : Files → (words : List (List ℕ)) → Type 0
+AsksToCheck files words = (name : List ℕ) × (reading words ≡ command (check name)) × IsValidFile files name

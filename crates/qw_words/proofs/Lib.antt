@@ -1,0 +1,3 @@
+mod ProgramLemmas
+mod ReadLemmas
+mod ReadingLemmas

@@ -1,0 +1,3 @@
+-- What restates code for proofs. No public clause rests on it.
+pub mod Programs
+pub mod Values

@@ -1,0 +1,106 @@
+-- The words of the command line: the program's commands in the terms of the crate `clap`, and the words that are read as one of them.
+use Rattle.std.specs.Prelude.{ℕ, ◌&&◌, nat_le, true, if◌then◌else◌, List, [], ◌∷◌, Option, Some, None, codes}
+use Rattle.std.specs.Option.{option_map_or}
+use Rattle.std.specs.Str.{bytes_eq}
+use Rattle.std.specs.Str.Parse.{digits_value}
+use Rattle.clap.specs.Words.{App, Row, Rule, Text, fault_of, first_of, new_app, new_rule, subcommand_of, with_rule, with_subcommand}
+use Rattle.clap.specs.Simple.{on_top}
+use Rattle.clap.specs.Kinds.{Kinds}
+use Rattle.qw_types.specs.Digits.{are_digits}
+
+-- ---- the program in clap's terms
+
+-- a place among a command's words, which has to be filled
+abbrev pub place : Text → Rule
+place name = record (new_rule name) { required = true }
+
+-- the option `--statement`, which has to be given
+abbrev pub statement_option : Rule
+statement_option = record (new_rule (codes "statement")) { long = Some (codes "statement"); required = true }
+
+-- `run SCHEMA DIR QUERIES`
+abbrev pub run_app : App
+run_app = with_rule (with_rule (with_rule (new_app (codes "run")) (place (codes "SCHEMA"))) (place (codes "DIR"))) (place (codes "QUERIES"))
+
+-- `compile SCHEMA QUERIES --statement K`
+abbrev pub compile_app : App
+compile_app = with_rule (with_rule (with_rule (new_app (codes "compile")) (place (codes "SCHEMA"))) (place (codes "QUERIES"))) statement_option
+
+-- `check MODULE`
+abbrev pub check_app : App
+check_app = with_rule (new_app (codes "check")) (place (codes "MODULE"))
+
+-- one of the commands has to be given, and the words come without the program's own name
+abbrev pub bare_app : App
+bare_app = on_top (λ s. record s { no_binary_name = true; subcommand_required = true }) (new_app (codes "qwasm"))
+
+abbrev pub program : App
+program = with_subcommand (with_subcommand (with_subcommand bare_app run_app.top) compile_app.top) check_app.top
+
+-- ---- words that are read
+
+-- what `run` is given: the schema file, the folder of the table files, the queries file
+pub record Names : Type 0 where
+  pub schema : Text
+  pub folder : Text
+  pub queries : Text
+
+-- the files of `compile`
+pub record TextNames : Type 0 where
+  pub schema : Text
+  pub queries : Text
+
+-- A command, with what it is given: `run`; `compile` the number of a statement too, counted from 1; `check` the file of a module.
+pub data Command : Type 0 where
+  run : Names → Command
+  compile : TextNames → (statement : ℕ) → Command
+  check : (file : Text) → Command
+
+-- How words are read: as a command; as those of `compile`, but for the number of the statement; as those of no command.
+pub data Reading : Type 0 where
+  command : Command → Reading
+  no_number : Reading
+  no_command : Reading
+
+-- the number of a word that is one or more digits, within these bounds
+abbrev pub number_within : (least most : ℕ) → Text → Option ℕ
+number_within least most word =
+    if are_digits word && (nat_le least (digits_value 10 word) && nat_le (digits_value 10 word) most) then Some (digits_value 10 word) else None
+
+-- what the value of a place or an option is read as, which has to be among the matches
+abbrev pub with_value : List Row → (id : Text) → (Text → Reading) → Reading
+with_value rows id read = option_map_or read (first_of id rows) no_command
+
+-- the matches of `run`
+abbrev pub read_run : List Row → Reading
+read_run rows = with_value rows (codes "SCHEMA") (λ schema. with_value rows (codes "DIR") (λ folder. with_value rows (codes "QUERIES") (λ queries.
+    command (run (record { schema = schema; folder = folder; queries = queries })))))
+
+-- those of `compile`; the number of a statement is from 1 to 64
+abbrev pub read_compile : List Row → Reading
+read_compile rows = with_value rows (codes "SCHEMA") (λ schema. with_value rows (codes "QUERIES") (λ queries. with_value rows (codes "statement") (λ word.
+    option_map_or (λ statement. command (compile (record { schema = schema; queries = queries }) statement)) (number_within 1 64 word) no_number)))
+
+-- those of `check`
+abbrev pub read_check : List Row → Reading
+read_check rows = with_value rows (codes "MODULE") (λ file. command (check file))
+
+-- the matches of the command of this name
+abbrev pub read_as : (name : Text) → List Row → Reading
+read_as name rows =
+    if bytes_eq name (codes "run") then read_run rows
+    else (if bytes_eq name (codes "compile") then read_compile rows
+    else (if bytes_eq name (codes "check") then read_check rows else no_command))
+
+-- the command that was entered, if any was
+abbrev pub read_entered : Option (Text × List Row) → Reading
+read_entered entered = option_map_or (λ p. read_as p.0 p.1) entered no_command
+
+-- The same of words at which clap finds nothing wrong, by the kinds of its faults; where it finds any, the words are those of no command.
+abbrev pub read_taken : Kinds → (entered : Option (Text × List Row)) → Reading
+read_taken [] entered = read_entered entered
+read_taken (kind ∷ kinds) entered = no_command
+
+-- how the words are read
+unfoldable pub reading : List Text → Reading
+reading words = read_taken (fault_of program words) (subcommand_of program words)

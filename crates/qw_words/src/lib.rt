@@ -1,0 +1,12 @@
+//! The words of the command line, read by the crate `clap`.
+//!
+//! - [`read`]: words, read as one of the program's commands.
+//! - [`command`]: what words that were read ask for, and why others aren't read.
+//! - [`worked_laws`]: words by their reading, worked out.
+//! - `program`: the commands that the program has, as `clap` takes them.
+#![tactic(auto)]
+
+pub mod command;
+mod program;
+pub mod read;
+pub mod worked_laws;
