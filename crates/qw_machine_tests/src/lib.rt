@@ -16,6 +16,8 @@ mod operators;
 #[cfg(test)]
 mod places;
 #[cfg(test)]
+mod refusals;
+#[cfg(test)]
 mod runs;
 #[cfg(test)]
 mod signatures;
