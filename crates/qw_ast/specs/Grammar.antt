@@ -1,12 +1,7 @@
--- What forms are made of, and the form of a query (ISO/IEC 9075:1992, 5.2 "token", 5.3 "literal", 5.4 "identifier", 6.4
--- "column reference", 7.3 "table expression", 7.4 "from clause", 7.6 "where clause", 7.9 "query specification", 8.2
--- "comparison predicate"). Those of a schema are in SchemaGrammar.
-use Rattle.std.specs.Prelude.{◌≡◌, ℕ, Bool, if◌then◌else◌, IsTrue, List, [], ◌∷◌, ◌++◌, ◌⊎◌, map, length, ◌<◌, ◌-◌, ◌==◌, take, drop, codes, Contains}
-use Rattle.std.specs.List.{AllZip}
+-- What the forms of a schema are made of (ISO/IEC 9075:1992, 5.2 "token", 5.3 "literal", 5.4 "identifier"). They are in SchemaGrammar.
+use Rattle.std.specs.Prelude.{◌≡◌, ℕ, if◌then◌else◌, IsTrue, List, [], ◌∷◌, ◌++◌, ◌⊎◌, map, length, ◌-◌, ◌==◌, take, drop, codes, Contains}
 use Rattle.std.specs.Char.{to_ascii_uppercase}
 use Rattle.std.specs.Str.Parse.{digits_value}
-use Rattle.qw_meaning.specs.declared.query.Comparison.{Comparison}
-use Rattle.qw_meaning.specs.declared.query.Comparison.TheVariants.{Equal, NotEqual, Less, LessOrEqual, Greater, GreaterOrEqual}
 use Rattle.qw_token.specs.declared.token.Kind.TheVariants.{Word, DelimitedIdentifier}
 use Rattle.qw_types.specs.Digits.{are_digits}
 use Rattle.qw_types.specs.Octets.{double_quote}
@@ -76,53 +71,3 @@ behind_commas (form ∷ forms) = symbol (codes ",") ∷ (form ++ behind_commas f
 abbrev pub separated : List (List Terminal) → List Terminal
 separated [] = []
 separated (form ∷ forms) = form ++ behind_commas forms
-
--- ---- the query
-
--- The names and the literal behind FROM. The literal is an unsigned integer, by its digits, behind a `-` or not.
-pub record Source : Type 0 where
-  pub table : List ℕ
-  pub tested : List ℕ
-  pub comparison : Comparison
-  pub negative : Bool
-  pub digits : List ℕ
-
--- what a query names: the columns that it selects, and what stands behind FROM
-pub record Selection : Type 0 where
-  pub columns : List (List ℕ)
-  pub source : Source
-
--- a column in a select list
-abbrev pub column_reference : List ℕ → List Terminal
-column_reference column = regular column ∷ []
-
--- the symbol of a comparison
-abbrev pub comparison_symbol : Comparison → List ℕ
-comparison_symbol Equal = codes "="
-comparison_symbol NotEqual = codes "<>"
-comparison_symbol Less = codes "<"
-comparison_symbol LessOrEqual = codes "<="
-comparison_symbol Greater = codes ">"
-comparison_symbol GreaterOrEqual = codes ">="
-
--- an unsigned integer of these digits, behind a `-` or not
-abbrev pub signed_literal : Bool → List ℕ → List Terminal
-signed_literal negative octets =
-    if negative then symbol (codes "-") ∷ digits octets ∷ [] else digits octets ∷ []
-
--- FROM table WHERE tested comparison literal
-abbrev pub table_expression : Source → List Terminal
-table_expression source =
-    key_word (codes "FROM") ∷ regular source.table ∷ key_word (codes "WHERE") ∷ regular source.tested ∷
-    symbol (comparison_symbol source.comparison) ∷ signed_literal source.negative source.digits
-
--- SELECT column {, column} FROM table WHERE tested comparison literal
-abbrev pub query_specification : Selection → List Terminal
-query_specification selection =
-    key_word (codes "SELECT") ∷
-    (separated (map column_reference selection.columns) ++ table_expression selection.source)
-
--- The tokens are the form of this query, which selects one column at least.
-pub record IsQueryOf (tokens : List Lexeme) (selection : Selection) : Type 0 where
-  pub some : 0 < length selection.columns
-  pub follows : AllZip Matches (query_specification selection) tokens

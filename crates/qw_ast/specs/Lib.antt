@@ -1,4 +1,3 @@
-pub use Rattle.qw_meaning.specs.Statement
 pub use Rattle.qw_token.specs.Token
 pub use Rattle.qw_types.specs.Digits
 pub mod Grammar

@@ -1,6 +1,6 @@
 -- The forms of a schema (ISO/IEC 9075:1992, 6.1 "data type", 11.3 "table definition", 11.4 "column definition"). A form is the
 -- list of the terminals that stand for a part of the schema; the part is told without its limits.
-use Rattle.std.specs.Prelude.{ℕ, suc, ◌-◌, ◌<◌, Bool, true, false, ◌&&◌, ◌||◌, nat_le, if◌then◌else◌, List, [], ◌∷◌, ◌++◌, length, take, codes}
+use Rattle.std.specs.Prelude.{ℕ, suc, ◌-◌, ◌<◌, Bool, true, false, ◌&&◌, ◌||◌, nat_le, nat_lt, if◌then◌else◌, List, [], ◌∷◌, ◌++◌, length, take, codes}
 use Rattle.std.specs.List.{AllZip}
 use Rattle.std.specs.Str.{bytes_eq}
 use Rattle.qw_types.specs.declared.schema.Column.{Column}
@@ -82,6 +82,11 @@ depth_after depth (t ∷ ts) = depth_after (depth_behind depth t) ts
 -- More than 32 are open behind some token of the statement.
 abbrev pub IsTooDeep : List Lexeme → Type 0
 IsTooDeep ts = (count : ℕ) × (32 < depth_after 0 (take count ts))
+
+-- Whether more than 32 are open behind some token, where so much was open before. From 0 it decides IsTooDeep.
+unfoldable pub exceeds : ℕ → List Lexeme → Bool
+exceeds depth [] = false
+exceeds depth (t ∷ ts) = nat_lt 32 (depth_behind depth t) || exceeds (depth_behind depth t) ts
 
 -- ---- sizes
 

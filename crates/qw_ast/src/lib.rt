@@ -1,9 +1,13 @@
-//! What the two texts may say: their trees, and the definitions of their grammar.
+//! What texts may say: their trees, and the definitions of their grammar.
 //!
-//! - [`tree`]: the names and numbers of a table definition and of a query.
+//! - [`tree`]: the names and numbers of a table definition.
 //! - [`script`]: the statements of a script, their expressions and conditions.
+//! - [`word`]: words in upper or lower case, reserved words.
+//! - [`statement`]: the statements of a text, and how deep brackets are nested in them.
 //! - `specs/Grammar`: the forms, terminal by terminal, and when a text is a statement of a form.
 #![tactic(auto)]
 
 pub mod script;
+pub mod statement;
 pub mod tree;
+pub mod word;

@@ -20,7 +20,7 @@ pub struct Interval<'a> {
 
 /// An expression (6.11 "value expression").
 #[cycle(script)]
-#[derive(Debug, Drop)]
+#[derive(Debug)]
 pub enum Expr<'a> {
     /// The word NULL, which stands only as a result of a CASE; also the result of an ELSE that isn't there (6.9).
     Null,
@@ -50,7 +50,7 @@ pub enum Expr<'a> {
 
 /// A condition (8.12 "search condition", with its predicates). A `bool` tells whether NOT stands in the predicate.
 #[cycle(script)]
-#[derive(Debug, Drop)]
+#[derive(Debug)]
 pub enum Cond<'a> {
     /// `left comparison right` (8.2).
     Compare(Comparison, Box<Expr<'a>>, Box<Expr<'a>>),
@@ -82,7 +82,7 @@ pub enum Phrase<'a> {
 
 /// One or more expressions in order.
 #[cycle(script)]
-#[derive(Debug, Drop)]
+#[derive(Debug)]
 pub enum Exprs<'a> {
     Last(Box<Expr<'a>>),
     More(Box<Expr<'a>>, Box<Exprs<'a>>),
@@ -90,7 +90,7 @@ pub enum Exprs<'a> {
 
 /// The branches of a CASE.
 #[cycle(script)]
-#[derive(Debug, Drop)]
+#[derive(Debug)]
 pub enum Branches<'a> {
     /// `ELSE result`, with NULL where there is no ELSE.
     Else(Box<Expr<'a>>),
@@ -127,4 +127,69 @@ pub struct Statement<'a> {
 #[derive(Debug, Drop)]
 pub struct Script<'a> {
     pub statements: Vec<Statement<'a>>,
+}
+
+// Chains of operators and lists may be as long as a text, so they are dropped by a loop. What else nests is bounded by the
+// brackets and CASEs that may be open.
+
+impl<'a> Drop for Expr<'a> {
+    #[cycle(script)]
+    fn drop(mut self) {
+        loop {
+            match self {
+                Expr::Null | Expr::Number(_) | Expr::Text(_) | Expr::Column(_, _) => return,
+                Expr::Date(_, _intervals) => return,
+                Expr::Signed(_, _operand) => return,
+                Expr::Arithmetic(_, left, _right) => self = Box::into_inner(left),
+                Expr::Extract(_, _date) => return,
+                Expr::Case(_branches) => return,
+                Expr::Match(_operand, _branches) => return,
+                Expr::Coalesce(_arguments) => return,
+                Expr::NullIf(_left, _right) => return,
+            }
+        }
+    }
+}
+
+impl<'a> Drop for Cond<'a> {
+    #[cycle(script)]
+    fn drop(mut self) {
+        loop {
+            match self {
+                Cond::Compare(_, _left, _right) => return,
+                Cond::Between(_, _operand, _least, _greatest) => return,
+                Cond::In(_, _operand, _values) => return,
+                Cond::IsNull(_, _operand) => return,
+                Cond::And(left, _right) => self = Box::into_inner(left),
+                Cond::Or(left, _right) => self = Box::into_inner(left),
+                Cond::Not(_operand) => return,
+                Cond::Is(_, _operand, _) => return,
+                Cond::Bracketed(_operand) => return,
+            }
+        }
+    }
+}
+
+impl<'a> Drop for Exprs<'a> {
+    #[cycle(script)]
+    fn drop(mut self) {
+        loop {
+            match self {
+                Exprs::Last(_last) => return,
+                Exprs::More(_first, rest) => self = Box::into_inner(rest),
+            }
+        }
+    }
+}
+
+impl<'a> Drop for Branches<'a> {
+    #[cycle(script)]
+    fn drop(mut self) {
+        loop {
+            match self {
+                Branches::Else(_result) => return,
+                Branches::When(_test, _result, rest) => self = Box::into_inner(rest),
+            }
+        }
+    }
 }

@@ -1,6 +1,5 @@
-//! The trees of the two texts.
+//! The trees of a schema.
 
-use qw_meaning::query::Comparison;
 use qw_types::{Text, Ty};
 
 /// A column of a table definition (ISO/IEC 9075:1992, 11.4).
@@ -21,23 +20,4 @@ pub struct TableDefinition {
     pub name: Text,
     /// The columns, in order.
     pub columns: Vec<ColumnDefinition>,
-}
-
-/// What stands behind a select list. The names are as they stand in the text.
-#[derive(Clone, Copy, Debug)]
-pub struct TableExpression<'a> {
-    pub table: &'a [u8],
-    pub tested: &'a [u8],
-    pub comparison: Comparison,
-    /// Whether a `-` stands before the digits.
-    pub negative: bool,
-    /// The digits of the literal.
-    pub digits: &'a [u8],
-}
-
-/// A query. The names are as they stand in the text.
-#[derive(Debug, Drop)]
-pub struct QuerySpecification<'a> {
-    pub columns: Vec<&'a [u8]>,
-    pub source: TableExpression<'a>,
 }

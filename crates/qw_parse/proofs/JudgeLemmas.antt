@@ -1,5 +1,5 @@
 -- A statement declares a table or has a fault, and is judged so.
-use Rattle.std.proofs.Common.{◌≡◌, ◌≢◌, ℕ, zero, suc, ◌<◌, ◌≤◌, Bool, true, false, ltb, ◌||◌, List, [], ◌∷◌, length, map, take, Some, None, Result, Ok, Err, refl, sym, ap, subst, ◌∙◌, arith, inl, inr, le-ltb}
+use Rattle.std.proofs.Common.{◌≡◌, ◌≢◌, ℕ, zero, suc, ◌<◌, ◌≤◌, Bool, true, false, ltb, ◌||◌, List, [], ◌∷◌, length, map, Some, None, Result, Ok, Err, refl, sym, ap, subst, ◌∙◌, arith, inl, inr, le-ltb}
 use Rattle.std.specs.Prelude.{◌⊎◌, ◌&&◌, nat_le, Contains, IfSome}
 use Rattle.std.specs.Bool.{Decides}
 use Rattle.std.specs.List.{AllByRecursion, list_any}
@@ -15,7 +15,8 @@ use Rattle.qw_types.specs.declared.value.Ty.TheVariants as types
 use Rattle.qw_types.specs.Schema.{AreColumns, AreDistinct}
 use Rattle.qw_types.specs.Value.{IsSized}
 use Rattle.qw_token.specs.Token.{Lexeme}
-use Rattle.qw_ast.specs.SchemaGrammar.{IsTableOf, IsTooDeep, depth_behind, depth_after, is_sized}
+use Rattle.qw_ast.specs.SchemaGrammar.{IsTableOf, IsTooDeep, exceeds, is_sized}
+use Rattle.qw_ast.proofs.NestingLemmas.{deep-Decides, shallow_test}
 use Rattle.qw_parse.specs.declared.parse.SchemaFault.{SchemaFault}
 use Rattle.qw_parse.specs.declared.parse.SchemaFault.TheVariants.{NotGrammar, TooDeep, TooMany, Duplicate, BadSize}
 use Rattle.qw_parse.specs.declared.parse.Count.TheVariants.{Columns}
@@ -23,36 +24,9 @@ use Rattle.qw_parse.specs.Parse as parse
 use Rattle.qw_parse.specs.Parse.{IsTwice, here, later, IsDuplicate, HasBadSize, IsDeclared, HasFault}
 use Rattle.qw_parse.specs.Inner.Parser.{all_of}
 use Rattle.qw_parse.specs.Inner.Tables.{sized, create_table_at}
-use Rattle.qw_parse.specs.Inner.Judges.{AreSized, exceeds, Read, name_in, is_twice, columns_of, is_named, judged}
+use Rattle.qw_parse.specs.Inner.Judges.{AreSized, Read, name_in, is_twice, columns_of, is_named, judged}
 use Rattle.qw_parse.proofs.TerminalLemmas.{any_from_contains, bind_some, cases_option, none_not_some, some_same}
 use Rattle.qw_parse.proofs.TableLemmas.{column_tree, table_tree, table_read, table_is_read, table_some}
-
--- ---- nesting
-
-exceeds_deep : (depth : ℕ) (ts : List Lexeme) → exceeds depth ts ≡ true → (count : ℕ) × (32 < depth_after depth (take count ts))
-unfolding exceeds
-exceeds_deep depth [] e = absurd (false≢true e)
-exceeds_deep depth (t ∷ ts) e =
-    elim (or_cases (ltb 32 (depth_behind depth t)) (exceeds (depth_behind depth t) ts) e) [
-      | inl now ↦ (1, ltb-true 32 (depth_behind depth t) now)
-      | inr more ↦ (let rest = exceeds_deep (depth_behind depth t) ts more in (suc rest.0, rest.1))
-    ]
-
-deep_exceeds : (depth : ℕ) (ts : List Lexeme) (count : ℕ) → depth ≤ 32 → 32 < depth_after depth (take count ts) → exceeds depth ts ≡ true
-unfolding exceeds
-deep_exceeds depth [] zero le deep = absurd (omega (arith, le, deep))
-deep_exceeds depth [] (suc count) le deep = absurd (omega (arith, le, deep))
-deep_exceeds depth (t ∷ ts) zero le deep = absurd (omega (arith, le, deep))
-deep_exceeds depth (t ∷ ts) (suc count) le deep =
-    elim (cases_Bool (ltb 32 (depth_behind depth t))) [
-      | inl now ↦ or_left (ltb 32 (depth_behind depth t)) (exceeds (depth_behind depth t) ts) now
-      | inr not_yet ↦ or_right (ltb 32 (depth_behind depth t)) (exceeds (depth_behind depth t) ts)
-          (deep_exceeds (depth_behind depth t) ts count (ltb-false 32 (depth_behind depth t) not_yet) deep)
-    ]
-
--- whether a statement is too deep
-pub deep-Decides : (ts : List Lexeme) → Decides (exceeds 0 ts) (IsTooDeep ts)
-deep-Decides ts = (exceeds_deep 0 ts, λ deep. deep_exceeds 0 ts deep.0 (omega arith) deep.1)
 
 -- ---- names
 
@@ -153,13 +127,6 @@ columns_wrong cs bad =
     ]
 
 -- ---- one statement
-
-pub shallow_test : (ts : List Lexeme) → (IsTooDeep ts → ⊥) → exceeds 0 ts ≡ false
-shallow_test ts shallow =
-    elim (cases_Bool (exceeds 0 ts)) [
-      | inl deep ↦ absurd (shallow ((deep-Decides ts).0 deep))
-      | inr e ↦ e
-    ]
 
 few_test : (t : Table) → length t.columns ≤ 64 → ltb 64 (length (map (column_tree sized) t.columns)) ≡ false
 few_test t few = le-ltb 64 (length (map (column_tree sized) t.columns)) (omega (arith, few, length-map t.columns (column_tree sized)))

@@ -6,7 +6,7 @@ use Rattle.std.proofs.lemmas.List.{length-append}
 use Rattle.qw_token.specs.Token.{doubled, quoted}
 use Rattle.qw_ast.specs.Grammar.{name_of, undoubled}
 use Rattle.qw_parse.specs.Inner.Parser.{behind_octet}
-use Rattle.qw_parse.proofs.StatementLemmas.{undoubled_more}
+use Rattle.qw_parse.proofs.DeclareLemmas.{undoubled_more}
 
 behind_plain : (b : ℕ) (bs : List ℕ) → eqb b 34 ≡ false → behind_octet b bs ≡ bs
 behind_plain b [] e = refl

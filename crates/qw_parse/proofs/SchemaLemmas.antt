@@ -15,13 +15,13 @@ use Rattle.qw_types.specs.Schema.{AreTables, AreDistinct}
 use Rattle.qw_token.specs.Token.{Lexeme, lexemes, AreTokens, StopsAt}
 use Rattle.qw_token.proofs.TokenRun.{AreTokens-unique, AreTokens-no_stop, StopsAt-unique}
 use Rattle.qw_ast.specs.SchemaGrammar.{statements}
+use Rattle.qw_ast.proofs.StatementLemmas.{is_no_list, lexed}
 use Rattle.qw_parse.specs.declared.parse.SchemaFault.{SchemaFault}
 use Rattle.qw_parse.specs.declared.parse.SchemaFault.TheVariants.{NotToken, NotGrammar, TooMany, NoMemory}
 use Rattle.qw_parse.specs.declared.parse.Count.TheVariants.{Tables}
 use Rattle.qw_parse.specs.Parse as parse
 use Rattle.qw_parse.specs.Parse.{IsDeclared, HasFault, Declare, HasFirstFault, ReadsSchema, IsRefused}
 use Rattle.qw_parse.specs.Inner.Judges.{judged_from}
-use Rattle.qw_parse.proofs.StatementLemmas.{is_no_list, lexed}
 use Rattle.qw_parse.proofs.JudgeLemmas.{declared_judged, fault_judged, statement_case, ok_same, err_same, ok_not_err}
 
 -- ---- all statements

@@ -2,6 +2,5 @@
 pub mod Faults
 pub mod Judges
 pub mod Parser
-pub mod Queries
 pub mod Tables
 pub mod Written

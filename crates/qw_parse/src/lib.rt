@@ -1,7 +1,4 @@
-//! The schema and the query that two texts say.
-//!
-//! - [`parse::schema_of`]: the tables that a text declares.
-//! - [`parse::query_of`]: the statement that a text is, over a schema.
+//! The schema that a text says: [`parse::schema_of`], the tables that it declares.
 #![tactic(auto)]
 
 pub mod parse;

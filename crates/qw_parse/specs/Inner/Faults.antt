@@ -1,18 +1,10 @@
 -- Mirrors the conversions of token faults.
-use Rattle.qw_parse.specs.declared.parse.QueryFault.{QueryFault}
-use Rattle.qw_parse.specs.declared.parse.QueryFault.TheVariants as query_faults
 use Rattle.qw_parse.specs.declared.parse.SchemaFault.{SchemaFault}
 use Rattle.qw_parse.specs.declared.parse.SchemaFault.TheVariants as schema_faults
 use Rattle.qw_token.specs.declared.token.TokenFault.{TokenFault}
 use Rattle.qw_token.specs.declared.token.TokenFault.TheVariants.{NotUtf8, NotToken, NoMemory}
 
--- a fault in the tokens of a text, as one of a query
-abbrev pub query_fault_of : TokenFault → QueryFault
-query_fault_of NotUtf8 = query_faults.NotUtf8
-query_fault_of (NotToken at) = query_faults.NotToken at
-query_fault_of NoMemory = query_faults.NoMemory
-
--- the same, of a schema
+-- a fault in the tokens of a text, as one of a schema
 abbrev pub schema_fault_of : TokenFault → SchemaFault
 schema_fault_of NotUtf8 = schema_faults.NotUtf8
 schema_fault_of (NotToken at) = schema_faults.NotToken at

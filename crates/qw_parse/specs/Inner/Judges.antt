@@ -1,4 +1,4 @@
--- Mirrors src/parse/statement.rt and src/parse/declare.rt.
+-- Mirrors src/parse/declare.rt.
 use Rattle.std.specs.Prelude.{ℕ, suc, Bool, false, ◌||◌, nat_lt, List, [], ◌∷◌, ◌++◌, length, map, Option, Some, IfSome, Result, Ok, Err, if◌then◌else◌}
 use Rattle.std.specs.List.{AllByRecursion, list_any}
 use Rattle.std.specs.Option.{option_map_or}
@@ -8,22 +8,12 @@ use Rattle.qw_types.specs.declared.schema.Table.{Table}
 use Rattle.qw_types.specs.declared.value.Ty.{Ty}
 use Rattle.qw_types.specs.Value.{IsSized}
 use Rattle.qw_token.specs.Token.{Lexeme}
-use Rattle.qw_ast.specs.SchemaGrammar.{is_semicolon, depth_behind}
+use Rattle.qw_ast.specs.SchemaGrammar.{exceeds}
 use Rattle.qw_parse.specs.declared.parse.SchemaFault.{SchemaFault}
 use Rattle.qw_parse.specs.declared.parse.SchemaFault.TheVariants.{NotGrammar, TooDeep, TooMany, Duplicate, BadSize}
 use Rattle.qw_parse.specs.declared.parse.Count.TheVariants.{Columns}
 use Rattle.qw_parse.specs.Inner.Parser.{◌>>=◌, all_of}
 use Rattle.qw_parse.specs.Inner.Tables.{sized, create_table_at}
-
--- the first statement, and the tokens behind its `;`
-abbrev pub cut : List Lexeme → List Lexeme × List Lexeme
-cut [] = ([], [])
-cut (t ∷ ts) = if is_semicolon t then ([], ts) else (t ∷ (cut ts).0, (cut ts).1)
-
--- whether more than 32 are open behind some token, where so much was open before
-unfoldable pub exceeds : ℕ → List Lexeme → Bool
-exceeds depth [] = false
-exceeds depth (t ∷ ts) = nat_lt 32 (depth_behind depth t) || exceeds (depth_behind depth t) ts
 
 -- ---- one statement
 

@@ -1,5 +1,4 @@
--- Mirrors the readers of src/parse/form.rt, and the tests of src/parse/word.rt and literal.rt. A reader answers
--- what it found and the tokens behind that. Each way to put readers together has its lemma in proofs/FormLemmas and
+-- Mirrors the readers of src/parse/form.rt, and the test of literal.rt. A reader answers what it found and the tokens behind that. Each way to put readers together has its lemma in proofs/FormLemmas and
 -- proofs/ListLemmas.
 use Rattle.std.specs.Prelude.{ℕ, zero, suc, ◌^◌, nat_lt, nat_eq, Bool, true, false, ◌&&◌, ◌||◌, not, List, [], ◌∷◌, ◌++◌, length, ℤ, pos, codes, Option, Some, None, if◌then◌else◌}
 use Rattle.std.specs.List.{list_any}
@@ -10,9 +9,7 @@ use Rattle.qw_token.specs.declared.token.Kind.{Kind}
 use Rattle.qw_token.specs.declared.token.Kind.TheVariants.{Word, DelimitedIdentifier}
 use Rattle.qw_types.specs.Digits.{are_digits}
 use Rattle.qw_token.specs.Token.{Lexeme}
-use Rattle.qw_ast.specs.Grammar.{folded, name_of, reserved, Terminal, key_word, regular, identifier, symbol, unsigned, digits, Source, Selection}
-use Rattle.qw_meaning.specs.declared.query.Comparison.{Comparison}
-use Rattle.qw_meaning.specs.declared.query.Comparison.TheVariants.{Equal, NotEqual, Less, LessOrEqual, Greater, GreaterOrEqual}
+use Rattle.qw_ast.specs.Grammar.{folded, name_of, reserved, Terminal, key_word, regular, identifier, symbol, unsigned, digits}
 
 -- the next step, where there is a value
 infixl 10 ◌>>=◌
@@ -83,17 +80,6 @@ literal_of octets =
     if are_digits octets && nat_lt (digits_value 10 octets) (10 ^ 18)
     then Some (pos (digits_value 10 octets))
     else None
-
--- the comparison of the symbol
-abbrev pub comparison_of : List ℕ → Option Comparison
-comparison_of octets =
-    if bytes_eq octets (codes "=") then Some Equal
-    else (if bytes_eq octets (codes "<>") then Some NotEqual
-    else (if bytes_eq octets (codes "<") then Some Less
-    else (if bytes_eq octets (codes "<=") then Some LessOrEqual
-    else (if bytes_eq octets (codes ">") then Some Greater
-    else (if bytes_eq octets (codes ">=") then Some GreaterOrEqual
-    else None)))))
 
 -- ---- ways to put readers together
 
@@ -193,25 +179,3 @@ regular_at ts = token_at regular_of ts
 -- digits
 unfoldable pub digits_at : List Lexeme → Option (List ℕ × List Lexeme)
 digits_at ts = token_at digits_of ts
-
--- a literal: whether a `-` stands before its digits, and these
-unfoldable pub literal_at : List Lexeme → Option ((Bool × List ℕ) × List Lexeme)
-literal_at ts =
-    optional_at (symbol (codes "-")) (made_at (λ (x : List ℕ). (true, x)) digits_at) (made_at (λ (x : List ℕ). (false, x)) digits_at) ts
-
--- a comparison
-unfoldable pub comparison_at : List Lexeme → Option (Comparison × List Lexeme)
-comparison_at ts = token_at (λ (t : Lexeme). comparison_of t.octets) ts
-
--- what stands behind a select list
-unfoldable pub table_expression_at : List Lexeme → Option (Source × List Lexeme)
-table_expression_at ts =
-    made_at (λ (x : List ℕ × (List ℕ × (Comparison × (Bool × List ℕ)))). record { table = x.0; tested = x.1.0; comparison = x.1.1.0; negative = x.1.1.1.0; digits = x.1.1.1.1 })
-    (behind_at (key_word (codes "FROM") ∷ [])
-    (both_at regular_at (behind_at (key_word (codes "WHERE") ∷ []) (both_at regular_at (both_at comparison_at literal_at))))) ts
-
--- a query, by what it names
-unfoldable pub query_specification_at : List Lexeme → Option (Selection × List Lexeme)
-query_specification_at ts =
-    made_at (λ (x : List (List ℕ) × Source). record { columns = x.0; source = x.1 })
-    (behind_at (key_word (codes "SELECT") ∷ []) (both_at (list_at regular_at) table_expression_at)) ts

@@ -9,9 +9,9 @@ ghost use Rattle.qw_parse.specs.Inner.Tables.{read_of};
 ghost use Rattle.qw_parse.specs.Inner.Written.{definition_read};
 ghost use Rattle.qw_token.specs.Token.{lexemes};
 
-use super::statement::is_too_deep;
 use super::table::create_table;
 use super::{Count, SchemaFault};
+use qw_ast::statement::is_too_deep;
 use qw_ast::tree::{ColumnDefinition, TableDefinition};
 use qw_token::token::Token;
 use qw_types::schema::MAX_COLUMNS;

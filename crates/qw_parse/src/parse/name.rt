@@ -24,13 +24,6 @@ pub(crate) fn folded_text(alloc: Global, octets: &[u8]) -> Result<Text, NoMemory
     text_of(octets.to_ascii_uppercase(alloc)?)
 }
 
-/// The octets as they are written.
-pub(crate) fn written_text(alloc: Global, octets: &[u8]) -> Result<Text, NoMemory>
-    ensures { IfOk result (λ text. text ≡ octets.now) }
-{
-    text_of(octets.to_vec(alloc)?)
-}
-
 /// The octets as a text. Those of a name in a text of UTF-8 are UTF-8, since a name begins and ends with ASCII there; so none
 /// is refused for its octets.
 fn text_of(octets: Vec<u8>) -> Result<Text, NoMemory>

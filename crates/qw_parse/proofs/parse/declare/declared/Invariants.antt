@@ -1,6 +1,6 @@
 use Rattle.std.proofs.Common.{◌≡◌, ◌+◌, [], drop}
 use Rattle.qw_parse.specs.Inner.Judges.{judged_from}
-use Rattle.qw_parse.proofs.StatementLemmas.{lexed}
+use Rattle.qw_ast.proofs.StatementLemmas.{lexed}
 use Rattle.qw_parse.proofs.parse.declare.declared.Given as goal
 
 abbrev pub invariant-loop-index : goal.invariant-loop-index

@@ -1,4 +1,4 @@
-use Rattle.qw_parse.proofs.StatementLemmas.{twice_ends, twice_goes_on}
+use Rattle.qw_parse.proofs.DeclareLemmas.{twice_ends, twice_goes_on}
 use Rattle.qw_parse.proofs.parse.declare.is_twice.Goals as goal
 
 pub returns-then-is_among : goal.returns-then-is_among

@@ -1,8 +1,0 @@
-use Rattle.std.proofs.Common.{◌≡◌, ◌++◌, take, drop}
-use Rattle.qw_parse.specs.Inner.Judges.{cut}
-use Rattle.qw_token.specs.Token.{lexemes}
-use Rattle.qw_parse.proofs.parse.statement.cut.Given as goal
-
-abbrev pub invariant-loop-index : goal.invariant-loop-index
-invariant-loop-index l =
-    cut (lexemes l.tokens) ≡ (lexemes (take l.index l.tokens) ++ (cut (lexemes (drop l.index l.tokens))).0, (cut (lexemes (drop l.index l.tokens))).1)

@@ -1,8 +1,0 @@
-use Rattle.std.proofs.Common.{◌≡◌, ◌≤◌, drop}
-use Rattle.qw_parse.specs.Inner.Judges.{exceeds}
-use Rattle.qw_token.specs.Token.{lexemes}
-use Rattle.qw_parse.proofs.parse.statement.is_too_deep.Given as goal
-
-abbrev pub invariant-loop-token : goal.invariant-loop-token
-invariant-loop-token l =
-    (l.depth ≤ 32) × (exceeds l.depth (lexemes (drop l.token-index l.tokens)) ≡ exceeds 0 (lexemes l.tokens))
