@@ -485,7 +485,7 @@ module _ (Inner : Clause → List Lexeme → List Lexeme → Type 0) (inner : Li
   factor_begins (condition c) ts rest h = factor_front c ts rest h
   factor_begins (expression e) ts rest h = sum_begins e ts rest h
 
-  factor_exact : Exact (Of (IsValueExpression Inner) (IsBooleanFactor Inner)) (Stops 3) (boolean_factor_at inner)
+  pub factor_exact : Exact (Of (IsValueExpression Inner) (IsBooleanFactor Inner)) (Stops 3) (boolean_factor_at inner)
   factor_exact = record { takes = factor_takes; is = factor_is; shorter = factor_shorter; begins = factor_begins }
 
   -- ---- AND and OR
@@ -506,7 +506,7 @@ module _ (Inner : Clause → List Lexeme → List Lexeme → Type 0) (inner : Li
   or_sorts (expression e) ts rest h = inr h
   or_sorts (condition c) ts rest h = inl (c, refl, h)
 
-  boolean_term_exact : Exact (Of (IsValueExpression Inner) (IsBooleanTerm Inner)) (Stops 2) (boolean_term_at inner)
+  pub boolean_term_exact : Exact (Of (IsValueExpression Inner) (IsBooleanTerm Inner)) (Stops 2) (boolean_term_at inner)
   unfolding boolean_term_at
   boolean_term_exact =
       rank_exact condition is_and (IsBooleanFactor Inner) (λ _ a b. both a b) join_and (Of (IsValueExpression Inner) (IsBooleanFactor Inner)) (Of (IsValueExpression Inner) (IsBooleanTerm Inner)) (Stops 3) (Stops 2) (boolean_factor_at inner)

@@ -237,7 +237,7 @@ sign_is _ _ _ (interval_sign s t word rest a b) = rw (token_is sign_of t (word �
 sign_shorter : (s : Sign) (ts rest : List Lexeme) → IsIntervalSign s ts rest → length rest < length ts
 sign_shorter _ _ _ (interval_sign s t word rest a b) = omega arith
 
-sign_shortens : Shortens interval_sign_at
+pub sign_shortens : Shortens interval_sign_at
 sign_shortens ts x e = sign_shorter x.0 ts x.1 (sign_takes ts x e)
 
 days_takes : (ts : List Lexeme) (x : List ℕ × List Lexeme) → days_at ts ≡ Some x → IsDays x.0 ts x.1
@@ -262,7 +262,7 @@ days_is _ _ _ (days t day ts rest a b c) none =
 days_shorter : (d : List ℕ) (ts rest : List Lexeme) → IsDays d ts rest → length rest < length ts
 days_shorter _ _ _ (days t day ts rest a b c) = let p = precision_shorter ts rest c in omega (arith, p)
 
-days_shortens : Shortens days_at
+pub days_shortens : Shortens days_at
 days_shortens ts x e = days_shorter x.0 ts x.1 (days_takes ts x e)
 
 date_string_takes : (ts : List Lexeme) (x : Dated × List Lexeme) → date_string_at ts ≡ Some x → IsDateString x.0 ts x.1

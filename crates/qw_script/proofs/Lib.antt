@@ -1,10 +1,15 @@
+mod AcceptLemmas
 mod ConditionLemmas
 mod ExactLemmas
 mod LoopLemmas
 mod PrimaryLemmas
+mod PrimaryReadLemmas
 mod RankLemmas
-mod ScriptLemmas
+mod ReadLemmas
+pub mod ScriptLemmas
 mod SelectLemmas
+mod SizeLemmas
 mod SumLemmas
+mod TailReadLemmas
 mod TokenLemmas
 mod WorkedLemmas

@@ -219,7 +219,7 @@ module _ (Inner : Clause → List Lexeme → List Lexeme → Type 0) (inner : Li
     branch_begins : (b : Branch) (ts rest : List Lexeme) → IsBranch Inner searched b ts rest → Starts ts
     branch_begins _ _ _ (branch c e word ts us rest h s f r) = reads.begins c ts (word ∷ us) h
 
-    branch_exact : Exact (IsBranch Inner searched) (Stops 1) (branch_at inner searched)
+    pub branch_exact : Exact (IsBranch Inner searched) (Stops 1) (branch_at inner searched)
     branch_exact = record { takes = branch_takes; is = branch_is; shorter = branch_shorter; begins = branch_begins }
 
     branches_takes : (ts : List Lexeme) (x : List Branch × List Lexeme) → branches_at inner searched ts ≡ Some x → AreBranches Inner searched x.0 ts x.1

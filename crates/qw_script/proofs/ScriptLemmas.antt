@@ -7,22 +7,17 @@ use Rattle.qw_token.proofs.TokenRun.{AreTokens-unique, AreTokens-no_stop, StopsA
 use Rattle.qw_ast.specs.SchemaGrammar.{IsTooDeep, statements}
 use Rattle.qw_ast.specs.Syntax.{Select}
 use Rattle.qw_ast.specs.ScriptGrammar.{IsSelectOf}
-use Rattle.qw_script.specs.declared.fault.Count.TheVariants.{Statements, SelectItems, Nodes, LiteralOctets}
+use Rattle.qw_script.specs.declared.fault.Count.TheVariants.{Statements}
 use Rattle.qw_script.specs.declared.fault.ParseFault.{ParseFault}
 use Rattle.qw_script.specs.declared.fault.ParseFault.TheVariants.{NotUtf8, NotToken, NotGrammar, TooDeep, TooMany}
 use Rattle.qw_script.specs.Script as script
 use Rattle.qw_script.specs.Script.{query_items, query_nodes, query_octets, IsAccepted, HasFault, AreAccepted, ReadsScript, HasFirstFault, IsScriptRefused}
+use Rattle.qw_script.specs.Inner.Judges.{PassesLimit, items, nodes, octets}
 use Rattle.qw_script.proofs.SelectLemmas.{one_select}
 
 -- ---- one statement
 
--- which limit a query passes first
-data Passes (k : ℕ) (s : Select) : ParseFault → Type 0 where
-  items : 64 < query_items s → Passes k s (TooMany k SelectItems 64)
-  nodes : query_items s ≤ 64 → 1000 < query_nodes s → Passes k s (TooMany k Nodes 1000)
-  octets : query_items s ≤ 64 → query_nodes s ≤ 1000 → 16384 < query_octets s → Passes k s (TooMany k LiteralOctets 16384)
-
-passes_one : (k : ℕ) (s : Select) (f g : ParseFault) → Passes k s f → Passes k s g → f ≡ g
+passes_one : (k : ℕ) (s : Select) (f g : ParseFault) → PassesLimit k s f → PassesLimit k s g → f ≡ g
 passes_one k s _ _ (items a) (items b) = refl
 passes_one k s _ _ (items a) (nodes b c) = absurd (omega (arith, a, b))
 passes_one k s _ _ (items a) (octets b c d) = absurd (omega (arith, a, b))
@@ -35,7 +30,7 @@ passes_one k s _ _ (octets a b c) (octets d e f) = refl
 
 -- it is nested too deeply, or is no query, or a query that passes a limit
 abbrev Cause : ℕ → List Lexeme → ParseFault → Type 0
-Cause k ts f = (IsTooDeep ts × (f ≡ TooDeep k)) ⊎ (((IsTooDeep ts → ⊥) × ((s : Select) → IsSelectOf ts s → ⊥) × (f ≡ NotGrammar k)) ⊎ ((IsTooDeep ts → ⊥) × ((s : Select) × IsSelectOf ts s × Passes k s f)))
+Cause k ts f = (IsTooDeep ts × (f ≡ TooDeep k)) ⊎ (((IsTooDeep ts → ⊥) × ((s : Select) → IsSelectOf ts s → ⊥) × (f ≡ NotGrammar k)) ⊎ ((IsTooDeep ts → ⊥) × ((s : Select) × IsSelectOf ts s × PassesLimit k s f)))
 
 cause_of : (k : ℕ) (ts : List Lexeme) (f : ParseFault) → HasFault k ts f → Cause k ts f
 cause_of k ts _ (script.too_deep deep) = inl (deep, refl)
@@ -53,7 +48,7 @@ causes_one k ts f g (inr (inl a)) (inr (inl b)) = a.2 ∙ sym b.2
 causes_one k ts f g (inr (inl a)) (inr (inr b)) = absurd (a.1 b.1.0 b.1.1)
 causes_one k ts f g (inr (inr a)) (inl b) = absurd (a.0 b.0)
 causes_one k ts f g (inr (inr a)) (inr (inl b)) = absurd (b.1 a.1.0 a.1.1)
-causes_one k ts f g (inr (inr a)) (inr (inr b)) = passes_one k b.1.0 f g (subst (λ s. Passes k s f) (one_select ts a.1.0 b.1.0 a.1.1 b.1.1) a.1.2) b.1.2
+causes_one k ts f g (inr (inr a)) (inr (inr b)) = passes_one k b.1.0 f g (subst (λ s. PassesLimit k s f) (one_select ts a.1.0 b.1.0 a.1.1 b.1.1) a.1.2) b.1.2
 
 fault_one : (k : ℕ) (ts : List Lexeme) (f g : ParseFault) → HasFault k ts f → HasFault k ts g → f ≡ g
 fault_one k ts f g a b = causes_one k ts f g (cause_of k ts f a) (cause_of k ts g b)
@@ -61,7 +56,7 @@ fault_one k ts f g a b = causes_one k ts f g (cause_of k ts f a) (cause_of k ts 
 accepted_one : (ts : List Lexeme) (s t : Select) → IsAccepted ts s → IsAccepted ts t → s ≡ t
 accepted_one ts s t a b = one_select ts s t a.query b.query
 
-passes_none : (k : ℕ) (s : Select) (f : ParseFault) → query_items s ≤ 64 → query_nodes s ≤ 1000 → query_octets s ≤ 16384 → Passes k s f → ⊥
+passes_none : (k : ℕ) (s : Select) (f : ParseFault) → query_items s ≤ 64 → query_nodes s ≤ 1000 → query_octets s ≤ 16384 → PassesLimit k s f → ⊥
 passes_none k s _ few_items few_nodes few_octets (items a) = omega (arith, few_items, a)
 passes_none k s _ few_items few_nodes few_octets (nodes a b) = omega (arith, few_nodes, b)
 passes_none k s _ few_items few_nodes few_octets (octets a b c) = omega (arith, few_octets, c)
@@ -69,7 +64,7 @@ passes_none k s _ few_items few_nodes few_octets (octets a b c) = omega (arith, 
 cause_none : (k : ℕ) (ts : List Lexeme) (s : Select) (f : ParseFault) → IsAccepted ts s → Cause k ts f → ⊥
 cause_none k ts s f a (inl b) = a.shallow b.0
 cause_none k ts s f a (inr (inl b)) = b.1 s a.query
-cause_none k ts s f a (inr (inr b)) = passes_none k s f a.few_items a.few_nodes a.few_octets (subst (λ x. Passes k x f) (one_select ts b.1.0 s b.1.1 a.query) b.1.2)
+cause_none k ts s f a (inr (inr b)) = passes_none k s f a.few_items a.few_nodes a.few_octets (subst (λ x. PassesLimit k x f) (one_select ts b.1.0 s b.1.1 a.query) b.1.2)
 
 accepted_no_fault : (k : ℕ) (ts : List Lexeme) (s : Select) (f : ParseFault) → IsAccepted ts s → HasFault k ts f → ⊥
 accepted_no_fault k ts s f a h = cause_none k ts s f a (cause_of k ts f h)

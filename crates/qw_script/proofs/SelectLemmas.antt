@@ -123,7 +123,7 @@ module _ (Inner : Clause → List Lexeme → List Lexeme → Type 0) (inner : Li
   item_begins : (i : SelectItem) (ts rest : List Lexeme) → IsItem Inner i ts rest → Starts ts
   item_begins _ _ _ (item e n ts us rest h i) = reads.begins (expression e) ts us h
 
-  item_exact : Exact (IsItem Inner) EndsItem (item_at inner)
+  pub item_exact : Exact (IsItem Inner) EndsItem (item_at inner)
   item_exact = record { takes = item_takes; is = item_is; shorter = item_shorter; begins = item_begins }
 
   items_take : (ts : List Lexeme) (x : List SelectItem × List Lexeme) → further_at (item_at inner) ts ≡ Some x → AreFurther (IsItem Inner) x.0 ts x.1

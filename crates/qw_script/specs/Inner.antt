@@ -1,2 +1,6 @@
 -- What restates code for proofs. No public clause rests on it.
+pub mod Judges
+pub mod Nests
+pub mod Parser
 pub mod Readers
+pub mod Sizes

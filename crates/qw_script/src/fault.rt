@@ -1,5 +1,11 @@
 //! Why a text is no script.
 
+ghost use Rattle.std.specs.Prelude.{◌≡◌};
+ghost use Rattle.qw_script.specs.Inner.Judges.{fault_of};
+
+use qw_token::token::TokenFault;
+use qw_types::NoMemory;
+use std::alloc::AllocError;
 use thiserror::Error;
 
 /// What there may be too many of.
@@ -40,4 +46,36 @@ pub enum ParseFault {
     },
     #[error("want of memory")]
     NoMemory,
+}
+
+impl From<TokenFault> for ParseFault {
+    ghost from_gives = { λ fault e. e ≡ fault_of fault };
+
+    fn from(fault: TokenFault) -> ParseFault {
+        match fault {
+            TokenFault::NotUtf8 => ParseFault::NotUtf8,
+            TokenFault::NotToken { at } => ParseFault::NotToken { at },
+            TokenFault::NoMemory => ParseFault::NoMemory,
+        }
+    }
+}
+
+impl From<NoMemory> for ParseFault {
+    ghost use Rattle.qw_script.specs.declared.fault.ParseFault.TheVariants.{NoMemory};
+
+    ghost from_gives = { λ _ e. e ≡ NoMemory };
+
+    fn from(_e: NoMemory) -> ParseFault {
+        ParseFault::NoMemory
+    }
+}
+
+impl From<AllocError> for ParseFault {
+    ghost use Rattle.qw_script.specs.declared.fault.ParseFault.TheVariants.{NoMemory};
+
+    ghost from_gives = { λ _ e. e ≡ NoMemory };
+
+    fn from(_e: AllocError) -> ParseFault {
+        ParseFault::NoMemory
+    }
 }

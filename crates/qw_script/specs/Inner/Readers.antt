@@ -1,5 +1,5 @@
--- Readers of the grammar on lists of tokens, by which its laws are proved. They mirror no function yet. A reader answers what it
--- found and the tokens behind that. `inner` reads what stands in brackets and in CASE.
+-- Readers of the grammar on lists of tokens, by which its laws are proved; each mirrors the function of src/read of that name, or of
+-- nearly that name. A reader answers what it found and the tokens behind that. `inner` reads what stands in brackets and in CASE.
 use Rattle.std.specs.Prelude.{ℕ, zero, suc, Bool, true, false, not, if◌then◌else◌, List, [], ◌∷◌, length, Option, Some, None, codes}
 use Rattle.std.specs.Option.{option_map_or}
 use Rattle.qw_meaning.specs.declared.expression.Operator.{Operator}
@@ -216,6 +216,22 @@ primary_of inner t ts =
 unfoldable pub primary_at : Reader Clause → Reader Clause
 primary_at inner [] = None
 primary_at inner (t ∷ ts) = primary_of inner t ts
+
+-- the same, told by which token is next
+unfoldable pub keyed_at : Reader Clause → Reader Clause
+keyed_at inner ts =
+    option_map_or (λ us. as_clause (case_at inner us)) (word_at (codes "CASE") ts)
+    (option_map_or (λ us. as_clause (coalesce_at inner us)) (word_at (codes "COALESCE") ts)
+    (option_map_or (λ us. as_clause (null_if_at inner us)) (word_at (codes "NULLIF") ts)
+    (option_map_or (λ us. as_clause (extract_at inner us)) (word_at (codes "EXTRACT") ts)
+    (option_map_or (λ _. as_clause (date_at ts >>= (λ d. Some (date d.0.string d.0.intervals, d.1)))) (word_at (codes "DATE") ts)
+    (as_clause (column_at ts))))))
+
+unfoldable pub primary_by : Reader Clause → Reader Clause
+primary_by inner ts =
+    option_map_or (λ x. Some (expression (number x.0), x.1)) (token_at (octets_if is_number) ts)
+    (option_map_or (λ x. Some (expression (text x.0), x.1)) (token_at (octets_if is_string) ts)
+    (option_map_or (λ us. brackets_at inner us) (symbol_at (codes "(") ts) (keyed_at inner ts)))
 
 unfoldable pub factor_at : Reader Clause → Reader Clause
 factor_at inner ts =
