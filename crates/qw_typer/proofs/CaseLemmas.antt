@@ -1,28 +1,12 @@
 -- The kind and the scale of a CASE, whose results are of one kind.
-use Rattle.std.proofs.Common.{◌≡◌, ℕ, ◌≤◌, ◌&&◌, Bool, true, false, Option, Some, None, max, refl, sym, ap, ◌∙◌, arith}
-use Rattle.std.specs.Prelude.{IsTrue}
+use Rattle.std.proofs.Common.{◌≡◌, ℕ, Bool, true, Option, Some, None, max, refl, sym, ap, ◌∙◌, arith}
 use Rattle.std.proofs.lemmas.Bool.{and_parts}
 use Rattle.qw_types.specs.declared.kind.Kind.{Kind}
 use Rattle.qw_types.specs.declared.kind.Kind.TheVariants as kind
-use Rattle.qw_meaning.specs.Expression.{Choices, Expression, case, cases, largest_result, otherwise, scale_of, when}
+use Rattle.qw_meaning.specs.Expression.{Choices, case, cases, largest_result, otherwise, scale_of, when}
 use Rattle.qw_meaning.specs.Typing.{agree, at_scale, joined, kind_of}
 use Rattle.qw_typer.specs.Faults.{results_agree, results_kind}
-
--- the scale of a kind, 0 where it is no number
-abbrev pub kind_scale : Option Kind → ℕ
-kind_scale None = 0
-kind_scale (Some (kind.Number s)) = s
-kind_scale (Some kind.Date) = 0
-kind_scale (Some kind.Text) = 0
-
--- an expression's scale is that of its kind
-abbrev pub IsScaled : Expression → Type 0
-IsScaled e = scale_of e ≡ kind_scale (kind_of e)
-
--- so is that of each result
-abbrev pub AreScaled : Choices → Type 0
-AreScaled (otherwise e) = IsScaled e
-AreScaled (when c e rest) = IsScaled e × AreScaled rest
+use Rattle.qw_typer.specs.Inner.Typing.{AreScaled, IsScaled, kind_scale}
 
 pub scaled_cases : (s : ℕ) (cs : Choices) → scale_of (cases s cs) ≡ s
 scaled_cases s (otherwise e) = refl

@@ -1,5 +1,5 @@
 -- A date with its intervals is a day of the years 1 to 9999.
-use Rattle.std.proofs.Common.{◌≡◌, ℕ, ◌+◌, ◌*◌, ◌≤◌, ◌&&◌, Bool, true, false, nat_le, ℤ, pos, ◌≤ℤ◌, List, [], ◌∷◌, Option, Some, None, IfSome, MatchOption, refl, sym, ap, ◌∙◌, subst, arith, inl, inr, if◌then◌else◌, option_map, is_none, unwrap_or}
+use Rattle.std.proofs.Common.{◌≡◌, ℕ, ◌≤◌, ◌&&◌, true, false, nat_le, pos, List, [], ◌∷◌, Option, Some, None, IfSome, arith, inl, inr, option_map, is_none, unwrap_or}
 use Rattle.std.specs.Option.{option_and_then}
 use Rattle.std.proofs.lemmas.Bool.{and_parts, cases_Bool}
 use Rattle.std.proofs.lemmas.Bool.Decides.{nat_tests}

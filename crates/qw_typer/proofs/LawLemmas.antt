@@ -1,21 +1,19 @@
 -- What a query means is a specification, and it means one where it has no fault.
-use Rattle.std.proofs.Common.{◌≡◌, ℕ, zero, suc, ◌+◌, ◌≤◌, Bool, true, List, [], ◌∷◌, ◌++◌, map, length, Option, Some, None, refl, sym, ap, ◌∙◌, arith, slice_get, option_map, subst}
+use Rattle.std.proofs.Common.{◌≡◌, ℕ, zero, suc, ◌+◌, ◌≤◌, List, [], ◌∷◌, ◌++◌, map, length, Option, Some, None, refl, sym, ap, ◌∙◌, arith, slice_get, subst}
 use Rattle.std.specs.List.{AllByRecursion}
-use Rattle.std.specs.Option.{option_and_then, option_map_or}
+use Rattle.std.specs.Option.{option_map_or}
 use Rattle.qw_types.specs.Schema.{AreColumns}
 use Rattle.qw_types.specs.declared.schema.Column.{Column}
 use Rattle.qw_types.specs.declared.schema.Table.{Table}
-use Rattle.qw_types.specs.declared.value.Ty.{Ty}
 use Rattle.qw_meaning.specs.Expression as meaning
 use Rattle.qw_meaning.specs.Select.{Entry, IsConditionOver, IsItemOver, IsSpecification, Specification, row_types}
 use Rattle.qw_meaning.specs.Typing.{has_kind, kind_of}
 use Rattle.qw_ast.specs.Grammar.{name_of}
 use Rattle.qw_ast.specs.Syntax.{Condition, comparison, between, among, is_null, both, either, negation_of, is, bracketed, SelectItem, Selected, all_columns, items, Select}
-use Rattle.qw_typer.specs.declared.fault.FaultKind.TheVariants.{UnknownTable}
-use Rattle.qw_typer.specs.Faults.{Fault, condition_faults, faults, first_token, item_faults, or_own}
+use Rattle.qw_typer.specs.Faults.{condition_faults, faults, first_token, item_faults, or_own}
 use Rattle.qw_typer.specs.Meant.{Scope, condition_meant, meant}
 use Rattle.qw_typer.specs.Typed.{HasFewItems, IsWithin, Means, columns_from, conjuncts, conjuncts_of, filter_faults, items_meant, list_faults, place_of, query_faults, result_names, scope_of, selected_faults}
-use Rattle.qw_typer.proofs.SoundLemmas.{AreSized, IsGood, column_good, condition_good, good, no_both, no_own, tested, types_of}
+use Rattle.qw_typer.proofs.SoundLemmas.{AreSized, column_good, condition_good, good, no_both, no_own, tested, types_of}
 
 all_append : {A : Type 0} (P : A → Type 0) (xs : List A) (x : A) → AllByRecursion P xs → P x → AllByRecursion P (xs ++ x ∷ [])
 all_append P [] x h p = (p, tt)
@@ -111,23 +109,28 @@ some_items scope (items list) a h =
     let l = length_map (λ (i : SelectItem). meant scope i.value) list in
     (omega (arith, l, some), omega (arith, l, few))
 
+pub specified : (place : ℕ) (table : Table) (s : Select) (specification : Specification) → AreColumns table.columns → IsWithin s → selected_faults (scope_of s table) s.selected ++ filter_faults (scope_of s table) s ≡ []
+    → specification.entries ≡ record { table = place; types = types_of table.columns } ∷ [] → specification.conjuncts ≡ map (condition_meant (scope_of s table)) (conjuncts s) → specification.items ≡ items_meant (scope_of s table) s.selected
+    → IsSpecification specification
+specified place table s specification a within h entries_are conjuncts_are items_are =
+    let scope = scope_of s table in
+    let q = no_both (selected_faults scope s.selected) (filter_faults scope s) h in
+    let sizes = some_items scope s.selected a within.items in
+    let few : length specification.conjuncts ≤ 1000 = rw (conjuncts_are, length_map (condition_meant scope) (conjuncts s)) within.conjuncts in
+    record {
+      some_entry = rw entries_are (omega arith);
+      few_entries = rw entries_are (omega arith);
+      few_conjuncts = few;
+      some_item = rw items_are sizes.0;
+      few_items = rw items_are sizes.1;
+      conjuncts = rw (entries_are, conjuncts_are, row_is) (filter_over scope a.sized s.filter q.1);
+      items = rw (entries_are, items_are, row_is) (items_over scope a.sized s.selected q.0);
+    }
+
 pub typed_query : (schema : List Table) (s : Select) (specification : Specification) (names : List (List ℕ)) → AllByRecursion (λ (t : Table). AreColumns t.columns) schema → IsWithin s → Means schema s specification names → IsSpecification specification
 typed_query schema s specification names all within m =
-    let scope = scope_of s m.table in
     let h = rw (m.place_is, m.table_is) at m.faultless in
-    let q = no_both (selected_faults scope s.selected) (filter_faults scope s) h in
-    let a = columns_at schema m.place m.table all m.table_is in
-    let sizes = some_items scope s.selected a within.items in
-    let few : length specification.conjuncts ≤ 1000 = rw (m.conjuncts_are, length_map (condition_meant scope) (conjuncts s)) within.conjuncts in
-    record {
-      some_entry = rw m.entries_are (omega arith);
-      few_entries = rw m.entries_are (omega arith);
-      few_conjuncts = few;
-      some_item = rw m.items_are sizes.0;
-      few_items = rw m.items_are sizes.1;
-      conjuncts = rw (m.entries_are, m.conjuncts_are, row_is) (filter_over scope a.sized s.filter q.1);
-      items = rw (m.entries_are, m.items_are, row_is) (items_over scope a.sized s.selected q.0);
-    }
+    specified m.place m.table s specification (columns_at schema m.place m.table all m.table_is) within h m.entries_are m.conjuncts_are m.items_are
 
 -- ---- a meaning, and one alone
 

@@ -1,5 +1,13 @@
+mod AmongLemmas
 mod CaseLemmas
 mod DateLemmas
 mod DayLemmas
-mod LawLemmas
+mod FaultLemmas
+pub mod LawLemmas
+mod LiteralLemmas
+mod MovedLemmas
+mod OutcomeLemmas
+mod QueryLemmas
+mod ShownLemmas
 mod SoundLemmas
+mod StepLemmas

@@ -1,6 +1,5 @@
 -- What has no fault is typed over the table's columns.
-use Rattle.std.proofs.Common.{◌≡◌, ℕ, zero, suc, ◌+◌, ◌≤◌, ◌<◌, ◌^◌, ◌&&◌, Bool, true, false, not, nat_lt, nat_le, pos, List, [], ◌∷◌, ◌++◌, map, length, Option, Some, None, max, refl, sym, ap, ◌∙◌, arith, inl, inr, slice_get, position, is_none, unwrap_or, option_map, subst}
-use Rattle.std.specs.Prelude.{IsTrue}
+use Rattle.std.proofs.Common.{◌≡◌, ℕ, zero, suc, ◌≤◌, ◌^◌, ◌&&◌, Bool, true, false, not, nat_lt, nat_le, pos, List, [], ◌∷◌, ◌++◌, map, Option, Some, None, max, refl, ap, ◌∙◌, arith, inl, inr, slice_get, position, is_none, unwrap_or, option_map, subst}
 use Rattle.std.specs.List.{AllByRecursion}
 use Rattle.std.specs.Option.{option_and_then}
 use Rattle.std.specs.Str.{bytes_eq}
@@ -15,7 +14,6 @@ use Rattle.qw_types.specs.declared.schema.Column.{Column}
 use Rattle.qw_types.specs.declared.value.Ty.{Ty}
 use Rattle.qw_types.specs.declared.value.Ty.TheVariants as type
 use Rattle.qw_types.specs.declared.kind.Kind.{Kind}
-use Rattle.qw_types.specs.declared.kind.Kind.TheVariants as kind
 use Rattle.qw_meaning.specs.declared.expression.Operator.{Operator}
 use Rattle.qw_meaning.specs.declared.expression.Operator.TheVariants as op
 use Rattle.qw_meaning.specs.declared.expression.Field.{Field}
@@ -23,19 +21,20 @@ use Rattle.qw_meaning.specs.declared.query.Comparison.{Comparison}
 use Rattle.qw_meaning.specs.declared.query.Comparison.TheVariants.{Equal, GreaterOrEqual, LessOrEqual}
 use Rattle.qw_meaning.specs.Columns.{HasColumns, HaveColumns, IsColumnOf}
 use Rattle.qw_meaning.specs.Expression as meaning
-use Rattle.qw_meaning.specs.Typing.{AreTyped, IsTyped, ScalesAllowed, agree, are_comparable, at_scale, has_kind, is_date, is_number, kind_of}
+use Rattle.qw_meaning.specs.Typing.{AreTyped, IsTyped, ScalesAllowed, agree, are_comparable, has_kind, is_date, is_number, kind_of}
 use Rattle.qw_ast.specs.declared.script.Sign.{Sign}
 use Rattle.qw_ast.specs.declared.script.Sign.TheVariants.{Plus, Minus}
 use Rattle.qw_typer.specs.declared.fault.FaultKind.{FaultKind}
-use Rattle.qw_typer.specs.declared.fault.FaultKind.TheVariants.{Clash, ScaleTooLarge, UnknownColumn, UnknownTable}
+use Rattle.qw_typer.specs.declared.fault.FaultKind.TheVariants.{Clash, UnknownColumn, UnknownTable}
 use Rattle.qw_ast.specs.Grammar.{name_of}
-use Rattle.qw_ast.specs.Syntax.{Days, Expression, null, number, text, date, column, signed, arithmetic, extract, searched_case, simple_case, coalesce, null_if, Condition, comparison, between, among, is_null, both, either, negation_of, is, bracketed, Clause, condition, expression, Expressions, last, further, Branching, otherwise, when}
+use Rattle.qw_ast.specs.Syntax.{Days, Expression, null, number, text, date, column, signed, arithmetic, extract, searched_case, simple_case, coalesce, null_if, Condition, comparison, between, among, is_null, both, either, negation_of, is, bracketed, condition, expression, Expressions, last, further, Branching, otherwise, when}
 use Rattle.qw_typer.specs.Days.{Day}
 use Rattle.qw_typer.specs.Literal.{after_intervals, date_at, date_of, day_shown, digits_of, is_short, number_of, scale_of, string_value}
 use Rattle.qw_typer.proofs.DateLemmas.{at_most, date_typed}
 use Rattle.qw_typer.specs.Faults.{Fault, all_faults, among_faults, branch_faults, case_faults, choices_faults, comparison_faults, condition_faults, fault_where, faults, first_of_all, first_of_branches, first_token, is_allowed, is_known, matches_faults, or_own, qualifier_of, results_agree, results_kind}
 use Rattle.qw_typer.specs.Meant.{Scope, all_meant, choices, column_named, condition_meant, matches, meant, with_not, with_sign}
-use Rattle.qw_typer.proofs.CaseLemmas.{AreScaled, IsScaled, agree_at, kind_scale, kind_cases, scaled_case, scaled_cases}
+use Rattle.qw_typer.specs.Inner.Typing.{AreScaled, IsScaled, kind_scale}
+use Rattle.qw_typer.proofs.CaseLemmas.{agree_at, kind_cases, scaled_case, scaled_cases}
 
 -- ---- no faults
 

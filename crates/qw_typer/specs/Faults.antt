@@ -8,7 +8,7 @@ use Rattle.qw_meaning.specs.declared.expression.Operator.TheVariants.{Add, Subtr
 use Rattle.qw_meaning.specs.Expression as meaning
 use Rattle.qw_meaning.specs.Typing.{agree, are_comparable, has_kind, is_date, is_number, joined, kind_of}
 use Rattle.qw_ast.specs.Grammar.{name_of}
-use Rattle.qw_ast.specs.Syntax.{Expression, null, number, text, date, column, signed, arithmetic, extract, searched_case, simple_case, coalesce, null_if, Condition, comparison, between, among, is_null, both, either, negation_of, is, bracketed, Clause, condition, expression, Expressions, last, further, Branching, otherwise, when}
+use Rattle.qw_ast.specs.Syntax.{Expression, null, number, text, date, column, signed, arithmetic, extract, searched_case, simple_case, coalesce, null_if, Condition, comparison, between, among, is_null, both, either, negation_of, is, bracketed, condition, expression, Expressions, last, further, Branching, otherwise, when}
 use Rattle.qw_typer.specs.declared.fault.FaultKind.{FaultKind}
 use Rattle.qw_typer.specs.declared.fault.FaultKind.TheVariants.{UnknownTable, UnknownColumn, Clash, ScaleTooLarge, LiteralTooLong, BadDate}
 use Rattle.qw_typer.specs.Literal.{date_of, number_of}

@@ -1,6 +1,6 @@
 -- What the expressions and conditions of a query mean over the columns of its table (ISO/IEC 9075:1992, 6.4, 6.9 to 6.12, 6.14, 8.2 to
 -- 8.6, 8.12). What is said here of an expression that has a fault (Faults) means nothing, and only makes the meaning total.
-use Rattle.std.specs.Prelude.{ℕ, Bool, true, false, List, [], ◌∷◌, ◌++◌, Option, Some, None, position, slice_get, unwrap_or, if◌then◌else◌}
+use Rattle.std.specs.Prelude.{ℕ, Bool, true, false, List, Option, position, slice_get, unwrap_or}
 use Rattle.std.specs.Option.{option_and_then, option_map}
 use Rattle.std.specs.Str.{bytes_eq}
 use Rattle.qw_types.specs.declared.schema.Column.{Column}
@@ -9,7 +9,7 @@ use Rattle.qw_meaning.specs.Expression as meaning
 use Rattle.qw_ast.specs.declared.script.Sign.{Sign}
 use Rattle.qw_ast.specs.declared.script.Sign.TheVariants.{Plus, Minus}
 use Rattle.qw_ast.specs.Grammar.{name_of}
-use Rattle.qw_ast.specs.Syntax.{Expression, null, number, text, date, column, signed, arithmetic, extract, searched_case, simple_case, coalesce, null_if, Condition, comparison, between, among, is_null, both, either, negation_of, is, bracketed, Clause, condition, expression, Expressions, last, further, Branching, otherwise, when}
+use Rattle.qw_ast.specs.Syntax.{Expression, null, number, text, date, column, signed, arithmetic, extract, searched_case, simple_case, coalesce, null_if, Condition, comparison, between, among, is_null, both, either, negation_of, is, bracketed, condition, expression, Expressions, last, further, Branching, otherwise, when}
 use Rattle.qw_typer.specs.Literal.{date_of, number_of, string_value}
 
 -- the entry of FROM: its alias, or without one its table's name, and its columns in order (7.4)

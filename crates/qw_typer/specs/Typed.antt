@@ -1,9 +1,8 @@
 -- The query specification that a query means over a schema's tables, with the names of its result columns; or its faults (ISO/IEC
 -- 9075:1992, 6.3, 6.4, 7.4, 7.6, 7.9).
-use Rattle.std.specs.Prelude.{◌≡◌, ◌≤◌, ℕ, suc, ◌+◌, List, [], ◌∷◌, ◌++◌, length, map, Option, Some, None, position, slice_get, Contains, codes}
+use Rattle.std.specs.Prelude.{◌≡◌, ◌≤◌, ℕ, suc, List, [], ◌∷◌, ◌++◌, length, map, Option, Some, position, slice_get, Contains, codes}
 use Rattle.std.specs.Fmt.{decimal}
-use Rattle.std.specs.List.{AllByRecursion}
-use Rattle.std.specs.Option.{option_and_then, option_map, option_map_or}
+use Rattle.std.specs.Option.{option_and_then, option_map_or}
 use Rattle.std.specs.Str.{bytes_eq}
 use Rattle.qw_types.specs.declared.schema.Column.{Column}
 use Rattle.qw_types.specs.declared.schema.Table.{Table}

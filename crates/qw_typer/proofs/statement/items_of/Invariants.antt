@@ -1,0 +1,11 @@
+use Rattle.std.proofs.Common.{◌≡◌, map, length}
+use Rattle.qw_ast.specs.SyntaxTree as syntax
+use Rattle.qw_typer.specs.Inner.Typing.{entry, typed_items}
+use Rattle.qw_typer.proofs.StepLemmas.{After}
+use Rattle.qw_typer.proofs.statement.items_of.Given as goal
+
+abbrev pub invariant-loop-rest : goal.invariant-loop-rest
+invariant-loop-rest l = typed_items (entry l.fn.scope) (map syntax.item_of l.fn.items) ≡ After (entry l.fn.scope) l.made.items (map syntax.item_of l.rest)
+
+abbrev pub decreases-loop-rest : goal.decreases-loop-rest
+decreases-loop-rest l = length l.rest

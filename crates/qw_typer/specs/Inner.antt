@@ -1,0 +1,4 @@
+-- What restates code for proofs. No public clause rests on it.
+pub mod Literals
+pub mod Queries
+pub mod Typing

@@ -1,0 +1,153 @@
+//! One more branch, argument or value before others.
+#![tactic(auto, unfolding(crate::specs::Inner::Typing::Refuses))]
+
+ghost use Rattle.std.specs.Prelude.{◌≡◌, Ok};
+ghost use Rattle.qw_meaning.specs.declared.query.Comparison.TheVariants.{Equal};
+ghost use Rattle.qw_meaning.specs.Expression.{Expression, coalesced, comparison, last, more};
+ghost use Rattle.qw_meaning.specs.Expression as meaning;
+ghost use Rattle.qw_meaning.specs.Tree.{choices_of, condition_of, expression_of, expressions_of, matches_of};
+ghost use Rattle.qw_typer.specs.Inner.Typing.{AreTold, GivesArguments, GivesChoices, GivesMatches, GivesValues, IsTold, all_comparable};
+
+use crate::kinds::{agree, are_comparable, joined};
+use crate::refusal::Refusal;
+use crate::tree::{Results, Typed, Values, boxed};
+use qw_meaning::expression::{Branches, Cond, Exprs, Matches};
+use std::alloc::Global;
+
+/// The last argument of COALESCE.
+pub(crate) fn argument<'a>(alloc: Global, x: Typed) -> Result<Results<Exprs>, Refusal<'a>>
+    requires { IsTold x }
+    ensures { GivesArguments result (Ok (last (expression_of x.tree))) }
+{
+    Ok(Results {
+        kind: x.kind,
+        agree: true,
+        tree: Exprs::Last(boxed(alloc, x.tree)?),
+    })
+}
+
+/// An argument of COALESCE before others.
+pub(crate) fn arguments_more<'a>(
+    alloc: Global,
+    x: Typed,
+    others: Results<Exprs>,
+) -> Result<Results<Exprs>, Refusal<'a>>
+    requires first { IsTold x }
+    requires others { AreTold others.kind others.agree (coalesced (expressions_of others.tree)) }
+    ensures { GivesArguments result (Ok (more (expression_of x.tree) (expressions_of others.tree))) }
+{
+    Ok(Results {
+        kind: joined(x.kind, others.kind),
+        agree: agree(x.kind, others.kind) && others.agree,
+        tree: Exprs::More(boxed(alloc, x.tree)?, boxed(alloc, others.tree)?),
+    })
+}
+
+/// The last value of IN.
+pub(crate) fn value<'a>(alloc: Global, operand: &Typed, x: Typed) -> Result<Values, Refusal<'a>>
+    requires operand { IsTold operand.now }
+    requires value { IsTold x }
+    ensures { GivesValues (expression_of operand.now.tree) result (Ok (last (expression_of x.tree))) }
+{
+    Ok(Values {
+        comparable: are_comparable(operand.kind, x.kind),
+        tree: Exprs::Last(boxed(alloc, x.tree)?),
+    })
+}
+
+/// A value of IN before others.
+pub(crate) fn values_more<'a>(
+    alloc: Global,
+    operand: &Typed,
+    x: Typed,
+    others: Values,
+) -> Result<Values, Refusal<'a>>
+    requires operand { IsTold operand.now }
+    requires value { IsTold x }
+    requires others { others.comparable ≡ all_comparable (expression_of operand.now.tree) (expressions_of others.tree) }
+    ensures { GivesValues (expression_of operand.now.tree) result (Ok (more (expression_of x.tree) (expressions_of others.tree))) }
+{
+    Ok(Values {
+        comparable: are_comparable(operand.kind, x.kind) && others.comparable,
+        tree: Exprs::More(boxed(alloc, x.tree)?, boxed(alloc, others.tree)?),
+    })
+}
+
+/// The result of ELSE.
+pub(crate) fn otherwise<'a>(alloc: Global, x: Typed) -> Result<Results<Branches>, Refusal<'a>>
+    requires { IsTold x }
+    ensures { GivesChoices result (Ok (meaning.otherwise (expression_of x.tree))) }
+{
+    Ok(Results {
+        kind: x.kind,
+        agree: true,
+        tree: Branches::Else(boxed(alloc, x.tree)?),
+    })
+}
+
+/// A branch before others.
+pub(crate) fn when<'a>(
+    alloc: Global,
+    test: Cond,
+    x: Typed,
+    others: Results<Branches>,
+) -> Result<Results<Branches>, Refusal<'a>>
+    requires first { IsTold x }
+    requires others { AreTold others.kind others.agree (choices_of others.tree) }
+    ensures { GivesChoices result (Ok (meaning.when (condition_of test) (expression_of x.tree) (choices_of others.tree))) }
+{
+    let kind = joined(x.kind, others.kind);
+    let agree = agree(x.kind, others.kind) && others.agree;
+    let test = boxed(alloc, test)?;
+    let first = boxed(alloc, x.tree)?;
+    Ok(Results {
+        kind,
+        agree,
+        tree: Branches::When(test, first, boxed(alloc, others.tree)?),
+    })
+}
+
+/// The last branch of a CASE with an operand, and its ELSE.
+pub(crate) fn last_match<'a>(
+    alloc: Global,
+    wanted: Typed,
+    x: Typed,
+    other: Typed,
+) -> Result<Results<Matches>, Refusal<'a>>
+    requires first { IsTold x }
+    requires other { IsTold other }
+    ensures { (e : Expression) → GivesMatches e result (Ok (meaning.when (comparison Equal e (expression_of wanted.tree)) (expression_of x.tree) (meaning.otherwise (expression_of other.tree)))) }
+{
+    let kind = joined(x.kind, other.kind);
+    let agree = agree(x.kind, other.kind);
+    let wanted = boxed(alloc, wanted.tree)?;
+    let first = boxed(alloc, x.tree)?;
+    Ok(Results {
+        kind,
+        agree,
+        tree: Matches::Last(wanted, first, boxed(alloc, other.tree)?),
+    })
+}
+
+/// A branch of a CASE with an operand before others.
+pub(crate) fn match_more<'a>(
+    alloc: Global,
+    operand: &Typed,
+    wanted: Typed,
+    x: Typed,
+    others: Results<Matches>,
+) -> Result<Results<Matches>, Refusal<'a>>
+    requires first { IsTold x }
+    requires others { AreTold others.kind others.agree (matches_of others.tree (expression_of operand.now.tree)) }
+    ensures { GivesMatches (expression_of operand.now.tree) result (Ok (meaning.when (comparison Equal (expression_of operand.now.tree) (expression_of wanted.tree)) (expression_of x.tree) (matches_of others.tree (expression_of operand.now.tree)))) }
+{
+    let kind = joined(x.kind, others.kind);
+    let agree = agree(x.kind, others.kind) && others.agree;
+    let wanted = boxed(alloc, wanted.tree)?;
+    let first = boxed(alloc, x.tree)?;
+    Ok(Results {
+        kind,
+        agree,
+        tree: Matches::When(wanted, first, boxed(alloc, others.tree)?),
+    })
+}

@@ -1,0 +1,266 @@
+//! One construct over typed operands: whether their kinds go with it, and its tree.
+#![tactic(auto, using(crate::proofs::CaseLemmas::told_case), unfolding(crate::specs::Inner::Typing::Refuses))]
+
+ghost use Rattle.std.specs.Prelude.{◌≡◌, MatchResult};
+ghost use Rattle.qw_ast.specs.SyntaxTree as syntax;
+ghost use Rattle.qw_meaning.specs.Expression.{coalesced};
+ghost use Rattle.qw_meaning.specs.Tree.{choices_of, condition_of, expression_of, expressions_of, matches_of};
+ghost use Rattle.qw_meaning.specs.Typing.{kind_of};
+ghost use Rattle.qw_typer.specs.Faults.{first_of_all, first_of_branches, first_token};
+ghost use Rattle.qw_typer.specs.Inner.Typing.{AreTold, Gives, GivesCondition, IsTold, all_comparable, among_outcome, arithmetic_outcome, between_outcome, case_outcome, comparison_outcome, field_outcome, null_if_outcome, sign_outcome};
+ghost use Rattle.qw_typer.specs.Meant.{with_not};
+ghost use Rattle.qw_typer.specs.declared.refusal.Refusal.TheVariants.{NoMemory};
+
+use crate::fault::FaultKind;
+use crate::kinds::{are_comparable, is_date, is_number, scale};
+use crate::refusal::{Refusal, first_of_all, first_of_branches, first_token};
+use crate::tree::{Results, Typed, boxed};
+use qw_ast::script::{Branches, Expr, Exprs, Sign};
+use qw_meaning::expression as meaning;
+use qw_meaning::expression::{Field, Operator};
+use qw_meaning::query::Comparison;
+use qw_types::Kind;
+use std::alloc::Global;
+
+/// The most digits behind the point of a result.
+const MAX_SCALE: u16 = 18;
+
+/// An operand behind a sign.
+pub(crate) fn signed<'a>(
+    alloc: Global,
+    sign: Sign,
+    operand: Typed,
+    at: &Expr<'a>,
+) -> Result<Typed, Refusal<'a>>
+    requires told { IsTold operand }
+    ensures { Gives result (sign_outcome (first_token (syntax.expression_of at.now)) sign (expression_of operand.tree)) }
+{
+    if !is_number(operand.kind) {
+        return Err(Refusal::Fault(FaultKind::Clash, first_token(at)));
+    }
+    match sign {
+        Sign::Plus => Ok(operand),
+        Sign::Minus => Ok(Typed {
+            kind: Some(Kind::Number(scale(operand.kind))),
+            tree: meaning::Expr::Negative(boxed(alloc, operand.tree)?),
+        }),
+    }
+}
+
+/// Two operands of an arithmetic operator.
+pub(crate) fn arithmetic<'a>(
+    alloc: Global,
+    operator: Operator,
+    left: Typed,
+    right: Typed,
+    at: &Expr<'a>,
+) -> Result<Typed, Refusal<'a>>
+    requires left { IsTold left }
+    requires right { IsTold right }
+    ensures { Gives result (arithmetic_outcome (first_token (syntax.expression_of at.now)) operator (expression_of left.tree) (expression_of right.tree)) }
+{
+    if !is_number(left.kind) || !is_number(right.kind) {
+        return Err(Refusal::Fault(FaultKind::Clash, first_token(at)));
+    }
+    let Some(scale) = scale_after(operator, scale(left.kind), scale(right.kind)) else {
+        return Err(Refusal::Fault(FaultKind::ScaleTooLarge, first_token(at)));
+    };
+    Ok(Typed {
+        kind: Some(Kind::Number(scale)),
+        tree: meaning::Expr::Arithmetic(
+            operator,
+            boxed(alloc, left.tree)?,
+            boxed(alloc, right.tree)?,
+        ),
+    })
+}
+
+/// The scale of what an operator gives, if it isn't too large.
+fn scale_after(operator: Operator, left: u8, right: u8) -> Option<u8>
+    ensures { result ≡ Rattle.qw_typer.specs.Inner.Typing.allowed_scale operator left right }
+{
+    match operator {
+        Operator::Add | Operator::Subtract => Some(left.max(right)),
+        Operator::Multiply if u16::from(left) + u16::from(right) <= MAX_SCALE => Some(left + right),
+        Operator::Divide if u16::from(left) + u16::from(right) <= MAX_SCALE => Some(left),
+        Operator::Multiply | Operator::Divide => None,
+    }
+}
+
+/// A field of an operand.
+pub(crate) fn extracted<'a>(
+    alloc: Global,
+    field: Field,
+    operand: Typed,
+    at: &Expr<'a>,
+) -> Result<Typed, Refusal<'a>>
+    requires told { IsTold operand }
+    ensures { Gives result (field_outcome (first_token (syntax.expression_of at.now)) field (expression_of operand.tree)) }
+{
+    if !is_date(operand.kind) {
+        return Err(Refusal::Fault(FaultKind::Clash, first_token(at)));
+    }
+    Ok(Typed {
+        kind: Some(Kind::Number(0)),
+        tree: meaning::Expr::Extract(field, boxed(alloc, operand.tree)?),
+    })
+}
+
+/// A CASE without an operand.
+pub(crate) fn searched_case<'a>(
+    alloc: Global,
+    results: Results<meaning::Branches>,
+    at: &Branches<'a>,
+) -> Result<Typed, Refusal<'a>>
+    requires told { AreTold results.kind results.agree (choices_of results.tree) }
+    ensures { Gives result (case_outcome (first_of_branches (syntax.branching_of at.now)) (choices_of results.tree)) }
+{
+    if !results.agree || results.kind.is_none() {
+        return Err(Refusal::Fault(FaultKind::Clash, first_of_branches(at)));
+    }
+    Ok(Typed {
+        kind: results.kind,
+        tree: meaning::Expr::Case(boxed(alloc, results.tree)?),
+    })
+}
+
+/// A CASE with an operand.
+pub(crate) fn simple_case<'a>(
+    alloc: Global,
+    operand: Typed,
+    results: Results<meaning::Matches>,
+    at: &Expr<'a>,
+) -> Result<Typed, Refusal<'a>>
+    requires told { AreTold results.kind results.agree (matches_of results.tree (expression_of operand.tree)) }
+    ensures { Gives result (case_outcome (first_token (syntax.expression_of at.now)) (matches_of results.tree (expression_of operand.tree))) }
+{
+    if !results.agree || results.kind.is_none() {
+        return Err(Refusal::Fault(FaultKind::Clash, first_token(at)));
+    }
+    Ok(Typed {
+        kind: results.kind,
+        tree: meaning::Expr::Match(boxed(alloc, operand.tree)?, boxed(alloc, results.tree)?),
+    })
+}
+
+/// The arguments of COALESCE.
+pub(crate) fn coalesced<'a>(
+    alloc: Global,
+    results: Results<meaning::Exprs>,
+    at: &Exprs<'a>,
+) -> Result<Typed, Refusal<'a>>
+    requires told { AreTold results.kind results.agree (coalesced (expressions_of results.tree)) }
+    ensures { Gives result (case_outcome (first_of_all (syntax.expressions_of at.now)) (coalesced (expressions_of results.tree))) }
+{
+    if !results.agree || results.kind.is_none() {
+        return Err(Refusal::Fault(FaultKind::Clash, first_of_all(at)));
+    }
+    Ok(Typed {
+        kind: results.kind,
+        tree: meaning::Expr::Coalesce(boxed(alloc, results.tree)?),
+    })
+}
+
+/// The arguments of NULLIF.
+pub(crate) fn null_if<'a>(
+    alloc: Global,
+    left: Typed,
+    right: Typed,
+    at: &Expr<'a>,
+) -> Result<Typed, Refusal<'a>>
+    requires left { IsTold left }
+    requires right { IsTold right }
+    ensures { Gives result (null_if_outcome (first_token (syntax.expression_of at.now)) (expression_of left.tree) (expression_of right.tree)) }
+{
+    if !are_comparable(left.kind, right.kind) {
+        return Err(Refusal::Fault(FaultKind::Clash, first_token(at)));
+    }
+    Ok(Typed {
+        kind: left.kind,
+        tree: meaning::Expr::NullIf(boxed(alloc, left.tree)?, boxed(alloc, right.tree)?),
+    })
+}
+
+/// Two operands of a comparison.
+pub(crate) fn compared<'a>(
+    alloc: Global,
+    comparison: Comparison,
+    left: Typed,
+    right: Typed,
+    at: &Expr<'a>,
+) -> Result<meaning::Cond, Refusal<'a>>
+    requires left { IsTold left }
+    requires right { IsTold right }
+    ensures { GivesCondition result (comparison_outcome (first_token (syntax.expression_of at.now)) comparison (expression_of left.tree) (expression_of right.tree)) }
+{
+    if !are_comparable(left.kind, right.kind) {
+        return Err(Refusal::Fault(FaultKind::Clash, first_token(at)));
+    }
+    Ok(meaning::Cond::Compare(
+        comparison,
+        boxed(alloc, left.tree)?,
+        boxed(alloc, right.tree)?,
+    ))
+}
+
+/// The operands of BETWEEN.
+pub(crate) fn between<'a>(
+    alloc: Global,
+    negated: bool,
+    operand: Typed,
+    least: Typed,
+    greatest: Typed,
+    at: &Expr<'a>,
+) -> Result<meaning::Cond, Refusal<'a>>
+    requires operand { IsTold operand }
+    requires least { IsTold least }
+    requires greatest { IsTold greatest }
+    ensures { GivesCondition result (between_outcome (first_token (syntax.expression_of at.now)) negated (expression_of operand.tree) (expression_of least.tree) (expression_of greatest.tree)) }
+{
+    if !are_comparable(operand.kind, least.kind) || !are_comparable(operand.kind, greatest.kind) {
+        return Err(Refusal::Fault(FaultKind::Clash, first_token(at)));
+    }
+    let operand = boxed(alloc, operand.tree)?;
+    let least = boxed(alloc, least.tree)?;
+    let greatest = boxed(alloc, greatest.tree)?;
+    with_not(
+        alloc,
+        negated,
+        meaning::Cond::Between(operand, least, greatest),
+    )
+}
+
+/// The operands of IN, where it is known whether the values compare with the first.
+pub(crate) fn among<'a>(
+    alloc: Global,
+    negated: bool,
+    operand: Typed,
+    values: meaning::Exprs,
+    comparable: bool,
+    at: &Expr<'a>,
+) -> Result<meaning::Cond, Refusal<'a>>
+    requires comparable { comparable ≡ all_comparable (expression_of operand.tree) (expressions_of values) }
+    ensures { GivesCondition result (among_outcome (first_token (syntax.expression_of at.now)) negated (expression_of operand.tree) (expressions_of values)) }
+{
+    if !comparable {
+        return Err(Refusal::Fault(FaultKind::Clash, first_token(at)));
+    }
+    let operand = boxed(alloc, operand.tree)?;
+    let values = boxed(alloc, values)?;
+    with_not(alloc, negated, meaning::Cond::In(operand, values))
+}
+
+/// A predicate, or its negation where NOT stands in it.
+pub(crate) fn with_not<'a>(
+    alloc: Global,
+    negated: bool,
+    cond: meaning::Cond,
+) -> Result<meaning::Cond, Refusal<'a>>
+    ensures { MatchResult result (λ made. condition_of made ≡ with_not negated (condition_of cond)) (λ refusal. refusal ≡ NoMemory) }
+{
+    if negated {
+        Ok(meaning::Cond::Not(boxed(alloc, cond)?))
+    } else {
+        Ok(cond)
+    }
+}

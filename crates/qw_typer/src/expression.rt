@@ -1,0 +1,248 @@
+//! Typed expressions and conditions (ISO/IEC 9075:1992, 6.9 to 6.12, 8.2 to 8.6, 8.12): operands from left to right, and the first
+//! fault that is met.
+
+ghost use Rattle.std.specs.Prelude.{◌≡◌, MatchResult, Ok};
+ghost use Rattle.qw_ast.specs.SyntaxTree as syntax;
+ghost use Rattle.qw_meaning.specs.Expression.{coalesced};
+ghost use Rattle.qw_meaning.specs.Tree.{condition_of, expression_of};
+ghost use Rattle.qw_typer.specs.Inner.Typing.{Gives, GivesArguments, GivesChoices, GivesCondition, GivesMatches, GivesValues, IsTold, entry, spelled, typed, typed_all, typed_choices, typed_branches, typed_condition};
+
+use crate::branch::{
+    argument, arguments_more, last_match, match_more, otherwise, value, values_more, when,
+};
+use crate::construct::{
+    among, arithmetic, between, coalesced, compared, extracted, null_if, searched_case, signed,
+    simple_case, with_not,
+};
+use crate::fault::FaultKind;
+use crate::kinds::are_comparable;
+use crate::leaf::{column, date, number, text};
+use crate::refusal::{Refusal, Token, first_token};
+use crate::scope::Scope;
+use crate::tree::{Results, Typed, Values, boxed};
+use qw_ast::script::{Branches, Cond, Expr, Exprs, Phrase};
+use qw_meaning::expression as meaning;
+use std::alloc::Global;
+
+/// An expression.
+#[cycle(expression)]
+#[tactic(auto, using(crate::proofs::OutcomeLemmas::gives_after, crate::proofs::OutcomeLemmas::refuses_after, crate::proofs::OutcomeLemmas::refuses_then, crate::proofs::OutcomeLemmas::refuses_memory, crate::proofs::OutcomeLemmas::refuses_fault))]
+pub(crate) fn expression<'a>(
+    alloc: Global,
+    scope: &Scope<'_>,
+    expr: &Expr<'a>,
+) -> Result<Typed, Refusal<'a>>
+    ensures { Gives result (typed (entry scope.now) (syntax.expression_of expr.now)) }
+{
+    match expr {
+        Expr::Null => Ok(Typed {
+            kind: None,
+            tree: meaning::Expr::Null,
+        }),
+        Expr::Number(octets) => number(alloc, octets),
+        Expr::Text(octets) => text(alloc, octets),
+        Expr::Date(string, intervals) => date(alloc, string, intervals.as_slice()),
+        Expr::Column(qualifier, name) => column(alloc, scope, *qualifier, name),
+        Expr::Signed(sign, operand) => {
+            let x = expression(alloc, scope, operand)?;
+            signed(alloc, *sign, x, operand)
+        }
+        Expr::Arithmetic(operator, left, right) => {
+            let x = expression(alloc, scope, left)?;
+            let y = expression(alloc, scope, right)?;
+            arithmetic(alloc, *operator, x, y, left)
+        }
+        Expr::Extract(field, operand) => {
+            let x = expression(alloc, scope, operand)?;
+            extracted(alloc, *field, x, operand)
+        }
+        Expr::Case(branches) => {
+            let results = choices(alloc, scope, branches)?;
+            searched_case(alloc, results, branches)
+        }
+        Expr::Match(operand, branches) => {
+            let x = expression(alloc, scope, operand)?;
+            let results = matches(alloc, scope, &x, first_token(operand), branches)?;
+            simple_case(alloc, x, results, operand)
+        }
+        Expr::Coalesce(list) => {
+            let results = arguments(alloc, scope, list)?;
+            coalesced(alloc, results, list)
+        }
+        Expr::NullIf(left, right) => {
+            let x = expression(alloc, scope, left)?;
+            let y = expression(alloc, scope, right)?;
+            null_if(alloc, x, y, left)
+        }
+    }
+}
+
+/// A condition.
+#[cycle(expression)]
+#[tactic(auto, using(crate::proofs::OutcomeLemmas::gives_condition_after, crate::proofs::OutcomeLemmas::refuses_after, crate::proofs::OutcomeLemmas::refuses_then, crate::proofs::OutcomeLemmas::refuses_memory, crate::proofs::OutcomeLemmas::refuses_fault))]
+pub(crate) fn condition<'a>(
+    alloc: Global,
+    scope: &Scope<'_>,
+    cond: &Cond<'a>,
+) -> Result<meaning::Cond, Refusal<'a>>
+    ensures { GivesCondition result (typed_condition (entry scope.now) (syntax.condition_of cond.now)) }
+{
+    match cond {
+        Cond::Compare(comparison, left, right) => {
+            let x = expression(alloc, scope, left)?;
+            let y = expression(alloc, scope, right)?;
+            compared(alloc, *comparison, x, y, left)
+        }
+        Cond::Between(negated, operand, least, greatest) => {
+            let x = expression(alloc, scope, operand)?;
+            let low = expression(alloc, scope, least)?;
+            let high = expression(alloc, scope, greatest)?;
+            between(alloc, *negated, x, low, high, operand)
+        }
+        Cond::In(negated, operand, list) => {
+            let x = expression(alloc, scope, operand)?;
+            let found = values(alloc, scope, &x, list)?;
+            among(alloc, *negated, x, found.tree, found.comparable, operand)
+        }
+        Cond::IsNull(negated, operand) => {
+            let x = expression(alloc, scope, operand)?;
+            let tested = meaning::Cond::IsNull(boxed(alloc, x.tree)?);
+            with_not(alloc, *negated, tested)
+        }
+        Cond::And(left, right) => {
+            let x = condition(alloc, scope, left)?;
+            let y = condition(alloc, scope, right)?;
+            Ok(meaning::Cond::And(boxed(alloc, x)?, boxed(alloc, y)?))
+        }
+        Cond::Or(left, right) => {
+            let x = condition(alloc, scope, left)?;
+            let y = condition(alloc, scope, right)?;
+            Ok(meaning::Cond::Or(boxed(alloc, x)?, boxed(alloc, y)?))
+        }
+        Cond::Not(operand) => {
+            let x = condition(alloc, scope, operand)?;
+            Ok(meaning::Cond::Not(boxed(alloc, x)?))
+        }
+        Cond::Is(negated, operand, truth) => {
+            let x = condition(alloc, scope, operand)?;
+            let tested = meaning::Cond::Is(boxed(alloc, x)?, *truth);
+            with_not(alloc, *negated, tested)
+        }
+        Cond::Bracketed(operand) => condition(alloc, scope, operand),
+    }
+}
+
+/// The arguments of COALESCE.
+#[cycle(expression)]
+#[tactic(auto, using(crate::proofs::OutcomeLemmas::refuses_after, crate::proofs::OutcomeLemmas::refuses_then, crate::proofs::OutcomeLemmas::refuses_memory, crate::proofs::OutcomeLemmas::refuses_fault))]
+fn arguments<'a>(
+    alloc: Global,
+    scope: &Scope<'_>,
+    exprs: &Exprs<'a>,
+) -> Result<Results<meaning::Exprs>, Refusal<'a>>
+    ensures { GivesArguments result (typed_all (entry scope.now) (syntax.expressions_of exprs.now)) }
+{
+    match exprs {
+        Exprs::Last(expr) => {
+            let x = expression(alloc, scope, expr)?;
+            argument(alloc, x)
+        }
+        Exprs::More(expr, rest) => {
+            let x = expression(alloc, scope, expr)?;
+            let others = arguments(alloc, scope, rest)?;
+            arguments_more(alloc, x, others)
+        }
+    }
+}
+
+/// The values of IN, and whether they compare with the operand.
+#[cycle(expression)]
+#[tactic(auto, using(crate::proofs::OutcomeLemmas::refuses_after, crate::proofs::OutcomeLemmas::refuses_then, crate::proofs::OutcomeLemmas::refuses_memory, crate::proofs::OutcomeLemmas::refuses_fault))]
+fn values<'a>(
+    alloc: Global,
+    scope: &Scope<'_>,
+    operand: &Typed,
+    exprs: &Exprs<'a>,
+) -> Result<Values, Refusal<'a>>
+    requires { IsTold operand.now }
+    ensures { GivesValues (expression_of operand.now.tree) result (typed_all (entry scope.now) (syntax.expressions_of exprs.now)) }
+{
+    match exprs {
+        Exprs::Last(expr) => {
+            let x = expression(alloc, scope, expr)?;
+            value(alloc, operand, x)
+        }
+        Exprs::More(expr, rest) => {
+            let x = expression(alloc, scope, expr)?;
+            let others = values(alloc, scope, operand, rest)?;
+            values_more(alloc, operand, x, others)
+        }
+    }
+}
+
+/// The branches of a CASE without an operand.
+#[cycle(expression)]
+#[tactic(auto, using(crate::proofs::OutcomeLemmas::refuses_after, crate::proofs::OutcomeLemmas::refuses_then, crate::proofs::OutcomeLemmas::refuses_memory, crate::proofs::OutcomeLemmas::refuses_fault))]
+fn choices<'a>(
+    alloc: Global,
+    scope: &Scope<'_>,
+    branches: &Branches<'a>,
+) -> Result<Results<meaning::Branches>, Refusal<'a>>
+    ensures { GivesChoices result (typed_choices (entry scope.now) (syntax.branching_of branches.now)) }
+{
+    match branches {
+        Branches::Else(result) => {
+            let x = expression(alloc, scope, result)?;
+            otherwise(alloc, x)
+        }
+        Branches::When(phrase, result, rest) => match &**phrase {
+            Phrase::Expression(value) => {
+                Err(Refusal::Fault(FaultKind::Clash, first_token(value)))
+            }
+            Phrase::Condition(cond) => {
+                let test = condition(alloc, scope, cond)?;
+                let x = expression(alloc, scope, result)?;
+                let others = choices(alloc, scope, rest)?;
+                when(alloc, test, x, others)
+            }
+        },
+    }
+}
+
+/// The branches of a CASE with an operand, at least one with WHEN; a refusal names the operand's first token.
+#[cycle(expression)]
+#[tactic(auto, using(crate::proofs::OutcomeLemmas::refuses_after, crate::proofs::OutcomeLemmas::refuses_then, crate::proofs::OutcomeLemmas::refuses_memory, crate::proofs::OutcomeLemmas::refuses_fault))]
+fn matches<'a>(
+    alloc: Global,
+    scope: &Scope<'_>,
+    operand: &Typed,
+    token: Token<'a>,
+    branches: &Branches<'a>,
+) -> Result<Results<meaning::Matches>, Refusal<'a>>
+    requires { IsTold operand.now }
+    ensures { GivesMatches (expression_of operand.now.tree) result (typed_branches (entry scope.now) (spelled token.entry) (expression_of operand.now.tree) (syntax.branching_of branches.now)) }
+{
+    match branches {
+        Branches::Else(_) => Err(Refusal::Fault(FaultKind::Clash, token)),
+        Branches::When(phrase, result, rest) => match &**phrase {
+            Phrase::Condition(_) => Err(Refusal::Fault(FaultKind::Clash, token)),
+            Phrase::Expression(value) => {
+                let wanted = expression(alloc, scope, value)?;
+                if !are_comparable(operand.kind, wanted.kind) {
+                    return Err(Refusal::Fault(FaultKind::Clash, token));
+                }
+                let x = expression(alloc, scope, result)?;
+                match &**rest {
+                    Branches::Else(other) => {
+                        let y = expression(alloc, scope, other)?;
+                        last_match(alloc, wanted, x, y)
+                    }
+                    Branches::When(_, _, _) => {
+                        let others = matches(alloc, scope, operand, token, rest)?;
+                        match_more(alloc, operand, wanted, x, others)
+                    }
+                }
+            }
+        },
+    }
+}

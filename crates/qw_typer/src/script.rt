@@ -1,0 +1,72 @@
+//! The query specifications of a script (ISO/IEC 9075:1992, 7.9), or its first fault.
+
+ghost use Rattle.std.specs.Prelude.{◌≡◌, ◌⊎◌, ◌+◌, IfOk, IfErr, List, length};
+ghost use Rattle.std.specs.List.{AllByRecursion};
+ghost use Rattle.qw_ast.specs.SyntaxTree.{select_of, selects_of};
+ghost use Rattle.qw_typer.specs.Inner.Queries.{IsFaultOf};
+ghost use Rattle.qw_typer.specs.Inner.Typing.{spelled};
+ghost use Rattle.qw_typer.specs.Meanings.{AreMeant};
+ghost use Rattle.qw_typer.specs.Typed.{HasFirstFault, IsWithin, query_faults};
+ghost use Rattle.qw_typer.specs.declared.fault.TypeFault.TheVariants as type_fault;
+
+use crate::fault::TypeFault;
+use crate::name::{name_text, written_text};
+use crate::query::{TypedSelect, query};
+use crate::refusal::{Refusal, Token};
+use qw_ast::script::Script;
+use qw_types::{NoMemory, Schema, Text};
+use std::alloc::Global;
+
+/// The specifications of a script's queries over a schema's tables, in order, each with the names of its result columns.
+///
+/// # Errors
+///
+/// `Fault` where a query has a fault: the first such query, counted from 1, one of its faults, and a token of the construct at
+/// fault. `NoMemory` where memory is wanting.
+pub fn type_script(
+    alloc: Global,
+    schema: &Schema,
+    script: &Script<'_>,
+) -> Result<Vec<TypedSelect>, TypeFault>
+    requires sizes { AllByRecursion IsWithin (selects_of script.now) }
+    ensures meanings { IfOk result (λ made. AreMeant schema.now (selects_of script.now) made.items) }
+    ensures first_fault { IfErr result (λ fault. (fault ≡ type_fault.NoMemory) ⊎ HasFirstFault schema.now 1 (selects_of script.now) fault) }
+{
+    let mut made = Vec::new(alloc);
+    let mut rest = script.statements.as_slice();
+    while let [statement, behind @ ..] = rest {
+        match query(alloc, schema, statement) {
+            Ok(typed) => made.push(typed).map_err(|_| TypeFault::NoMemory)?,
+            Err(refusal) => return Err(fault_of(alloc, made.len() + 1, refusal)),
+        }
+        rest = behind;
+    }
+    Ok(made)
+}
+
+/// The fault of a query with this number, counted from 1, which is refused.
+fn fault_of(alloc: Global, statement: usize, refusal: Refusal<'_>) -> TypeFault
+    ensures { IsFaultOf statement refusal.entry result }
+{
+    match refusal {
+        Refusal::NoMemory => TypeFault::NoMemory,
+        Refusal::Fault(kind, token) => match token_text(alloc, token) {
+            Ok(name) => TypeFault::Fault {
+                statement,
+                kind,
+                name,
+            },
+            Err(_) => TypeFault::NoMemory,
+        },
+    }
+}
+
+/// A token as a fault names it.
+fn token_text(alloc: Global, token: Token<'_>) -> Result<Text, NoMemory>
+    ensures { IfOk result (λ text. text ≡ spelled token.entry) }
+{
+    match token {
+        Token::Name(octets) => name_text(alloc, octets),
+        Token::Literal(octets) => written_text(alloc, octets),
+    }
+}
