@@ -1,5 +1,5 @@
 -- A scan of one table: its rows one after another, and the result at the end.
-use Rattle.std.proofs.Common.{◌≡◌, ℕ, suc, ◌+◌, ◌-◌, ◌*◌, ◌/◌, ◌%◌, ◌^◌, ◌<◌, ◌≤◌, ◌⊎◌, inl, inr, Bool, true, false, if◌then◌else◌, List, [], ◌∷◌, ◌++◌, length, Some, None, Result, Ok, Err, slice_get, slice_set, length-set, length-append, refl, sym, ap, ap₂, ◌∙◌, subst, arith}
+use Rattle.std.proofs.Common.{◌≡◌, ℕ, zero, suc, ◌+◌, ◌-◌, ◌*◌, ◌/◌, ◌%◌, ◌^◌, ◌<◌, ◌≤◌, ◌⊎◌, inl, inr, Bool, true, false, if◌then◌else◌, List, [], ◌∷◌, ◌++◌, length, Some, None, Result, Ok, Err, slice_get, slice_set, length-set, length-append, refl, sym, ap, ap₂, ◌∙◌, subst, arith}
 use Rattle.std.proofs.lemmas.Bool.{ne_eqb, eq-eqb}
 use Rattle.std.proofs.Math.Nat.{mul_comm}
 use Rattle.std.proofs.lemmas.Nat.{mul-le}
@@ -83,6 +83,12 @@ module _ (n base : ℕ) where
     head = h.head;
   }
 
+-- an octet where texts of the result may lie: in a column, or in the first page below `base`, behind the words of the result
+abbrev pub IsShown : (base : ℕ) → LowState → Part → (at octet : ℕ) → Type 0
+IsShown base s (Column k) at octet = s.cells (Column k) at 1 ≡ Some (Number octet)
+IsShown base s (Own zero) at octet = (24 ≤ at) × (at + 1 ≤ base) × (s.cells (Own 0) at 1 ≡ Some (Number octet))
+IsShown base s (Own (suc k)) at octet = ⊥
+
 -- the row that comes of a row's truths and values
 abbrev pub made_of : List (Result Truth Code) → List (Result Val Code) → Result (List (List Val)) Code
 made_of truths values = all_true truths >>= (λ p. if p then (all_values values >>= (λ vs. Ok (vs ∷ []))) else Ok [])
@@ -131,8 +137,9 @@ module _ (plan : Plan) (Text : Part → ℕ → List ℕ → Type 0) (rows : Lis
     pub uses : AllUse (λ i. 5 ≤ i) sources
     pub few : length rows ≤ 1000000
     pub pages : most ≡ 2 + total * width / (page - width)
+    pub texts_lie : (p : Part) (off : ℕ) (octets : List ℕ) → Text p off octets → (i octet : ℕ) → slice_get octets i ≡ Some octet → IsShown plan.base s0 p (off + i) octet
     pub held_kept : (r : List Val) (s t : LowState) → Kept plan.next s t → Held r s → Held r t
-    pub reads_end : (i : ℕ) (r : List Val) (s : LowState) → slice_get rows i ≡ Some r → Since plan.known plan.base s0 s → plan.many ≤ length s.locals → slice_get s.locals 5 ≡ Some (Number (4 * i)) →
+    pub reads_end : (i : ℕ) (r : List Val) (s : LowState) → slice_get rows i ≡ Some r → Since plan.known plan.base s0 s → plan.many ≤ length s.locals → slice_get s.locals 5 ≡ Some (Number (4 * i)) → slice_get s.own 0 ≡ Some page →
         Ends (size plan.reads) (λ t. Kept plan.known s t × Held r t) Never (λ code. ⊥) (meaning most fuel plan.reads s)
     pub tests_are : (i : ℕ) (r : List Val) → slice_get rows i ≡ Some r → (some : 1 ≤ 1 + units r) → AreTests most fuel (1 + units r) plan.next plan.many some (Held r) (held_kept r) plan.tests (truths r)
     pub items_are : (i : ℕ) (r : List Val) → slice_get rows i ≡ Some r → (some : 1 ≤ 1 + units r) → AreItems most fuel (1 + units r) plan.next plan.many some (Held r) (held_kept r) Text plan.next plan.items (values r)
@@ -311,7 +318,7 @@ module _ (plan : Plan) (Text : Part → ℕ → List ℕ → Type 0) (rows : Lis
           Ends-more Post Never R (size plan.reads + (size row * N + 4)) (size body * N) (meaning most fuel body s) (omega (arith, whole, parts_are, at_least (size plan.reads) N some, at_least 4 N some))
           (Ends-then Post Never R (size plan.reads) (size row * N + 4) (λ t. Kept plan.known s t × Held r t) (meaning most fuel plan.reads s) (meaning most fuel (seq row next_row))
           (Ends-weaker (size plan.reads) (size plan.reads) (λ t. Kept plan.known s t × Held r t) (λ t. Kept plan.known s t × Held r t) Never Never (λ code. ⊥) R (meaning most fuel plan.reads s) (omega arith) (λ x y. y) (λ x y. y) (λ code never. absurd never)
-          (p.reads_end i r s there ready.since ready.many ready.offset))
+          (p.reads_end i r s there ready.since ready.many ready.offset (ready.has.pages 0 (omega arith))))
           (λ t after. Ends-then Post Never R (size row * N) 4 Mid (meaning most fuel row t) (meaning most fuel next_row)
           (tests_end most fuel N plan.next plan.many some (Held r) (p.held_kept r) Mid R rest t plan.tests (truths r) t (p.tests_are i r there some) (Kept-same plan.next t) after.1 (omega (arith, after.0.many, ready.many))
           (record {

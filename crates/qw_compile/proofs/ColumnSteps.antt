@@ -1,5 +1,5 @@
 -- One more column, one more binding and one more kind.
-use Rattle.std.proofs.Common.{◌≡◌, ℕ, zero, suc, ◌+◌, ◌<◌, ◌≤◌, Option, Some, List, [], ◌∷◌, ◌++◌, length, map, take, drop, get_or, refl, sym, ap, ap₂, ◌∙◌, append_assoc, arith}
+use Rattle.std.proofs.Common.{◌≡◌, ℕ, zero, suc, ◌+◌, ◌<◌, Option, Some, List, [], ◌∷◌, ◌++◌, length, map, take, drop, get_or, refl, sym, ap, ap₂, ◌∙◌, append_assoc, arith}
 use Rattle.std.proofs.lemmas.List.{take_more, map_more}
 use Rattle.qw_types.specs.declared.kind.Kind.{Kind}
 use Rattle.qw_module.specs.declared.instruction.ValType.{ValType}
@@ -30,17 +30,18 @@ next_base used i locals new old rest less added before =
     ∙ (append_assoc locals (I32 ∷ I32 ∷ I32 ∷ []) (base_types (drop (suc i) used) rest)
     ∙ (ap (λ (l : List ValType). locals ++ l) (sym (one_base used i rest less)) ∙ before)))
 
-known_end : (bs : List Binding) (b : Binding) → bindings.known_of (bs ++ b ∷ []) ≡ bindings.known_of bs ++ record { expression = bindings.named b.leaf; operand = b.operand } ∷ []
+pub known_end : (bs : List Binding) (b : Binding) → bindings.known_of (bs ++ b ∷ []) ≡ bindings.known_of bs ++ record { expression = bindings.named b.leaf; operand = b.operand } ∷ []
 known_end [] b = refl
 known_end (c ∷ bs) b = ap (λ (ks : List Known). record { expression = bindings.named c.leaf; operand = c.operand } ∷ ks) (known_end bs b)
 
-pub next_binding : (rs : List Reader) (i : ℕ) (r : Reader) (o : Operand) (made new : List Binding) → i < length rs → o ≡ operand_of (get_or rs i r) → bindings.known_of made ≡ map known_of (take i rs) →
-    new ≡ made ++ record { leaf = leaf.Column (get_or rs i r).column (get_or rs i r).ty; operand = o } ∷ [] → bindings.known_of new ≡ map known_of (take (i + 1) rs)
-next_binding rs i r o made new less same before added =
+pub next_binding : (rs : List Reader) (i : ℕ) (r : Reader) (o : Operand) (made new : List Binding) (old : List Known) → i < length rs → o ≡ operand_of (get_or rs i r) → bindings.known_of made ≡ old ++ map known_of (take i rs) →
+    new ≡ made ++ record { leaf = leaf.Column (get_or rs i r).column (get_or rs i r).ty; operand = o } ∷ [] → bindings.known_of new ≡ old ++ map known_of (take (i + 1) rs)
+next_binding rs i r o made new old less same before added =
     ap bindings.known_of added
     ∙ (known_end made (record { leaf = leaf.Column (get_or rs i r).column (get_or rs i r).ty; operand = o })
     ∙ (ap₂ (λ (ks : List Known) (p : Operand). ks ++ record { expression = bindings.named (leaf.Column (get_or rs i r).column (get_or rs i r).ty); operand = p } ∷ []) before same
-    ∙ sym (map_more known_of rs i r less)))
+    ∙ (append_assoc old (map known_of (take i rs)) (known_of (get_or rs i r) ∷ [])
+    ∙ ap (λ (ks : List Known). old ++ ks) (sym (map_more known_of rs i r less)))))
 
 kinds_end : (ss : List Source) (s : Source) → kinds_of (ss ++ s ∷ []) ≡ kinds_of ss ++ s.kind ∷ []
 kinds_end [] s = refl

@@ -1,10 +1,12 @@
--- The scan of a specification without texts: its plan, and what is promised of the plan's blocks.
-use Rattle.std.proofs.Common.{◌≡◌, ℕ, zero, suc, ◌+◌, ◌*◌, ◌^◌, ◌<◌, ◌≤◌, inl, inr, Option, Some, None, List, [], ◌∷◌, ◌++◌, length, map, replicate, slice_get, slice_index_or, Contains, refl, sym, ap, ap₂, ◌∙◌, subst, arith}
-use Rattle.std.specs.List.{AllByRecursion}
+-- The scan of a specification: its plan, and what is promised of the plan's blocks.
+use Rattle.std.proofs.Common.{◌≡◌, ℕ, zero, suc, ◌+◌, ◌*◌, ◌^◌, ◌≤◌, nat_le, ◌&&◌, if◌then◌else◌, Bool, true, false, inl, inr, IsUtf8, Ok, sum_by, Option, Some, None, List, [], ◌∷◌, ◌++◌, length, map, replicate, slice_get, Contains, refl, sym, ap, ap₂, ◌∙◌, subst, arith}
+use Rattle.std.specs.List.{AllByRecursion, concat}
+use Rattle.std.proofs.lemmas.Bool.{and_from, and_parts, le-leb, leb-true}
 use Rattle.std.proofs.lemmas.List.{append-nil, length-map, length-replicate}
+use Rattle.std.proofs.lemmas.List.Sums.{sum_by-cons}
 use Rattle.std.proofs.lemmas.Option.{same_Some, get_or_from_slice_get, slice_get_within}
 use Rattle.qw_types.specs.Kind.{IsOfKind, type_kind}
-use Rattle.qw_types.specs.Value.{IsSized, IsOfTypeOrNull}
+use Rattle.qw_types.specs.Value.{IsSized}
 use Rattle.qw_types.proofs.KindLemmas.{stored_of_kind}
 use Rattle.qw_types.specs.declared.kind.Kind.{Kind}
 use Rattle.qw_types.specs.declared.value.Ty.{Ty}
@@ -15,47 +17,59 @@ use Rattle.qw_module.specs.declared.instruction.ValType.{ValType}
 use Rattle.qw_module.specs.declared.instruction.ValType.TheVariants.{I32, I64}
 use Rattle.qw_module.specs.Execution.{Returned}
 use Rattle.qw_meaning.specs.Columns.{HasColumns, HaveColumns, HoldsIn}
-use Rattle.qw_meaning.specs.Evaluation.{cell_of}
+use Rattle.qw_meaning.specs.Evaluation.{cell_of, value_of}
 use Rattle.qw_meaning.specs.Expression.{Condition, Expression}
-use Rattle.qw_meaning.specs.Flow.{flow, rows_of}
-use Rattle.qw_meaning.specs.Select.{Entry, IsConditionOver, IsItemOver, IsSpecification, Parts, row_types, specification_of}
-use Rattle.qw_meaning.specs.Typing.{AreTyped, HasKind, IsTyped, kind_of}
+use Rattle.qw_meaning.specs.Flow.{product, rows_of}
+use Rattle.qw_meaning.specs.Select.{Parts, specification_of}
+use Rattle.qw_meaning.specs.Typing.{HasKind, IsTyped, kind_of}
+use Rattle.qw_meaning.specs.Units as text
+use Rattle.qw_meaning.specs.Units.{units_of}
 use Rattle.qw_meaning.proofs.SelectLemmas.{columns_more, conditions_more}
-use Rattle.qw_map.specs.Areas.{Area}
+use Rattle.qw_map.specs.Areas.{World}
 use Rattle.qw_map.specs.Columns.{column_values}
-use Rattle.qw_map.specs.Layout.{Layout, HasColumn, IsReady, IsReadyColumn, column_areas, descriptor_size, first_world}
-use Rattle.qw_map.specs.Runs.{Moment}
+use Rattle.qw_map.specs.Layout.{Layout, HasColumn, IsReady, IsReadyColumn, descriptor_size, entry_offset, first_world, text_areas, text_cell}
 use Rattle.qw_map.specs.declared.layout.Placed.{Placed}
 use Rattle.qw_map.specs.declared.layout.Used.{Used}
+use Rattle.qw_map.proofs.AreaLemmas.{all-append}
 use Rattle.qw_map.proofs.TurnFacts.{found-in}
-use Rattle.qw_low.specs.Syntax.{Statement}
-use Rattle.qw_low.specs.State.{Own, Column, Value, Number, Address, Cells, LowState}
+use Rattle.qw_low.specs.Syntax.{Statement, seq}
+use Rattle.qw_low.specs.State.{Part, Own, Column, Value, Number, Address, Cells, LowState}
+use Rattle.qw_low.specs.Places.{Means, StandsFor}
 use Rattle.qw_low.specs.Begin.{first_state, cells_of, KnowsEntry}
 use Rattle.qw_low.specs.Promise.{Ends}
 use Rattle.qw_low.specs.Raising.{Kept}
 use Rattle.qw_low.specs.Size.{size}
 use Rattle.qw_low.specs.Meaning.{meaning}
 use Rattle.qw_low.proofs.BeginLemmas.{entries-known}
+use Rattle.qw_low.proofs.LessKnown.{IsLess, seen, seen_ends}
+use Rattle.qw_low.proofs.Promises.{Ends-then, Ends-weaker}
+use Rattle.qw_low.proofs.Results.{Kept-then}
+use Rattle.qw_expr.specs.Cells.{DeclaresValue, Holds}
 use Rattle.qw_expr.specs.Computes.{Known, AreHeld, AreDeclared}
 use Rattle.qw_expr.proofs.Nulls.{known_kept}
-use Rattle.qw_rows.specs.declared.reader.Reader.{Reader}
-use Rattle.qw_rows.specs.Reading.{known_of, operand_of, StandsAt, HasBases, BeginsAll, ReadsAll}
+use Rattle.qw_rows.specs.Reading.{known_of, StandsAt, HasBases, BeginsAll, ReadsAll}
+use Rattle.qw_rows.specs.Texts.{HasPlace, LeadsToAll, AreTextsIn, LieThere, known_texts}
+use Rattle.qw_rows.specs.declared.literal.Literal.{Literal}
 use Rattle.qw_rows.proofs.Several.{known_declared}
+use Rattle.qw_rows.proofs.TextPlaces.{lie_there_kept, lie_there_within, places_same, ready_texts, texts_declared, texts_held}
 use Rattle.qw_rows.proofs.ReadyColumns.{ready_stands_at}
 use Rattle.qw_rows.proofs.Elsewhere.{stands_same}
-use Rattle.qw_emit.specs.Compiled.{GoesWith, IsUsedOf, page_bound, units}
+use Rattle.qw_emit.specs.Compiled.{IsUsedOf, compared_at, page_bound}
 use Rattle.qw_code.specs.RowCells.{Test, Item, begin_block, kinds_of, outs_of, row_block, scan_block}
-use Rattle.qw_code.proofs.RowRuns.{AllUse}
+use Rattle.qw_code.proofs.PushRuns.{Never}
+use Rattle.qw_code.proofs.RunWorlds.{Keeps}
 use Rattle.qw_code.proofs.ScanAnswers.{pages-are, truths_of, values_in}
 use Rattle.qw_code.proofs.ScanCompiled.{Run, Sound, Planned}
 use Rattle.qw_code.proofs.ScanLoop.{spend}
-use Rattle.qw_code.proofs.ScanRuns.{Plan, Promises, Since}
+use Rattle.qw_code.proofs.ScanRuns.{Plan, Promises, Since, Finished, IsShown}
 use Rattle.qw_code.proofs.StartRuns.{Started}
 use Rattle.qw_compile.specs.Emitted.{AreDecided, AreComputed}
-use Rattle.qw_compile.specs.Readers.{IsRead, readers_from, readers_of, first_cell, first_own, base_types, cell_types}
-use Rattle.qw_compile.specs.Texts.{HasNoText, HaveNoText}
-use Rattle.qw_compile.proofs.Promised.{Nowhere, all_moved, kinds_moved, AreOwn, IsPlainTest, IsPlainItem, IsKindedItem, tests_promised, items_promised, all_use, items_high, items_kinds, headed, AreHigh, after_append}
-use Rattle.qw_compile.proofs.ReadersLaid.{served, bases_in, cells_in, entries_of, at_all, AtEach, Standing, are_there, behind_bases, behind_cells, cells_declared}
+use Rattle.qw_compile.specs.Readers.{IsRead, readers_from, readers_of, first_text, first_cell, first_own, base_types, text_types, cell_types}
+use Rattle.qw_compile.specs.Texts.{literals_from}
+use Rattle.qw_compile.proofs.Promised.{StandsIn, HeldIn, IsTestAt, IsItemAt, shown, all_moved, kinds_moved, AreOwn, tests_promised, items_promised, all_use, items_high, items_kinds, headed, AreHigh, after_append}
+use Rattle.qw_compile.proofs.ReadersLaid.{served, known_all, bases_in, cells_in, entries_of, at_all, AtEach, Standing, are_there, behind_bases, behind_texts, behind_cells, cells_declared, literals_declared, texts_from, texts_in_locals}
+use Rattle.qw_compile.proofs.TextCells.{text_read}
+use Rattle.qw_compile.proofs.TextLiterals.{HasTexts, HasUtf8, IsUtf8Value, stored_utf8}
 
 -- ---- lists
 pub one_of : {X : Type 0} (P : X → Type 0) (xs : List X) (k : ℕ) (x : X) → AllByRecursion P xs → slice_get xs k ≡ Some x → P x
@@ -78,9 +92,28 @@ all_both P Q (x ∷ xs) p q = ((p.0, q.0), all_both P Q xs p.1 q.1)
 itself : {X : Type 0} (x : X) → Contains (x ∷ []) x
 itself x = (0, omega arith, refl)
 
-spend-none : (rows : List (List Val)) → spend (λ row. 0) rows ≡ length rows
-spend-none [] = refl
-spend-none (row ∷ rows) = let rest = spend-none rows in omega (arith, rest)
+-- behind the words of the result, and below where free space begins
+inside_of : (base a b : ℕ) → (nat_le 24 a && nat_le (a + b) base) ≡ true → (24 ≤ a) × (a + b ≤ base)
+inside_of base a b tested = let tests = and_parts (nat_le 24 a) (nat_le (a + b) base) tested in (leb-true 24 a tests.0, leb-true (a + b) base tests.1)
+
+inside_from : (base a b : ℕ) → 24 ≤ a → a + b ≤ base → (nat_le 24 a && nat_le (a + b) base) ≡ true
+inside_from base a b low high = and_from (nat_le 24 a) (nat_le (a + b) base) (le-leb 24 a low) (le-leb (a + b) base high)
+
+-- the units of rows
+spend-sum : (f : List Val → ℕ) (rows : List (List Val)) → spend f rows ≡ length rows + sum_by f rows
+spend-sum f [] = refl
+spend-sum f (row ∷ rows) = let rest = spend-sum f rows in omega (arith, rest, sum_by-cons f row rows)
+
+product-one : (rows : List (List Val)) → product (rows ∷ []) ≡ rows
+product-one [] = refl
+product-one (row ∷ rows) = ap₂ (λ (r : List Val) (rest : List (List Val)). r ∷ rest) (append-nil row) (product-one rows)
+
+-- each one of those that are added up
+one-below : {X : Type 0} (f : X → ℕ) (xs : List X) → AllByRecursion (λ x. f x ≤ sum_by f xs) xs
+one-below f [] = tt
+one-below f (x ∷ xs) =
+    let all = sum_by-cons f x xs in
+    (omega (arith, all), all_more (λ y. f y ≤ sum_by f xs) (λ y. f y ≤ sum_by f (x ∷ xs)) xs (λ y le. omega (arith, all, le)) (one-below f xs))
 
 column_at : (rows : List (List Val)) (i c : ℕ) (row : List Val) (v : Val) → slice_get rows i ≡ Some row → slice_get row c ≡ Some v → slice_get (column_values rows c) i ≡ Some v
 column_at [] i c row v there held = absurd cc
@@ -100,18 +133,37 @@ row_has row (u ∷ used) all i t (inl same) =
     subst (λ (s : Ty). HoldsIn row i s) same.1 (subst (λ (j : ℕ). HoldsIn row j u.ty) same.0 here)
 row_has row (u ∷ used) all i t (inr read) = row_has row used all.1 i t read
 
+pub row_utf8 : (row : List Val) (used : List Used) → AllByRecursion (HasRead row) used → (i : ℕ) (t : Ty) → IsRead used i t → HasUtf8 row i t
+row_utf8 row [] all i t read = absurd read
+row_utf8 row (u ∷ used) all i t (inl same) =
+    let has = all.0.0 in
+    subst (λ (j : ℕ). HasUtf8 row j t) same.0 (subst (λ (o : Option Val). IsUtf8Value (cell_of o)) (sym has.1) (stored_utf8 u.ty u.not_null has.0 has.2))
+row_utf8 row (u ∷ used) all i t (inr read) = row_utf8 row used all.1 i t read
+
 -- a column of the table, of a size that its type may have
 abbrev pub IsColumnIn : Parts → Used → Type 0
 IsColumnIn parts u = (u.table ≡ parts.table) × (slice_get parts.types u.column ≡ Some u.ty) × IsSized u.ty
 
--- a conjunct and an item without texts, whose columns are read
+-- a conjunct whose columns are read, and an item whose columns are read and whose texts are UTF-8
 abbrev pub IsReadTest : List Used → Condition → Type 0
-IsReadTest used c = HaveNoText c × AreTyped c × HaveColumns (IsRead used) c
+IsReadTest used c = HaveColumns (IsRead used) c
 
 abbrev pub IsReadItem : List Used → Expression → Type 0
-IsReadItem used e = HasNoText e × IsTyped e × HasKind e × HasColumns (IsRead used) e
+IsReadItem used e = HasTexts IsUtf8 e × IsTyped e × HasKind e × HasColumns (IsRead used) e
 
-module _ (parts : Parts) (used : List Used) (kinds : List Kind) (tests : List Test) (items : List Item) (ownT ownI : List ValType) (begins reads : Statement) where
+-- the addresses of columns' parts are still there
+bases_same : (n b c k : ℕ) (used : List Used) (s t : LowState) → b + 3 * length used ≤ n → Kept n s t → AllByRecursion (λ q. HasBases q s) (readers_from b c k used) → AllByRecursion (λ q. HasBases q t) (readers_from b c k used)
+bases_same n b c k [] s t low kept has = tt
+bases_same n b c k (u ∷ used) s t low kept has = (
+  record {
+    values = kept.below b (omega (arith, low)) ∙ has.0.values;
+    octets = λ is. kept.below (b + 1) (omega (arith, low)) ∙ has.0.octets is;
+    nulls = λ is. kept.below (b + 2) (omega (arith, low)) ∙ has.0.nulls is;
+  },
+  bases_same n (b + 3) (c + 3) (k + 1) used s t (omega (arith, low)) kept has.1,
+)
+
+module _ (parts : Parts) (used : List Used) (texts : List (List ℕ)) (kinds : List Kind) (tests : List Test) (items : List Item) (ownT ownI : List ValType) (begins leads reads : Statement) where
   abbrev cs : List Condition
   cs = (specification_of parts).conjuncts
 
@@ -119,25 +171,34 @@ module _ (parts : Parts) (used : List Used) (kinds : List Kind) (tests : List Te
   es = (specification_of parts).items
 
   abbrev pub layout : Layout
-  layout = record { columns = used; literals = []; cells = kinds }
+  layout = record { columns = used; literals = concat texts; cells = kinds }
+
+  abbrev count : ℕ
+  count = length texts
+
+  abbrev start : ℕ
+  start = entry_offset (length used)
+
+  abbrev pub literals : List Literal
+  literals = literals_from (first_text used) start texts
 
   abbrev pub known : List Known
-  known = map known_of (readers_of used)
+  known = known_all used start texts
 
   abbrev pub plan : Plan
   plan = record {
-    start = begin_block (descriptor_size layout) begins;
+    start = begin_block (descriptor_size layout) (seq begins leads);
     reads = reads;
     tests = tests;
     items = all_moved items;
     base = descriptor_size layout;
-    known = first_cell used;
-    next = first_own used;
-    many = first_own used + (length ownT + length ownI);
+    known = first_cell used count;
+    next = first_own used count;
+    many = first_own used count + (length ownT + length ownI);
   }
 
   abbrev pub others : ℕ
-  others = 7 + 6 * length used + (length ownT + length ownI)
+  others = 7 + 6 * length used + 2 * count + (length ownT + length ownI)
 
   -- what the parts of a scan are
   pub record IsComposed : Type 0 where
@@ -147,50 +208,68 @@ module _ (parts : Parts) (used : List Used) (kinds : List Kind) (tests : List Te
     pub tests_read : AllByRecursion (IsReadTest used) cs
     pub items_read : AllByRecursion (IsReadItem used) es
     pub few_items : length es ≤ 512
-    pub decided : AreDecided known (first_own used) cs tests ownT
-    pub computed : AreComputed known (first_own used + length ownT) es items ownI
-    pub begins_all : BeginsAll (readers_of used) begins
-    pub reads_all : ReadsAll (readers_of used) reads
+    pub decided : AreDecided known (first_own used count) cs tests ownT
+    pub computed : AreComputed known (first_own used count + length ownT) es items ownI
+    pub begins_all : BeginsAll (readers_of used count) begins
+    pub leads_all : LeadsToAll literals leads
+    pub reads_all : ReadsAll (readers_of used count) reads
     pub kinds_are : map kind_of es ≡ map Some kinds
 
   module _ (h : IsComposed) where
+    -- what is seen of memory while rows are worked on
+    abbrev pub memory_of : Run → Cells
+    memory_of r = shown (descriptor_size layout) (cells_of layout r.placed r.descriptor r.limit r.memory)
+
     abbrev Held : Run → List Val → LowState → Type 0
-    Held r row s = AreHeld known row s
+    Held r row s = HeldIn (memory_of r) known row s
 
     abbrev Bases : Run → LowState → Type 0
-    Bases r s = AllByRecursion (λ q. HasBases q s) (readers_of used)
+    Bases r s = AllByRecursion (λ q. HasBases q s) (readers_of used count) × AllByRecursion (HasPlace s) literals
+
+    -- the octets that are compared at a row
+    abbrev each : Run → List Val → ℕ
+    each r row = compared_at (specification_of parts) row
 
     abbrev own : List ValType
     own = ownT ++ ownI
 
     -- ---- where the values of items are
+    abbrev behind : List ValType → List ValType
+    behind rest = base_types used (text_types count (cell_types used rest))
+
     headed_bases : (t : ValType) (rest : List ValType) (i : ℕ) → slice_get (headed t (base_types used rest)) (8 + i) ≡ slice_get (base_types used rest) i
     headed_bases t rest i =
         let place : 8 + i ≡ suc (suc (suc (suc (suc (suc (suc (suc i))))))) = omega arith in
         ap (λ (n : ℕ). slice_get (headed t (base_types used rest)) n) place
 
-    headed_cells : (t : ValType) (rest : List ValType) (i : ℕ) → slice_get (headed t (base_types used (cell_types used rest))) (first_cell used + i) ≡ slice_get (cell_types used rest) i
-    headed_cells t rest i = behind_bases (headed t (base_types used (cell_types used rest))) (cell_types used rest) 8 used (headed_bases t (cell_types used rest)) i
+    headed_texts : (t : ValType) (rest : List ValType) (i : ℕ) → slice_get (headed t (behind rest)) (first_text used + i) ≡ slice_get (text_types count (cell_types used rest)) i
+    headed_texts t rest i = behind_bases (headed t (behind rest)) (text_types count (cell_types used rest)) 8 used (headed_bases t (text_types count (cell_types used rest))) i
 
-    headed_known : (t : ValType) (rest : List ValType) → AreDeclared (headed t (base_types used (cell_types used rest))) known
-    headed_known t rest = known_declared (headed t (base_types used (cell_types used rest))) (readers_of used) (cells_declared (headed t (base_types used (cell_types used rest))) rest 8 (first_cell used) 0 used (headed_cells t rest))
+    headed_cells : (t : ValType) (rest : List ValType) (i : ℕ) → slice_get (headed t (behind rest)) (first_cell used count + i) ≡ slice_get (cell_types used rest) i
+    headed_cells t rest i = behind_texts (headed t (behind rest)) (cell_types used rest) (first_text used) count (headed_texts t rest) i
+
+    headed_known : (t : ValType) (rest : List ValType) → AreDeclared (headed t (behind rest)) known
+    headed_known t rest =
+        all-append (λ (k : Known). DeclaresValue (headed t (behind rest)) k.operand) (map known_of (readers_of used count)) (known_texts literals texts)
+        (known_declared (headed t (behind rest)) (readers_of used count) (cells_declared (headed t (behind rest)) rest 8 (first_cell used count) 0 used (headed_cells t rest)))
+        (texts_declared (headed t (behind rest)) literals texts (literals_declared (headed t (behind rest)) (cell_types used rest) (first_text used) start texts (headed_texts t rest)))
 
     -- behind the locals of conjuncts are those of items
-    headed_own : (t : ValType) → AreOwn (headed t (base_types used (cell_types used own))) (first_own used + length ownT) ownI
+    headed_own : (t : ValType) → AreOwn (headed t (behind own)) (first_own used count + length ownT) ownI
     headed_own t i v there =
-        let place : first_own used + length ownT + i ≡ first_cell used + 3 * length used + (length ownT + i) = omega arith in
-        ap (λ (n : ℕ). slice_get (headed t (base_types used (cell_types used own))) n) place
-        ∙ (behind_cells (headed t (base_types used (cell_types used own))) own (first_cell used) used (headed_cells t own) (length ownT + i) ∙ (after_append ownT ownI i ∙ there))
+        let place : first_own used count + length ownT + i ≡ first_cell used count + 3 * length used + (length ownT + i) = omega arith in
+        ap (λ (n : ℕ). slice_get (headed t (behind own)) n) place
+        ∙ (behind_cells (headed t (behind own)) own (first_cell used count) used (headed_cells t own) (length ownT + i) ∙ (after_append ownT ownI i ∙ there))
 
     high : AreHigh items
-    high = items_high known (base_types used (cell_types used own)) (first_own used + length ownT) es items ownI h.computed (all_more (IsReadItem used) IsKindedItem es (λ e x. (x.0, x.2)) h.items_read)
+    high = items_high known (behind own) (first_own used count + length ownT) es items ownI h.computed (all_more (IsReadItem used) HasKind es (λ e x. x.2) h.items_read)
         (headed_known I32 own) (headed_known I64 own) (headed_own I32) (headed_own I64)
 
     kinds-are : kinds_of (outs_of (all_moved items)) ≡ map Some kinds
-    kinds-are = kinds_moved items ∙ (items_kinds known (first_own used + length ownT) es items ownI h.computed ∙ h.kinds_are)
+    kinds-are = kinds_moved items ∙ (items_kinds known (first_own used count + length ownT) es items ownI h.computed ∙ h.kinds_are)
 
     kinds-many : length (kinds_of (outs_of (all_moved items))) ≡ length es
-    kinds-many = ap (λ (ks : List (Option Kind)). length ks) (kinds_moved items ∙ items_kinds known (first_own used + length ownT) es items ownI h.computed) ∙ length-map es kind_of
+    kinds-many = ap (λ (ks : List (Option Kind)). length ks) (kinds_moved items ∙ items_kinds known (first_own used count + length ownT) es items ownI h.computed) ∙ length-map es kind_of
 
     module _ (r : Run) (ready : IsReady layout r.placed r.tables r.descriptor r.limit r.memory) where
       abbrev rows : List (List Val)
@@ -203,7 +282,10 @@ module _ (parts : Parts) (used : List Used) (kinds : List Kind) (tests : List Te
       most = page_bound (specification_of parts) r.tables
 
       abbrev fuel : ℕ
-      fuel = suc (spend (λ row. 0) rows)
+      fuel = suc (spend (each r) rows)
+
+      abbrev c : Cells
+      c = memory_of r
 
       ready_at : (k : ℕ) (u : Used) → slice_get used k ≡ Some u → (one : Placed) × IsReadyColumn (rows_of r.tables u.table) r.descriptor r.memory u one
       ready_at k u found =
@@ -219,11 +301,29 @@ module _ (parts : Parts) (used : List Used) (kinds : List Kind) (tests : List Te
       has_all : (i : ℕ) (row : List Val) → slice_get rows i ≡ Some row → AllByRecursion (HasRead row) used
       has_all i row there = all_of (HasRead row) used (λ k u found. (has_at i row there k u found, (one_of (IsColumnIn parts) used k u h.columns found).2))
 
-      plain_tests : (i : ℕ) (row : List Val) → slice_get rows i ≡ Some row → AllByRecursion (IsPlainTest row) cs
-      plain_tests i row there = all_more (IsReadTest used) (IsPlainTest row) cs (λ c x. (x.0, x.1, conditions_more (IsRead used) (HoldsIn row) (row_has row used (has_all i row there)) c x.2)) h.tests_read
+      -- no row compares more octets than all rows together
+      room_at : (rest : List (List Val)) (i : ℕ) (row : List Val) → slice_get rest i ≡ Some row → 1 + each r row ≤ spend (each r) rest
+      room_at [] i row there = absurd cc
+      room_at (first_row ∷ rest) zero row there = let same : each r first_row ≡ each r row = ap (each r) (same_Some first_row row there) in omega (arith, same)
+      room_at (first_row ∷ rest) (suc i) row there = let below = room_at rest i row there in omega (arith, below)
 
-      plain_items : (i : ℕ) (row : List Val) → slice_get rows i ≡ Some row → AllByRecursion (IsPlainItem row) es
-      plain_items i row there = all_more (IsReadItem used) (IsPlainItem row) es (λ e x. (x.0, x.1, columns_more (IsRead used) (HoldsIn row) (row_has row used (has_all i row there)) e x.3)) h.items_read
+      tests_at : (i : ℕ) (row : List Val) → slice_get rows i ≡ Some row → AllByRecursion (IsTestAt (1 + each r row) row) cs
+      tests_at i row there =
+          all_more (λ d. IsReadTest used d × (units_of d (record { row = row }) ≤ sum_by (λ (d : Condition). units_of d (record { row = row })) cs)) (IsTestAt (1 + each r row) row) cs
+          (λ d x. (conditions_more (IsRead used) (HoldsIn row) (row_has row used (has_all i row there)) d x.0, omega (arith, x.1)))
+          (all_both (IsReadTest used) (λ d. units_of d (record { row = row }) ≤ sum_by (λ (d : Condition). units_of d (record { row = row })) cs) cs h.tests_read (one-below (λ (d : Condition). units_of d (record { row = row })) cs))
+
+      items_at : (i : ℕ) (row : List Val) → slice_get rows i ≡ Some row → AllByRecursion (IsItemAt (1 + each r row) row) es
+      items_at i row there =
+          all_more (λ e. IsReadItem used e × (text.units e (record { row = row }) ≤ sum_by (λ (e : Expression). text.units e (record { row = row })) es)) (IsItemAt (1 + each r row) row) es
+          (λ e x. record {
+            typed = x.0.1;
+            columns = columns_more (IsRead used) (HoldsIn row) (row_has row used (has_all i row there)) e x.0.3;
+            texts = x.0.0;
+            utf8 = columns_more (IsRead used) (HasUtf8 row) (row_utf8 row used (has_all i row there)) e x.0.3;
+            enough = omega (arith, x.1);
+          })
+          (all_both (IsReadItem used) (λ e. text.units e (record { row = row }) ≤ sum_by (λ (e : Expression). text.units e (record { row = row })) es) es h.items_read (one-below (λ (e : Expression). text.units e (record { row = row })) es))
 
       -- ---- before the loop
       entries_at : (s : LowState) → Kept 1 first s → AtEach (λ k u. KnowsEntry s.cells k u (length (rows_of r.tables u.table))) 0 used
@@ -231,36 +331,143 @@ module _ (parts : Parts) (used : List Used) (kinds : List Kind) (tests : List Te
           subst (λ (c : Cells). KnowsEntry c k u (length (rows_of r.tables u.table))) (sym (ap (λ (x : LowState). x.cells) kept.others))
           (entries-known layout r.placed r.tables r.descriptor r.limit r.memory ready k u found))
 
-      columns_end : (s : LowState) → Kept 1 first s → Ends (size begins) (λ t. Kept 8 s t × Bases r t) (λ t. ⊥) (λ code. ⊥) (meaning most fuel begins s)
-      columns_end s kept = h.begins_all.runs most fuel 8 s (entries_of s.cells (λ u. length (rows_of r.tables u.table)) 8 (first_cell used) 0 used (entries_at s kept)) (kept.below 0 (omega arith) ∙ refl) (omega arith)
-          (bases_in 8 (first_cell used) 0 (length s.locals) used (let long = length-replicate {A = Value} others (Number 0) in omega (arith, kept.many, long)))
+      texts_there : LieThere first literals texts
+      texts_there = ready_texts layout r.placed r.tables r.descriptor r.limit r.memory (Address (Own 0) 0 ∷ replicate others (Number 0)) ready literals texts refl (texts_from (first_text used) start texts)
+
+      texts_up : (below high : ℕ) (ls : List Literal) (from : ℕ) → below ≤ high → AreTextsIn from below ls → AreTextsIn from high ls
+      texts_up below high [] from le are = omega (arith, le, are)
+      texts_up below high (l ∷ ls) from le are = (are.0, are.1, texts_up below high ls are.0 le are.2)
+
+      columns_end : (s : LowState) → Kept 1 first s → Ends (size (seq begins leads)) (λ t. Kept 8 s t × Bases r t) Never (λ code. ⊥) (meaning most fuel (seq begins leads) s)
+      columns_end s kept =
+          let long = length-replicate {A = Value} others (Number 0) in
+          Ends-then (λ t. Kept 8 s t × Bases r t) Never (λ code. ⊥) (size begins) (size leads) (λ t. Kept 8 s t × AllByRecursion (λ q. HasBases q t) (readers_of used count)) (meaning most fuel begins s) (meaning most fuel leads)
+          (h.begins_all.runs most fuel 8 s (entries_of s.cells (λ u. length (rows_of r.tables u.table)) 8 (first_cell used count) 0 used (entries_at s kept)) (kept.below 0 (omega arith) ∙ refl) (omega arith)
+          (bases_in 8 (first_cell used count) 0 (length s.locals) used (omega (arith, kept.many, long))))
+          (λ t begun.
+          Ends-weaker (size leads) (size leads) (λ u. Kept (first_text used) t u × AllByRecursion (HasPlace u) literals × ((row : List Val) → AreHeld (known_texts literals texts) row u)) (λ u. Kept 8 s u × Bases r u) Never Never (λ code. ⊥) (λ code. ⊥)
+          (meaning most fuel leads t) (omega arith)
+          (λ u led. (Kept-then 8 (first_text used) s t u (omega arith) begun.0 led.0, (bases_same (first_text used) 8 (first_cell used count) 0 used t u (omega arith) led.0 begun.1, led.1))) (λ u x. x) (λ code x. x)
+          (h.leads_all.runs most fuel (first_text used) texts t (lie_there_kept 8 s t literals texts begun.0 (lie_there_kept 1 first s literals texts kept texts_there))
+          (begun.0.below 0 (omega arith) ∙ (kept.below 0 (omega arith) ∙ refl)) (omega arith)
+          (texts_up (first_text used + 2 * count) (length t.locals) literals (first_text used) (omega (arith, begun.0.many, kept.many, long)) (texts_in_locals (first_text used) start texts))))
 
       -- ---- at a row
-      standing : (s0 s : LowState) → Kept 1 first s0 → Since (first_cell used) (descriptor_size layout) s0 s → (i : ℕ) (row : List Val) → slice_get rows i ≡ Some row → (k : ℕ) (u : Used) → slice_get used k ≡ Some u →
-          Standing row s.cells s.columns i k u
-      standing s0 s kept since i row there k u found =
+      sizes_same : (s0 s : LowState) → Kept 1 first s0 → Since (first_cell used count) (descriptor_size layout) s0 s → s.columns ≡ first.columns
+      sizes_same s0 s kept since = since.columns ∙ ap (λ (x : LowState). x.columns) kept.others
+
+      standing : (cells : Cells) (columns : List ℕ) → columns ≡ first.columns → ((p a b : ℕ) → cells (Column p) a b ≡ first.cells (Column p) a b) → (i : ℕ) (row : List Val) → slice_get rows i ≡ Some row →
+          (k : ℕ) (u : Used) → slice_get used k ≡ Some u → Standing row cells columns i k u
+      standing cells columns sizes same i row there k u found =
           let has = has_at i row there k u found in
           let in_table = one_of (IsColumnIn parts) used k u h.columns found in
-          let sizes = since.columns ∙ ap (λ (x : LowState). x.columns) kept.others in
-          let same : (p a b : ℕ) → s.cells (Column p) a b ≡ first.cells (Column p) a b = λ p a b. since.mapped p a b ∙ ap (λ (x : LowState). x.cells (Column p) a b) kept.others in
           record {
             v = has.0;
             value_is = has.1;
-            stands = subst (λ (c : List ℕ). StandsAt s.cells c k u.ty u.not_null i has.0) (sym sizes)
-                (stands_same first.cells s.cells same k i first.columns u.ty u.not_null has.0
+            stands = subst (λ (l : List ℕ). StandsAt cells l k u.ty u.not_null i has.0) (sym sizes)
+                (stands_same first.cells cells same k i first.columns u.ty u.not_null has.0
                 (ready_stands_at layout r.placed r.tables r.descriptor r.limit r.memory ready k i u has.0 found (column_at (rows_of r.tables u.table) i u.column row has.0 (ap (λ (n : ℕ). slice_get (rows_of r.tables n) i) in_table.0 ∙ there) has.1)));
             sized = in_table.2;
           }
 
-      held_kept : (row : List Val) (s t : LowState) → Kept (first_own used) s t → AreHeld known row s → AreHeld known row t
-      held_kept row s t kept held = known_kept (first_own used) s t row known kept (served used).0 held
+      mapped_same : (s0 s : LowState) → Kept 1 first s0 → Since (first_cell used count) (descriptor_size layout) s0 s → (p a b : ℕ) → s.cells (Column p) a b ≡ first.cells (Column p) a b
+      mapped_same s0 s kept since p a b = since.mapped p a b ∙ ap (λ (x : LowState). x.cells (Column p) a b) kept.others
+
+      -- what is seen is still known
+      still_known : (s0 s : LowState) → Kept 1 first s0 → Since (first_cell used count) (descriptor_size layout) s0 s → IsLess c s.cells
+      still_known s0 s kept since (Column p) a b v is = mapped_same s0 s kept since p a b ∙ is
+      still_known s0 s kept since (Own (suc k)) a b v is = absurd cc
+      still_known s0 s kept since (Own zero) a b v is = by_test (nat_le 24 a && nat_le (a + b) (descriptor_size layout)) refl is
+        where
+          by_test : (inside : Bool) → (nat_le 24 a && nat_le (a + b) (descriptor_size layout)) ≡ inside → (if inside then first.cells (Own 0) a b else None) ≡ Some v → s.cells (Own 0) a b ≡ Some v
+          by_test false tested found = absurd cc
+          by_test true tested found =
+              let tests = inside_of (descriptor_size layout) a b tested in
+              since.head a b tests.0 tests.1 ∙ (ap (λ (x : LowState). x.cells (Own 0) a b) kept.others ∙ found)
+
+      -- the texts are seen
+      texts_seen : (t : LowState) → slice_get t.own 0 ≡ Some page → LieThere (seen c t) literals texts
+      texts_seen t first_page =
+          lie_there_within first (seen c t) first_page 24 (descriptor_size layout) start literals texts
+          (λ a b low high. let inside : (nat_le 24 a && nat_le (a + b) (descriptor_size layout)) ≡ true = inside_from (descriptor_size layout) a b low high in rw inside refl)
+          (texts_from (first_text used) start texts) (omega arith) (omega arith) texts_there
+
+      held_kept : (row : List Val) (s t : LowState) → Kept (first_own used count) s t → AreHeld known row s → AreHeld known row t
+      held_kept row s t kept held = known_kept (first_own used count) s t row known kept (served used start texts).0 held
+
+      seen_kept : (n : ℕ) (s t : LowState) → Kept n s t → Kept n (seen c s) (seen c t)
+      seen_kept n s t kept = record { others = ap (λ (x : LowState). seen c x) kept.others; many = kept.many; below = kept.below }
+
+      less_kept : (n : ℕ) (s t : LowState) → Kept n s t → IsLess c s.cells → IsLess c t.cells
+      less_kept n s t kept less = subst (λ (d : Cells). IsLess c d) (sym (ap (λ (x : LowState). x.cells) kept.others)) less
+
+      both_kept : (row : List Val) (s t : LowState) → Kept (first_own used count) s t → HeldIn c known row s → HeldIn c known row t
+      both_kept row s t kept held = (held_kept row (seen c s) (seen c t) (seen_kept (first_own used count) s t kept) held.0, less_kept (first_own used count) s t kept held.1)
 
       few_rows : length rows ≤ 1000000
       few_rows =
           let in_table = one_of (IsColumnIn parts) used 0 h.first_column h.columns h.first_is in
           subst (λ (n : ℕ). length (rows_of r.tables n) ≤ 1000000) in_table.0 (ready_at 0 h.first_column h.first_is).1.few
 
-      promised : (s0 : LowState) → Started (descriptor_size layout) (length rows) (Bases r) first s0 → Promises plan Nowhere rows (λ row. 0) (Held r) (truths_of cs) (values_in es) most fuel s0
+      -- the columns of a row are read, and what is known is held
+      module _ (s0 : LowState) (started : Started (descriptor_size layout) (length rows) (Bases r) first s0) (i : ℕ) (row : List Val) (s : LowState) (there : slice_get rows i ≡ Some row)
+          (since : Since (first_cell used count) (descriptor_size layout) s0 s) (many : plan.many ≤ length s.locals) (offset : slice_get s.locals 5 ≡ Some (Number (4 * i))) (first_page : slice_get s.own 0 ≡ Some page) where
+        less : IsLess c s.cells
+        less = still_known s0 s started.kept since
+
+        abbrev WholeRead : LowState → Type 0
+        WholeRead t = Kept (first_cell used count) s t × AreHeld (map known_of (readers_of used count)) row t
+
+        abbrev SeenRead : LowState → Type 0
+        SeenRead t = Kept (first_cell used count) (seen c s) t × AreHeld (map known_of (readers_of used count)) row t
+
+        -- in a state with the same locals
+        reads_at : (q : LowState) → q.locals ≡ s.locals → q.columns ≡ first.columns → ((p a b : ℕ) → q.cells (Column p) a b ≡ first.cells (Column p) a b) →
+            Ends (size reads) (λ t. Kept (first_cell used count) q t × AreHeld (map known_of (readers_of used count)) row t) Never (λ code. ⊥) (meaning most fuel reads q)
+        reads_at q locals sizes same =
+            h.reads_all.runs most fuel (first_cell used count) row q
+            (are_there (first_cell used count) i row s0 q (omega arith) (ap (λ (l : List Value). slice_get l 5) locals ∙ offset) (λ j low high. ap (λ (l : List Value). slice_get l j) locals ∙ since.locals j low high)
+            8 (first_cell used count) 0 used (omega arith) (omega arith) started.bases.0 (at_all (Standing row q.cells q.columns i) used (standing q.cells q.columns sizes same i row there)))
+            (cells_in 8 (first_cell used count) 0 (length q.locals) used (let long = ap (λ (l : List Value). length l) locals in omega (arith, many, long)))
+
+        places : (t : LowState) → Kept (first_cell used count) s t → AllByRecursion (HasPlace t) literals
+        places t kept =
+            places_same s0 t 6 (first_cell used count) (λ j low high. kept.below j high ∙ since.locals j low high) (first_text used) literals (omega arith) (texts_in_locals (first_text used) start texts) started.bases.1
+
+        held_after : (t : LowState) → WholeRead t × SeenRead (seen c t) → Kept (first_cell used count) s t × Held r row t
+        held_after t read =
+            let own_page : slice_get t.own 0 ≡ Some page = ap (λ (x : LowState). slice_get x.own 0) read.0.0.others ∙ first_page in (
+              read.0.0,
+              (
+                all-append (λ (k : Known). (v : Val) × (value_of k.expression (record { row = row }) ≡ Ok v) × Holds k.operand v (seen c t)) (map known_of (readers_of used count)) (known_texts literals texts) read.1.1
+                    (texts_held (seen c t) row literals texts (places t read.0.0) (texts_seen t own_page)),
+                less_kept (first_cell used count) s t read.0.0 less,
+              ),
+            )
+
+        pub read_ends : Ends (size reads) (λ t. Kept (first_cell used count) s t × Held r row t) Never (λ code. ⊥) (meaning most fuel reads s)
+        read_ends =
+            Ends-weaker (size reads) (size reads) (λ t. WholeRead t × SeenRead (seen c t)) (λ t. Kept (first_cell used count) s t × Held r row t) Never Never (λ code. ⊥) (λ code. ⊥) (meaning most fuel reads s) (omega arith) held_after (λ t x. x) (λ code x. x)
+            (seen_ends most fuel (size reads) (size reads) WholeRead SeenRead Never Never (λ code. ⊥) (λ code. ⊥) c (λ t q. ap (λ (x : LowState). x.cells) q.0.others) reads s less
+            (reads_at (seen c s) refl (sizes_same s0 s started.kept since) (λ p a b. refl)) (reads_at s refl (sizes_same s0 s started.kept since) (mapped_same s0 s started.kept since)))
+
+      -- a text of the result is read where it lies
+      shown_at : (base : ℕ) (p : Part) (at octet : ℕ) → shown base first.cells p at 1 ≡ Some (Number octet) → IsShown base first p at octet
+      shown_at base (Column k) at octet is = is
+      shown_at base (Own (suc k)) at octet is = absurd cc
+      shown_at base (Own zero) at octet is = by_test (nat_le 24 at && nat_le (at + 1) base) refl is
+        where
+          by_test : (inside : Bool) → (nat_le 24 at && nat_le (at + 1) base) ≡ inside → (if inside then first.cells (Own 0) at 1 else None) ≡ Some (Number octet) → IsShown base first (Own 0) at octet
+          by_test false tested found = absurd cc
+          by_test true tested found = let tests = inside_of base at 1 tested in (tests.0, tests.1, found)
+
+      shown_later : (base : ℕ) (s t : LowState) → ((k a b : ℕ) → t.cells (Column k) a b ≡ s.cells (Column k) a b) → ((a b : ℕ) → 24 ≤ a → a + b ≤ base → t.cells (Own 0) a b ≡ s.cells (Own 0) a b) →
+          (p : Part) (at octet : ℕ) → IsShown base s p at octet → IsShown base t p at octet
+      shown_later base s t mapped head (Column k) at octet is = mapped k at 1 ∙ is
+      shown_later base s t mapped head (Own zero) at octet is = (is.0, is.1, head at 1 is.0 is.1 ∙ is.2)
+      shown_later base s t mapped head (Own (suc k)) at octet is = is
+
+      promised : (s0 : LowState) → Started (descriptor_size layout) (length rows) (Bases r) first s0 → Promises plan (StandsIn c) rows (each r) (Held r) (truths_of cs) (values_in es) most fuel s0
       promised s0 started = record {
         high = omega arith;
         behind = omega arith;
@@ -269,32 +476,43 @@ module _ (parts : Parts) (used : List Used) (kinds : List Kind) (tests : List Te
         unrefused = ap (λ (x : LowState). x.refused) started.kept.others;
         uses = all_use items high;
         few = few_rows;
-        pages = pages-are parts r.tables layout plan Nowhere (λ row. 0) (Held r) most most fuel r.descriptor (record { world = first_world layout r.placed r.descriptor r.limit; state = Returned; memory = r.memory }) kinds-many;
-        held_kept = held_kept;
-        reads_end = λ i row s there since many offset.
-            h.reads_all.runs most fuel (first_cell used) row s
-            (are_there (first_cell used) i row s0 s (omega arith) offset since.locals 8 (first_cell used) 0 used (omega arith) (omega arith) started.bases
-            (at_all (Standing row s.cells s.columns i) used (standing s0 s started.kept since i row there)))
-            (cells_in 8 (first_cell used) 0 (length s.locals) used (omega (arith, many)));
-        tests_are = λ i row there some.
-            tests_promised known row most fuel (first_own used) plan.many some (omega arith) (held_kept row) (first_own used) cs tests ownT (omega arith) (omega arith) h.decided (plain_tests i row there);
-        items_are = λ i row there some.
-            items_promised known row most fuel (first_own used) plan.many some (omega arith) (held_kept row) (first_own used) (first_own used + length ownT) es items ownI (omega arith) (omega arith) h.computed (plain_items i row there) high;
+        pages = pages-are parts r.tables layout plan (StandsIn c) (each r) (Held r) most most fuel r.descriptor (record { world = first_world layout r.placed r.descriptor r.limit; state = Returned; memory = r.memory }) kinds-many;
+        texts_lie = λ p off octets text i octet is.
+            shown_later (descriptor_size layout) first s0 (λ k a b. ap (λ (x : LowState). x.cells (Column k) a b) started.kept.others) (λ a b low high. ap (λ (x : LowState). x.cells (Own 0) a b) started.kept.others) p (off + i) octet
+            (shown_at (descriptor_size layout) p (off + i) octet (text.1 i octet is));
+        held_kept = both_kept;
+        reads_end = λ i row s there since many offset first_page. read_ends s0 started i row s there since many offset first_page;
+        tests_are = λ i row there some. let room = room_at rows i row there in
+            tests_promised known c row most fuel (1 + each r row) (first_own used count) plan.many some (omega (arith, room)) (held_kept row) (both_kept row) (first_own used count) cs tests ownT (omega arith) (omega arith) h.decided (tests_at i row there);
+        items_are = λ i row there some. let room = room_at rows i row there in
+            items_promised known c row most fuel (1 + each r row) (first_own used count) plan.many some (omega (arith, room)) (held_kept row) (both_kept row) (first_own used count) (first_own used count + length ownT) es items ownI (omega arith) (omega arith) h.computed (items_at i row there) high;
       }
 
-      pub sound : Sound parts layout plan begins others h.first_column (λ q. Nowhere) (λ q row. 0) Held Bases r
+      read_back : (w : World) (t : LowState) (memory : List ℕ) → StandsFor w t memory → Keeps (first_world layout r.placed r.descriptor r.limit) w →
+          Finished plan (StandsIn c) rows (each r) (Held r) (truths_of cs) (values_in es) most fuel t →
+          (p : Part) (off word : ℕ) (octets : List ℕ) → StandsIn c p off octets → Means w (Address p off) word → text_cell (text_areas layout w r.descriptor) memory word (length octets) ≡ Some (val.Text octets)
+      read_back w t memory stands keeps finished p off word octets text means =
+          text_read layout w r.descriptor t memory stands (keeps.first (record { start = r.descriptor; size = page }) refl) p off word octets text.0
+          (λ i octet is. shown_later (descriptor_size layout) finished.s t finished.answer.mapped (λ a b low high. finished.answer.head a b low) p (off + i) octet
+          (shown_later (descriptor_size layout) finished.s0 finished.s finished.since.mapped finished.since.head p (off + i) octet (finished.begun.promises.texts_lie p off octets text i octet is)))
+          means
+
+      pub sound : Sound parts layout plan (seq begins leads) others h.first_column (λ q. StandsIn (memory_of q)) each Held Bases r
       sound = record {
         columns_end = columns_end;
         promises = promised;
-        spent = let all = spend-none rows in omega (arith, all);
-        texts = λ w t memory stands keeps finished p off word octets text means. absurd text;
+        spent =
+            let all = spend-sum (each r) rows in
+            let one = ap (λ (rs : List (List Val)). sum_by (each r) rs) (product-one rows) in
+            omega (arith, all, one);
+        texts = read_back;
       }
 
     one_entry : (u : Used) → IsColumnIn parts u → IsUsedOf (specification_of parts).entries u
     one_entry u in_table = (record { table = parts.table; types = parts.types }, itself (record { table = parts.table; types = parts.types }), sym in_table.0, in_table.1)
 
     pub planned : size (scan_block plan.start plan.reads (row_block plan.tests plan.items (8 + 16 * length (kinds_of (outs_of plan.items))))) ≤ 2 ^ 22 →
-        Planned parts layout plan begins others h.first_column (λ q. Nowhere) (λ q row. 0) Held Bases
+        Planned parts layout plan (seq begins leads) others h.first_column (λ q. StandsIn (memory_of q)) each Held Bases
     planned short = record {
       start_is = refl;
       base_is = refl;

@@ -10,6 +10,9 @@ pub mod NestingSteps
 pub mod Promised
 pub mod ReadersLaid
 pub mod RowSteps
+pub mod Shortness
 pub mod Sizes
+pub mod TextCells
+pub mod TextLiterals
+pub mod TextSteps
 pub mod Whole
-pub mod WithoutTexts

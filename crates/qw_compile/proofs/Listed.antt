@@ -1,8 +1,7 @@
 -- The blocks of one more conjunct, and of one more item.
-use Rattle.std.proofs.Common.{◌≡◌, ℕ, ◌+◌, ◌≤◌, List, [], ◌∷◌, ◌++◌, length, refl, sym, ap, ap₂, ◌∙◌, subst, append_assoc, append-nil, arith}
+use Rattle.std.proofs.Common.{◌≡◌, ℕ, ◌+◌, ◌≤◌, List, [], ◌∷◌, ◌++◌, length, refl, sym, ap, ◌∙◌, subst, append_assoc, append-nil, arith}
 use Rattle.std.proofs.Common.{length-append, map, take, get_or, ◌<◌}
 use Rattle.std.proofs.lemmas.List.{map_more}
-use Rattle.qw_types.specs.declared.value.Val.{Val}
 use Rattle.qw_module.specs.declared.instruction.ValType.{ValType}
 use Rattle.qw_meaning.specs.declared.expression.Expr.{Expr}
 use Rattle.qw_meaning.specs.declared.expression.Cond.{Cond}
@@ -10,7 +9,6 @@ use Rattle.qw_meaning.specs.Tree.{condition_of, expression_of}
 use Rattle.qw_meaning.specs.Expression.{Condition, Expression}
 use Rattle.qw_low.specs.declared.cell.Cell.{Cell}
 use Rattle.qw_low.specs.declared.step.LowStep.{LowStep}
-use Rattle.qw_low.specs.Syntax.{Statement}
 use Rattle.qw_low.specs.Steps.{steps_of}
 use Rattle.qw_expr.specs.declared.emitter.Emitter.{Emitter}
 use Rattle.qw_expr.specs.declared.operand.Operand.{Operand}

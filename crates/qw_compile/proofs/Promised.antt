@@ -1,5 +1,5 @@
--- The blocks of conjuncts and items without texts, as the promises that a scan rests on.
-use Rattle.std.proofs.Common.{◌≡◌, ℕ, zero, suc, ◌+◌, ◌*◌, ◌<◌, ◌≤◌, inl, inr, IsTrue, Option, Some, None, List, [], ◌∷◌, ◌++◌, length, map, Result, Ok, Err, IfOk, slice_get, refl, sym, ap, ap₂, ◌∙◌, subst, length-append, arith}
+-- The blocks of conjuncts and items, as the promises that a scan rests on.
+use Rattle.std.proofs.Common.{◌≡◌, ℕ, zero, suc, ◌+◌, ◌*◌, ◌<◌, ◌≤◌, nat_le, ◌&&◌, if◌then◌else◌, IsTrue, IsUtf8, Option, Some, None, List, [], ◌∷◌, ◌++◌, length, map, Result, Ok, Err, IfOk, slice_get, refl, sym, ap, ap₂, ◌∙◌, subst, length-append, arith}
 use Rattle.std.specs.List.{AllByRecursion}
 use Rattle.qw_types.specs.declared.code.Code.{Code}
 use Rattle.qw_types.specs.declared.kind.Kind.{Kind}
@@ -11,39 +11,96 @@ use Rattle.qw_module.specs.declared.instruction.ValType.TheVariants.{I32, I64}
 use Rattle.qw_meaning.specs.Columns.{HasColumns, HaveColumns, HoldsIn}
 use Rattle.qw_meaning.specs.Evaluation.{truth_of, value_of}
 use Rattle.qw_meaning.specs.Expression.{Condition, Expression}
-use Rattle.qw_meaning.specs.Typing.{AreTyped, HasKind, IsTyped, IsValueOf, kind_of, has_kind}
+use Rattle.qw_meaning.specs.Typing.{HasKind, IsTyped, IsValueOf, kind_of, has_kind}
+use Rattle.qw_meaning.specs.Units.{units, units_of}
 use Rattle.qw_meaning.proofs.TypingLemmas.{typed_value}
-use Rattle.qw_map.specs.declared.layout.Used.{Used}
 use Rattle.qw_low.specs.declared.cell.Cell.{Cell}
 use Rattle.qw_low.specs.Syntax.{Statement, seq}
-use Rattle.qw_low.specs.State.{Part, LowState}
+use Rattle.qw_low.specs.State.{Part, Column, Own, Value, Number, Cells, LowState}
+use Rattle.qw_low.specs.Held.{LiesAt, SaysNull, SaysValue}
 use Rattle.qw_low.specs.Meaning.{meaning}
 use Rattle.qw_low.specs.Size.{size}
 use Rattle.qw_low.specs.Raising.{Leaves, Raises, Kept}
+use Rattle.qw_low.proofs.LessKnown.{IsLess, seen, seen_ends}
 use Rattle.qw_low.proofs.Promises.{Ends-weaker}
 use Rattle.qw_expr.specs.declared.operand.Operand.{Operand}
-use Rattle.qw_expr.specs.Cells.{Holds, HoldsValue, IsBelow, IsBelowNull, DeclaresValue, DeclaresKind, DeclaresNull, Declares}
+use Rattle.qw_expr.specs.Cells.{Holds, HoldsValue, IsBelow, IsBelowNull, DeclaresKind, DeclaresNull}
 use Rattle.qw_expr.specs.Computes.{Known, AreHeld, AreDeclared, Computes}
-use Rattle.qw_code.specs.RowCells.{Source, Supplies, Uses, UsesNull, Test, Item, items_block, outs_of, cell_block, cells_block, plain_block, kinds_of}
+use Rattle.qw_code.specs.RowCells.{Source, Supplies, UsesNull, Test, Item, items_block, outs_of, cell_block, cells_block, plain_block, kinds_of}
 use Rattle.qw_code.proofs.PushRuns.{Never}
-use Rattle.qw_code.proofs.RowRuns.{AreTests, HasTest, HasItem, AreItems, AllUse, Below, Kept-less}
+use Rattle.qw_code.proofs.RowRuns.{AreTests, HasTest, HasItem, AreItems, AllUse, Kept-less}
 use Rattle.qw_code.proofs.ScanAnswers.{truths_of, values_in}
 use Rattle.qw_compile.specs.Emitted.{source_of, AreDecided, AreComputed}
-use Rattle.qw_compile.specs.Texts.{HasNoText, HaveNoText}
 use Rattle.qw_compile.proofs.Bridge.{decided, lacks-there, says-there}
-use Rattle.qw_compile.proofs.WithoutTexts.{IsOther, other_kind, no_text, no_units, none_spent}
+use Rattle.qw_compile.proofs.TextLiterals.{HasTexts, HasUtf8, IsUtf8Value, value_utf8}
 
--- no text lies anywhere
-abbrev pub Nowhere : Part → ℕ → List ℕ → Type 0
-Nowhere p off octets = ⊥
+-- ---- texts
+-- What is seen of memory while a row is worked on: the columns, and the first page's descriptor, but for the words of the result. So a text
+-- that is found lies there.
+abbrev pub shown : (base : ℕ) → Cells → Cells
+shown base c (Column k) a b = c (Column k) a b
+shown base c (Own zero) a b = if nat_le 24 a && nat_le (a + b) base then c (Own 0) a b else None
+shown base c (Own (suc k)) a b = None
 
--- The length of what is no text is not used; here it is the local of the value.
+-- a text's octets are among these cells, and it is UTF-8
+abbrev pub StandsIn : Cells → Part → ℕ → List ℕ → Type 0
+StandsIn c p off octets = IsUtf8 octets × ((i octet : ℕ) → slice_get octets i ≡ Some octet → c p (off + i) 1 ≡ Some (Number octet))
+
+-- at a row what is known is held where these cells are seen, and more may be known of memory
+abbrev pub HeldIn : Cells → List Known → List Val → LowState → Type 0
+HeldIn c known row s = AreHeld known row (seen c s) × IsLess c s.cells
+
+says_more : (c : Cells) (s : LowState) (null : Option ℕ) → SaysValue (seen c s) null → SaysValue s null
+says_more c s None h = h
+says_more c s (Some x) h = h
+
+value_more : (c : Cells) (s : LowState) → IsLess c s.cells → (cell : Cell) (v : Val) → HoldsValue cell v (seen c s) → HoldsValue cell v s
+value_more c s less cell val.Null h = null_more cell.null h
+  where
+    null_more : (null : Option ℕ) → SaysNull (seen c s) null → SaysNull s null
+    null_more None h = h
+    null_more (Some x) h = h
+value_more c s less cell (val.Num v) h = (h.0, h.1, says_more c s cell.null h.2)
+value_more c s less cell (val.Date d) h = (h.0, says_more c s cell.null h.1)
+value_more c s less cell (val.Text t) h = (
+  record {
+    part = h.0.part;
+    offset = h.0.offset;
+    is_at = h.0.is_at;
+    is_long = h.0.is_long;
+    short = h.0.short;
+    lies = lies_more h.0.part h.0.offset h.0.lies;
+  },
+  says_more c s cell.null h.1,
+)
+  where
+    lies_more : (p : Part) (o : ℕ) → LiesAt (seen c s) p o t → LiesAt s p o t
+    lies_more (Column k) o lies = record { size = lies.size; sized = lies.sized; inside = lies.inside; each = λ i octet is. less (Column k) (o + i) 1 (Number octet) (lies.each i octet is) }
+    lies_more (Own k) o lies = record { size = lies.size; sized = lies.sized; inside = lies.inside; each = λ i octet is. less (Own k) (o + i) 1 (Number octet) (lies.each i octet is) }
+
+pub held_more : (c : Cells) (s : LowState) (known : List Known) (row : List Val) → HeldIn c known row s → AreHeld known row s
+held_more c s [] row h = tt
+held_more c s (k ∷ known) row h = ((h.0.0.0, h.0.0.1, (value_more c s h.1 k.operand.cell h.0.0.0 h.0.0.2.0, h.0.0.2.1)), held_more c s known row (h.0.1, h.1))
+
+-- ---- the length of what is no text is not used; here it is the local of the value
+abbrev pub used_length : Option Kind → Cell → ℕ
+used_length None c = c.value
+used_length (Some (kind.Number s)) c = c.value
+used_length (Some kind.Date) c = c.value
+used_length (Some kind.Text) c = c.length
+
 abbrev pub moved : Source → Source
-moved o = record { cell = record { value = o.cell.value; length = o.cell.value; null = o.cell.null }; kind = o.kind }
+moved o = record { cell = record { value = o.cell.value; length = used_length o.kind o.cell; null = o.cell.null }; kind = o.kind }
 
 abbrev pub all_moved : List Item → List Item
 all_moved [] = []
 all_moved (g ∷ gs) = record { out = moved g.out; block = g.block } ∷ all_moved gs
+
+used_below : (k : Option Kind) (c : Cell) (n : ℕ) → c.value < n → c.length < n → used_length k c < n
+used_below None c n v l = v
+used_below (Some (kind.Number s)) c n v l = v
+used_below (Some kind.Date) c n v l = v
+used_below (Some kind.Text) c n v l = l
 
 pub blocks_moved : (gs : List Item) → items_block (all_moved gs) ≡ items_block gs
 blocks_moved [] = refl
@@ -53,20 +110,16 @@ pub kinds_moved : (gs : List Item) → kinds_of (outs_of (all_moved gs)) ≡ kin
 kinds_moved [] = refl
 kinds_moved (g ∷ gs) = ap (λ (ks : List (Option Kind)). g.out.kind ∷ ks) (kinds_moved gs)
 
-plain_moved : (k : Option Kind) (c : Cell) (at : ℕ) → IsOther k → plain_block k (record { value = c.value; length = c.value; null = c.null }) at ≡ plain_block k c at
-plain_moved None c at other = refl
-plain_moved (Some (kind.Number s)) c at other = refl
-plain_moved (Some kind.Date) c at other = refl
-plain_moved (Some kind.Text) c at other = absurd other
+plain_moved : (k : Option Kind) (c : Cell) (at : ℕ) → plain_block k (record { value = c.value; length = used_length k c; null = c.null }) at ≡ plain_block k c at
+plain_moved None c at = refl
+plain_moved (Some (kind.Number s)) c at = refl
+plain_moved (Some kind.Date) c at = refl
+plain_moved (Some kind.Text) c at = refl
 
-abbrev pub AreOther : List Item → Type 0
-AreOther [] = Unit {0}
-AreOther (g ∷ gs) = IsOther g.out.kind × AreOther gs
-
-pub cells_moved : (gs : List Item) (at : ℕ) → AreOther gs → cells_block at (outs_of (all_moved gs)) ≡ cells_block at (outs_of gs)
-cells_moved [] at other = refl
-cells_moved (g ∷ gs) at other =
-    ap₂ (λ (first rest : Statement). seq first rest) (ap (cell_block g.out.cell.null at) (plain_moved g.out.kind g.out.cell at other.0)) (cells_moved gs (at + 16) other.1)
+pub cells_moved : (gs : List Item) (at : ℕ) → cells_block at (outs_of (all_moved gs)) ≡ cells_block at (outs_of gs)
+cells_moved [] at = refl
+cells_moved (g ∷ gs) at =
+    ap₂ (λ (first rest : Statement). seq first rest) (ap (cell_block g.out.cell.null at) (plain_moved g.out.kind g.out.cell at)) (cells_moved gs (at + 16))
 
 -- ---- locals of their own
 pub after_append : {A : Type 0} (xs ys : List A) (i : ℕ) → slice_get (xs ++ ys) (length xs + i) ≡ slice_get ys i
@@ -96,83 +149,106 @@ module _ (types : List ValType) (from : ℕ) (own first rest : List ValType) (is
       ap (λ (n : ℕ). slice_get types n) place ∙ are (length first + i) t (ap (λ (o : List ValType). slice_get o (length first + i)) is ∙ (after_append first rest i ∙ there))
 
 -- where the values are
-abbrev pub IsHigh : Cell → Type 0
-IsHigh c = (8 ≤ c.value) × UsesNull (λ i. 8 ≤ i) c.null
+abbrev pub IsHigh : Source → Type 0
+IsHigh o = (8 ≤ o.cell.value) × (8 ≤ used_length o.kind o.cell) × UsesNull (λ i. 8 ≤ i) o.cell.null
 
 abbrev pub AreHigh : List Item → Type 0
 AreHigh [] = Unit {0}
-AreHigh (g ∷ gs) = IsHigh g.out.cell × AreHigh gs
+AreHigh (g ∷ gs) = IsHigh g.out × AreHigh gs
 
--- ---- conjuncts
-abbrev pub IsPlainTest : List Val → Condition → Type 0
-IsPlainTest row c = HaveNoText c × AreTyped c × HaveColumns (HoldsIn row) c
+-- ---- conjuncts and items at a row, whose units are below a number
+abbrev pub IsTestAt : (N : ℕ) → List Val → Condition → Type 0
+IsTestAt N row c = HaveColumns (HoldsIn row) c × (1 + units_of c (record { row = row }) ≤ N)
 
-abbrev pub IsPlainItem : List Val → Expression → Type 0
-IsPlainItem row e = HasNoText e × IsTyped e × HasColumns (HoldsIn row) e
+pub record IsItemAt (N : ℕ) (row : List Val) (e : Expression) : Type 0 where
+  pub typed : IsTyped e
+  pub columns : HasColumns (HoldsIn row) e
+  pub texts : HasTexts IsUtf8 e
+  pub utf8 : HasColumns (HasUtf8 row) e
+  pub enough : 1 + units e (record { row = row }) ≤ N
 
-module _ (known : List Known) (row : List Val) (most fuel n many : ℕ) (some : 1 ≤ 1) (within : 1 ≤ fuel) (held_kept : (s t : LowState) → Kept n s t → AreHeld known row s → AreHeld known row t) where
-  pub tests_promised : (next : ℕ) (cs : List Condition) (gs : List Test) (own : List ValType) → n ≤ next → next + length own ≤ many → AreDecided known next cs gs own → AllByRecursion (IsPlainTest row) cs →
-      AreTests most fuel 1 n many some (AreHeld known row) held_kept gs (truths_of cs row)
-  tests_promised next [] [] own low room are plain = tt
-  tests_promised next [] (g ∷ gs) own low room are plain = absurd are
-  tests_promised next (c ∷ cs) [] own low room are plain = absurd are
-  tests_promised next (c ∷ cs) (g ∷ gs) own low room are plain =
+module _ (known : List Known) (c : Cells) (row : List Val) (most fuel N n many : ℕ) (some : 1 ≤ N) (within : N ≤ fuel) (held_kept : (s t : LowState) → Kept n s t → AreHeld known row s → AreHeld known row t)
+    (both_kept : (s t : LowState) → Kept n s t → HeldIn c known row s → HeldIn c known row t) where
+  pub tests_promised : (next : ℕ) (cs : List Condition) (gs : List Test) (own : List ValType) → n ≤ next → next + length own ≤ many → AreDecided known next cs gs own → AllByRecursion (IsTestAt N row) cs →
+      AreTests most fuel N n many some (HeldIn c known row) both_kept gs (truths_of cs row)
+  tests_promised next [] [] own low room are at = tt
+  tests_promised next [] (g ∷ gs) own low room are at = absurd are
+  tests_promised next (d ∷ cs) [] own low room are at = absurd are
+  tests_promised next (d ∷ cs) (g ∷ gs) own low room are at =
       let all : length own ≡ length are.1 + length are.2 = ap (λ (o : List ValType). length o) are.3 ∙ length-append are.1 are.2 in
-      let none = none_spent row c plain.0.0 plain.0.1 plain.0.2 in (
-        subst (λ (x : ℕ). HasTest most fuel 1 n many some (AreHeld known row) held_kept (record { out = x; block = g.block }) (truth_of c (record { row = row }))) (sym are.4)
-            (decided most fuel 1 n many some within known row held_kept c next are.0 g.block are.1 are.5 low (omega (arith, room, all)) (omega (arith, none)) plain.0.2),
-        tests_promised (next + length are.1) cs gs are.2 (omega (arith, low)) (omega (arith, room, all)) are.6 plain.1,
+      let one = decided most fuel N n many some within known row held_kept d next are.0 g.block are.1 are.5 low (omega (arith, room, all)) at.0.1 at.0.0 in (
+        subst (λ (x : ℕ). HasTest most fuel N n many some (HeldIn c known row) both_kept (record { out = x; block = g.block }) (truth_of d (record { row = row }))) (sym are.4)
+            (λ s held long. one s (held_more c s known row held) long),
+        tests_promised (next + length are.1) cs gs are.2 (omega (arith, low)) (omega (arith, room, all)) are.6 at.1,
       )
 
   -- ---- items
-  supplied : (k : Option Kind) (t : LowState) (c : Cell) (v : Val) → IsOther k → IsValueOf k v → HoldsValue c v t → Supplies Nowhere t.locals (record { value = c.value; length = c.value; null = c.null }) v
-  supplied k t c val.Null other typed h = lacks-there t c.null h
-  supplied k t c (val.Num v) other typed h = (h.0, h.1, says-there t c.null h.2)
-  supplied k t c (val.Date d) other typed h = (h.0, says-there t c.null h.1)
-  supplied k t c (val.Text x) other typed h = absurd (no_text k x other typed)
+  long_used : (k : Option Kind) (cell : Cell) (t : List ℕ) (locals : List Value) → IsValueOf k (val.Text t) → slice_get locals cell.length ≡ Some (Number (length t)) → slice_get locals (used_length k cell) ≡ Some (Number (length t))
+  long_used None cell t locals of is = absurd cc
+  long_used (Some (kind.Number s)) cell t locals of is = absurd of
+  long_used (Some kind.Date) cell t locals of is = absurd of
+  long_used (Some kind.Text) cell t locals of is = is
 
-  left : (from next : ℕ) (out : Operand) (s : LowState) → from ≤ next → IsOther out.kind → (r : Result Val Code) → IfOk r (λ v. IsValueOf out.kind v) → (t : LowState) →
-      Leaves (λ v t. Kept next s t × Holds out v t) r t → Leaves (λ v t. Kept from s t × (Supplies Nowhere t.locals (moved (source_of out)).cell v × IsValueOf out.kind v)) r t
-  left from next out s le other (Ok v) typed t h = (Kept-less from next s t le h.0, (supplied out.kind t out.cell v other typed h.1.0, typed))
-  left from next out s le other (Err code) typed t h = h
+  supplied : (k : Option Kind) (t : LowState) (cell : Cell) (v : Val) → IsValueOf k v → IsUtf8Value v → HoldsValue cell v (seen c t) → Supplies (StandsIn c) t.locals (record { value = cell.value; length = used_length k cell; null = cell.null }) v
+  supplied k t cell val.Null typed utf8 h = lacks-there (seen c t) cell.null h
+  supplied k t cell (val.Num v) typed utf8 h = (h.0, h.1, says-there (seen c t) cell.null h.2)
+  supplied k t cell (val.Date d) typed utf8 h = (h.0, says-there (seen c t) cell.null h.1)
+  supplied k t cell (val.Text x) typed utf8 h =
+      (h.0.part, h.0.offset, h.0.is_at, long_used k cell x t.locals typed h.0.is_long, h.0.short, (utf8, h.0.lies.each), says-there (seen c t) cell.null h.1)
 
-  item_promised : (e : Expression) (from next : ℕ) (out : Operand) (a : Statement) (own : List ValType) → from ≤ next → next + length own ≤ many → Computes known e next out a own → IsPlainItem row e →
-      HasItem most fuel 1 n many some (AreHeld known row) held_kept Nowhere from (record { out = moved (source_of out); block = a }) (value_of e (record { row = row }))
-  item_promised e from next out a own le room computes plain =
-      let none = no_units row e plain.0 plain.1 plain.2 in
-      let other : IsOther out.kind = subst IsOther (sym computes.kind_is) (other_kind e plain.0) in
-      let typed : IfOk (value_of e (record { row = row })) (λ v. IsValueOf out.kind v) = subst (λ (k : Option Kind). IfOk (value_of e (record { row = row })) (λ v. IsValueOf k v)) (sym computes.kind_is) (typed_value e row plain.1 plain.2) in
+  -- what is left where all of memory is known, and where these cells are seen
+  abbrev Whole : ℕ → Operand → LowState → Result Val Code → LowState → Type 0
+  Whole next out s r = Leaves (λ v t. Kept next s t × Holds out v t) r
+
+  abbrev Seen : ℕ → Operand → LowState → Result Val Code → LowState → Type 0
+  Seen next out s r = Leaves (λ v t. Kept next (seen c s) t × Holds out v t) r
+
+  seen-cells : (next : ℕ) (out : Operand) (s : LowState) (r : Result Val Code) (t : LowState) → Seen next out s r t → t.cells ≡ c
+  seen-cells next out s (Ok v) t h = ap (λ (u : LowState). u.cells) h.0.others
+  seen-cells next out s (Err code) t h = absurd h
+
+  left : (from next : ℕ) (out : Operand) (s : LowState) → from ≤ next → (r : Result Val Code) → IfOk r (λ v. IsValueOf out.kind v) → IfOk r IsUtf8Value → (t : LowState) →
+      Whole next out s r t × Seen next out s r (seen c t) → Leaves (λ v t. Kept from s t × (Supplies (StandsIn c) t.locals (moved (source_of out)).cell v × IsValueOf out.kind v)) r t
+  left from next out s le (Ok v) typed utf8 t h = (Kept-less from next s t le h.0.0, (supplied out.kind t out.cell v typed utf8 h.1.1.0, typed))
+  left from next out s le (Err code) typed utf8 t h = h.0
+
+  item_promised : (e : Expression) (from next : ℕ) (out : Operand) (a : Statement) (own : List ValType) → from ≤ next → next + length own ≤ many → Computes known e next out a own → IsItemAt N row e →
+      HasItem most fuel N n many some (HeldIn c known row) both_kept (StandsIn c) from (record { out = moved (source_of out); block = a }) (value_of e (record { row = row }))
+  item_promised e from next out a own le room computes at =
+      let r : Result Val Code = value_of e (record { row = row }) in
+      let typed : IfOk r (λ v. IsValueOf out.kind v) = subst (λ (k : Option Kind). IfOk r (λ v. IsValueOf k v)) (sym computes.kind_is) (typed_value e row at.typed at.columns) in
       λ s held long.
-      Ends-weaker (size a * 1) (size a * 1) (Leaves (λ v t. Kept next s t × Holds out v t) (value_of e (record { row = row })))
-      (Leaves (λ v t. Kept from s t × (Supplies Nowhere t.locals (moved (source_of out)).cell v × IsValueOf out.kind v)) (value_of e (record { row = row }))) Never Never (Raises (value_of e (record { row = row }))) (Raises (value_of e (record { row = row })))
-      (meaning most fuel a s) (omega arith) (left from next out s le other (value_of e (record { row = row })) typed) (λ t x. x) (λ code x. x)
-      (computes.runs most fuel 1 row s (omega (arith, none)) within held plain.2 (omega (arith, room, long)))
+      Ends-weaker (size a * N) (size a * N) (λ t. Whole next out s r t × Seen next out s r (seen c t)) (Leaves (λ v t. Kept from s t × (Supplies (StandsIn c) t.locals (moved (source_of out)).cell v × IsValueOf out.kind v)) r) Never Never (Raises r) (Raises r)
+      (meaning most fuel a s) (omega arith) (left from next out s le r typed (value_utf8 e row at.texts at.utf8)) (λ t x. x) (λ code x. x)
+      (seen_ends most fuel (size a * N) (size a * N) (Whole next out s r) (Seen next out s r) Never Never (Raises r) (Raises r) c (seen-cells next out s r) a s held.1
+      (computes.runs most fuel N row (seen c s) at.enough within held.0 at.columns (omega (arith, room, long)))
+      (computes.runs most fuel N row s at.enough within (held_more c s known row held) at.columns (omega (arith, room, long))))
 
   null_uses : (later : ℕ) (null : Option ℕ) → UsesNull (λ i. 8 ≤ i) null → IsBelowNull later null → UsesNull (λ i. (5 ≤ i) × (i < later)) null
   null_uses later None high below = tt
   null_uses later (Some x) high below = (omega (arith, high), below)
 
-  pub items_promised : (from next : ℕ) (es : List Expression) (gs : List Item) (own : List ValType) → from ≤ next → next + length own ≤ many → AreComputed known next es gs own → AllByRecursion (IsPlainItem row) es → AreHigh gs →
-      AreItems most fuel 1 n many some (AreHeld known row) held_kept Nowhere from (all_moved gs) (values_in es row)
-  items_promised from next [] [] own low room are plain high = tt
-  items_promised from next [] (g ∷ gs) own low room are plain high = absurd are
-  items_promised from next (e ∷ es) [] own low room are plain high = absurd are
-  items_promised from next (e ∷ es) (g ∷ gs) own low room are plain high =
+  pub items_promised : (from next : ℕ) (es : List Expression) (gs : List Item) (own : List ValType) → from ≤ next → next + length own ≤ many → AreComputed known next es gs own → AllByRecursion (IsItemAt N row) es → AreHigh gs →
+      AreItems most fuel N n many some (HeldIn c known row) both_kept (StandsIn c) from (all_moved gs) (values_in es row)
+  items_promised from next [] [] own low room are at high = tt
+  items_promised from next [] (g ∷ gs) own low room are at high = absurd are
+  items_promised from next (e ∷ es) [] own low room are at high = absurd are
+  items_promised from next (e ∷ es) (g ∷ gs) own low room are at high =
       let all : length own ≡ length are.1 + length are.2 = ap (λ (o : List ValType). length o) are.3 ∙ length-append are.1 are.2 in
       let cell_is : g.out.cell ≡ are.0.cell = ap (λ (o : Source). o.cell) are.4 in
       let below : IsBelow (next + length are.1) g.out.cell = subst (IsBelow (next + length are.1)) (sym cell_is) are.5.below in
       let later : ℕ = next + length are.1 in (
-        subst (λ (o : Source). HasItem most fuel 1 n many some (AreHeld known row) held_kept Nowhere from (record { out = moved o; block = g.block }) (value_of e (record { row = row }))) (sym are.4)
-            (item_promised e from next are.0 g.block are.1 low (omega (arith, room, all)) are.5 plain.0),
+        subst (λ (o : Source). HasItem most fuel N n many some (HeldIn c known row) both_kept (StandsIn c) from (record { out = moved o; block = g.block }) (value_of e (record { row = row }))) (sym are.4)
+            (item_promised e from next are.0 g.block are.1 low (omega (arith, room, all)) are.5 at.0),
         later,
         omega (arith, low),
-        ((omega (arith, high.0.0), below.0), (omega (arith, high.0.0), below.0), null_uses later g.out.cell.null high.0.1 below.2),
-        items_promised later later es gs are.2 (omega arith) (omega (arith, room, all)) are.6 plain.1 high.1,
+        ((omega (arith, high.0.0), below.0), (omega (arith, high.0.1), used_below g.out.kind g.out.cell later below.0 below.1), null_uses later g.out.cell.null high.0.2 below.2),
+        items_promised later later es gs are.2 (omega arith) (omega (arith, room, all)) are.6 at.1 high.1,
       )
 
 pub all_use : (gs : List Item) → AreHigh gs → AllUse (λ i. 5 ≤ i) (outs_of (all_moved gs))
 all_use [] high = tt
-all_use (g ∷ gs) high = ((omega (arith, high.0.0), omega (arith, high.0.0), null_use g.out.cell.null high.0.1), all_use gs high.1)
+all_use (g ∷ gs) high = ((omega (arith, high.0.0), omega (arith, high.0.1), null_use g.out.cell.null high.0.2), all_use gs high.1)
   where
     null_use : (null : Option ℕ) → UsesNull (λ i. 8 ≤ i) null → UsesNull (λ i. 5 ≤ i) null
     null_use None h = tt
@@ -204,44 +280,29 @@ null_not_low types (suc (suc (suc (suc (suc (suc zero)))))) is = absurd cc
 null_not_low types (suc (suc (suc (suc (suc (suc (suc zero))))))) is = absurd cc
 null_not_low types (suc (suc (suc (suc (suc (suc (suc (suc x)))))))) is = omega arith
 
-value_high : (types : List ValType) (c : Cell) (k : Option Kind) → IsOther k → IsTrue (has_kind k) → DeclaresKind (headed I32 types) c k → 8 ≤ c.value
-value_high types c None other some declared = absurd cc
-value_high types c (Some (kind.Number s)) other some declared = not_low types c.value declared
-value_high types c (Some kind.Date) other some declared = not_low types c.value declared
-value_high types c (Some kind.Text) other some declared = absurd other
+value_high : (types : List ValType) (c : Cell) (k : Option Kind) → IsTrue (has_kind k) → DeclaresKind (headed I32 types) c k → DeclaresKind (headed I64 types) c k → (8 ≤ c.value) × (8 ≤ used_length k c)
+value_high types c None some narrow wide = absurd cc
+value_high types c (Some (kind.Number s)) some narrow wide = let high = not_low types c.value narrow in (high, high)
+value_high types c (Some kind.Date) some narrow wide = let high = not_low types c.value narrow in (high, high)
+value_high types c (Some kind.Text) some narrow wide = (null_not_low types c.value wide.0, null_not_low types c.length wide.1)
 
 null_high : (types : List ValType) (null : Option ℕ) → DeclaresNull (headed I64 types) null → UsesNull (λ i. 8 ≤ i) null
 null_high types None declared = tt
 null_high types (Some x) declared = null_not_low types x declared
 
-abbrev pub IsKindedItem : Expression → Type 0
-IsKindedItem e = HasNoText e × HasKind e
-
-pub items_high : (known : List Known) (types : List ValType) (next : ℕ) (es : List Expression) (gs : List Item) (own : List ValType) → AreComputed known next es gs own → AllByRecursion IsKindedItem es →
+pub items_high : (known : List Known) (types : List ValType) (next : ℕ) (es : List Expression) (gs : List Item) (own : List ValType) → AreComputed known next es gs own → AllByRecursion HasKind es →
     AreDeclared (headed I32 types) known → AreDeclared (headed I64 types) known → AreOwn (headed I32 types) next own → AreOwn (headed I64 types) next own → AreHigh gs
-items_high known types next [] [] own are plain d32 d64 o32 o64 = tt
-items_high known types next [] (g ∷ gs) own are plain d32 d64 o32 o64 = absurd are
-items_high known types next (e ∷ es) [] own are plain d32 d64 o32 o64 = absurd are
-items_high known types next (e ∷ es) (g ∷ gs) own are plain d32 d64 o32 o64 =
-    let kind_is = are.5.kind_is in
-    let other : IsOther are.0.kind = subst IsOther (sym kind_is) (other_kind e plain.0.0) in
-    let some = subst (λ (k : Option Kind). IsTrue (has_kind k)) (sym kind_is) plain.0.1 in
-    let here : IsHigh are.0.cell = (
-      value_high types are.0.cell are.0.kind other some (are.5.typed (headed I32 types) d32 (first_own_types (headed I32 types) next own are.1 are.2 are.3 o32)).1.0,
-      null_high types are.0.cell.null (are.5.typed (headed I64 types) d64 (first_own_types (headed I64 types) next own are.1 are.2 are.3 o64)).1.1,
-    ) in (
-      subst (λ (o : Source). IsHigh o.cell) (sym are.4) here,
-      items_high known types (next + length are.1) es gs are.2 are.6 plain.1 d32 d64 (rest_own_types (headed I32 types) next own are.1 are.2 are.3 o32) (rest_own_types (headed I64 types) next own are.1 are.2 are.3 o64),
+items_high known types next [] [] own are some d32 d64 o32 o64 = tt
+items_high known types next [] (g ∷ gs) own are some d32 d64 o32 o64 = absurd are
+items_high known types next (e ∷ es) [] own are some d32 d64 o32 o64 = absurd are
+items_high known types next (e ∷ es) (g ∷ gs) own are some d32 d64 o32 o64 =
+    let narrow = (are.5.typed (headed I32 types) d32 (first_own_types (headed I32 types) next own are.1 are.2 are.3 o32)).1 in
+    let wide = (are.5.typed (headed I64 types) d64 (first_own_types (headed I64 types) next own are.1 are.2 are.3 o64)).1 in
+    let value = value_high types are.0.cell are.0.kind (subst (λ (k : Option Kind). IsTrue (has_kind k)) (sym are.5.kind_is) some.0) narrow.0 wide.0 in
+    let here : IsHigh (source_of are.0) = (value.0, value.1, null_high types are.0.cell.null wide.1) in (
+      subst IsHigh (sym are.4) here,
+      items_high known types (next + length are.1) es gs are.2 are.6 some.1 d32 d64 (rest_own_types (headed I32 types) next own are.1 are.2 are.3 o32) (rest_own_types (headed I64 types) next own are.1 are.2 are.3 o64),
     )
-
-pub items_other : (known : List Known) (next : ℕ) (es : List Expression) (gs : List Item) (own : List ValType) → AreComputed known next es gs own → AllByRecursion IsKindedItem es → AreOther gs
-items_other known next [] [] own are plain = tt
-items_other known next [] (g ∷ gs) own are plain = absurd are
-items_other known next (e ∷ es) [] own are plain = absurd are
-items_other known next (e ∷ es) (g ∷ gs) own are plain = (
-  subst (λ (o : Source). IsOther o.kind) (sym are.4) (subst IsOther (sym are.5.kind_is) (other_kind e plain.0.0)),
-  items_other known (next + length are.1) es gs are.2 are.6 plain.1,
-)
 
 -- their kinds are those of the expressions
 pub items_kinds : (known : List Known) (next : ℕ) (es : List Expression) (gs : List Item) (own : List ValType) → AreComputed known next es gs own → kinds_of (outs_of gs) ≡ map kind_of es

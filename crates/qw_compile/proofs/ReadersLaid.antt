@@ -1,27 +1,31 @@
--- The locals of the columns that a scan reads, and what they are known to hold.
-use Rattle.std.proofs.Common.{◌≡◌, ◌≢◌, ℕ, zero, suc, ◌+◌, ◌*◌, ◌<◌, ◌≤◌, inl, inr, Bool, true, false, Option, Some, None, List, [], ◌∷◌, length, map, slice_get, refl, sym, ap, ap₂, ◌∙◌, subst, arith}
+-- The locals of the columns that a scan reads and of text literals, and what they are known to hold.
+use Rattle.std.proofs.Common.{◌≡◌, ℕ, zero, suc, ◌+◌, ◌*◌, ◌<◌, ◌≤◌, inl, inr, Bool, true, false, Option, Some, List, [], ◌∷◌, ◌++◌, length, map, slice_get, refl, sym, ap, ap₂, ◌∙◌, subst, arith}
 use Rattle.std.specs.List.{AllByRecursion}
 use Rattle.std.proofs.lemmas.Option.{same_Some}
-use Rattle.qw_types.specs.Value.{IsSized, type_scale}
+use Rattle.qw_types.specs.Value.{IsSized}
 use Rattle.qw_types.specs.Kind.{type_kind}
 use Rattle.qw_types.specs.declared.value.Ty.{Ty}
 use Rattle.qw_types.specs.declared.value.Ty.TheVariants as ty
 use Rattle.qw_types.specs.declared.value.Val.{Val}
 use Rattle.qw_module.specs.declared.instruction.ValType.{ValType}
-use Rattle.qw_module.specs.declared.instruction.ValType.TheVariants.{I32, I64}
-use Rattle.qw_meaning.specs.Expression.{Expression, column, scale_of}
+use Rattle.qw_module.specs.declared.instruction.ValType.TheVariants.{I32}
+use Rattle.qw_meaning.specs.Expression.{column, scale_of}
 use Rattle.qw_meaning.specs.Typing.{kind_of}
-use Rattle.qw_map.specs.Layout.{is_text}
+use Rattle.qw_map.proofs.AreaLemmas.{all-append}
 use Rattle.qw_map.specs.declared.layout.Used.{Used}
-use Rattle.qw_low.specs.State.{Column, Address, Number, Cells, LowState}
+use Rattle.qw_low.specs.State.{Number, Cells, LowState}
 use Rattle.qw_low.specs.Begin.{KnowsEntry}
-use Rattle.qw_expr.specs.Bindings.{IsAmong, Knows, IsServed}
-use Rattle.qw_expr.specs.Cells.{DeclaresValue, DeclaresKind, DeclaresNull}
-use Rattle.qw_expr.specs.Computes.{Known, AreDeclared}
+use Rattle.qw_expr.specs.Bindings.{Knows, IsServed}
+use Rattle.qw_expr.specs.Cells.{IsBelow, DeclaresValue, DeclaresKind, DeclaresNull}
+use Rattle.qw_expr.specs.Computes.{Known, AreBelow}
 use Rattle.qw_rows.specs.declared.reader.Reader.{Reader}
 use Rattle.qw_rows.specs.Reading.{known_of, operand_of, HasNullWord, StandsAt, AreBases, IsCellIn, HasBases, DeclaresBases, AreBasesIn, AreCellsIn, HasEntryOf, IsThere}
+use Rattle.qw_rows.specs.Texts.{text_operand, known_texts, AreFrom, AreTextsIn}
+use Rattle.qw_rows.specs.declared.literal.Literal.{Literal}
 use Rattle.qw_rows.proofs.Several.{known_below}
-use Rattle.qw_compile.specs.Readers.{IsRead, null_word, reader_of, readers_from, first_cell, first_own, readers_of, value_type, base_types, cell_types}
+use Rattle.qw_rows.proofs.TextPlaces.{texts_below}
+use Rattle.qw_compile.specs.Readers.{IsRead, null_word, reader_of, readers_from, first_text, first_cell, first_own, readers_of, value_type, base_types, text_types, cell_types}
+use Rattle.qw_compile.specs.Texts.{literals_from}
 
 -- ---- where they are
 null_there : (b : Bool) (y x : ℕ) → null_word b y ≡ Some x → y ≡ x
@@ -64,8 +68,48 @@ described : (b c k : ℕ) (used : List Used) → AllByRecursion (λ (q : Known).
 described b c k [] = tt
 described b c k (u ∷ used) = ((refl, refl), described (b + 3) (c + 3) (k + 1) used)
 
-pub served : (used : List Used) → IsServed (first_own used) (map known_of (readers_of used))
-served used = (known_below (first_cell used) (first_own used) (readers_of used) (cells_in 8 (first_cell used) 0 (first_own used) used (omega arith)), described 8 (first_cell used) 0 used)
+pub readers_many : (b c k : ℕ) (used : List Used) → length (readers_from b c k used) ≡ length used
+readers_many b c k [] = refl
+readers_many b c k (u ∷ used) = ap suc (readers_many (b + 3) (c + 3) (k + 1) used)
+
+-- ---- the literals of texts
+pub texts_in_locals : (x at : ℕ) (texts : List (List ℕ)) → AreTextsIn x (x + 2 * length texts) (literals_from x at texts)
+texts_in_locals x at [] = omega arith
+texts_in_locals x at (t ∷ texts) =
+    let rest = texts_in_locals (x + 2) (at + length t) texts in
+    let same : x + 2 + 2 * length texts ≡ x + 2 * length (t ∷ texts) = omega arith in
+    (x + 2, (omega arith, omega arith, omega arith, omega arith, λ e. omega (arith, e)), subst (λ (n : ℕ). AreTextsIn (x + 2) n (literals_from (x + 2) (at + length t) texts)) same rest)
+
+pub texts_from : (x at : ℕ) (texts : List (List ℕ)) → AreFrom at (literals_from x at texts) texts
+texts_from x at [] = tt
+texts_from x at (t ∷ texts) = (refl, refl, texts_from (x + 2) (at + length t) texts)
+
+pub texts_many : (x at : ℕ) (texts : List (List ℕ)) → length (literals_from x at texts) ≡ length texts
+texts_many x at [] = refl
+texts_many x at (t ∷ texts) = ap suc (texts_many (x + 2) (at + length t) texts)
+
+texts_described : (x at : ℕ) (texts : List (List ℕ)) → AllByRecursion (λ (q : Known). (q.operand.kind ≡ kind_of q.expression) × (q.operand.scale ≡ scale_of q.expression)) (known_texts (literals_from x at texts) texts)
+texts_described x at [] = tt
+texts_described x at (t ∷ texts) = ((refl, refl), texts_described (x + 2) (at + length t) texts)
+
+-- what is known of columns and of texts
+abbrev pub known_all : List Used → (at : ℕ) → (texts : List (List ℕ)) → List Known
+known_all used at texts = map known_of (readers_of used (length texts)) ++ known_texts (literals_from (first_text used) at texts) texts
+
+pub served : (used : List Used) (at : ℕ) (texts : List (List ℕ)) → IsServed (first_own used (length texts)) (known_all used at texts)
+served used at texts =
+    let n = length texts in
+    let below : AreBelow (first_own used n) (known_texts (literals_from (first_text used) at texts) texts) =
+    texts_below (first_text used) (first_own used n) (literals_from (first_text used) at texts) texts (texts_up (first_text used) (first_text used + 2 * n) (first_own used n) (literals_from (first_text used) at texts) (omega arith) (texts_in_locals (first_text used) at texts)) in (
+      all-append (λ (k : Known). IsBelow (first_own used n) k.operand.cell) (map known_of (readers_of used n)) (known_texts (literals_from (first_text used) at texts) texts)
+          (known_below (first_cell used n) (first_own used n) (readers_of used n) (cells_in 8 (first_cell used n) 0 (first_own used n) used (omega arith))) below,
+      all-append (λ (q : Known). (q.operand.kind ≡ kind_of q.expression) × (q.operand.scale ≡ scale_of q.expression)) (map known_of (readers_of used n)) (known_texts (literals_from (first_text used) at texts) texts)
+          (described 8 (first_cell used n) 0 used) (texts_described (first_text used) at texts),
+    )
+  where
+    texts_up : (from below high : ℕ) (literals : List Literal) → below ≤ high → AreTextsIn from below literals → AreTextsIn from high literals
+    texts_up from below high [] le are = omega (arith, le, are)
+    texts_up from below high (l ∷ literals) le are = (are.0, are.1, texts_up are.0 below high literals le are.2)
 
 pub knows : (b c k : ℕ) (used : List Used) (i : ℕ) (t : Ty) → IsRead used i t → Knows (map known_of (readers_from b c k used)) (column i t)
 knows b c k [] i t read = absurd read
@@ -127,6 +171,20 @@ all_declared types (r ∷ readers) rows bases cells = ((rows.0, bases.0, cells.0
 pub rows_declared : (types : List ValType) (b c k : ℕ) (used : List Used) → slice_get types 5 ≡ Some I32 → AllByRecursion (λ (r : Reader). slice_get types r.row ≡ Some I32) (readers_from b c k used)
 rows_declared types b c k [] is = tt
 rows_declared types b c k (u ∷ used) is = (is, rows_declared types (b + 3) (c + 3) (k + 1) used is)
+
+pub behind_texts : (types rest : List ValType) (x n : ℕ) → ((i : ℕ) → slice_get types (x + i) ≡ slice_get (text_types n rest) i) → (i : ℕ) → slice_get types (x + 2 * n + i) ≡ slice_get rest i
+behind_texts types rest x zero same i = let place : x + 2 * 0 + i ≡ x + i = omega arith in ap (λ (k : ℕ). slice_get types k) place ∙ same i
+behind_texts types rest x (suc n) same i =
+    let place : x + 2 * suc n + i ≡ x + 2 + 2 * n + i = omega arith in
+    ap (λ (k : ℕ). slice_get types k) place ∙ behind_texts types rest (x + 2) n (λ j. let further : x + 2 + j ≡ x + suc (suc j) = omega arith in ap (λ (k : ℕ). slice_get types k) further ∙ same (suc (suc j))) i
+
+pub literals_declared : (types rest : List ValType) (x at : ℕ) (texts : List (List ℕ)) → ((i : ℕ) → slice_get types (x + i) ≡ slice_get (text_types (length texts) rest) i) →
+    AllByRecursion (λ (l : Literal). DeclaresValue types (text_operand l)) (literals_from x at texts)
+literals_declared types rest x at [] same = tt
+literals_declared types rest x at (t ∷ texts) same = (
+  ((at_first types x I32 (I32 ∷ text_types (length texts) rest) same, same 1), tt),
+  literals_declared types rest (x + 2) (at + length t) texts (λ j. let further : x + 2 + j ≡ x + suc (suc j) = omega arith in ap (λ (k : ℕ). slice_get types k) further ∙ same (suc (suc j))),
+)
 
 -- ---- at each column, by its index
 abbrev pub AtEach : (ℕ → Used → Type 0) → ℕ → List Used → Type 0

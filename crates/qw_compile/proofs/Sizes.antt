@@ -1,5 +1,5 @@
 -- A statement has at most twice as many instructions as steps.
-use Rattle.std.proofs.Common.{◌≡◌, ℕ, ◌+◌, ◌*◌, ◌≤◌, List, [], ◌∷◌, ◌++◌, length, refl, length-append, arith}
+use Rattle.std.proofs.Common.{◌≡◌, ◌+◌, ◌*◌, ◌≤◌, [], ◌∷◌, ◌++◌, length, refl, length-append, arith}
 use Rattle.qw_module.specs.declared.instruction.ValType.TheVariants.{I32}
 use Rattle.qw_module.specs.declared.instruction.Binary.TheVariants.{Add}
 use Rattle.qw_module.specs.declared.instruction.Op.TheVariants as o
@@ -11,7 +11,7 @@ use Rattle.qw_low.specs.Size.{size}
 use Rattle.qw_low.specs.Steps.{expression_steps, request_steps, steps_of}
 use Rattle.qw_low.specs.Translation.{unaligned}
 
-two_steps : (a b : Expression) (last : LowStep) → length (expression_steps a) ≡ cost a → length (expression_steps b) ≡ cost b → length (expression_steps a ++ (expression_steps b ++ last ∷ [])) ≡ cost a + cost b + 1
+pub two_steps : (a b : Expression) (last : LowStep) → length (expression_steps a) ≡ cost a → length (expression_steps b) ≡ cost b → length (expression_steps a ++ (expression_steps b ++ last ∷ [])) ≡ cost a + cost b + 1
 two_steps a b last one two =
     let outer : length (expression_steps a ++ (expression_steps b ++ last ∷ [])) ≡ length (expression_steps a) + length (expression_steps b ++ last ∷ []) = length-append (expression_steps a) (expression_steps b ++ last ∷ []) in
     let inner : length (expression_steps b ++ last ∷ []) ≡ length (expression_steps b) + 1 = length-append (expression_steps b) (last ∷ []) in
@@ -20,7 +20,7 @@ two_steps a b last one two =
 one_step : (a : Expression) (last : LowStep) → length (expression_steps a) ≡ cost a → length (expression_steps a ++ last ∷ []) ≡ cost a + 1
 one_step a last one = let outer : length (expression_steps a ++ last ∷ []) ≡ length (expression_steps a) + 1 = length-append (expression_steps a) (last ∷ []) in omega (arith, outer, one)
 
-cost_steps : (e : Expression) → length (expression_steps e) ≡ cost e
+pub cost_steps : (e : Expression) → length (expression_steps e) ≡ cost e
 cost_steps (constant_of c) = refl
 cost_steps (local x) = refl
 cost_steps (unop t u e) = one_step e (step.Op (o.Unary t u)) (cost_steps e)

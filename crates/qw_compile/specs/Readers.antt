@@ -1,5 +1,5 @@
--- The columns that a scan reads, and the locals for them.
-use Rattle.std.specs.Prelude.{◌≡◌, ℕ, suc, ◌+◌, ◌*◌, ◌⊎◌, Bool, true, false, Option, Some, None, List, [], ◌∷◌, length}
+-- The columns that a scan reads, and the locals for them and for text literals.
+use Rattle.std.specs.Prelude.{◌≡◌, ℕ, zero, suc, ◌+◌, ◌*◌, ◌⊎◌, Bool, true, false, Option, Some, None, List, [], ◌∷◌, length}
 use Rattle.qw_types.specs.declared.value.Ty.{Ty}
 use Rattle.qw_types.specs.declared.value.Ty.TheVariants as ty
 use Rattle.qw_module.specs.declared.instruction.ValType.{ValType}
@@ -35,15 +35,18 @@ abbrev pub readers_from : (bases cells index : ℕ) → List Used → List Reade
 readers_from b c k [] = []
 readers_from b c k (u ∷ used) = reader_of b c k u ∷ readers_from (b + 3) (c + 3) (k + 1) used
 
--- the first local of the columns' values, and the first one behind them
-abbrev pub first_cell : List Used → ℕ
-first_cell used = 8 + 3 * length used
+-- the first local of so many text literals, the first one of the columns' values, and the first one behind them
+abbrev pub first_text : List Used → ℕ
+first_text used = 8 + 3 * length used
 
-abbrev pub first_own : List Used → ℕ
-first_own used = 8 + 6 * length used
+abbrev pub first_cell : List Used → (texts : ℕ) → ℕ
+first_cell used n = 8 + 3 * length used + 2 * n
 
-abbrev pub readers_of : List Used → List Reader
-readers_of used = readers_from 8 (first_cell used) 0 used
+abbrev pub first_own : List Used → (texts : ℕ) → ℕ
+first_own used n = 8 + 6 * length used + 2 * n
+
+abbrev pub readers_of : List Used → (texts : ℕ) → List Reader
+readers_of used n = readers_from 8 (first_cell used n) 0 used
 
 -- how the locals of a value are declared
 abbrev pub value_type : Ty → ValType
@@ -60,9 +63,13 @@ abbrev pub cell_types : List Used → (behind : List ValType) → List ValType
 cell_types [] behind = behind
 cell_types (u ∷ used) behind = value_type u.ty ∷ I32 ∷ I32 ∷ cell_types used behind
 
+abbrev pub text_types : (texts : ℕ) → (behind : List ValType) → List ValType
+text_types zero behind = behind
+text_types (suc n) behind = I32 ∷ I32 ∷ text_types n behind
+
 -- the types of a scan's locals behind its argument
-abbrev pub scan_locals : List Used → (own : List ValType) → List ValType
-scan_locals used own = I32 ∷ I32 ∷ I32 ∷ I64 ∷ I32 ∷ I32 ∷ I32 ∷ base_types used (cell_types used own)
+abbrev pub scan_locals : List Used → (texts : ℕ) → (own : List ValType) → List ValType
+scan_locals used n own = I32 ∷ I32 ∷ I32 ∷ I64 ∷ I32 ∷ I32 ∷ I32 ∷ base_types used (text_types n (cell_types used own))
 
 -- the columns of a table, from one on
 abbrev pub all_used : (table column : ℕ) → List Ty → (not_null : List Bool) → List Used

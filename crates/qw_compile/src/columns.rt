@@ -59,6 +59,16 @@ fn push_bases(locals: &mut Vec<ValType>, used: &[Used]) -> Result<(), NoMemory>
     Ok(())
 }
 
+/// Adds the types of the locals for so many text literals.
+fn push_texts(locals: &mut Vec<ValType>, texts: usize) -> Result<(), NoMemory>
+    ensures { OnOk result ((rest : List ValType) → locals.new.items ++ rest ≡ locals.old.items ++ readers.text_types texts rest) }
+{
+    for _text in 0..texts {
+        locals.extend_from_slice(&[ValType::I32, ValType::I32])?;
+    }
+    Ok(())
+}
+
 /// Adds the types of the locals for columns' values.
 fn push_cells(locals: &mut Vec<ValType>, used: &[Used]) -> Result<(), NoMemory>
     ensures { OnOk result ((rest : List ValType) → locals.new.items ++ rest ≡ locals.old.items ++ readers.cell_types used.now rest) }
@@ -69,13 +79,18 @@ fn push_cells(locals: &mut Vec<ValType>, used: &[Used]) -> Result<(), NoMemory>
     Ok(())
 }
 
-/// The types of a scan's locals behind its argument: those of every scan, those for columns, and its own.
+/// The types of a scan's locals behind its argument: those of every scan, those for columns and for so many text literals, and its own.
 ///
 /// # Errors
 ///
 /// [`NoMemory`] where the list does not fit memory.
-pub fn locals_of(alloc: Global, used: &[Used], own: &[ValType]) -> Result<Vec<ValType>, NoMemory>
-    ensures { IfOk result (λ locals. locals.items ≡ readers.scan_locals used.now own.now) }
+pub fn locals_of(
+    alloc: Global,
+    used: &[Used],
+    texts: usize,
+    own: &[ValType],
+) -> Result<Vec<ValType>, NoMemory>
+    ensures { IfOk result (λ locals. locals.items ≡ readers.scan_locals used.now texts own.now) }
 {
     let mut locals = Vec::new(alloc);
     locals.extend_from_slice(&[
@@ -88,6 +103,7 @@ pub fn locals_of(alloc: Global, used: &[Used], own: &[ValType]) -> Result<Vec<Va
         ValType::I32,
     ])?;
     push_bases(&mut locals, used)?;
+    push_texts(&mut locals, texts)?;
     push_cells(&mut locals, used)?;
     locals.extend_from_slice(own)?;
     Ok(locals)

@@ -2,12 +2,14 @@
 //!
 //! - [`compile`]: the module of a specification, and its layout.
 //! - [`readers`]: the columns that a scan reads.
+//! - [`texts`]: the text literals, their octets and the locals for them.
 //! - [`columns`]: columns as a layout has them, and the locals of a scan.
 //! - [`lists`]: the conjuncts and the select list, one after another.
 //! - [`nesting`]: what is done where a conjunct is true stands within its choice.
 //! - [`cells`]: the cells of a result row.
 //! - [`row`]: what is done at a row.
 //! - [`scan`]: the rows one after another.
+//! - [`worked_laws`]: worked cases of the definitions, with numbers.
 #![tactic(auto)]
 
 pub mod cells;
@@ -18,3 +20,5 @@ pub mod nesting;
 pub mod readers;
 pub mod row;
 pub mod scan;
+pub mod texts;
+pub mod worked_laws;

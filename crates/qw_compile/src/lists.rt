@@ -1,7 +1,8 @@
 //! The conjuncts of WHERE and the items of a select list, one after another.
 
-ghost use Rattle.std.specs.Prelude.{◌≡◌, ◌++◌, map, OnOk, IfOk};
+ghost use Rattle.std.specs.Prelude.{◌≡◌, ◌≤◌, ◌+◌, ◌*◌, ◌++◌, length, map, sum_by, OnOk, IfOk};
 ghost use Rattle.std.specs.List.{All};
+ghost use Rattle.qw_meaning.specs.Nodes.{nodes, nodes_of};
 ghost use Rattle.qw_meaning.specs.Tree.{condition_of, expression_of};
 ghost use Rattle.qw_meaning.specs.Typing.{AreTyped, IsTyped};
 ghost use Rattle.qw_low.specs.Steps.{steps_of};
@@ -33,7 +34,8 @@ pub fn emit_tests(
     requires typed { All (λ c. AreTyped (condition_of c)) conjuncts.now }
     requires known { All (λ c. TakeKnown (known_of known.now) (condition_of c)) conjuncts.now }
     requires served { IsServed (free_of emitter.old) (known_of known.now) }
-    ensures { OnOk result (EmitsTests (known_of known.now) (map condition_of conjuncts.now) emitter.old emitter.new) }
+    ensures emits { OnOk result (EmitsTests (known_of known.now) (map condition_of conjuncts.now) emitter.old emitter.new) }
+    ensures short { OnOk result (length emitter.new.block.code.items ≤ length emitter.old.block.code.items + 302 * sum_by nodes_of conjuncts.now) }
 {
     for conjunct in conjuncts {
         let out = emit_truth(emitter, conjunct, known)?;
@@ -56,7 +58,8 @@ pub fn emit_items(
     requires typed { All (λ e. IsTyped (expression_of e)) items.now }
     requires known { All (λ e. TakesKnown (known_of known.now) (expression_of e)) items.now }
     requires served { IsServed (free_of emitter.old) (known_of known.now) }
-    ensures { IfOk result (λ outs. EmitsItems (known_of known.now) (map expression_of items.now) emitter.old emitter.new outs.items) }
+    ensures emits { IfOk result (λ outs. EmitsItems (known_of known.now) (map expression_of items.now) emitter.old emitter.new outs.items) }
+    ensures short { OnOk result (length emitter.new.block.code.items ≤ length emitter.old.block.code.items + 300 * sum_by nodes items.now) }
 {
     let mut outs = Vec::new(alloc);
     for item in items {

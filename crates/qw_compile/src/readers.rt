@@ -1,17 +1,20 @@
-//! The columns that a scan reads: the locals for them, and what is known of them where expressions are evaluated.
+//! The columns that a scan reads: the locals for them, and what is known of them and of text literals where expressions are evaluated.
 
-ghost use Rattle.std.specs.Prelude.{◌≡◌, ◌≤◌, ◌+◌, ◌*◌, length, map, IfOk};
+ghost use Rattle.std.specs.Prelude.{◌≡◌, ◌≤◌, ◌+◌, ◌*◌, ◌++◌, length, map, IfOk, OnOk};
 ghost use Rattle.std.specs.List.{All};
 ghost use Rattle.qw_types.specs.Value.{IsSized};
 ghost use Rattle.qw_expr.specs.Bindings as bindings;
 ghost use Rattle.qw_rows.specs.Reading.{known_of};
+ghost use Rattle.qw_rows.specs.Texts.{known_texts};
 ghost use Rattle.qw_compile.specs.Readers as readers;
 
+use crate::texts::copy_of;
 use qw_expr::known::{Binding, Leaf};
 use qw_low::cell::{Cell, Local};
 use qw_map::layout::Used;
+use qw_rows::literal::Literal;
 use qw_rows::reader::Reader;
-use qw_types::NoMemory;
+use qw_types::{NoMemory, Text};
 use std::alloc::Global;
 
 /// The first local behind those of every scan.
@@ -23,20 +26,33 @@ const ROW: Local = 5;
 /// Each column has so many locals for the addresses of its parts, and as many for its value.
 const LOCALS: u32 = 3;
 
-/// The first local of the columns' values, of so many columns.
-pub fn first_cell(columns: usize) -> Local
+/// Each text literal has so many, for its address and its length.
+const TEXT_LOCALS: u32 = 2;
+
+/// The first local of text literals, behind those for the parts of so many columns.
+pub fn first_text(columns: usize) -> Local
     requires { columns ≤ 64 }
     ensures { result ≡ 8 + 3 * columns }
 {
     FIRST_BASE + LOCALS * columns as u32
 }
 
-/// The first local behind those of so many columns.
-pub fn first_own(columns: usize) -> Local
-    requires { columns ≤ 64 }
-    ensures { result ≡ 8 + 6 * columns }
+/// The first local of the columns' values, behind those of so many text literals.
+pub fn first_cell(columns: usize, texts: usize) -> Local
+    requires columns { columns ≤ 64 }
+    requires texts { texts ≤ 100000 }
+    ensures { result ≡ 8 + 3 * columns + 2 * texts }
 {
-    first_cell(columns) + LOCALS * columns as u32
+    first_text(columns) + TEXT_LOCALS * texts as u32
+}
+
+/// The first local behind those of so many columns and text literals.
+pub fn first_own(columns: usize, texts: usize) -> Local
+    requires columns { columns ≤ 64 }
+    requires texts { texts ≤ 100000 }
+    ensures { result ≡ 8 + 6 * columns + 2 * texts }
+{
+    first_cell(columns, texts) + LOCALS * columns as u32
 }
 
 /// The reader of the column of an index, with its locals from these on.
@@ -62,16 +78,17 @@ fn reader_of(base: Local, cell: Local, index: u32, used: Used) -> Reader
     }
 }
 
-/// The readers of columns, in their order.
+/// The readers of columns, in their order, where there are so many text literals.
 ///
 /// # Errors
 ///
 /// [`NoMemory`] where the list does not fit memory.
-pub fn readers_of(alloc: Global, used: &[Used]) -> Result<Vec<Reader>, NoMemory>
-    requires { length used.now ≤ 64 }
-    ensures { IfOk result (λ made. made.items ≡ readers.readers_of used.now) }
+pub fn readers_of(alloc: Global, used: &[Used], texts: usize) -> Result<Vec<Reader>, NoMemory>
+    requires columns { length used.now ≤ 64 }
+    requires texts { texts ≤ 100000 }
+    ensures { IfOk result (λ made. made.items ≡ readers.readers_of used.now texts) }
 {
-    let cells = first_cell(used.len());
+    let cells = first_cell(used.len(), texts);
     let mut made = Vec::new(alloc);
     for (index, column) in used.iter().enumerate() {
         let behind = LOCALS * index as u32;
@@ -80,21 +97,56 @@ pub fn readers_of(alloc: Global, used: &[Used]) -> Result<Vec<Reader>, NoMemory>
     Ok(made)
 }
 
-/// What is known where the columns have been read.
-///
-/// # Errors
-///
-/// [`NoMemory`] where the list does not fit memory.
-pub fn bindings_of(alloc: Global, readers: &[Reader]) -> Result<Vec<Binding>, NoMemory>
+/// Adds what is known of columns that have been read.
+fn bind_columns(made: &mut Vec<Binding>, readers: &[Reader]) -> Result<(), NoMemory>
     requires { All (λ r. IsSized r.ty) readers.now }
-    ensures { IfOk result (λ made. bindings.known_of made.items ≡ map known_of readers.now) }
+    ensures { OnOk result (bindings.known_of made.new.items ≡ bindings.known_of made.old.items ++ map known_of readers.now) }
 {
-    let mut made = Vec::new(alloc);
     for reader in readers {
         made.push(Binding {
             leaf: Leaf::Column(reader.column, reader.ty),
             operand: reader.operand(),
         })?;
     }
+    Ok(())
+}
+
+/// Adds what is known of texts, by their literals.
+fn bind_texts(
+    alloc: Global,
+    made: &mut Vec<Binding>,
+    literals: &[Literal],
+    texts: &[Text],
+) -> Result<(), NoMemory>
+    requires { length literals.now ≡ length texts.now }
+    ensures { OnOk result (bindings.known_of made.new.items ≡ bindings.known_of made.old.items ++ known_texts literals.now texts.now) }
+{
+    for (index, text) in texts.iter().enumerate() {
+        made.push(Binding {
+            leaf: Leaf::Text(copy_of(alloc, text)?),
+            operand: literals[index].operand(),
+        })?;
+    }
+    Ok(())
+}
+
+/// What is known where the columns have been read, and where the literals' locals lead to texts.
+///
+/// # Errors
+///
+/// [`NoMemory`] where memory does not suffice.
+pub fn bindings_of(
+    alloc: Global,
+    readers: &[Reader],
+    literals: &[Literal],
+    texts: &[Text],
+) -> Result<Vec<Binding>, NoMemory>
+    requires sized { All (λ r. IsSized r.ty) readers.now }
+    requires many { length literals.now ≡ length texts.now }
+    ensures { IfOk result (λ made. bindings.known_of made.items ≡ map known_of readers.now ++ known_texts literals.now texts.now) }
+{
+    let mut made = Vec::new(alloc);
+    bind_columns(&mut made, readers)?;
+    bind_texts(alloc, &mut made, literals, texts)?;
     Ok(made)
 }

@@ -1,7 +1,8 @@
 //! What is done at a row of the table.
 
-ghost use Rattle.std.specs.Prelude.{◌≡◌, ◌≤◌, length, map, IfOk};
+ghost use Rattle.std.specs.Prelude.{◌≡◌, ◌≤◌, ◌+◌, ◌*◌, length, map, sum_by, IfOk, OnOk};
 ghost use Rattle.std.specs.List.{All};
+ghost use Rattle.qw_meaning.specs.Nodes.{nodes, nodes_of};
 ghost use Rattle.qw_meaning.specs.Tree.{condition_of, expression_of};
 ghost use Rattle.qw_meaning.specs.Typing.{AreTyped, IsTyped};
 ghost use Rattle.qw_expr.specs.Bindings.{known_of, IsServed, TakeKnown, TakesKnown};
@@ -40,7 +41,8 @@ pub fn emit_row(
     requires items_typed { All (λ e. IsTyped (expression_of e)) items.now }
     requires items_known { All (λ e. TakesKnown (known_of known.now) (expression_of e)) items.now }
     requires served { IsServed (free_of emitter.old) (known_of known.now) }
-    ensures { IfOk result (λ outs. EmitsRow (known_of known.now) (map condition_of conjuncts.now) (map expression_of items.now) emitter.old emitter.new outs.items) }
+    ensures emits { IfOk result (λ outs. EmitsRow (known_of known.now) (map condition_of conjuncts.now) (map expression_of items.now) emitter.old emitter.new outs.items) }
+    ensures short { OnOk result (length emitter.new.block.code.items ≤ length emitter.old.block.code.items + (320 * (sum_by nodes_of conjuncts.now + sum_by nodes items.now) + 40)) }
 {
     emit_tests(emitter, conjuncts, known)?;
     let outs = emit_items(alloc, emitter, items, known)?;

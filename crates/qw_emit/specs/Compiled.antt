@@ -10,10 +10,12 @@ use Rattle.qw_module.specs.declared.module.Module.{Module}
 use Rattle.qw_module.specs.Execution.{State, Running, Returned, Raised, Trapped}
 use Rattle.qw_module.specs.Validity.{IsShaped, imported_functions, code_of_body}
 use Rattle.qw_module.specs.Start.{weight, weight_of_function}
-use Rattle.qw_meaning.specs.Flow.{flow, rows_of}
+use Rattle.qw_meaning.specs.Expression.{Condition, Expression}
+use Rattle.qw_meaning.specs.Flow.{flow, from_entries, rows_of}
 use Rattle.qw_meaning.specs.Outcome.{Outcome, Rows, Raises, outcome}
 use Rattle.qw_meaning.specs.Select.{Entry, Specification}
 use Rattle.qw_meaning.specs.Typing.{kind_of}
+use Rattle.qw_meaning.specs.Units as text
 use Rattle.qw_map.specs.Areas.{World}
 use Rattle.qw_map.specs.Behaving.{IsRunnable, beginning}
 use Rattle.qw_map.specs.Layout.{Layout, IsReady, row_size, rows_at}
@@ -24,10 +26,18 @@ use Rattle.qw_map.specs.declared.layout.Used.{Used}
 
 -- ---- bounds
 
--- The units of a run: the rows that it scans, and its result rows, those made of rows that raise nothing.
+-- The octets of the texts that are compared at a row of FROM, where all conjuncts and all items are evaluated at it.
+abbrev pub compared_at : Specification → List Val → ℕ
+compared_at query row =
+    sum_by (λ (c : Condition). text.units_of c (record { row = row })) query.conjuncts
+    + sum_by (λ (e : Expression). text.units e (record { row = row })) query.items
+
+-- The units of a run: the rows that it scans, its result rows, those made of rows that raise nothing, and the octets of the texts that
+-- are compared at each row of FROM.
 abbrev pub units : Specification → List (List (List Val)) → ℕ
 units query tables =
     sum_by (λ (entry : Entry). length (rows_of tables entry.table)) query.entries + length (flow query tables).rows
+    + sum_by (compared_at query) (from_entries query.entries tables).rows
 
 -- how many instructions a module has, in all functions of its own
 abbrev pub module_weight : Module → ℕ

@@ -12,7 +12,7 @@ use Rattle.qw_meaning.specs.Tree.{matches_of}
 use Rattle.qw_meaning.specs.Typing.{AreTyped, IsTyped}
 use Rattle.qw_expr.specs.Bindings.{TakeKnown, TakesKnown}
 use Rattle.qw_expr.specs.Computes.{Known}
-use Rattle.qw_expr.specs.Units.{units, units_of}
+use Rattle.qw_meaning.specs.Units.{units, units_of}
 
 -- what a condition and an expression need of an operand that they evaluate first
 pub record First (x : Expression) (c : Condition) : Type 0 where

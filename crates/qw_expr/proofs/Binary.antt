@@ -28,7 +28,7 @@ use Rattle.qw_low.proofs.Results.{Kept-then, at_least, Comes, comes_weaker, come
 use Rattle.qw_wide.specs.Numbers.{HasNumber, Operates}
 use Rattle.qw_expr.specs.declared.operand.Operand.{Operand}
 use Rattle.qw_expr.specs.Cells.{Holds, IsBelow, IsBelowNull, DeclaresNull, DeclaresKind, DeclaresValue, Declares}
-use Rattle.qw_expr.specs.Units.{units}
+use Rattle.qw_meaning.specs.Units.{units}
 use Rattle.qw_expr.specs.Computes.{Known, AreHeld, AreBelow, Computes}
 use Rattle.qw_expr.specs.Inner.Operated.{number_at}
 use Rattle.qw_expr.specs.Inner.Nulls.{join_block, joined_null, unless_null}

@@ -29,7 +29,7 @@ use Rattle.qw_low.proofs.Results.{Kept-same, Kept-set, Kept-then, Comes, comes_w
 use Rattle.qw_expr.specs.declared.choice.Place.{Place}
 use Rattle.qw_expr.specs.declared.operand.Operand.{Operand}
 use Rattle.qw_expr.specs.Cells.{Holds, HoldsValue, HoldsTruth, IsWithin, IsBelow, IsBelowNull, DeclaresNull, DeclaresKind, DeclaresValue, Declares}
-use Rattle.qw_expr.specs.Units.{units, units_of}
+use Rattle.qw_meaning.specs.Units.{units, units_of}
 use Rattle.qw_expr.specs.Computes.{Known, AreHeld, AreBelow, AreDeclared, Computes, Decides}
 use Rattle.qw_expr.specs.Inner.Truths.{i32, unknown_word, junction_null}
 use Rattle.qw_expr.specs.Inner.Choices.{Suits, place_types, place_at, copy_value, copy_block, chosen_at}

@@ -24,7 +24,7 @@ use Rattle.qw_low.specs.Raising.{Kept}
 use Rattle.qw_low.specs.Held.{SaysNull}
 use Rattle.qw_low.proofs.Results.{Kept-set, Kept-one, Comes, comes_then, comes_assign}
 use Rattle.qw_expr.specs.Cells.{HoldsTruth, IsBelowNull, DeclaresNull, DeclaresTruth}
-use Rattle.qw_expr.specs.Units.{units_of}
+use Rattle.qw_meaning.specs.Units.{units_of}
 use Rattle.qw_expr.specs.Computes.{Known, Decides}
 use Rattle.qw_expr.specs.Inner.Truths.{is_false}
 use Rattle.qw_expr.proofs.Nulls.{value_says, null_below_more}

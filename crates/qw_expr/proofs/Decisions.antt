@@ -1,5 +1,5 @@
 -- Comparisons of emitted expressions.
-use Rattle.std.proofs.Common.{◌≡◌, ℕ, ℤ, pos, negsuc, ◌+◌, ◌≤◌, Ordering, IsTrue, unsigned_abs, List, [], ◌∷◌, ◌++◌, length, length-append, Option, Some, None, Ok, slice_get, refl, sym, ap, subst, arith}
+use Rattle.std.proofs.Common.{◌≡◌, ℕ, ℤ, pos, negsuc, ◌+◌, ◌≤◌, Ordering, IsTrue, unsigned_abs, List, [], ◌∷◌, ◌++◌, length, length-append, Option, Some, None, Ok, slice_get, refl, sym, ap, ap₂, subst, arith}
 use Rattle.std.proofs.lemmas.Int.{ints}
 use Rattle.qw_types.specs.Arithmetic.{◌>>=◌, order_of}
 use Rattle.qw_types.specs.Kind.{IsDateNumber}
@@ -27,7 +27,7 @@ use Rattle.qw_wide.proofs.OrderRuns.{same_scale}
 use Rattle.qw_wide.proofs.Words.{below_fits}
 use Rattle.qw_expr.specs.declared.operand.Operand.{Operand}
 use Rattle.qw_expr.specs.Cells.{Holds, HoldsTruth, IsBelowNull, DeclaresNull, DeclaresKind, DeclaresValue, Declares}
-use Rattle.qw_expr.specs.Units.{octets_of, units_of}
+use Rattle.qw_meaning.specs.Units.{octets_in, octets_of, units_of}
 use Rattle.qw_expr.specs.Computes.{Known, AreHeld, AreBelow, Computes, Decides}
 use Rattle.qw_expr.specs.Inner.Nulls.{join_block, joined_null}
 use Rattle.qw_expr.specs.Inner.Truths.{zero_test, zero_if_null}
@@ -70,7 +70,7 @@ module _ (known : List Known) (next : ℕ) (low_known : AreBelow next known) (o 
   cell = record { value = m + 1; length = m + 1; null = null }
 
   module _ (body : Statement) (mine : List ValType)
-      (does : (pages fuel more : ℕ) (row : List Val) (x y : Val) (u t : LowState) → 1 + (octets_of (Ok x) + octets_of (Ok y)) ≤ more → more ≤ fuel → HaveColumns (HoldsIn row) (comparison o a b) → value_of a (record { row = row }) ≡ Ok x → value_of b (record { row = row }) ≡ Ok y →
+      (does : (pages fuel more : ℕ) (row : List Val) (x y : Val) (u t : LowState) → 1 + octets_in x y ≤ more → more ≤ fuel → HaveColumns (HoldsIn row) (comparison o a b) → value_of a (record { row = row }) ≡ Ok x → value_of b (record { row = row }) ≡ Ok y →
       Holds oa x u → Holds ob y u → (x ≡ val.Null → ⊥) → (y ≡ val.Null → ⊥) → Kept m u t → SaysValue t null → m + 2 + length mine ≤ length u.locals →
       Comes pages fuel more (λ v w. Kept m u w × HoldsTruth cell v w) (Ok (compared o x (scale_of a) y (scale_of b))) body t)
       (typed_body : (types : List ValType) → DeclaresValue types oa → DeclaresValue types ob → slice_get types (m + 1) ≡ Some I32 → Declares types (m + 2) mine → low.IsTyped types body) where
@@ -96,14 +96,13 @@ module _ (known : List Known) (next : ℕ) (low_known : AreBelow next known) (o 
         (λ y w is_y right.
         let r : Truth = compared o x (scale_of a) y (scale_of b) in
         let first : Holds oa x w = (value_kept (next + length owna) t w oa.cell x right.0 ca.below left.1.0, left.1.1) in
-        let octets_x : octets_of (value_of a env) ≡ octets_of (Ok x) = ap octets_of is_x in
-        let octets_y : octets_of (value_of b env) ≡ octets_of (Ok y) = ap octets_of is_y in
+        let octets : octets_of (value_of a env) (value_of b env) ≡ octets_in x y = ap₂ octets_of is_x is_y in
         let wide : m + 2 + length mine ≤ length w.locals = omega (arith, room, long, left.0.many, right.0.many) in
         comes_weaker pages fuel more (λ v v'. Kept m w v' × HoldsTruth cell v v') (λ v v'. Kept next s v' × HoldsTruth cell v v') (Ok r) tail w
         (λ v z is kept. (Kept-then next m s w z (omega arith) (Kept-then next (next + length owna) s t w (omega arith) left.0 right.0) kept.0, kept.1))
         (decided pages fuel more some w m oa ob (below_more (next + length owna) m oa.cell (omega arith) ca.below) cb.below (omega (arith, wide)) body x y r
         (compared_left o x (scale_of a) y (scale_of b)) (compared_right o x (scale_of a) y (scale_of b))
-        (λ nx ny z kept says. does pages fuel more row x y w z (omega (arith, enough, octets_x, octets_y)) within columns is_x is_y first right.1 nx ny kept says wide) first right.1)))
+        (λ nx ny z kept says. does pages fuel more row x y w z (omega (arith, enough, octets)) within columns is_x is_y first right.1 nx ny kept says wide) first right.1)))
 
     pub comparison_decides : Decides known (comparison o a b) next cell (seq sa (seq sb tail)) own
     comparison_decides = record {

@@ -19,7 +19,7 @@ use Rattle.qw_low.specs.State.{LowState}
 use Rattle.qw_low.specs.Raising.{Kept}
 use Rattle.qw_low.proofs.Results.{Kept-same, Kept-then, Comes, comes_weaker, comes_then, comes_choose}
 use Rattle.qw_expr.specs.Cells.{HoldsTruth, IsBelow, IsBelowNull, DeclaresNull, Declares}
-use Rattle.qw_expr.specs.Units.{units_of}
+use Rattle.qw_meaning.specs.Units.{units_of}
 use Rattle.qw_expr.specs.Computes.{Known, AreHeld, AreBelow, Decides}
 use Rattle.qw_expr.specs.Inner.Truths.{i32, may_hold, unknown_word, junction_null, set_truth, and_block, or_block}
 use Rattle.qw_expr.proofs.Nulls.{truth_kept, known_kept, below_more}

@@ -20,7 +20,7 @@ use Rattle.qw_expr.specs.declared.emitter.Emitter.{Emitter}
 use Rattle.qw_expr.specs.declared.operand.Operand.{Operand}
 use Rattle.qw_expr.specs.Bindings.{IsAmong, IsServed}
 use Rattle.qw_expr.specs.Cells.{Holds, HoldsTruth, IsBelow, DeclaresValue, Declares}
-use Rattle.qw_expr.specs.Units.{units, units_of}
+use Rattle.qw_meaning.specs.Units.{units, units_of}
 use Rattle.qw_expr.specs.Computes.{Known, AreHeld, AreBelow, AreDeclared, Computes, Decides}
 use Rattle.qw_expr.specs.Emits.{Emits, EmitsTruth, free_of}
 use Rattle.qw_expr.proofs.Binary.{declares_first, declares_rest}

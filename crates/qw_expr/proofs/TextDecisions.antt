@@ -1,5 +1,5 @@
 -- Comparisons of texts.
-use Rattle.std.proofs.Common.{◌≡◌, ℕ, ℤ, pos, int_cmp, ◌+◌, ◌*◌, ◌<◌, ◌≤◌, Bool, not, FitsSigned, List, [], ◌∷◌, ◌++◌, length, Option, Some, None, Ok, slice_get, slice_set, refl, sym, ap, ◌∙◌, subst, arith, w64}
+use Rattle.std.proofs.Common.{◌≡◌, ℕ, ℤ, pos, int_cmp, ◌+◌, ◌*◌, ◌<◌, ◌≤◌, Bool, not, FitsSigned, List, [], ◌∷◌, ◌++◌, length, Option, Some, None, Ok, slice_get, slice_set, refl, sym, ap, ap₂, ◌∙◌, subst, arith, w64}
 use Rattle.std.proofs.lemmas.Int.{ints}
 use Rattle.std.specs.Ordering.{is_eq}
 use Rattle.qw_types.specs.TextOrder.{text_order}
@@ -38,7 +38,7 @@ use Rattle.qw_expr.specs.declared.emitter.Emitter.{Emitter}
 use Rattle.qw_expr.specs.declared.text.TextLocals.{TextLocals}
 use Rattle.qw_expr.specs.declared.operand.Operand.{Operand}
 use Rattle.qw_expr.specs.Cells.{Holds, HoldsTruth, IsBelow, DeclaresKind, DeclaresValue, Declares}
-use Rattle.qw_expr.specs.Units.{octets_of}
+use Rattle.qw_meaning.specs.Units.{octets_in}
 use Rattle.qw_expr.specs.Computes.{Known, AreBelow, Computes, Decides}
 use Rattle.qw_expr.specs.Emits.{Emits, EmitsTruth, free_of}
 use Rattle.qw_expr.specs.Inner.Nulls.{join_block, joined_null, after_unless}
@@ -121,18 +121,17 @@ module _ (known : List Known) (next : ℕ) (low_known : AreBelow next known) (o 
   cell = record { value = m + 1; length = m + 1; null = null }
 
   module _ (tests : TestsTexts o oa.cell ob.cell (m + 2) (m + 1) f) where
-    both : (pages fuel more : ℕ) (x y : Val) (u t : LowState) (v w : List ℕ) → x ≡ val.Text v → y ≡ val.Text w → 1 + (octets_of (Ok x) + octets_of (Ok y)) ≤ more → more ≤ fuel → HoldsText u oa.cell.value oa.cell.length v → HoldsText u ob.cell.value ob.cell.length w →
+    both : (pages fuel more : ℕ) (x y : Val) (u t : LowState) (v w : List ℕ) → x ≡ val.Text v → y ≡ val.Text w → 1 + octets_in x y ≤ more → more ≤ fuel → HoldsText u oa.cell.value oa.cell.length v → HoldsText u ob.cell.value ob.cell.length w →
         Kept m u t → SaysValue t null → m + 2 + length own_types ≤ length u.locals → Comes pages fuel more (λ z q. Kept m u q × HoldsTruth cell z q) (Ok (compared o x (scale_of a) y (scale_of b))) f t
     both pages fuel more x y u t v w is_x is_y enough within held_v held_w kept says room =
         let g : Bool = answers o (text_order v w) in
         let low_a = below_more (next + length owna) m oa.cell (omega arith) ca.below in
         let low_null = null_low pages fuel more (omega (arith, enough)) u m oa ob low_a cb.below (omega (arith, room)) skip in
-        let octets_x : octets_of (Ok x) ≡ length v = ap (λ (z : Val). octets_of (Ok z)) is_x in
-        let octets_y : octets_of (Ok y) ≡ length w = ap (λ (z : Val). octets_of (Ok z)) is_y in
+        let octets : octets_in x y ≡ length v + length w = ap₂ octets_in is_x is_y in
         subst (λ (r : Truth). Comes pages fuel more (λ z q. Kept m u q × HoldsTruth cell z q) (Ok r) f t) (sym (compared_texts o x y (scale_of a) (scale_of b) v w is_x is_y))
         (Ends-weaker (size f * more) (size f * more) (λ q. Kept (m + 1) t q × (slice_get q.locals (m + 1) ≡ Some (Number (truth g)))) (λ q. Kept m u q × HoldsTruth cell (truth_if g) q) (λ q. ⊥) (λ q. ⊥) (λ code. ⊥) (λ code. ⊥) (meaning pages fuel f t) (omega arith)
         (λ q left. (Kept-then m (m + 1) u t q (omega arith) kept left.0, truth_held cell g q left.1 (value_says (m + 1) t q null left.0 low_null says))) (λ q h. h) (λ code h. h)
-        (tests.runs pages fuel more t v w (omega (arith, enough, octets_x, octets_y)) within (text_kept m u t oa.cell.value oa.cell.length v kept low_a.0 low_a.1 held_v) (text_kept m u t ob.cell.value ob.cell.length w kept cb.below.0 cb.below.1 held_w)
+        (tests.runs pages fuel more t v w (omega (arith, enough, octets)) within (text_kept m u t oa.cell.value oa.cell.length v kept low_a.0 low_a.1 held_v) (text_kept m u t ob.cell.value ob.cell.length w kept cb.below.0 cb.below.1 held_w)
         (omega arith) (omega (arith, room, kept.many))))
 
     pub texts_decide : Decides known (comparison o a b) next cell (seq sa (seq sb (seq (join_block m oa.cell.null ob.cell.null) (zero_if_null null (m + 1) f)))) (owna ++ (ownb ++ (I32 ∷ I32 ∷ own_types)))

@@ -15,7 +15,7 @@ use Rattle.qw_expr.specs.declared.emitter.Emitter.{Emitter}
 use Rattle.qw_expr.specs.declared.operand.Operand.{Operand}
 use Rattle.qw_expr.specs.Bindings.{IsAmong, IsServed}
 use Rattle.qw_expr.specs.Cells.{IsBelow}
-use Rattle.qw_expr.specs.Units.{units, units_of}
+use Rattle.qw_meaning.specs.Units.{units, units_of}
 use Rattle.qw_expr.specs.Computes.{Known, AreBelow}
 use Rattle.qw_expr.specs.Emits.{Emits, EmitsTruth, free_of}
 use Rattle.qw_expr.specs.Inner.Junctions.{Begins}

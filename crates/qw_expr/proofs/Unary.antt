@@ -30,7 +30,7 @@ use Rattle.qw_wide.specs.Numbers.{HasNumber, Converts}
 use Rattle.qw_wide.proofs.Words.{word, small, word_back, below_fits, quotient_below, word-div, held_word, word_held}
 use Rattle.qw_expr.specs.declared.operand.Operand.{Operand}
 use Rattle.qw_expr.specs.Cells.{Holds, DeclaresKind}
-use Rattle.qw_expr.specs.Units.{units}
+use Rattle.qw_meaning.specs.Units.{units}
 use Rattle.qw_expr.specs.Computes.{Known, AreBelow, Computes}
 use Rattle.qw_expr.specs.Inner.Operated.{number_at}
 use Rattle.qw_expr.specs.Inner.Nulls.{unless_null}

@@ -17,7 +17,7 @@ use Rattle.qw_low.specs.Promise.{Ends}
 use Rattle.qw_low.specs.Raising.{Leaves, Raises, Kept}
 use Rattle.qw_expr.specs.declared.operand.Operand.{Operand}
 use Rattle.qw_expr.specs.Cells.{Holds, HoldsTruth, IsBelow, DeclaresValue, DeclaresTruth, Declares}
-use Rattle.qw_expr.specs.Units.{units, units_of}
+use Rattle.qw_meaning.specs.Units.{units, units_of}
 
 -- An expression whose value is in locals when a block begins: a column of the row, a literal, or what was computed before.
 pub record Known : Type 0 where

@@ -1,5 +1,4 @@
 pub mod Cells
-pub mod Units
 pub mod Computes
 pub mod Bindings
 pub mod Emits

@@ -1,6 +1,6 @@
 //! Operators on numbers (ISO/IEC 9075:1992, 6.12). Null operands are tested first, and only where there may be one.
 
-ghost use Rattle.std.specs.Prelude.{◌≡◌, ◌+◌, ◌<◌, ◌≤◌, ◌^◌, ◌++◌, List, neg_ℤ, Ok, IfOk};
+ghost use Rattle.std.specs.Prelude.{◌≡◌, ◌+◌, ◌<◌, ◌≤◌, ◌^◌, ◌++◌, List, neg_ℤ, Ok, IfOk, length, OnOk};
 ghost use Rattle.qw_types.specs.Arithmetic.{bring};
 ghost use Rattle.qw_meaning.specs.Evaluation.{applied};
 ghost use Rattle.qw_meaning.specs.Expression.{Expression, arithmetic, negative, scale_after};
@@ -66,6 +66,7 @@ fn operate(
     ensures block { IfOk result (λ out. (a : Statement) × (block.new.code.items ≡ block.old.code.items ++ steps_of a)
         × Operates (λ v w. applied operator v left.scale w right.scale) left.local left.most right.local right.most free out.local out.most a) }
     ensures scale { IfOk result (λ out. out.scale ≡ scale_after operator left.scale right.scale) }
+    ensures short { OnOk result (length block.new.code.items ≤ length block.old.code.items + 60) }
 {
     match operator {
         Operator::Add => add(block, left, right, free),
@@ -86,7 +87,8 @@ impl Emitter {
         requires scales { (left.scale ≤ 18) × (right.scale ≤ 18) }
         requires allowed { ScalesAllowed operator left.scale right.scale }
         requires below { (left.cell.value < free_of self.old) × (right.cell.value < free_of self.old) }
-        ensures { IfOk result (λ out. AddsOperator operator left right self.old self.new out) }
+        ensures emits { IfOk result (λ out. AddsOperator operator left right self.old self.new out) }
+        ensures short { OnOk result (length self.new.block.code.items ≤ length self.old.block.code.items + 70) }
     {
         let p = self.fresh(ValType::I32)?;
         let free = self.fresh(ValType::I64)?;
@@ -114,15 +116,17 @@ impl Emitter {
         requires scales { (left.scale ≤ 18) × (right.scale ≤ 18) }
         requires allowed { ScalesAllowed operator left.scale right.scale }
         requires below { (left.cell.value < free_of self.old) × (right.cell.value < free_of self.old) }
-        ensures { IfOk result (λ out. (known : List Known) (a b : Expression) (start mid : Emitter) → IsTyped (arithmetic operator a b) → AreBelow (free_of start) known →
+        ensures emits { IfOk result (λ out. (known : List Known) (a b : Expression) (start mid : Emitter) → IsTyped (arithmetic operator a b) → AreBelow (free_of start) known →
             Emits known a start mid left → Emits known b mid self.old right → Emits known (arithmetic operator a b) start self.new out) }
+        ensures short { OnOk result (length self.new.block.code.items ≤ length self.old.block.code.items + 70) }
     {
         self.operated(operator, left, right)
     }
 
     /// Adds the opposite of a number, unless it is null.
     fn opposite(&mut self, operand: Operand) -> Result<Operand, NoMemory>
-        ensures { IfOk result (λ out. AddsOperation (λ v. Ok (neg_ℤ v)) operand.scale operand self.old self.new out) }
+        ensures emits { IfOk result (λ out. AddsOperation (λ v. Ok (neg_ℤ v)) operand.scale operand self.old self.new out) }
+        ensures short { OnOk result (length self.new.block.code.items ≤ length self.old.block.code.items + 70) }
     {
         let free = self.fresh(ValType::I64)?;
         self.begin_unless(operand.cell.null)?;
@@ -133,8 +137,9 @@ impl Emitter {
 
     /// Adds the opposite of an expression that was emitted before.
     pub fn negative(&mut self, operand: Operand) -> Result<Operand, NoMemory>
-        ensures { IfOk result (λ out. (known : List Known) (a : Expression) (start : Emitter) → IsTyped (negative a) → AreBelow (free_of start) known →
+        ensures emits { IfOk result (λ out. (known : List Known) (a : Expression) (start : Emitter) → IsTyped (negative a) → AreBelow (free_of start) known →
             Emits known a start self.old operand → Emits known (negative a) start self.new out) }
+        ensures short { OnOk result (length self.new.block.code.items ≤ length self.old.block.code.items + 70) }
     {
         self.opposite(operand)
     }
@@ -143,7 +148,8 @@ impl Emitter {
     pub(crate) fn scaled_to(&mut self, operand: Operand, scale: u8) -> Result<Operand, NoMemory>
         requires scales { (operand.scale ≤ scale) × (scale ≤ 18) }
         requires below { operand.cell.value < free_of self.old }
-        ensures { IfOk result (λ out. AddsOperation (λ v. bring v operand.scale scale) scale operand self.old self.new out) }
+        ensures emits { IfOk result (λ out. AddsOperation (λ v. bring v operand.scale scale) scale operand self.old self.new out) }
+        ensures short { OnOk result (length self.new.block.code.items ≤ length self.old.block.code.items + 80) }
     {
         let free = self.fresh(ValType::I64)?;
         self.begin_unless(operand.cell.null)?;

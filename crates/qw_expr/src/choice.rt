@@ -1,6 +1,6 @@
 //! Choices between two results (ISO/IEC 9075:1992, 6.9): only the chosen one is evaluated, and left in a place of the choice's own.
 
-ghost use Rattle.std.specs.Prelude.{◌≡◌, ◌<◌, ◌≤◌, ◌++◌, max, Bool, List, IfOk, OnOk};
+ghost use Rattle.std.specs.Prelude.{◌≡◌, ◌<◌, ◌≤◌, ◌++◌, max, Bool, List, IfOk, OnOk, ◌+◌, length};
 ghost use Rattle.qw_meaning.specs.Expression.{Expression, Condition, brought, choice, null};
 ghost use Rattle.qw_meaning.specs.Typing.{IsTyped, joined, kind_of};
 ghost use Rattle.qw_low.specs.declared.cell.Cell.{Cell};
@@ -81,7 +81,8 @@ impl Emitter {
 
     /// Begins what is done where a truth is true.
     pub(crate) fn begin_choice(&mut self, test: Cell, text: bool) -> Result<Place, NoMemory>
-        ensures { IfOk result (λ to. BeginsChoice test.value text self.old self.new to) }
+        ensures emits { IfOk result (λ to. BeginsChoice test.value text self.old self.new to) }
+        ensures short { OnOk result (length self.new.block.code.items ≤ length self.old.block.code.items + 2) }
     {
         let to = self.place(text)?;
         self.block
@@ -94,6 +95,7 @@ impl Emitter {
     fn copy(&mut self, to: Place, from: Operand) -> Result<(), NoMemory>
         ensures code { OnOk result (self.new.block.code.items ≡ self.old.block.code.items ++ steps_of (copy_block from.kind to from.cell)) }
         ensures same { OnOk result ((self.new.first ≡ self.old.first) × (self.new.own.items ≡ self.old.own.items)) }
+        ensures short { OnOk result (length self.new.block.code.items ≤ length self.old.block.code.items + 6) }
     {
         match from.kind {
             None => {}
@@ -117,6 +119,7 @@ impl Emitter {
         ensures same { OnOk result ((self.new.first ≡ self.old.first) × (self.new.own.items ≡ self.old.own.items)) }
         ensures first { OnOk result ((known : List Known) (c : Condition) (a : Expression) (text : Bool) (start mid begun : Emitter) (test : Cell) →
             EmitsTruth known c start mid test → BeginsChoice test.value text mid begun to → Emits known a begun self.old first → HasFirst known c a text start self.new to first) }
+        ensures short { OnOk result (length self.new.block.code.items ≤ length self.old.block.code.items + 7) }
     {
         self.copy(to, first)?;
         self.block.push(LowStep::Else)
@@ -131,8 +134,9 @@ impl Emitter {
     ) -> Result<Operand, NoMemory>
         requires scales { (operand.scale ≤ scale) × (scale ≤ 18) }
         requires below { operand.cell.value < free_of self.old }
-        ensures { IfOk result (λ out. (known : List Known) (c : Condition) (a : Expression) (text : Bool) (start mid begun : Emitter) (test : Cell) → IsTyped (brought a scale) → AreBelow (free_of begun) known →
+        ensures emits { IfOk result (λ out. (known : List Known) (c : Condition) (a : Expression) (text : Bool) (start mid begun : Emitter) (test : Cell) → IsTyped (brought a scale) → AreBelow (free_of begun) known →
             EmitsTruth known c start mid test → BeginsChoice test.value text mid begun to → Emits known a begun self.old operand → HasFirst known c (brought a scale) text start self.new to out) }
+        ensures short { OnOk result (length self.new.block.code.items ≤ length self.old.block.code.items + 90) }
     {
         let first = self.brought(operand, scale)?;
         self.begin_other(to, first)?;
@@ -146,8 +150,9 @@ impl Emitter {
         operand: Operand,
         text: bool,
     ) -> Result<Operand, NoMemory>
-        ensures { IfOk result (λ out. (known : List Known) (c : Condition) (e : Expression) (start : Emitter) → IsTyped (choice c null e) → Suits text (kind_of (choice c null e)) → AreBelow (free_of start) known →
+        ensures emits { IfOk result (λ out. (known : List Known) (c : Condition) (e : Expression) (start : Emitter) → IsTyped (choice c null e) → Suits text (kind_of (choice c null e)) → AreBelow (free_of start) known →
             EmitsTruth known c start self.old test → ((now : Emitter) → free_of start ≤ free_of now → Emits known e now now operand) → Emits known (choice c null e) start self.new out) }
+        ensures short { OnOk result (length self.new.block.code.items ≤ length self.old.block.code.items + 20) }
     {
         let place = self.begin_choice(test, text)?;
         let first = self.null()?;
@@ -162,8 +167,9 @@ impl Emitter {
         first: Operand,
         second: Operand,
     ) -> Result<Operand, NoMemory>
-        ensures { IfOk result (λ out. (known : List Known) (c : Condition) (a b : Expression) (text : Bool) (start mid : Emitter) → IsTyped (choice c a b) → Suits text (kind_of (choice c a b)) →
+        ensures emits { IfOk result (λ out. (known : List Known) (c : Condition) (a b : Expression) (text : Bool) (start mid : Emitter) → IsTyped (choice c a b) → Suits text (kind_of (choice c a b)) →
             AreBelow (free_of start) known → HasFirst known c a text start mid to first → Emits known b mid self.old second → Emits known (choice c a b) start self.new out) }
+        ensures short { OnOk result (length self.new.block.code.items ≤ length self.old.block.code.items + 7) }
     {
         self.copy(to, second)?;
         self.block.push(LowStep::End)?;

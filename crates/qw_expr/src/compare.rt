@@ -1,6 +1,6 @@
 //! Comparisons (ISO/IEC 9075:1992, 8.2) of numbers and of dates. The order of two values is left as a number below, at or above 0.
 
-ghost use Rattle.std.specs.Prelude.{◌≡◌, ◌+◌, ◌<◌, ◌≤◌, ◌^◌, ◌++◌, List, IsTrue, IfOk, OnOk};
+ghost use Rattle.std.specs.Prelude.{◌≡◌, ◌+◌, ◌<◌, ◌≤◌, ◌^◌, ◌++◌, List, IsTrue, IfOk, OnOk, length};
 ghost use Rattle.qw_types.specs.Arithmetic.{order_of};
 ghost use Rattle.qw_meaning.specs.Expression.{Expression, comparison};
 ghost use Rattle.qw_meaning.specs.Typing.{AreTyped, are_comparable, is_date, is_number, kind_of};
@@ -58,6 +58,7 @@ impl Emitter {
     pub(crate) fn begin_zero(&mut self, null: Option<Local>, t: Local) -> Result<(), NoMemory>
         ensures code { OnOk result (self.new.block.code.items ≡ self.old.block.code.items ++ before_zero null t) }
         ensures same { OnOk result ((self.new.first ≡ self.old.first) × (self.new.own.items ≡ self.old.own.items)) }
+        ensures short { OnOk result (length self.new.block.code.items ≤ length self.old.block.code.items + 5) }
     {
         if let Some(n) = null {
             self.block.code.extend_from_slice(&[
@@ -80,6 +81,7 @@ impl Emitter {
     ) -> Result<(), NoMemory>
         ensures code { OnOk result (self.new.block.code.items ≡ self.old.block.code.items ++ steps_of (assign t (zero_test operator n))) }
         ensures same { OnOk result ((self.new.first ≡ self.old.first) × (self.new.own.items ≡ self.old.own.items)) }
+        ensures short { OnOk result (length self.new.block.code.items ≤ length self.old.block.code.items + 4) }
     {
         self.block.code.extend_from_slice(&[
             LowStep::Op(Op::LocalGet(n)),
@@ -101,7 +103,8 @@ impl Emitter {
     ) -> Result<Cell, NoMemory>
         requires scales { (left.scale ≤ 18) × (right.scale ≤ 18) }
         requires below { (left.local < free_of self.old) × (right.local < free_of self.old) }
-        ensures { IfOk result (λ out. AddsComparison operator (λ v w. order_of v left.scale w right.scale) left.local left.most right.local right.most left_null right_null self.old self.new out) }
+        ensures emits { IfOk result (λ out. AddsComparison operator (λ v w. order_of v left.scale w right.scale) left.local left.most right.local right.most left_null right_null self.old self.new out) }
+        ensures short { OnOk result (length self.new.block.code.items ≤ length self.old.block.code.items + 40) }
     {
         let p = self.fresh(ValType::I32)?;
         let t = self.fresh(ValType::I32)?;
@@ -127,8 +130,9 @@ impl Emitter {
     ) -> Result<Cell, NoMemory>
         requires scales { (left.scale ≤ 18) × (right.scale ≤ 18) }
         requires below { (left.cell.value < free_of self.old) × (right.cell.value < free_of self.old) }
-        ensures { IfOk result (λ out. (known : List Known) (a b : Expression) (start mid : Emitter) → AreTyped (comparison operator a b) → IsTrue (is_number (kind_of a)) → IsTrue (is_number (kind_of b)) →
+        ensures emits { IfOk result (λ out. (known : List Known) (a b : Expression) (start mid : Emitter) → AreTyped (comparison operator a b) → IsTrue (is_number (kind_of a)) → IsTrue (is_number (kind_of b)) →
             AreBelow (free_of start) known → Emits known a start mid left → Emits known b mid self.old right → EmitsTruth known (comparison operator a b) start self.new out) }
+        ensures short { OnOk result (length self.new.block.code.items ≤ length self.old.block.code.items + 40) }
     {
         self.compared(
             operator,
@@ -147,8 +151,9 @@ impl Emitter {
         right: Operand,
     ) -> Result<Cell, NoMemory>
         requires below { (left.cell.value < free_of self.old) × (right.cell.value < free_of self.old) }
-        ensures { IfOk result (λ out. (known : List Known) (a b : Expression) (start mid : Emitter) → AreTyped (comparison operator a b) → IsTrue (is_date (kind_of a)) → IsTrue (is_date (kind_of b)) →
+        ensures emits { IfOk result (λ out. (known : List Known) (a b : Expression) (start mid : Emitter) → AreTyped (comparison operator a b) → IsTrue (is_date (kind_of a)) → IsTrue (is_date (kind_of b)) →
             AreBelow (free_of start) known → Emits known a start mid left → Emits known b mid self.old right → EmitsTruth known (comparison operator a b) start self.new out) }
+        ensures short { OnOk result (length self.new.block.code.items ≤ length self.old.block.code.items + 40) }
     {
         self.compared(
             operator,
@@ -169,8 +174,9 @@ impl Emitter {
         requires scales { (left.scale ≤ 18) × (right.scale ≤ 18) }
         requires comparable { IsTrue (are_comparable left.kind right.kind) }
         requires below { IsBelow (free_of self.old) left.cell × IsBelow (free_of self.old) right.cell }
-        ensures { IfOk result (λ out. (known : List Known) (a b : Expression) (start mid : Emitter) → AreTyped (comparison operator a b) →
+        ensures emits { IfOk result (λ out. (known : List Known) (a b : Expression) (start mid : Emitter) → AreTyped (comparison operator a b) →
             AreBelow (free_of start) known → Emits known a start mid left → Emits known b mid self.old right → EmitsTruth known (comparison operator a b) start self.new out) }
+        ensures short { OnOk result (length self.new.block.code.items ≤ length self.old.block.code.items + 120) }
     {
         match left.kind {
             Some(Kind::Date) => self.compare_dates(operator, left, right),

@@ -1,6 +1,6 @@
 //! What is emitted so far: the steps of a block, and the types of the locals of its own.
 
-ghost use Rattle.std.specs.Prelude.{◌≡◌, ◌+◌, ◌<◌, ◌^◌, [], ◌∷◌, ◌++◌, length, OnOk, IfOk};
+ghost use Rattle.std.specs.Prelude.{◌≡◌, ◌+◌, ◌<◌, ◌^◌, [], ◌∷◌, ◌++◌, length, OnOk, IfOk, ◌≤◌};
 ghost use Rattle.qw_expr.specs.Inner.Nulls.{join_block, joined_null, before_unless, after_unless};
 ghost use Rattle.qw_low.specs.Steps.{steps_of};
 ghost use Rattle.qw_module.specs.declared.instruction.ValType.TheVariants.{I32, I64};
@@ -58,6 +58,7 @@ impl Emitter {
         ensures null { IfOk result (λ null. null ≡ joined_null p left right) }
         ensures code { OnOk result (self.new.block.code.items ≡ self.old.block.code.items ++ steps_of (join_block p left right)) }
         ensures same { OnOk result ((self.new.first ≡ self.old.first) × (self.new.own.items ≡ self.old.own.items)) }
+        ensures short { OnOk result (length self.new.block.code.items ≤ length self.old.block.code.items + 4) }
     {
         match (left, right) {
             (None, null) => Ok(null),
@@ -78,6 +79,7 @@ impl Emitter {
     pub(crate) fn begin_unless(&mut self, null: Option<Local>) -> Result<(), NoMemory>
         ensures code { OnOk result (self.new.block.code.items ≡ self.old.block.code.items ++ before_unless null) }
         ensures same { OnOk result ((self.new.first ≡ self.old.first) × (self.new.own.items ≡ self.old.own.items)) }
+        ensures short { OnOk result (length self.new.block.code.items ≤ length self.old.block.code.items + 3) }
     {
         if let Some(n) = null {
             self.block.code.extend_from_slice(&[
@@ -93,6 +95,7 @@ impl Emitter {
     pub(crate) fn end_unless(&mut self, null: Option<Local>) -> Result<(), NoMemory>
         ensures code { OnOk result (self.new.block.code.items ≡ self.old.block.code.items ++ after_unless null) }
         ensures same { OnOk result ((self.new.first ≡ self.old.first) × (self.new.own.items ≡ self.old.own.items)) }
+        ensures short { OnOk result (length self.new.block.code.items ≤ length self.old.block.code.items + 1) }
     {
         if null.is_some() {
             self.block.push(LowStep::End)?;

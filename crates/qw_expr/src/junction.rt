@@ -1,6 +1,6 @@
 //! AND and OR (ISO/IEC 9075:1992, 8.12), which skip their right sides where the left ones decide.
 
-ghost use Rattle.std.specs.Prelude.{◌≡◌, ◌+◌, ◌++◌, [], ◌∷◌, List, IfOk, OnOk};
+ghost use Rattle.std.specs.Prelude.{◌≡◌, ◌+◌, ◌++◌, [], ◌∷◌, List, IfOk, OnOk, ◌≤◌, length};
 ghost use Rattle.qw_meaning.specs.Expression.{Condition, both, either};
 ghost use Rattle.qw_module.specs.declared.instruction.ValType.TheVariants.{I32};
 ghost use Rattle.qw_module.specs.declared.instruction.Binary.TheVariants.{And, Or};
@@ -24,6 +24,7 @@ impl Emitter {
     pub(crate) fn unknown_steps(&mut self, null: Option<Local>) -> Result<(), NoMemory>
         ensures code { OnOk result (self.new.block.code.items ≡ self.old.block.code.items ++ expression_steps (unknown_word null)) }
         ensures same { OnOk result ((self.new.first ≡ self.old.first) × (self.new.own.items ≡ self.old.own.items)) }
+        ensures short { OnOk result (length self.new.block.code.items ≤ length self.old.block.code.items + 1) }
     {
         self.block.push(LowStep::Op(match null {
             None => Op::Const(Const::I32(0)),
@@ -35,6 +36,7 @@ impl Emitter {
     fn may_steps(&mut self, operand: Cell) -> Result<(), NoMemory>
         ensures code { OnOk result (self.new.block.code.items ≡ self.old.block.code.items ++ expression_steps (may_hold operand.value operand.null)) }
         ensures same { OnOk result ((self.new.first ≡ self.old.first) × (self.new.own.items ≡ self.old.own.items)) }
+        ensures short { OnOk result (length self.new.block.code.items ≤ length self.old.block.code.items + 3) }
     {
         match operand.null {
             None => self
@@ -67,6 +69,7 @@ impl Emitter {
     fn either_unknown(&mut self, left: Cell, right: Cell) -> Result<(), NoMemory>
         ensures code { OnOk result (self.new.block.code.items ≡ self.old.block.code.items ++ expression_steps (binop I32 Or (unknown_word left.null) (unknown_word right.null))) }
         ensures same { OnOk result ((self.new.first ≡ self.old.first) × (self.new.own.items ≡ self.old.own.items)) }
+        ensures short { OnOk result (length self.new.block.code.items ≤ length self.old.block.code.items + 3) }
     {
         self.unknown_steps(left.null)?;
         self.unknown_steps(right.null)?;
@@ -78,6 +81,7 @@ impl Emitter {
     fn both_steps(&mut self, left: Cell, right: Cell, out: Cell) -> Result<(), NoMemory>
         ensures code { OnOk result (self.new.block.code.items ≡ self.old.block.code.items ++ steps_of (set_truth out.null out.value (and_truth left right) (and_unknown left right))) }
         ensures same { OnOk result ((self.new.first ≡ self.old.first) × (self.new.own.items ≡ self.old.own.items)) }
+        ensures short { OnOk result (length self.new.block.code.items ≤ length self.old.block.code.items + 12) }
     {
         self.block.code.extend_from_slice(&[
             LowStep::Op(Op::LocalGet(left.value)),
@@ -100,6 +104,7 @@ impl Emitter {
     fn either_steps(&mut self, left: Cell, right: Cell, out: Cell) -> Result<(), NoMemory>
         ensures code { OnOk result (self.new.block.code.items ≡ self.old.block.code.items ++ steps_of (set_truth out.null out.value (local right.value) (or_unknown left right))) }
         ensures same { OnOk result ((self.new.first ≡ self.old.first) × (self.new.own.items ≡ self.old.own.items)) }
+        ensures short { OnOk result (length self.new.block.code.items ≤ length self.old.block.code.items + 9) }
     {
         self.block.code.extend_from_slice(&[
             LowStep::Op(Op::LocalGet(right.value)),
@@ -121,6 +126,7 @@ impl Emitter {
     fn decided_steps(&mut self, out: Cell, decided: u32) -> Result<(), NoMemory>
         ensures code { OnOk result (self.new.block.code.items ≡ self.old.block.code.items ++ steps_of (set_truth out.null out.value (i32 decided) (i32 0))) }
         ensures same { OnOk result ((self.new.first ≡ self.old.first) × (self.new.own.items ≡ self.old.own.items)) }
+        ensures short { OnOk result (length self.new.block.code.items ≤ length self.old.block.code.items + 4) }
     {
         self.block.code.extend_from_slice(&[
             LowStep::Op(Op::Const(Const::I32(decided))),
@@ -137,7 +143,8 @@ impl Emitter {
 
     /// Begins the right side of AND, which is done unless the left one is false.
     pub(crate) fn begin_and(&mut self, left: Cell) -> Result<(), NoMemory>
-        ensures { OnOk result (Begins (may_hold left.value left.null) self.old self.new) }
+        ensures emits { OnOk result (Begins (may_hold left.value left.null) self.old self.new) }
+        ensures short { OnOk result (length self.new.block.code.items ≤ length self.old.block.code.items + 4) }
     {
         self.may_steps(left)?;
         self.block.push(LowStep::If)
@@ -145,8 +152,9 @@ impl Emitter {
 
     /// Ends AND.
     pub(crate) fn end_and(&mut self, left: Cell, right: Cell) -> Result<Cell, NoMemory>
-        ensures { IfOk result (λ out. (known : List Known) (c d : Condition) (start mid begun : Emitter) → AreBelow (free_of start) known → EmitsTruth known c start mid left →
+        ensures emits { IfOk result (λ out. (known : List Known) (c d : Condition) (start mid begun : Emitter) → AreBelow (free_of start) known → EmitsTruth known c start mid left →
             Begins (may_hold left.value left.null) mid begun → EmitsTruth known d begun self.old right → EmitsTruth known (both c d) start self.new out) }
+        ensures short { OnOk result (length self.new.block.code.items ≤ length self.old.block.code.items + 18) }
     {
         let out = self.junction_cell(left, right)?;
         self.both_steps(left, right, out)?;
@@ -158,7 +166,8 @@ impl Emitter {
 
     /// Begins the right side of OR, which is done unless the left one is true.
     pub(crate) fn begin_or(&mut self, left: Cell) -> Result<(), NoMemory>
-        ensures { OnOk result (Begins (is_zero I32 (local left.value)) self.old self.new) }
+        ensures emits { OnOk result (Begins (is_zero I32 (local left.value)) self.old self.new) }
+        ensures short { OnOk result (length self.new.block.code.items ≤ length self.old.block.code.items + 3) }
     {
         self.block.code.extend_from_slice(&[
             LowStep::Op(Op::LocalGet(left.value)),
@@ -170,8 +179,9 @@ impl Emitter {
 
     /// Ends OR.
     pub(crate) fn end_or(&mut self, left: Cell, right: Cell) -> Result<Cell, NoMemory>
-        ensures { IfOk result (λ out. (known : List Known) (c d : Condition) (start mid begun : Emitter) → AreBelow (free_of start) known → EmitsTruth known c start mid left →
+        ensures emits { IfOk result (λ out. (known : List Known) (c d : Condition) (start mid begun : Emitter) → AreBelow (free_of start) known → EmitsTruth known c start mid left →
             Begins (is_zero I32 (local left.value)) mid begun → EmitsTruth known d begun self.old right → EmitsTruth known (either c d) start self.new out) }
+        ensures short { OnOk result (length self.new.block.code.items ≤ length self.old.block.code.items + 15) }
     {
         let out = self.junction_cell(left, right)?;
         self.either_steps(left, right, out)?;

@@ -1,6 +1,6 @@
 //! Literals, fields of dates, and numbers at another scale.
 
-ghost use Rattle.std.specs.Prelude.{◌≡◌, ◌<◌, ◌≤◌, ◌++◌, pos, unsigned_abs, List, Some, None, IfOk, OnOk};
+ghost use Rattle.std.specs.Prelude.{◌≡◌, ◌<◌, ◌≤◌, ◌++◌, pos, unsigned_abs, List, Some, None, IfOk, OnOk, ◌+◌, length};
 ghost use Rattle.std.specs.Int.{w64, cast_unsigned};
 ghost use Rattle.qw_types.specs.declared.kind.Kind.TheVariants as kind;
 ghost use Rattle.qw_meaning.specs.Expression.{Expression, null, number, date, extract, brought};
@@ -28,7 +28,8 @@ const MONTH: u64 = 100;
 impl Emitter {
     /// Adds a number as a value of 64 bits.
     fn word(&mut self, value: i64) -> Result<Local, NoMemory>
-        ensures { IfOk result (λ n. AddsWord value self.old self.new n) }
+        ensures emits { IfOk result (λ n. AddsWord value self.old self.new n) }
+        ensures short { OnOk result (length self.new.block.code.items ≤ length self.old.block.code.items + 2) }
     {
         let n = self.fresh(ValType::I64)?;
         self.block.code.extend_from_slice(&[
@@ -40,7 +41,8 @@ impl Emitter {
 
     /// Adds a number of a scale.
     pub fn number(&mut self, value: i64, scale: u8) -> Result<Operand, NoMemory>
-        ensures { IfOk result (λ out. (known : List Known) → IsTyped (number value scale) → Emits known (number value scale) self.old self.new out) }
+        ensures emits { IfOk result (λ out. (known : List Known) → IsTyped (number value scale) → Emits known (number value scale) self.old self.new out) }
+        ensures short { OnOk result (length self.new.block.code.items ≤ length self.old.block.code.items + 2) }
     {
         let n = self.word(value)?;
         Ok(Operand {
@@ -57,7 +59,8 @@ impl Emitter {
 
     /// Adds a date, as year * 10000 + month * 100 + day.
     pub fn date(&mut self, day: i32) -> Result<Operand, NoMemory>
-        ensures { IfOk result (λ out. (known : List Known) → IsTyped (date day) → Emits known (date day) self.old self.new out) }
+        ensures emits { IfOk result (λ out. (known : List Known) → IsTyped (date day) → Emits known (date day) self.old self.new out) }
+        ensures short { OnOk result (length self.new.block.code.items ≤ length self.old.block.code.items + 2) }
     {
         let n = self.word(i64::from(day))?;
         Ok(Operand {
@@ -74,7 +77,8 @@ impl Emitter {
 
     /// Adds the null value.
     pub fn null(&mut self) -> Result<Operand, NoMemory>
-        ensures { IfOk result (λ out. (known : List Known) → Emits known null self.old self.new out) }
+        ensures emits { IfOk result (λ out. (known : List Known) → Emits known null self.old self.new out) }
+        ensures short { OnOk result (length self.new.block.code.items ≤ length self.old.block.code.items + 2) }
     {
         let n = self.flag(1)?;
         Ok(Operand {
@@ -93,6 +97,7 @@ impl Emitter {
     fn field_steps(&mut self, field: Field, n: Local, x: Local) -> Result<(), NoMemory>
         ensures code { OnOk result (self.new.block.code.items ≡ self.old.block.code.items ++ steps_of (field_block field n x)) }
         ensures same { OnOk result ((self.new.first ≡ self.old.first) × (self.new.own.items ≡ self.old.own.items)) }
+        ensures short { OnOk result (length self.new.block.code.items ≤ length self.old.block.code.items + 6) }
     {
         match field {
             Field::Year => self.block.code.extend_from_slice(&[
@@ -121,7 +126,8 @@ impl Emitter {
 
     /// Adds a field of a date, unless it is null.
     fn field(&mut self, field: Field, operand: Operand) -> Result<Operand, NoMemory>
-        ensures { IfOk result (λ out. AddsField field operand self.old self.new out) }
+        ensures emits { IfOk result (λ out. AddsField field operand self.old self.new out) }
+        ensures short { OnOk result (length self.new.block.code.items ≤ length self.old.block.code.items + 10) }
     {
         let n = self.fresh(ValType::I64)?;
         self.begin_unless(operand.cell.null)?;
@@ -144,8 +150,9 @@ impl Emitter {
 
     /// Adds a field of a date that was emitted before (ISO/IEC 9075:1992, 6.6).
     pub fn extract(&mut self, field: Field, operand: Operand) -> Result<Operand, NoMemory>
-        ensures { IfOk result (λ out. (known : List Known) (a : Expression) (start : Emitter) → IsTyped (extract field a) → AreBelow (free_of start) known →
+        ensures emits { IfOk result (λ out. (known : List Known) (a : Expression) (start : Emitter) → IsTyped (extract field a) → AreBelow (free_of start) known →
             Emits known a start self.old operand → Emits known (extract field a) start self.new out) }
+        ensures short { OnOk result (length self.new.block.code.items ≤ length self.old.block.code.items + 10) }
     {
         self.field(field, operand)
     }
@@ -154,8 +161,9 @@ impl Emitter {
     pub fn brought(&mut self, operand: Operand, scale: u8) -> Result<Operand, NoMemory>
         requires scales { (operand.scale ≤ scale) × (scale ≤ 18) }
         requires below { operand.cell.value < free_of self.old }
-        ensures { IfOk result (λ out. (known : List Known) (a : Expression) (start : Emitter) → IsTyped (brought a scale) → AreBelow (free_of start) known →
+        ensures emits { IfOk result (λ out. (known : List Known) (a : Expression) (start : Emitter) → IsTyped (brought a scale) → AreBelow (free_of start) known →
             Emits known a start self.old operand → Emits known (brought a scale) start self.new out) }
+        ensures short { OnOk result (length self.new.block.code.items ≤ length self.old.block.code.items + 80) }
     {
         if is_number(operand.kind) {
             self.scaled_to(operand, scale)

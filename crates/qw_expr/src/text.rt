@@ -1,6 +1,6 @@
 //! Comparisons of texts (ISO/IEC 9075:1992, 8.2), by their octets: a text is less than each longer one that begins with it.
 
-ghost use Rattle.std.specs.Prelude.{◌≡◌, ◌+◌, ◌<◌, ◌^◌, ◌++◌, List, Some, IfOk, OnOk};
+ghost use Rattle.std.specs.Prelude.{◌≡◌, ◌+◌, ◌<◌, ◌^◌, ◌++◌, List, Some, IfOk, OnOk, ◌≤◌, length};
 ghost use Rattle.qw_types.specs.declared.kind.Kind.TheVariants as kind;
 ghost use Rattle.qw_meaning.specs.Expression.{Expression, comparison};
 ghost use Rattle.qw_meaning.specs.Typing.{AreTyped, kind_of};
@@ -58,6 +58,7 @@ impl Emitter {
         requires room { to.free + 3 < 2 ^ 32 }
         ensures code { OnOk result ((f : Statement) × (self.new.block.code.items ≡ self.old.block.code.items ++ steps_of f) × TestsTexts operator left right to.free to.truth f) }
         ensures same { OnOk result ((self.new.first ≡ self.old.first) × (self.new.own.items ≡ self.old.own.items)) }
+        ensures short { OnOk result (length self.new.block.code.items ≤ length self.old.block.code.items + 110) }
     {
         match operator {
             Comparison::Equal => {
@@ -94,7 +95,8 @@ impl Emitter {
         right: Cell,
     ) -> Result<Cell, NoMemory>
         requires below { IsBelow (free_of self.old) left × IsBelow (free_of self.old) right }
-        ensures { IfOk result (λ out. AddsTexts operator left right self.old self.new out) }
+        ensures emits { IfOk result (λ out. AddsTexts operator left right self.old self.new out) }
+        ensures short { OnOk result (length self.new.block.code.items ≤ length self.old.block.code.items + 120) }
     {
         let to = self.text_locals()?;
         let null = self.join_nulls(to.null, left.null, right.null)?;
@@ -116,8 +118,9 @@ impl Emitter {
         right: Operand,
     ) -> Result<Cell, NoMemory>
         requires below { IsBelow (free_of self.old) left.cell × IsBelow (free_of self.old) right.cell }
-        ensures { IfOk result (λ out. (known : List Known) (a b : Expression) (start mid : Emitter) → AreTyped (comparison operator a b) → kind_of a ≡ Some kind.Text → kind_of b ≡ Some kind.Text →
+        ensures emits { IfOk result (λ out. (known : List Known) (a b : Expression) (start mid : Emitter) → AreTyped (comparison operator a b) → kind_of a ≡ Some kind.Text → kind_of b ≡ Some kind.Text →
             AreBelow (free_of start) known → Emits known a start mid left → Emits known b mid self.old right → EmitsTruth known (comparison operator a b) start self.new out) }
+        ensures short { OnOk result (length self.new.block.code.items ≤ length self.old.block.code.items + 120) }
     {
         self.text_compared(operator, left.cell, right.cell)
     }

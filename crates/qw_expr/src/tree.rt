@@ -2,8 +2,9 @@
 //!
 //! What an abbreviation names twice, as the operand of BETWEEN, IN, CASE and NULLIF, is evaluated once: its operand is handed on.
 
-ghost use Rattle.std.specs.Prelude.{◌≡◌, ◌≤◌, IfOk, IsTrue};
+ghost use Rattle.std.specs.Prelude.{◌≡◌, ◌≤◌, IfOk, IsTrue, ◌+◌, ◌*◌, length, OnOk};
 ghost use Rattle.qw_meaning.specs.Expression.{among, brought, cases, coalesced, comparison, scale_of};
+ghost use Rattle.qw_meaning.specs.Nodes.{nodes, nodes_of, nodes_of_all, nodes_of_branches, nodes_of_matches};
 ghost use Rattle.qw_meaning.specs.Tree.{choices_of, condition_of, expression_of, expressions_of, matches_of};
 ghost use Rattle.qw_meaning.specs.Typing.{AreTyped, IsTyped, kind_of};
 ghost use Rattle.qw_expr.specs.Cells.{IsBelow};
@@ -36,7 +37,8 @@ fn expression(emitter: &mut Emitter, expr: &Expr, known: &[Binding]) -> Result<O
     requires typed { IsTyped (expression_of expr.now) }
     requires known { TakesKnown (known_of known.now) (expression_of expr.now) }
     requires served { IsServed (free_of emitter.old) (known_of known.now) }
-    ensures { IfOk result (λ out. Made (known_of known.now) (expression_of expr.now) emitter.old emitter.new out) }
+    ensures emits { IfOk result (λ out. Made (known_of known.now) (expression_of expr.now) emitter.old emitter.new out) }
+    ensures short { OnOk result (length emitter.new.block.code.items ≤ length emitter.old.block.code.items + 300 * nodes expr.now) }
 {
     match expr {
         Expr::Null => emitter.null(),
@@ -83,7 +85,8 @@ fn branch(
     requires known { TakesKnown (known_of known.now) (cases form.scale (choices_of branches.now)) }
     requires served { IsServed (free_of emitter.old) (known_of known.now) }
     requires suits { Suits form.text (kind_of (cases form.scale (choices_of branches.now))) }
-    ensures { IfOk result (λ out. Made (known_of known.now) (cases form.scale (choices_of branches.now)) emitter.old emitter.new out) }
+    ensures emits { IfOk result (λ out. Made (known_of known.now) (cases form.scale (choices_of branches.now)) emitter.old emitter.new out) }
+    ensures short { OnOk result (length emitter.new.block.code.items ≤ length emitter.old.block.code.items + 300 * nodes_of_branches branches.now) }
 {
     match branches {
         Branches::Else(result) => {
@@ -115,7 +118,8 @@ fn matched(
     requires known { TakesKnown (known_of known.now) (cases form.scale (matches_of matches.now (expression_of operand.now))) }
     requires served { IsServed (free_of emitter.old) (with_operand (expression_of operand.now) x (known_of known.now)) }
     requires suits { Suits form.text (kind_of (cases form.scale (matches_of matches.now (expression_of operand.now)))) }
-    ensures { IfOk result (λ out. Made (with_operand (expression_of operand.now) x (known_of known.now)) (cases form.scale (matches_of matches.now (expression_of operand.now))) emitter.old emitter.new out) }
+    ensures emits { IfOk result (λ out. Made (with_operand (expression_of operand.now) x (known_of known.now)) (cases form.scale (matches_of matches.now (expression_of operand.now))) emitter.old emitter.new out) }
+    ensures short { OnOk result (length emitter.new.block.code.items ≤ length emitter.old.block.code.items + 300 * nodes_of_matches matches.now) }
 {
     match matches {
         Matches::Last(wanted, result, other) => {
@@ -150,7 +154,8 @@ fn coalesce(
     requires known { TakesKnown (known_of known.now) (cases form.scale (coalesced (expressions_of arguments.now))) }
     requires served { IsServed (free_of emitter.old) (known_of known.now) }
     requires suits { Suits form.text (kind_of (cases form.scale (coalesced (expressions_of arguments.now)))) }
-    ensures { IfOk result (λ out. Made (known_of known.now) (cases form.scale (coalesced (expressions_of arguments.now))) emitter.old emitter.new out) }
+    ensures emits { IfOk result (λ out. Made (known_of known.now) (cases form.scale (coalesced (expressions_of arguments.now))) emitter.old emitter.new out) }
+    ensures short { OnOk result (length emitter.new.block.code.items ≤ length emitter.old.block.code.items + 300 * nodes_of_all arguments.now) }
 {
     match arguments {
         Exprs::Last(argument) => {
@@ -172,7 +177,8 @@ fn condition(emitter: &mut Emitter, cond: &Cond, known: &[Binding]) -> Result<Ce
     requires typed { AreTyped (condition_of cond.now) }
     requires known { TakeKnown (known_of known.now) (condition_of cond.now) }
     requires served { IsServed (free_of emitter.old) (known_of known.now) }
-    ensures { IfOk result (λ out. MadeTruth (known_of known.now) (condition_of cond.now) emitter.old emitter.new out) }
+    ensures emits { IfOk result (λ out. MadeTruth (known_of known.now) (condition_of cond.now) emitter.old emitter.new out) }
+    ensures short { OnOk result (length emitter.new.block.code.items ≤ length emitter.old.block.code.items + 300 * nodes_of cond.now) }
 {
     match cond {
         Cond::Compare(operator, left, right) => {
@@ -244,7 +250,8 @@ fn against(
     requires typed { AreTyped (comparison operator (expression_of operand.now) (expression_of right.now)) }
     requires known { TakeKnown (known_of known.now) (comparison operator (expression_of operand.now) (expression_of right.now)) }
     requires served { IsServed (free_of emitter.old) (with_operand (expression_of operand.now) x (known_of known.now)) }
-    ensures { IfOk result (λ out. MadeTruth (with_operand (expression_of operand.now) x (known_of known.now)) (comparison operator (expression_of operand.now) (expression_of right.now)) emitter.old emitter.new out) }
+    ensures emits { IfOk result (λ out. MadeTruth (with_operand (expression_of operand.now) x (known_of known.now)) (comparison operator (expression_of operand.now) (expression_of right.now)) emitter.old emitter.new out) }
+    ensures short { OnOk result (length emitter.new.block.code.items ≤ length emitter.old.block.code.items + (300 * nodes right.now + 120)) }
 {
     let y = expression(emitter, right, known)?;
     emitter.compare(operator, x, y)
@@ -262,7 +269,8 @@ fn among(
     requires typed { AreTyped (among (expression_of operand.now) (expressions_of values.now)) }
     requires known { TakeKnown (known_of known.now) (among (expression_of operand.now) (expressions_of values.now)) }
     requires served { IsServed (free_of emitter.old) (with_operand (expression_of operand.now) x (known_of known.now)) }
-    ensures { IfOk result (λ out. MadeTruth (with_operand (expression_of operand.now) x (known_of known.now)) (among (expression_of operand.now) (expressions_of values.now)) emitter.old emitter.new out) }
+    ensures emits { IfOk result (λ out. MadeTruth (with_operand (expression_of operand.now) x (known_of known.now)) (among (expression_of operand.now) (expressions_of values.now)) emitter.old emitter.new out) }
+    ensures short { OnOk result (length emitter.new.block.code.items ≤ length emitter.old.block.code.items + 300 * nodes_of_all values.now) }
 {
     match values {
         Exprs::Last(wanted) => against(emitter, Comparison::Equal, wanted, operand, x, known),
@@ -285,7 +293,8 @@ fn unless_null(
 ) -> Result<Started, NoMemory>
     requires typed { IsTyped (brought (expression_of operand.now) form.scale) }
     requires served { IsServed (free_of emitter.old) (with_operand (expression_of operand.now) x (known_of known.now)) }
-    ensures { IfOk result (λ begun. StartsUnlessNull (known_of known.now) (expression_of operand.now) x form.scale form.text emitter.old emitter.new begun) }
+    ensures emits { IfOk result (λ begun. StartsUnlessNull (known_of known.now) (expression_of operand.now) x form.scale form.text emitter.old emitter.new begun) }
+    ensures short { OnOk result (length emitter.new.block.code.items ≤ length emitter.old.block.code.items + 100) }
 {
     let null = emitter.is_null(x)?;
     let t = emitter.negation(null)?;
@@ -318,7 +327,8 @@ pub fn emit_expr(emitter: &mut Emitter, expr: &Expr, known: &[Binding]) -> Resul
     requires typed { IsTyped (expression_of expr.now) }
     requires known { TakesKnown (known_of known.now) (expression_of expr.now) }
     requires served { IsServed (free_of emitter.old) (known_of known.now) }
-    ensures { IfOk result (λ out. Emits (known_of known.now) (expression_of expr.now) emitter.old emitter.new out) }
+    ensures emits { IfOk result (λ out. Emits (known_of known.now) (expression_of expr.now) emitter.old emitter.new out) }
+    ensures short { OnOk result (length emitter.new.block.code.items ≤ length emitter.old.block.code.items + 300 * nodes expr.now) }
 {
     expression(emitter, expr, known)
 }
@@ -332,7 +342,8 @@ pub fn emit_truth(emitter: &mut Emitter, cond: &Cond, known: &[Binding]) -> Resu
     requires typed { AreTyped (condition_of cond.now) }
     requires known { TakeKnown (known_of known.now) (condition_of cond.now) }
     requires served { IsServed (free_of emitter.old) (known_of known.now) }
-    ensures { IfOk result (λ out. EmitsTruth (known_of known.now) (condition_of cond.now) emitter.old emitter.new out) }
+    ensures emits { IfOk result (λ out. EmitsTruth (known_of known.now) (condition_of cond.now) emitter.old emitter.new out) }
+    ensures short { OnOk result (length emitter.new.block.code.items ≤ length emitter.old.block.code.items + 300 * nodes_of cond.now) }
 {
     condition(emitter, cond, known)
 }

@@ -1,6 +1,6 @@
 //! Conditions of one operand (ISO/IEC 9075:1992, 8.12): NOT, IS TRUE, IS FALSE, IS UNKNOWN, and IS NULL (8.6).
 
-ghost use Rattle.std.specs.Prelude.{◌≡◌, ◌++◌, List, None, IfOk, OnOk};
+ghost use Rattle.std.specs.Prelude.{◌≡◌, ◌++◌, List, None, IfOk, OnOk, ◌≤◌, ◌+◌, length};
 ghost use Rattle.qw_types.specs.declared.truth.Truth.TheVariants.{True, False, Unknown};
 ghost use Rattle.qw_meaning.specs.Expression.{Expression, Condition, is_null, negation_of, is};
 ghost use Rattle.qw_low.specs.Syntax.{assign};
@@ -38,7 +38,8 @@ fn sure(value: Local) -> Cell
 impl Emitter {
     /// Adds whether a truth is false.
     fn test_false(&mut self, operand: Cell) -> Result<Local, NoMemory>
-        ensures { IfOk result (λ t. AddsTest (is_false operand.value operand.null) self.old self.new t) }
+        ensures emits { IfOk result (λ t. AddsTest (is_false operand.value operand.null) self.old self.new t) }
+        ensures short { OnOk result (length self.new.block.code.items ≤ length self.old.block.code.items + 5) }
     {
         let t = self.fresh(ValType::I32)?;
         self.false_steps(operand, t)?;
@@ -49,6 +50,7 @@ impl Emitter {
     fn false_steps(&mut self, operand: Cell, t: Local) -> Result<(), NoMemory>
         ensures code { OnOk result (self.new.block.code.items ≡ self.old.block.code.items ++ steps_of (assign t (is_false operand.value operand.null))) }
         ensures same { OnOk result ((self.new.first ≡ self.old.first) × (self.new.own.items ≡ self.old.own.items)) }
+        ensures short { OnOk result (length self.new.block.code.items ≤ length self.old.block.code.items + 5) }
     {
         match operand.null {
             None => self.block.code.extend_from_slice(&[
@@ -69,7 +71,8 @@ impl Emitter {
 
     /// Adds NOT of a condition that was emitted before: unknown stays unknown.
     pub fn negation(&mut self, operand: Cell) -> Result<Cell, NoMemory>
-        ensures { IfOk result (λ out. (known : List Known) (c : Condition) (start : Emitter) → EmitsTruth known c start self.old operand → EmitsTruth known (negation_of c) start self.new out) }
+        ensures emits { IfOk result (λ out. (known : List Known) (c : Condition) (start : Emitter) → EmitsTruth known c start self.old operand → EmitsTruth known (negation_of c) start self.new out) }
+        ensures short { OnOk result (length self.new.block.code.items ≤ length self.old.block.code.items + 5) }
     {
         let t = self.test_false(operand)?;
         Ok(Cell {
@@ -81,7 +84,8 @@ impl Emitter {
 
     /// Adds IS FALSE of a condition that was emitted before.
     pub fn is_false(&mut self, operand: Cell) -> Result<Cell, NoMemory>
-        ensures { IfOk result (λ out. (known : List Known) (c : Condition) (start : Emitter) → EmitsTruth known c start self.old operand → EmitsTruth known (is c False) start self.new out) }
+        ensures emits { IfOk result (λ out. (known : List Known) (c : Condition) (start : Emitter) → EmitsTruth known c start self.old operand → EmitsTruth known (is c False) start self.new out) }
+        ensures short { OnOk result (length self.new.block.code.items ≤ length self.old.block.code.items + 5) }
     {
         let t = self.test_false(operand)?;
         Ok(sure(t))
@@ -89,7 +93,8 @@ impl Emitter {
 
     /// Adds a number of 32 bits in a local of its own.
     pub(crate) fn flag(&mut self, value: u32) -> Result<Local, NoMemory>
-        ensures { IfOk result (λ t. AddsTest (i32 value) self.old self.new t) }
+        ensures emits { IfOk result (λ t. AddsTest (i32 value) self.old self.new t) }
+        ensures short { OnOk result (length self.new.block.code.items ≤ length self.old.block.code.items + 2) }
     {
         let t = self.fresh(ValType::I32)?;
         self.block.code.extend_from_slice(&[
@@ -101,7 +106,8 @@ impl Emitter {
 
     /// Adds IS NULL of an expression that was emitted before (8.6): its null word, and 0 where it has none.
     pub fn is_null(&mut self, operand: Operand) -> Result<Cell, NoMemory>
-        ensures { IfOk result (λ out. (known : List Known) (a : Expression) (start : Emitter) → Emits known a start self.old operand → EmitsTruth known (is_null a) start self.new out) }
+        ensures emits { IfOk result (λ out. (known : List Known) (a : Expression) (start : Emitter) → Emits known a start self.old operand → EmitsTruth known (is_null a) start self.new out) }
+        ensures short { OnOk result (length self.new.block.code.items ≤ length self.old.block.code.items + 2) }
     {
         match operand.cell.null {
             Some(n) => Ok(sure(n)),
@@ -114,7 +120,8 @@ impl Emitter {
 
     /// Adds IS UNKNOWN of a condition that was emitted before: the word that says so, and 0 where it has none.
     pub fn is_unknown(&mut self, operand: Cell) -> Result<Cell, NoMemory>
-        ensures { IfOk result (λ out. (known : List Known) (c : Condition) (start : Emitter) → EmitsTruth known c start self.old operand → EmitsTruth known (is c Unknown) start self.new out) }
+        ensures emits { IfOk result (λ out. (known : List Known) (c : Condition) (start : Emitter) → EmitsTruth known c start self.old operand → EmitsTruth known (is c Unknown) start self.new out) }
+        ensures short { OnOk result (length self.new.block.code.items ≤ length self.old.block.code.items + 2) }
     {
         match operand.null {
             Some(n) => Ok(sure(n)),
@@ -127,7 +134,8 @@ impl Emitter {
 
     /// Adds IS of a truth, of a condition that was emitted before.
     pub fn is_truth(&mut self, operand: Cell, wanted: Truth) -> Result<Cell, NoMemory>
-        ensures { IfOk result (λ out. (known : List Known) (c : Condition) (start : Emitter) → EmitsTruth known c start self.old operand → EmitsTruth known (is c wanted) start self.new out) }
+        ensures emits { IfOk result (λ out. (known : List Known) (c : Condition) (start : Emitter) → EmitsTruth known c start self.old operand → EmitsTruth known (is c wanted) start self.new out) }
+        ensures short { OnOk result (length self.new.block.code.items ≤ length self.old.block.code.items + 5) }
     {
         match wanted {
             Truth::True => Ok(is_true(operand)),

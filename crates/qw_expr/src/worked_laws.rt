@@ -8,7 +8,7 @@ ghost use Rattle.qw_meaning.specs.Expression.{number, text, comparison, negation
 ghost use Rattle.qw_low.specs.State.{Number};
 ghost use Rattle.qw_low.specs.Worked.{state};
 ghost use Rattle.qw_expr.specs.Cells.{HoldsTruth, HoldsValue};
-ghost use Rattle.qw_expr.specs.Units.{units_of};
+ghost use Rattle.qw_meaning.specs.Units.{units_of};
 
 /// -5 is 2^64 - 5 with 0 in the null word, which isn't null; null is 1 in the null word, whatever the value's local holds; a truth of 0 is
 /// unknown with 1 in the null word, and false with 0.

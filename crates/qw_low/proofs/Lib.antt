@@ -10,6 +10,8 @@ pub mod ExactSteps
 pub mod ExpressionRuns
 mod FuelLemmas
 pub mod Grants
+pub mod Lengths
+pub mod LessKnown
 pub mod OpenOutcomes
 mod PageUse
 pub mod PromisedRuns

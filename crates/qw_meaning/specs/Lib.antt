@@ -5,11 +5,13 @@ pub mod Expression
 pub mod Flow
 pub mod Inner
 pub mod Meaning
+pub mod Nodes
 pub mod Outcome
 pub mod Select
 pub mod Simple
 pub mod Statement
 pub mod Tree
 pub mod Typing
+pub mod Units
 pub mod Value
 pub mod WorkedRows

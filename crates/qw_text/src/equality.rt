@@ -1,6 +1,6 @@
 //! Whether two texts are the same (ISO/IEC 9075:1992, 8.2).
 
-ghost use Rattle.std.specs.Prelude.{◌≡◌, ◌+◌, ◌<◌, ◌^◌, ◌++◌, IfOk, OnOk};
+ghost use Rattle.std.specs.Prelude.{◌≡◌, ◌+◌, ◌<◌, ◌^◌, ◌++◌, IfOk, OnOk, ◌≤◌, length};
 ghost use Rattle.qw_low.specs.Syntax.{Statement};
 ghost use Rattle.qw_low.specs.Steps.{steps_of};
 ghost use Rattle.qw_text.specs.Texts.{Compares, SaysSame};
@@ -54,6 +54,7 @@ pub fn emit_text_eq(
     ensures block { IfOk result (λ out. (a : Statement) × (block.new.code.items ≡ block.old.code.items ++ steps_of a)
         × Compares (SaysSame out) left right free a) }
     ensures place { IfOk result (λ out. out ≡ free) }
+    ensures short { OnOk result (length block.new.code.items ≤ length block.old.code.items + 100) }
 {
     push_equality(block, left, right, free)?;
     Ok(free)

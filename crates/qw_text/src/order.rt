@@ -1,7 +1,7 @@
 //! Which of two texts comes first (ISO/IEC 9075:1992, 8.2): by their first octets that differ, and a text before each longer one that
 //! begins with it.
 
-ghost use Rattle.std.specs.Prelude.{◌≡◌, ◌+◌, ◌<◌, ◌^◌, ◌++◌, IfOk, OnOk};
+ghost use Rattle.std.specs.Prelude.{◌≡◌, ◌+◌, ◌<◌, ◌^◌, ◌++◌, IfOk, OnOk, ◌≤◌, length};
 ghost use Rattle.qw_low.specs.Syntax.{Statement};
 ghost use Rattle.qw_low.specs.Steps.{steps_of};
 ghost use Rattle.qw_text.specs.Texts.{Compares, SaysOrder};
@@ -99,6 +99,7 @@ pub fn emit_text_order(
     ensures block { IfOk result (λ out. (a : Statement) × (block.new.code.items ≡ block.old.code.items ++ steps_of a)
         × Compares (SaysOrder out) left right free a) }
     ensures place { IfOk result (λ out. out ≡ free + 2) }
+    ensures short { OnOk result (length block.new.code.items ≤ length block.old.code.items + 100) }
 {
     push_order(block, left, right, free)?;
     Ok(free + 2)

@@ -1,5 +1,6 @@
 mod Added
 pub mod ArithmeticRuns
+pub mod Lengths
 pub mod Operations
 pub mod OrderRuns
 pub mod Orders

@@ -1,6 +1,6 @@
 //! Blocks of exact arithmetic (ISO/IEC 9075:1992, 6.12). A check is left out where the magnitudes show that it can't fail.
 
-ghost use Rattle.std.specs.Prelude.{◌≡◌, ◌+◌, ◌-◌, ◌*◌, ◌<◌, ◌≤◌, ◌^◌, ◌++◌, max, neg_ℤ, Bool, Ok, OnOk, IfOk};
+ghost use Rattle.std.specs.Prelude.{◌≡◌, ◌+◌, ◌-◌, ◌*◌, ◌<◌, ◌≤◌, ◌^◌, ◌++◌, max, neg_ℤ, Bool, Ok, OnOk, IfOk, length};
 ghost use Rattle.qw_types.specs.Arithmetic.{bring, sum_of, difference_of, product_of, quotient_of};
 ghost use Rattle.qw_low.specs.Syntax.{Statement, local, binop, divop, assign};
 ghost use Rattle.qw_low.specs.Steps.{steps_of};
@@ -169,6 +169,7 @@ pub fn add(block: &mut Block, left: Scaled, right: Scaled, free: Local) -> Resul
     ensures block { IfOk result (λ out. (a : Statement) × (block.new.code.items ≡ block.old.code.items ++ steps_of a)
         × Operates (λ v w. sum_of v left.scale w right.scale) left.local left.most right.local right.most free out.local out.most a) }
     ensures scale { IfOk result (λ out. out.scale ≡ max left.scale right.scale) }
+    ensures short { OnOk result (length block.new.code.items ≤ length block.old.code.items + 60) }
 {
     push_sum(block, Binary::Add, left, right, free)
 }
@@ -186,6 +187,7 @@ pub fn subtract(
     ensures block { IfOk result (λ out. (a : Statement) × (block.new.code.items ≡ block.old.code.items ++ steps_of a)
         × Operates (λ v w. difference_of v left.scale w right.scale) left.local left.most right.local right.most free out.local out.most a) }
     ensures scale { IfOk result (λ out. out.scale ≡ max left.scale right.scale) }
+    ensures short { OnOk result (length block.new.code.items ≤ length block.old.code.items + 60) }
 {
     push_sum(block, Binary::Sub, left, right, free)
 }
@@ -195,6 +197,7 @@ pub fn negate(block: &mut Block, operand: Scaled, free: Local) -> Result<Scaled,
     ensures block { IfOk result (λ out. (a : Statement) × (block.new.code.items ≡ block.old.code.items ++ steps_of a)
         × Converts (λ v. Ok (neg_ℤ v)) operand.local operand.most free out.local out.most a) }
     ensures scale { IfOk result (λ out. out.scale ≡ operand.scale) }
+    ensures short { OnOk result (length block.new.code.items ≤ length block.old.code.items + 60) }
 {
     push_opposite(block, free, operand.local)?;
     Ok(Scaled {
@@ -322,6 +325,7 @@ pub fn multiply(
     ensures block { IfOk result (λ out. (a : Statement) × (block.new.code.items ≡ block.old.code.items ++ steps_of a)
         × Operates product_of left.local left.most right.local right.most free out.local out.most a) }
     ensures scale { IfOk result (λ out. out.scale ≡ left.scale + right.scale) }
+    ensures short { OnOk result (length block.new.code.items ≤ length block.old.code.items + 60) }
 {
     push_product_of(block, left, right, free)
 }
@@ -386,6 +390,7 @@ pub fn divide(
     ensures block { IfOk result (λ out. (a : Statement) × (block.new.code.items ≡ block.old.code.items ++ steps_of a)
         × Operates (λ v w. quotient_of v left.scale w right.scale) left.local left.most right.local right.most free out.local out.most a) }
     ensures scale { IfOk result (λ out. out.scale ≡ left.scale) }
+    ensures short { OnOk result (length block.new.code.items ≤ length block.old.code.items + 60) }
 {
     push_quotient(block, left, right, free)
 }
@@ -397,6 +402,7 @@ pub fn bring(block: &mut Block, operand: Scaled, to: u8, free: Local) -> Result<
     ensures block { IfOk result (λ out. (a : Statement) × (block.new.code.items ≡ block.old.code.items ++ steps_of a)
         × Converts (λ v. bring v operand.scale to) operand.local operand.most free out.local out.most a) }
     ensures scale { IfOk result (λ out. out.scale ≡ to) }
+    ensures short { OnOk result (length block.new.code.items ≤ length block.old.code.items + 60) }
 {
     push_bring(block, operand, to - operand.scale, free)
 }

@@ -1,6 +1,6 @@
 //! How numbers of unlike scales compare (ISO/IEC 9075:1992, 8.2), within 64 bits.
 
-ghost use Rattle.std.specs.Prelude.{◌≡◌, ◌+◌, ◌-◌, ◌<◌, ◌≤◌, ◌^◌, ◌++◌, OnOk};
+ghost use Rattle.std.specs.Prelude.{◌≡◌, ◌+◌, ◌-◌, ◌<◌, ◌≤◌, ◌^◌, ◌++◌, OnOk, length};
 ghost use Rattle.qw_types.specs.Arithmetic.{order_of};
 ghost use Rattle.qw_low.specs.Syntax.{Statement};
 ghost use Rattle.qw_low.specs.Steps.{steps_of};
@@ -111,8 +111,9 @@ pub fn emit_cmp_scaled(
 ) -> Result<(), NoMemory>
     requires scales { (left.scale ≤ 18) × (right.scale ≤ 18) }
     requires below { (left.local < free) × (right.local < free) }
-    ensures { OnOk result ((a : Statement) × (block.new.code.items ≡ block.old.code.items ++ steps_of a)
+    ensures block { OnOk result ((a : Statement) × (block.new.code.items ≡ block.old.code.items ++ steps_of a)
         × Compares (λ v w. order_of v left.scale w right.scale) left.local left.most right.local right.most free a) }
+    ensures short { OnOk result (length block.new.code.items ≤ length block.old.code.items + 20) }
 {
     push_order(block, left, right, free)
 }

@@ -1,8 +1,11 @@
-use Rattle.std.proofs.Common.{map, take}
+use Rattle.std.proofs.Common.{◌≤◌, ◌+◌, ◌*◌, length, map, sum_by, take}
+use Rattle.qw_meaning.specs.Nodes.{nodes_of}
 use Rattle.qw_meaning.specs.Tree.{condition_of}
 use Rattle.qw_expr.specs.Bindings.{known_of}
 use Rattle.qw_compile.specs.Emitted.{EmitsTests}
 use Rattle.qw_compile.proofs.lists.emit_tests.Given as goal
 
 abbrev pub invariant-loop-conjunct : goal.invariant-loop-conjunct
-invariant-loop-conjunct l = EmitsTests (known_of l.known) (map condition_of (take l.conjunct-index l.conjuncts)) l.initial.emitter l.emitter
+invariant-loop-conjunct l =
+    EmitsTests (known_of l.known) (map condition_of (take l.conjunct-index l.conjuncts)) l.initial.emitter l.emitter
+    × (length l.emitter.block.code.items ≤ length l.initial.emitter.block.code.items + 302 * sum_by nodes_of (take l.conjunct-index l.conjuncts))

@@ -27,70 +27,70 @@ against-expression-requires t c =
 
 pub against-compare-requires-clause-scales : goal.against-compare-requires-clause-scales
 against-compare-requires-clause-scales t c =
-    (subst (λ k. k ≤ 18) (sym c.requires.served.1.0.1) (scale_low (expression_of c.args.operand.now) c.requires.typed.0.0), c.in_ok-y.ensures.scale_low)
+    (subst (λ k. k ≤ 18) (sym c.requires.served.1.0.1) (scale_low (expression_of c.args.operand.now) c.requires.typed.0.0), c.in_ok-y.ensures.emits.scale_low)
 
 pub against-compare-requires-clause-comparable : goal.against-compare-requires-clause-comparable
 against-compare-requires-clause-comparable t c =
-    comparable_kinds c.args.x.kind c.in_ok-y.y.kind (kind_of (expression_of c.args.operand.now)) (kind_of (expression_of c.args.right.now)) c.requires.served.1.0.0 c.in_ok-y.ensures.kind_is c.requires.typed.1
+    comparable_kinds c.args.x.kind c.in_ok-y.y.kind (kind_of (expression_of c.args.operand.now)) (kind_of (expression_of c.args.right.now)) c.requires.served.1.0.0 c.in_ok-y.ensures.emits.kind_is c.requires.typed.1
 
 pub against-compare-requires-clause-below : goal.against-compare-requires-clause-below
 against-compare-requires-clause-below t c =
-    (below_more (free_of c.args.emitter.now) (free_of c.expression.new.emitter) c.args.x.cell c.in_ok-y.ensures.grows c.requires.served.0.0, c.in_ok-y.ensures.below)
+    (below_more (free_of c.args.emitter.now) (free_of c.expression.new.emitter) c.args.x.cell c.in_ok-y.ensures.emits.grows c.requires.served.0.0, c.in_ok-y.ensures.emits.below)
 
-pub against-returns : goal.against-returns
-against-returns t c =
+pub against-returns-clause-emits : goal.against-returns-clause-emits
+against-returns-clause-emits t c =
     let e = (expression_of c.args.operand.now) in
     let r = expression_of c.args.right.now in
     if_ok _ _ c.compare.result
-    (λ out does. compared_made (known_of c.args.known.now) e r c.args.operator c.args.x c.args.emitter.now c.expression.new.emitter c.compare.new.self c.in_ok-y.y out c.requires.served c.in_ok-y.ensures
-    (λ more low ex ey. does more e r c.args.emitter.now c.args.emitter.now c.requires.typed low ex ey)) c.compare.ensures
+    (λ out does. compared_made (known_of c.args.known.now) e r c.args.operator c.args.x c.args.emitter.now c.expression.new.emitter c.compare.new.self c.in_ok-y.y out c.requires.served c.in_ok-y.ensures.emits
+    (λ more low ex ey. does more e r c.args.emitter.now c.args.emitter.now c.requires.typed low ex ey)) c.compare.ensures.emits
 
 pub among-among-requires : goal.among-among-requires
 among-among-requires t c =
-    let begins = c.in_ok-begin_or-in-More.ensures in
-    let served = subst (λ k. IsServed k (with_operand (expression_of c.args.operand.now) c.args.x (known_of c.args.known.now))) (sym (begun_at _ c.against-in-More.new.emitter c.begin_or.new.self begins)) c.in_ok-t-in-More.ensures.served in
+    let begins = c.in_ok-begin_or-in-More.ensures.emits in
+    let served = subst (λ k. IsServed k (with_operand (expression_of c.args.operand.now) c.args.x (known_of c.args.known.now))) (sym (begun_at _ c.against-in-More.new.emitter c.begin_or.new.self begins)) c.in_ok-t-in-More.ensures.emits.served in
     let typed = rw c.in-More.is at c.requires.typed in
     let known = rw c.in-More.is at c.requires.known in
     (search (rules, the_lemmas), (rw c.deref-in-More-2.ensures typed.1, (rw c.deref-in-More-2.ensures known.1, served)))
 
-pub among-returns-in-Last : goal.among-returns-in-Last
-among-returns-in-Last t c =
-    rw c.in-Last.is (rw c.deref.ensures at c.against.ensures)
+pub among-returns-in-Last-clause-emits : goal.among-returns-in-Last-clause-emits
+among-returns-in-Last-clause-emits t c =
+    rw c.in-Last.is (rw c.deref.ensures at c.against.ensures.emits)
 
-pub among-returns-in_ok-u-in-More : goal.among-returns-in_ok-u-in-More
-among-returns-in_ok-u-in-More t c =
+pub among-returns-in_ok-u-in-More-clause-emits : goal.among-returns-in_ok-u-in-More-clause-emits
+among-returns-in_ok-u-in-More-clause-emits t c =
     let e = (expression_of c.args.operand.now) in
     let v = expression_of c.in-More.wanted.value in
     let vs = expressions_of c.in-More.rest.value in
-    let mt = rw c.deref-in-More.ensures at c.in_ok-t-in-More.ensures in
-    let mu = rw c.deref-in-More-2.ensures at c.in_ok-u-in-More.ensures in
+    let mt = rw c.deref-in-More.ensures at c.in_ok-t-in-More.ensures.emits in
+    let mu = rw c.deref-in-More-2.ensures at c.in_ok-u-in-More.ensures.emits in
     rw c.in-More.is
     (if_ok _ _ c.end_or.result
     (λ out does. junction_made (with_operand (expression_of c.args.operand.now) c.args.x (known_of c.args.known.now)) (comparison Equal e v) (among e vs) (either (comparison Equal e v) (among e vs)) _ c.args.emitter.now c.against-in-More.new.emitter c.begin_or.new.self c.among.new.emitter c.end_or.new.self c.in_ok-t-in-More.t c.in_ok-u-in-More.u out
-    c.requires.served mt c.in_ok-begin_or-in-More.ensures mu
-    (λ more low ec ed. does more (comparison Equal e v) (among e vs) c.args.emitter.now c.against-in-More.new.emitter c.begin_or.new.self low ec c.in_ok-begin_or-in-More.ensures ed)) c.end_or.ensures)
+    c.requires.served mt c.in_ok-begin_or-in-More.ensures.emits mu
+    (λ more low ec ed. does more (comparison Equal e v) (among e vs) c.args.emitter.now c.against-in-More.new.emitter c.begin_or.new.self low ec c.in_ok-begin_or-in-More.ensures.emits ed)) c.end_or.ensures.emits)
 
 pub branch-brought-requires-clause-scales : goal.branch-brought-requires-clause-scales
 branch-brought-requires-clause-scales t c =
     let typed = rw c.in-Else.is at c.requires.typed in
-    let made = rw c.deref.ensures at c.in_ok-a-in-Else.ensures in
+    let made = rw c.deref.ensures at c.in_ok-a-in-Else.ensures.emits in
     (subst (λ k. k ≤ c.args.form.scale) (sym made.scale_is) typed.1.0, typed.1.1)
 
-pub branch-returns-in_ok-a-in-Else : goal.branch-returns-in_ok-a-in-Else
-branch-returns-in_ok-a-in-Else t c =
+pub branch-returns-in_ok-a-in-Else-clause-emits : goal.branch-returns-in_ok-a-in-Else-clause-emits
+branch-returns-in_ok-a-in-Else-clause-emits t c =
     let e = expression_of c.in-Else.result.value in
     let typed = rw c.in-Else.is at c.requires.typed in
-    let made = rw c.deref.ensures at c.in_ok-a-in-Else.ensures in
+    let made = rw c.deref.ensures at c.in_ok-a-in-Else.ensures.emits in
     rw c.in-Else.is
     (if_ok _ _ c.brought.result
-    (λ out does. one_made (known_of c.args.known.now) e (brought e c.args.form.scale) c.args.emitter.now c.expression.new.emitter c.brought.new.self c.in_ok-a-in-Else.a out typed c.requires.served made (λ more low ea. does more e c.args.emitter.now typed low ea)) c.brought.ensures)
+    (λ out does. one_made (known_of c.args.known.now) e (brought e c.args.form.scale) c.args.emitter.now c.expression.new.emitter c.brought.new.self c.in_ok-a-in-Else.a out typed c.requires.served made (λ more low ea. does more e c.args.emitter.now typed low ea)) c.brought.ensures.emits)
 
 pub branch-expression-requires-in-When : goal.branch-expression-requires-in-When
 branch-expression-requires-in-When t c =
     let test = condition_of c.in-When.test.value in
     let result = expression_of c.in-When.result.value in
-    let mt = rw c.deref-in-When.ensures at c.in_ok-t-in-When.ensures in
-    let served = begun_served (known_of c.args.known.now) (known_of c.args.known.now) test c.args.form.text c.args.emitter.now c.condition.new.emitter c.begin_choice.new.self c.in_ok-t-in-When.t c.in_ok-place-in-When.place c.requires.served mt c.in_ok-place-in-When.ensures in
+    let mt = rw c.deref-in-When.ensures at c.in_ok-t-in-When.ensures.emits in
+    let served = begun_served (known_of c.args.known.now) (known_of c.args.known.now) test c.args.form.text c.args.emitter.now c.condition.new.emitter c.begin_choice.new.self c.in_ok-t-in-When.t c.in_ok-place-in-When.place c.requires.served mt c.in_ok-place-in-When.ensures.emits in
     let typed = rw c.in-When.is at c.requires.typed in
     let known = rw c.in-When.is at c.requires.known in
     (search (rules, the_lemmas), (rw c.deref-in-When-2.ensures typed.1.0.0.0, (rw c.deref-in-When-2.ensures known.1.0, served)))
@@ -98,7 +98,7 @@ branch-expression-requires-in-When t c =
 pub branch-first_brought-requires-clause-scales : goal.branch-first_brought-requires-clause-scales
 branch-first_brought-requires-clause-scales t c =
     let typed = rw c.in-When.is at c.requires.typed in
-    let made = rw c.deref-in-When-2.ensures at c.in_ok-a-in-When.ensures in
+    let made = rw c.deref-in-When-2.ensures at c.in_ok-a-in-When.ensures.emits in
     (subst (λ k. k ≤ c.args.form.scale) (sym made.scale_is) typed.1.0.0.1.0, typed.1.0.0.1.1)
 
 pub branch-branch-emitter-requires : goal.branch-branch-emitter-requires
@@ -106,50 +106,50 @@ branch-branch-emitter-requires t c =
     let test = condition_of c.in-When.test.value in
     let result = expression_of c.in-When.result.value in
     let rest = choices_of c.in-When.rest.value in
-    let mt = rw c.deref-in-When.ensures at c.in_ok-t-in-When.ensures in
-    let ma = rw c.deref-in-When-2.ensures at c.in_ok-a-in-When.ensures in
+    let mt = rw c.deref-in-When.ensures at c.in_ok-t-in-When.ensures.emits in
+    let ma = rw c.deref-in-When-2.ensures at c.in_ok-a-in-When.ensures.emits in
     let typed = rw c.in-When.is at c.requires.typed in
     let one = first_made (known_of c.args.known.now) (known_of c.args.known.now) test result (brought result c.args.form.scale) c.args.form.text c.args.emitter.now c.condition.new.emitter c.begin_choice.new.self c.expression-in-When.new.emitter c.first_brought.new.self c.in_ok-t-in-When.t c.in_ok-place-in-When.place c.in_ok-a-in-When.a c.in_ok-first-in-When.first
-    c.requires.served (includes_same (known_of c.args.known.now)) mt c.in_ok-place-in-When.ensures ma
-    (λ more low ec ea. c.in_ok-first-in-When.ensures more test result c.args.form.text c.args.emitter.now c.condition.new.emitter c.begin_choice.new.self c.in_ok-t-in-When.t typed.1.0.0 low ec c.in_ok-place-in-When.ensures ea) in
+    c.requires.served (includes_same (known_of c.args.known.now)) mt c.in_ok-place-in-When.ensures.emits ma
+    (λ more low ec ea. c.in_ok-first-in-When.ensures.emits more test result c.args.form.text c.args.emitter.now c.condition.new.emitter c.begin_choice.new.self c.in_ok-t-in-When.t typed.1.0.0 low ec c.in_ok-place-in-When.ensures.emits ea) in
     let known = rw c.in-When.is at c.requires.known in
     let suits = rw c.in-When.is at c.requires.suits in
     (search (rules, the_lemmas), (rw c.deref-in-When-3.ensures typed.1.0.1, (rw c.deref-in-When-3.ensures known.1.1, (one.served, rw c.deref-in-When-3.ensures (results_suit c.args.form.text (kind_of (brought result c.args.form.scale)) (kind_of (cases c.args.form.scale rest)) typed.1.1 suits).1))))
 
-pub branch-returns-in_ok-second-in-When : goal.branch-returns-in_ok-second-in-When
-branch-returns-in_ok-second-in-When t c =
+pub branch-returns-in_ok-second-in-When-clause-emits : goal.branch-returns-in_ok-second-in-When-clause-emits
+branch-returns-in_ok-second-in-When-clause-emits t c =
     let test = condition_of c.in-When.test.value in
     let result = expression_of c.in-When.result.value in
     let rest = choices_of c.in-When.rest.value in
-    let mt = rw c.deref-in-When.ensures at c.in_ok-t-in-When.ensures in
-    let ma = rw c.deref-in-When-2.ensures at c.in_ok-a-in-When.ensures in
+    let mt = rw c.deref-in-When.ensures at c.in_ok-t-in-When.ensures.emits in
+    let ma = rw c.deref-in-When-2.ensures at c.in_ok-a-in-When.ensures.emits in
     let typed = rw c.in-When.is at c.requires.typed in
     let one = first_made (known_of c.args.known.now) (known_of c.args.known.now) test result (brought result c.args.form.scale) c.args.form.text c.args.emitter.now c.condition.new.emitter c.begin_choice.new.self c.expression-in-When.new.emitter c.first_brought.new.self c.in_ok-t-in-When.t c.in_ok-place-in-When.place c.in_ok-a-in-When.a c.in_ok-first-in-When.first
-    c.requires.served (includes_same (known_of c.args.known.now)) mt c.in_ok-place-in-When.ensures ma
-    (λ more low ec ea. c.in_ok-first-in-When.ensures more test result c.args.form.text c.args.emitter.now c.condition.new.emitter c.begin_choice.new.self c.in_ok-t-in-When.t typed.1.0.0 low ec c.in_ok-place-in-When.ensures ea) in
+    c.requires.served (includes_same (known_of c.args.known.now)) mt c.in_ok-place-in-When.ensures.emits ma
+    (λ more low ec ea. c.in_ok-first-in-When.ensures.emits more test result c.args.form.text c.args.emitter.now c.condition.new.emitter c.begin_choice.new.self c.in_ok-t-in-When.t typed.1.0.0 low ec c.in_ok-place-in-When.ensures.emits ea) in
     let suits = rw c.in-When.is at c.requires.suits in
-    let mb = rw c.deref-in-When-3.ensures at c.in_ok-second-in-When.ensures in
+    let mb = rw c.deref-in-When-3.ensures at c.in_ok-second-in-When.ensures.emits in
     let a = brought result c.args.form.scale in
     let b = cases c.args.form.scale rest in
     rw c.in-When.is
     (if_ok _ _ c.end_choice.result
     (λ out does. choice_made (known_of c.args.known.now) test a b c.args.form.text c.args.emitter.now c.first_brought.new.self c.branch-emitter.new.emitter c.end_choice.new.self c.in_ok-place-in-When.place c.in_ok-first-in-When.first c.in_ok-second-in-When.second out typed c.requires.served one mb
-    (λ more low h eb. does more test a b c.args.form.text c.args.emitter.now c.first_brought.new.self typed suits low h eb)) c.end_choice.ensures)
+    (λ more low h eb. does more test a b c.args.form.text c.args.emitter.now c.first_brought.new.self typed suits low h eb)) c.end_choice.ensures.emits)
 
 pub coalesce-brought-requires-clause-scales : goal.coalesce-brought-requires-clause-scales
 coalesce-brought-requires-clause-scales t c =
     let typed = rw c.in-Last.is at c.requires.typed in
-    let made = rw c.deref.ensures at c.in_ok-a-in-Last.ensures in
+    let made = rw c.deref.ensures at c.in_ok-a-in-Last.ensures.emits in
     (subst (λ k. k ≤ c.args.form.scale) (sym made.scale_is) typed.1.0, typed.1.1)
 
-pub coalesce-returns-in_ok-a-in-Last : goal.coalesce-returns-in_ok-a-in-Last
-coalesce-returns-in_ok-a-in-Last t c =
+pub coalesce-returns-in_ok-a-in-Last-clause-emits : goal.coalesce-returns-in_ok-a-in-Last-clause-emits
+coalesce-returns-in_ok-a-in-Last-clause-emits t c =
     let e = expression_of c.in-Last.argument.value in
     let typed = rw c.in-Last.is at c.requires.typed in
-    let made = rw c.deref.ensures at c.in_ok-a-in-Last.ensures in
+    let made = rw c.deref.ensures at c.in_ok-a-in-Last.ensures.emits in
     rw c.in-Last.is
     (if_ok _ _ c.brought.result
-    (λ out does. one_made (known_of c.args.known.now) e (brought e c.args.form.scale) c.args.emitter.now c.expression.new.emitter c.brought.new.self c.in_ok-a-in-Last.a out typed c.requires.served made (λ more low ea. does more e c.args.emitter.now typed low ea)) c.brought.ensures)
+    (λ out does. one_made (known_of c.args.known.now) e (brought e c.args.form.scale) c.args.emitter.now c.expression.new.emitter c.brought.new.self c.in_ok-a-in-Last.a out typed c.requires.served made (λ more low ea. does more e c.args.emitter.now typed low ea)) c.brought.ensures.emits)
 
 pub coalesce-unless_null-requires-clause-typed : goal.coalesce-unless_null-requires-clause-typed
 coalesce-unless_null-requires-clause-typed t c =
@@ -158,7 +158,7 @@ coalesce-unless_null-requires-clause-typed t c =
 
 pub coalesce-unless_null-requires-clause-served : goal.coalesce-unless_null-requires-clause-served
 coalesce-unless_null-requires-clause-served t c =
-    let made = rw c.deref-in-More.ensures at c.in_ok-x-in-More.ensures in
+    let made = rw c.deref-in-More.ensures at c.in_ok-x-in-More.ensures.emits in
     rw c.deref-in-More-2.ensures (with_served (known_of c.args.known.now) (expression_of c.in-More.argument.value) c.args.emitter.now c.expression-in-More.new.emitter c.in_ok-x-in-More.x made)
 
 pub coalesce-coalesce-requires : goal.coalesce-coalesce-requires
@@ -166,7 +166,7 @@ coalesce-coalesce-requires t c =
     let e = expression_of c.in-More.argument.value in
     let rest = coalesced (expressions_of c.in-More.rest.value) in
     let typed = rw c.in-More.is at c.requires.typed in
-    let begun = rw c.deref-in-More-2.ensures at c.in_ok-begun-in-More.ensures in
+    let begun = rw c.deref-in-More-2.ensures at c.in_ok-begun-in-More.ensures.emits in
     let known = rw c.in-More.is at c.requires.known in
     let suits = rw c.in-More.is at c.requires.suits in (
       search (rules, the_lemmas),
@@ -182,20 +182,20 @@ coalesce-coalesce-requires t c =
       ),
     )
 
-pub coalesce-returns-in_ok-second-in-More : goal.coalesce-returns-in_ok-second-in-More
-coalesce-returns-in_ok-second-in-More t c =
+pub coalesce-returns-in_ok-second-in-More-clause-emits : goal.coalesce-returns-in_ok-second-in-More-clause-emits
+coalesce-returns-in_ok-second-in-More-clause-emits t c =
     let e = expression_of c.in-More.argument.value in
     let rest = coalesced (expressions_of c.in-More.rest.value) in
     let typed = rw c.in-More.is at c.requires.typed in
-    let begun = rw c.deref-in-More-2.ensures at c.in_ok-begun-in-More.ensures in
+    let begun = rw c.deref-in-More-2.ensures at c.in_ok-begun-in-More.ensures.emits in
     let suits = rw c.in-More.is at c.requires.suits in
-    let mx = rw c.deref-in-More.ensures at c.in_ok-x-in-More.ensures in
-    let mb = rw c.deref-in-More-3.ensures at c.in_ok-second-in-More.ensures in
+    let mx = rw c.deref-in-More.ensures at c.in_ok-x-in-More.ensures.emits in
+    let mb = rw c.deref-in-More-3.ensures at c.in_ok-second-in-More.ensures.emits in
     let b = cases c.args.form.scale rest in
     rw c.in-More.is
     (if_ok _ _ c.end_choice.result
     (λ out does. coalesced_made (known_of c.args.known.now) e b c.args.form.scale c.args.form.text c.args.emitter.now c.expression-in-More.new.emitter c.unless_null.new.emitter c.coalesce.new.emitter c.end_choice.new.self c.in_ok-x-in-More.x c.in_ok-begun-in-More.begun c.in_ok-second-in-More.second out typed c.requires.served mx begun mb
-    (λ more low h eb. does more (negation_of (is_null e)) (brought e c.args.form.scale) b c.args.form.text c.expression-in-More.new.emitter c.unless_null.new.emitter typed suits low h eb)) c.end_choice.ensures)
+    (λ more low h eb. does more (negation_of (is_null e)) (brought e c.args.form.scale) b c.args.form.text c.expression-in-More.new.emitter c.unless_null.new.emitter typed suits low h eb)) c.end_choice.ensures.emits)
 
 pub matched-expression-requires : goal.matched-expression-requires
 matched-expression-requires t c =
@@ -203,16 +203,16 @@ matched-expression-requires t c =
     let v = expression_of c.in-Last.wanted.value in
     let result = expression_of c.in-Last.result.value in
     let test = comparison Equal e v in
-    let mt = rw c.deref.ensures at c.in_ok-t-in-Last.ensures in
+    let mt = rw c.deref.ensures at c.in_ok-t-in-Last.ensures.emits in
     let typed = rw c.in-Last.is at c.requires.typed in
-    let served = begun_served (with_operand (expression_of c.args.operand.now) c.args.x (known_of c.args.known.now)) (known_of c.args.known.now) test c.args.form.text c.args.emitter.now c.against.new.emitter c.begin_choice.new.self c.in_ok-t-in-Last.t c.in_ok-place-in-Last.place c.requires.served mt c.in_ok-place-in-Last.ensures in
+    let served = begun_served (with_operand (expression_of c.args.operand.now) c.args.x (known_of c.args.known.now)) (known_of c.args.known.now) test c.args.form.text c.args.emitter.now c.against.new.emitter c.begin_choice.new.self c.in_ok-t-in-Last.t c.in_ok-place-in-Last.place c.requires.served mt c.in_ok-place-in-Last.ensures.emits in
     let known = rw c.in-Last.is at c.requires.known in
     (search (rules, the_lemmas), (rw c.deref-in-Last.ensures typed.1.0.0.0, (rw c.deref-in-Last.ensures known.1.0, rest_served (free_of c.begin_choice.new.self) (known_of c.args.known.now) e c.args.x served)))
 
 pub matched-first_brought-requires-clause-scales : goal.matched-first_brought-requires-clause-scales
 matched-first_brought-requires-clause-scales t c =
     let typed = rw c.in-Last.is at c.requires.typed in
-    let made = rw c.deref-in-Last.ensures at c.in_ok-a-in-Last.ensures in
+    let made = rw c.deref-in-Last.ensures at c.in_ok-a-in-Last.ensures.emits in
     (subst (λ k. k ≤ c.args.form.scale) (sym made.scale_is) typed.1.0.0.1.0, typed.1.0.0.1.1)
 
 pub matched-expression-requires-in-Last : goal.matched-expression-requires-in-Last
@@ -221,46 +221,46 @@ matched-expression-requires-in-Last t c =
     let v = expression_of c.in-Last.wanted.value in
     let result = expression_of c.in-Last.result.value in
     let test = comparison Equal e v in
-    let mt = rw c.deref.ensures at c.in_ok-t-in-Last.ensures in
+    let mt = rw c.deref.ensures at c.in_ok-t-in-Last.ensures.emits in
     let typed = rw c.in-Last.is at c.requires.typed in
-    let ma = rw c.deref-in-Last.ensures at c.in_ok-a-in-Last.ensures in
+    let ma = rw c.deref-in-Last.ensures at c.in_ok-a-in-Last.ensures.emits in
     let one = first_made (with_operand (expression_of c.args.operand.now) c.args.x (known_of c.args.known.now)) (known_of c.args.known.now) test result (brought result c.args.form.scale) c.args.form.text c.args.emitter.now c.against.new.emitter c.begin_choice.new.self c.expression.new.emitter c.first_brought.new.self c.in_ok-t-in-Last.t c.in_ok-place-in-Last.place c.in_ok-a-in-Last.a c.in_ok-first-in-Last.first
-    c.requires.served (λ k among'. inr among') mt c.in_ok-place-in-Last.ensures ma
-    (λ more low ec ea. c.in_ok-first-in-Last.ensures more test result c.args.form.text c.args.emitter.now c.against.new.emitter c.begin_choice.new.self c.in_ok-t-in-Last.t typed.1.0.0 low ec c.in_ok-place-in-Last.ensures ea) in
+    c.requires.served (λ k among'. inr among') mt c.in_ok-place-in-Last.ensures.emits ma
+    (λ more low ec ea. c.in_ok-first-in-Last.ensures.emits more test result c.args.form.text c.args.emitter.now c.against.new.emitter c.begin_choice.new.self c.in_ok-t-in-Last.t typed.1.0.0 low ec c.in_ok-place-in-Last.ensures.emits ea) in
     let known = rw c.in-Last.is at c.requires.known in
     (search (rules, the_lemmas), (rw c.deref-in-Last-2.ensures typed.1.0.1.0, (rw c.deref-in-Last-2.ensures known.1.1, rest_served (free_of c.first_brought.new.self) (known_of c.args.known.now) e c.args.x one.served)))
 
 pub matched-brought-requires-clause-scales : goal.matched-brought-requires-clause-scales
 matched-brought-requires-clause-scales t c =
     let typed = rw c.in-Last.is at c.requires.typed in
-    let made = rw c.deref-in-Last-2.ensures at c.in_ok-b-in-Last.ensures in
+    let made = rw c.deref-in-Last-2.ensures at c.in_ok-b-in-Last.ensures.emits in
     (subst (λ k. k ≤ c.args.form.scale) (sym made.scale_is) typed.1.0.1.1.0, typed.1.0.1.1.1)
 
-pub matched-returns-in_ok-second-in-Last : goal.matched-returns-in_ok-second-in-Last
-matched-returns-in_ok-second-in-Last t c =
+pub matched-returns-in_ok-second-in-Last-clause-emits : goal.matched-returns-in_ok-second-in-Last-clause-emits
+matched-returns-in_ok-second-in-Last-clause-emits t c =
     let e = (expression_of c.args.operand.now) in
     let v = expression_of c.in-Last.wanted.value in
     let result = expression_of c.in-Last.result.value in
     let test = comparison Equal e v in
-    let mt = rw c.deref.ensures at c.in_ok-t-in-Last.ensures in
+    let mt = rw c.deref.ensures at c.in_ok-t-in-Last.ensures.emits in
     let typed = rw c.in-Last.is at c.requires.typed in
-    let ma = rw c.deref-in-Last.ensures at c.in_ok-a-in-Last.ensures in
+    let ma = rw c.deref-in-Last.ensures at c.in_ok-a-in-Last.ensures.emits in
     let one = first_made (with_operand (expression_of c.args.operand.now) c.args.x (known_of c.args.known.now)) (known_of c.args.known.now) test result (brought result c.args.form.scale) c.args.form.text c.args.emitter.now c.against.new.emitter c.begin_choice.new.self c.expression.new.emitter c.first_brought.new.self c.in_ok-t-in-Last.t c.in_ok-place-in-Last.place c.in_ok-a-in-Last.a c.in_ok-first-in-Last.first
-    c.requires.served (λ k among'. inr among') mt c.in_ok-place-in-Last.ensures ma
-    (λ more low ec ea. c.in_ok-first-in-Last.ensures more test result c.args.form.text c.args.emitter.now c.against.new.emitter c.begin_choice.new.self c.in_ok-t-in-Last.t typed.1.0.0 low ec c.in_ok-place-in-Last.ensures ea) in
+    c.requires.served (λ k among'. inr among') mt c.in_ok-place-in-Last.ensures.emits ma
+    (λ more low ec ea. c.in_ok-first-in-Last.ensures.emits more test result c.args.form.text c.args.emitter.now c.against.new.emitter c.begin_choice.new.self c.in_ok-t-in-Last.t typed.1.0.0 low ec c.in_ok-place-in-Last.ensures.emits ea) in
     let suits = rw c.in-Last.is at c.requires.suits in
     let other = expression_of c.in-Last.other.value in
-    let mo = rw c.deref-in-Last-2.ensures at c.in_ok-b-in-Last.ensures in
+    let mo = rw c.deref-in-Last-2.ensures at c.in_ok-b-in-Last.ensures.emits in
     let a = brought result c.args.form.scale in
     let b = brought other c.args.form.scale in
     let typed_b = typed.1.0.1 in
     let served_b = rest_served (free_of c.first_brought.new.self) (known_of c.args.known.now) e c.args.x one.served in
-    let mb_base = one_made (known_of c.args.known.now) other b c.first_brought.new.self c.expression-in-Last.new.emitter c.brought.new.self c.in_ok-b-in-Last.b c.in_ok-second-in-Last.second typed_b served_b mo (λ more low eo. c.in_ok-second-in-Last.ensures more other c.first_brought.new.self typed_b low eo) in
+    let mb_base = one_made (known_of c.args.known.now) other b c.first_brought.new.self c.expression-in-Last.new.emitter c.brought.new.self c.in_ok-b-in-Last.b c.in_ok-second-in-Last.second typed_b served_b mo (λ more low eo. c.in_ok-second-in-Last.ensures.emits more other c.first_brought.new.self typed_b low eo) in
     let mb = made_more (with_operand (expression_of c.args.operand.now) c.args.x (known_of c.args.known.now)) (known_of c.args.known.now) b c.first_brought.new.self c.brought.new.self c.in_ok-second-in-Last.second (λ k among'. inr among') (served_more (free_of c.first_brought.new.self) (free_of c.brought.new.self) (with_operand (expression_of c.args.operand.now) c.args.x (known_of c.args.known.now)) mb_base.grows one.served) mb_base in
     rw c.in-Last.is
     (if_ok _ _ c.end_choice.result
     (λ out does. choice_made (with_operand (expression_of c.args.operand.now) c.args.x (known_of c.args.known.now)) test a b c.args.form.text c.args.emitter.now c.first_brought.new.self c.brought.new.self c.end_choice.new.self c.in_ok-place-in-Last.place c.in_ok-first-in-Last.first c.in_ok-second-in-Last.second out typed c.requires.served one mb
-    (λ more low h eb. does more test a b c.args.form.text c.args.emitter.now c.first_brought.new.self typed suits low h eb)) c.end_choice.ensures)
+    (λ more low h eb. does more test a b c.args.form.text c.args.emitter.now c.first_brought.new.self typed suits low h eb)) c.end_choice.ensures.emits)
 
 pub matched-expression-requires-in-When : goal.matched-expression-requires-in-When
 matched-expression-requires-in-When t c =
@@ -268,9 +268,9 @@ matched-expression-requires-in-When t c =
     let v = expression_of c.in-When.wanted.value in
     let result = expression_of c.in-When.result.value in
     let test = comparison Equal e v in
-    let mt = rw c.deref-in-When.ensures at c.in_ok-t-in-When.ensures in
+    let mt = rw c.deref-in-When.ensures at c.in_ok-t-in-When.ensures.emits in
     let typed = rw c.in-When.is at c.requires.typed in
-    let served = begun_served (with_operand (expression_of c.args.operand.now) c.args.x (known_of c.args.known.now)) (known_of c.args.known.now) test c.args.form.text c.args.emitter.now c.against-in-When.new.emitter c.begin_choice-in-When.new.self c.in_ok-t-in-When.t c.in_ok-place-in-When.place c.requires.served mt c.in_ok-place-in-When.ensures in
+    let served = begun_served (with_operand (expression_of c.args.operand.now) c.args.x (known_of c.args.known.now)) (known_of c.args.known.now) test c.args.form.text c.args.emitter.now c.against-in-When.new.emitter c.begin_choice-in-When.new.self c.in_ok-t-in-When.t c.in_ok-place-in-When.place c.requires.served mt c.in_ok-place-in-When.ensures.emits in
     let known = rw c.in-When.is at c.requires.known in
     (search (rules, the_lemmas), (rw c.deref-in-When-2.ensures typed.1.0.0.0, (rw c.deref-in-When-2.ensures known.1.0, rest_served (free_of c.begin_choice-in-When.new.self) (known_of c.args.known.now) e c.args.x served)))
 
@@ -280,44 +280,44 @@ matched-matched-requires t c =
     let v = expression_of c.in-When.wanted.value in
     let result = expression_of c.in-When.result.value in
     let test = comparison Equal e v in
-    let mt = rw c.deref-in-When.ensures at c.in_ok-t-in-When.ensures in
+    let mt = rw c.deref-in-When.ensures at c.in_ok-t-in-When.ensures.emits in
     let typed = rw c.in-When.is at c.requires.typed in
-    let ma = rw c.deref-in-When-2.ensures at c.in_ok-a-in-When.ensures in
+    let ma = rw c.deref-in-When-2.ensures at c.in_ok-a-in-When.ensures.emits in
     let one = first_made (with_operand (expression_of c.args.operand.now) c.args.x (known_of c.args.known.now)) (known_of c.args.known.now) test result (brought result c.args.form.scale) c.args.form.text c.args.emitter.now c.against-in-When.new.emitter c.begin_choice-in-When.new.self c.expression-in-When.new.emitter c.first_brought-in-When.new.self c.in_ok-t-in-When.t c.in_ok-place-in-When.place c.in_ok-a-in-When.a c.in_ok-first-in-When.first
-    c.requires.served (λ k among'. inr among') mt c.in_ok-place-in-When.ensures ma
-    (λ more low ec ea. c.in_ok-first-in-When.ensures more test result c.args.form.text c.args.emitter.now c.against-in-When.new.emitter c.begin_choice-in-When.new.self c.in_ok-t-in-When.t typed.1.0.0 low ec c.in_ok-place-in-When.ensures ea) in
+    c.requires.served (λ k among'. inr among') mt c.in_ok-place-in-When.ensures.emits ma
+    (λ more low ec ea. c.in_ok-first-in-When.ensures.emits more test result c.args.form.text c.args.emitter.now c.against-in-When.new.emitter c.begin_choice-in-When.new.self c.in_ok-t-in-When.t typed.1.0.0 low ec c.in_ok-place-in-When.ensures.emits ea) in
     let known = rw c.in-When.is at c.requires.known in
     let suits = rw c.in-When.is at c.requires.suits in
     let rest = matches_of c.in-When.rest.value e in
     (search (rules, the_lemmas), (rw c.deref-in-When-3.ensures typed.1.0.1, (rw c.deref-in-When-3.ensures known.1.1, (one.served, rw c.deref-in-When-3.ensures (results_suit c.args.form.text (kind_of (brought result c.args.form.scale)) (kind_of (cases c.args.form.scale rest)) typed.1.1 suits).1))))
 
-pub matched-returns-in_ok-second-in-When : goal.matched-returns-in_ok-second-in-When
-matched-returns-in_ok-second-in-When t c =
+pub matched-returns-in_ok-second-in-When-clause-emits : goal.matched-returns-in_ok-second-in-When-clause-emits
+matched-returns-in_ok-second-in-When-clause-emits t c =
     let e = (expression_of c.args.operand.now) in
     let v = expression_of c.in-When.wanted.value in
     let result = expression_of c.in-When.result.value in
     let test = comparison Equal e v in
-    let mt = rw c.deref-in-When.ensures at c.in_ok-t-in-When.ensures in
+    let mt = rw c.deref-in-When.ensures at c.in_ok-t-in-When.ensures.emits in
     let typed = rw c.in-When.is at c.requires.typed in
-    let ma = rw c.deref-in-When-2.ensures at c.in_ok-a-in-When.ensures in
+    let ma = rw c.deref-in-When-2.ensures at c.in_ok-a-in-When.ensures.emits in
     let one = first_made (with_operand (expression_of c.args.operand.now) c.args.x (known_of c.args.known.now)) (known_of c.args.known.now) test result (brought result c.args.form.scale) c.args.form.text c.args.emitter.now c.against-in-When.new.emitter c.begin_choice-in-When.new.self c.expression-in-When.new.emitter c.first_brought-in-When.new.self c.in_ok-t-in-When.t c.in_ok-place-in-When.place c.in_ok-a-in-When.a c.in_ok-first-in-When.first
-    c.requires.served (λ k among'. inr among') mt c.in_ok-place-in-When.ensures ma
-    (λ more low ec ea. c.in_ok-first-in-When.ensures more test result c.args.form.text c.args.emitter.now c.against-in-When.new.emitter c.begin_choice-in-When.new.self c.in_ok-t-in-When.t typed.1.0.0 low ec c.in_ok-place-in-When.ensures ea) in
+    c.requires.served (λ k among'. inr among') mt c.in_ok-place-in-When.ensures.emits ma
+    (λ more low ec ea. c.in_ok-first-in-When.ensures.emits more test result c.args.form.text c.args.emitter.now c.against-in-When.new.emitter c.begin_choice-in-When.new.self c.in_ok-t-in-When.t typed.1.0.0 low ec c.in_ok-place-in-When.ensures.emits ea) in
     let suits = rw c.in-When.is at c.requires.suits in
     let rest = matches_of c.in-When.rest.value e in
-    let mb = rw c.deref-in-When-3.ensures at c.in_ok-second-in-When.ensures in
+    let mb = rw c.deref-in-When-3.ensures at c.in_ok-second-in-When.ensures.emits in
     let a = brought result c.args.form.scale in
     let b = cases c.args.form.scale rest in
     rw c.in-When.is
     (if_ok _ _ c.end_choice-in-When.result
     (λ out does. choice_made (with_operand (expression_of c.args.operand.now) c.args.x (known_of c.args.known.now)) test a b c.args.form.text c.args.emitter.now c.first_brought-in-When.new.self c.matched.new.emitter c.end_choice-in-When.new.self c.in_ok-place-in-When.place c.in_ok-first-in-When.first c.in_ok-second-in-When.second out typed c.requires.served one mb
-    (λ more low h eb. does more test a b c.args.form.text c.args.emitter.now c.first_brought-in-When.new.self typed suits low h eb)) c.end_choice-in-When.ensures)
+    (λ more low h eb. does more test a b c.args.form.text c.args.emitter.now c.first_brought-in-When.new.self typed suits low h eb)) c.end_choice-in-When.ensures.emits)
 
 pub condition-against-requires : goal.condition-against-requires
 condition-against-requires t c =
     let e = expression_of c.in-Compare.left.value in
     let r = expression_of c.in-Compare.right.value in
-    let made = rw c.deref.ensures at c.in_ok-x-in-Compare.ensures in
+    let made = rw c.deref.ensures at c.in_ok-x-in-Compare.ensures.emits in
     let typed = rw c.in-Compare.is at c.requires.typed in
     let known = rw c.in-Compare.is at c.requires.known in (
       search (rules, the_lemmas),
@@ -330,24 +330,24 @@ condition-against-requires t c =
       ),
     )
 
-pub condition-returns-in_ok-x-in-Compare : goal.condition-returns-in_ok-x-in-Compare
-condition-returns-in_ok-x-in-Compare t c =
+pub condition-returns-in_ok-x-in-Compare-clause-emits : goal.condition-returns-in_ok-x-in-Compare-clause-emits
+condition-returns-in_ok-x-in-Compare-clause-emits t c =
     let e = expression_of c.in-Compare.left.value in
     let r = expression_of c.in-Compare.right.value in
-    let made = rw c.deref.ensures at c.in_ok-x-in-Compare.ensures in
+    let made = rw c.deref.ensures at c.in_ok-x-in-Compare.ensures.emits in
     let o = c.in-Compare.operator in
     let first = compared_first o e r in
     rw c.in-Compare.is
     (if_ok _ _ c.against.result
     (λ out mc. shared_truth_made (known_of c.args.known.now) e (comparison o e r) c.args.emitter.now c.expression.new.emitter c.against.new.emitter c.in_ok-x-in-Compare.x out c.requires.served made mc first.raises first.weighs first.columns)
-    (rw (c.deref-in-Compare.ensures, c.deref-in-Compare-2.ensures) at c.against.ensures))
+    (rw (c.deref-in-Compare.ensures, c.deref-in-Compare-2.ensures) at c.against.ensures.emits))
 
 pub condition-against-requires-in-Between : goal.condition-against-requires-in-Between
 condition-against-requires-in-Between t c =
     let e = expression_of c.in-Between.operand.value in
     let low = expression_of c.in-Between.least.value in
     let high = expression_of c.in-Between.greatest.value in
-    let made = rw c.deref-in-Between.ensures at c.in_ok-x-in-Between.ensures in
+    let made = rw c.deref-in-Between.ensures at c.in_ok-x-in-Between.ensures.emits in
     let served_x = with_served (known_of c.args.known.now) e c.args.emitter.now c.expression-in-Between.new.emitter c.in_ok-x-in-Between.x made in
     let typed = rw c.in-Between.is at c.requires.typed in
     let known = rw c.in-Between.is at c.requires.known in
@@ -358,25 +358,25 @@ condition-against-requires-in-Between-2 t c =
     let e = expression_of c.in-Between.operand.value in
     let low = expression_of c.in-Between.least.value in
     let high = expression_of c.in-Between.greatest.value in
-    let made = rw c.deref-in-Between.ensures at c.in_ok-x-in-Between.ensures in
+    let made = rw c.deref-in-Between.ensures at c.in_ok-x-in-Between.ensures.emits in
     let served_x = with_served (known_of c.args.known.now) e c.args.emitter.now c.expression-in-Between.new.emitter c.in_ok-x-in-Between.x made in
     let typed = rw c.in-Between.is at c.requires.typed in
     let known = rw c.in-Between.is at c.requires.known in
-    let mt = rw (c.deref-in-Between-2.ensures, c.deref-in-Between-3.ensures) at c.in_ok-t-in-Between.ensures in
-    let served = subst (λ k. IsServed k (with_operand e c.in_ok-x-in-Between.x (known_of c.args.known.now))) (sym (begun_at _ c.against-in-Between.new.emitter c.begin_and.new.self c.in_ok-begin_and-in-Between.ensures)) mt.served in
+    let mt = rw (c.deref-in-Between-2.ensures, c.deref-in-Between-3.ensures) at c.in_ok-t-in-Between.ensures.emits in
+    let served = subst (λ k. IsServed k (with_operand e c.in_ok-x-in-Between.x (known_of c.args.known.now))) (sym (begun_at _ c.against-in-Between.new.emitter c.begin_and.new.self c.in_ok-begin_and-in-Between.ensures.emits)) mt.served in
     (search (rules, the_lemmas), (rw (c.deref-in-Between-4.ensures, c.deref-in-Between-5.ensures) typed.1, (rw (c.deref-in-Between-4.ensures, c.deref-in-Between-5.ensures) known.1, rw c.deref-in-Between-5.ensures served)))
 
-pub condition-returns-in_ok-u-in-Between : goal.condition-returns-in_ok-u-in-Between
-condition-returns-in_ok-u-in-Between t c =
+pub condition-returns-in_ok-u-in-Between-clause-emits : goal.condition-returns-in_ok-u-in-Between-clause-emits
+condition-returns-in_ok-u-in-Between-clause-emits t c =
     let e = expression_of c.in-Between.operand.value in
     let low = expression_of c.in-Between.least.value in
     let high = expression_of c.in-Between.greatest.value in
-    let made = rw c.deref-in-Between.ensures at c.in_ok-x-in-Between.ensures in
+    let made = rw c.deref-in-Between.ensures at c.in_ok-x-in-Between.ensures.emits in
     let served_x = with_served (known_of c.args.known.now) e c.args.emitter.now c.expression-in-Between.new.emitter c.in_ok-x-in-Between.x made in
     let typed = rw c.in-Between.is at c.requires.typed in
     let known = rw c.in-Between.is at c.requires.known in
-    let mt = rw (c.deref-in-Between-2.ensures, c.deref-in-Between-3.ensures) at c.in_ok-t-in-Between.ensures in
-    let mu = rw (c.deref-in-Between-4.ensures, c.deref-in-Between-5.ensures) at c.in_ok-u-in-Between.ensures in
+    let mt = rw (c.deref-in-Between-2.ensures, c.deref-in-Between-3.ensures) at c.in_ok-t-in-Between.ensures.emits in
+    let mu = rw (c.deref-in-Between-4.ensures, c.deref-in-Between-5.ensures) at c.in_ok-u-in-Between.ensures.emits in
     let first = between_first e low high in
     let one = comparison GreaterOrEqual e low in
     let two = comparison LessOrEqual e high in
@@ -385,14 +385,14 @@ condition-returns-in_ok-u-in-Between t c =
     (if_ok _ _ c.end_and.result
     (λ out does. shared_truth_made (known_of c.args.known.now) e (between e low high) c.args.emitter.now valued c.end_and.new.self c.in_ok-x-in-Between.x out c.requires.served made
     (junction_made (with_operand e c.in_ok-x-in-Between.x (known_of c.args.known.now)) one two (both one two) _ valued c.against-in-Between.new.emitter c.begin_and.new.self c.against-in-Between-2.new.emitter c.end_and.new.self c.in_ok-t-in-Between.t c.in_ok-u-in-Between.u out
-    served_x mt c.in_ok-begin_and-in-Between.ensures mu
-    (λ more below ec ed. does more one two valued c.against-in-Between.new.emitter c.begin_and.new.self below ec c.in_ok-begin_and-in-Between.ensures ed)) first.raises first.weighs first.columns) c.end_and.ensures)
+    served_x mt c.in_ok-begin_and-in-Between.ensures.emits mu
+    (λ more below ec ed. does more one two valued c.against-in-Between.new.emitter c.begin_and.new.self below ec c.in_ok-begin_and-in-Between.ensures.emits ed)) first.raises first.weighs first.columns) c.end_and.ensures.emits)
 
 pub condition-among-requires : goal.condition-among-requires
 condition-among-requires t c =
     let e = expression_of c.in-In.operand.value in
     let vs = expressions_of c.in-In.values.value in
-    let made = rw c.deref-in-In.ensures at c.in_ok-x-in-In.ensures in
+    let made = rw c.deref-in-In.ensures at c.in_ok-x-in-In.ensures.emits in
     let typed = rw c.in-In.is at c.requires.typed in
     let known = rw c.in-In.is at c.requires.known in (
       search (rules, the_lemmas),
@@ -405,118 +405,118 @@ condition-among-requires t c =
       ),
     )
 
-pub condition-returns-in_ok-x-in-In : goal.condition-returns-in_ok-x-in-In
-condition-returns-in_ok-x-in-In t c =
+pub condition-returns-in_ok-x-in-In-clause-emits : goal.condition-returns-in_ok-x-in-In-clause-emits
+condition-returns-in_ok-x-in-In-clause-emits t c =
     let e = expression_of c.in-In.operand.value in
     let vs = expressions_of c.in-In.values.value in
-    let made = rw c.deref-in-In.ensures at c.in_ok-x-in-In.ensures in
+    let made = rw c.deref-in-In.ensures at c.in_ok-x-in-In.ensures.emits in
     let first = among_first e vs in
     rw c.in-In.is
     (if_ok _ _ c.among.result
     (λ out mc. shared_truth_made (known_of c.args.known.now) e (among e vs) c.args.emitter.now c.expression-in-In.new.emitter c.among.new.emitter c.in_ok-x-in-In.x out c.requires.served made mc first.raises first.weighs first.columns)
-    (rw (c.deref-in-In-2.ensures, c.deref-in-In-3.ensures) at c.among.ensures))
+    (rw (c.deref-in-In-2.ensures, c.deref-in-In-3.ensures) at c.among.ensures.emits))
 
-pub condition-returns-in_ok-x-in-IsNull : goal.condition-returns-in_ok-x-in-IsNull
-condition-returns-in_ok-x-in-IsNull t c =
+pub condition-returns-in_ok-x-in-IsNull-clause-emits : goal.condition-returns-in_ok-x-in-IsNull-clause-emits
+condition-returns-in_ok-x-in-IsNull-clause-emits t c =
     let e = expression_of c.in-IsNull.operand.value in
-    let made = rw c.deref-in-IsNull.ensures at c.in_ok-x-in-IsNull.ensures in
+    let made = rw c.deref-in-IsNull.ensures at c.in_ok-x-in-IsNull.ensures.emits in
     rw c.in-IsNull.is
     (if_ok _ _ c.is_null.result
-    (λ out does. tested_made (known_of c.args.known.now) e (is_null e) c.args.emitter.now c.expression-in-IsNull.new.emitter c.is_null.new.self c.in_ok-x-in-IsNull.x out c.requires.served made (λ more ex. does more e c.args.emitter.now ex)) c.is_null.ensures)
+    (λ out does. tested_made (known_of c.args.known.now) e (is_null e) c.args.emitter.now c.expression-in-IsNull.new.emitter c.is_null.new.self c.in_ok-x-in-IsNull.x out c.requires.served made (λ more ex. does more e c.args.emitter.now ex)) c.is_null.ensures.emits)
 
 pub condition-condition-requires-in-And : goal.condition-condition-requires-in-And
 condition-condition-requires-in-And t c =
-    let mt = rw c.deref-in-And.ensures at c.in_ok-t-in-And.ensures in
+    let mt = rw c.deref-in-And.ensures at c.in_ok-t-in-And.ensures.emits in
     let typed = rw c.in-And.is at c.requires.typed in
     let known = rw c.in-And.is at c.requires.known in
-    let served = subst (λ k. IsServed k (known_of c.args.known.now)) (sym (begun_at _ c.condition.new.emitter c.begin_and-in-And.new.self c.in_ok-begin_and-in-And.ensures)) mt.served in
+    let served = subst (λ k. IsServed k (known_of c.args.known.now)) (sym (begun_at _ c.condition.new.emitter c.begin_and-in-And.new.self c.in_ok-begin_and-in-And.ensures.emits)) mt.served in
     (search (rules, the_lemmas), (rw c.deref-in-And-2.ensures typed.1, (rw c.deref-in-And-2.ensures known.1, served)))
 
-pub condition-returns-in_ok-u-in-And : goal.condition-returns-in_ok-u-in-And
-condition-returns-in_ok-u-in-And t c =
-    let mt = rw c.deref-in-And.ensures at c.in_ok-t-in-And.ensures in
-    let mu = rw c.deref-in-And-2.ensures at c.in_ok-u-in-And.ensures in
+pub condition-returns-in_ok-u-in-And-clause-emits : goal.condition-returns-in_ok-u-in-And-clause-emits
+condition-returns-in_ok-u-in-And-clause-emits t c =
+    let mt = rw c.deref-in-And.ensures at c.in_ok-t-in-And.ensures.emits in
+    let mu = rw c.deref-in-And-2.ensures at c.in_ok-u-in-And.ensures.emits in
     let one = condition_of c.in-And.left.value in
     let two = condition_of c.in-And.right.value in
     rw c.in-And.is
     (if_ok _ _ c.end_and-in-And.result
-    (λ out does. junction_made (known_of c.args.known.now) one two (both one two) _ c.args.emitter.now c.condition.new.emitter c.begin_and-in-And.new.self c.condition-in-And.new.emitter c.end_and-in-And.new.self c.in_ok-t-in-And.t c.in_ok-u-in-And.u out c.requires.served mt c.in_ok-begin_and-in-And.ensures mu
-    (λ more low ec ed. does more one two c.args.emitter.now c.condition.new.emitter c.begin_and-in-And.new.self low ec c.in_ok-begin_and-in-And.ensures ed)) c.end_and-in-And.ensures)
+    (λ out does. junction_made (known_of c.args.known.now) one two (both one two) _ c.args.emitter.now c.condition.new.emitter c.begin_and-in-And.new.self c.condition-in-And.new.emitter c.end_and-in-And.new.self c.in_ok-t-in-And.t c.in_ok-u-in-And.u out c.requires.served mt c.in_ok-begin_and-in-And.ensures.emits mu
+    (λ more low ec ed. does more one two c.args.emitter.now c.condition.new.emitter c.begin_and-in-And.new.self low ec c.in_ok-begin_and-in-And.ensures.emits ed)) c.end_and-in-And.ensures.emits)
 
 pub condition-condition-requires-in-Or-2 : goal.condition-condition-requires-in-Or-2
 condition-condition-requires-in-Or-2 t c =
-    let mt = rw c.deref-in-Or.ensures at c.in_ok-t-in-Or.ensures in
+    let mt = rw c.deref-in-Or.ensures at c.in_ok-t-in-Or.ensures.emits in
     let typed = rw c.in-Or.is at c.requires.typed in
     let known = rw c.in-Or.is at c.requires.known in
-    let served = subst (λ k. IsServed k (known_of c.args.known.now)) (sym (begun_at _ c.condition-in-Or.new.emitter c.begin_or.new.self c.in_ok-begin_or-in-Or.ensures)) mt.served in
+    let served = subst (λ k. IsServed k (known_of c.args.known.now)) (sym (begun_at _ c.condition-in-Or.new.emitter c.begin_or.new.self c.in_ok-begin_or-in-Or.ensures.emits)) mt.served in
     (search (rules, the_lemmas), (rw c.deref-in-Or-2.ensures typed.1, (rw c.deref-in-Or-2.ensures known.1, served)))
 
-pub condition-returns-in_ok-u-in-Or : goal.condition-returns-in_ok-u-in-Or
-condition-returns-in_ok-u-in-Or t c =
-    let mt = rw c.deref-in-Or.ensures at c.in_ok-t-in-Or.ensures in
-    let mu = rw c.deref-in-Or-2.ensures at c.in_ok-u-in-Or.ensures in
+pub condition-returns-in_ok-u-in-Or-clause-emits : goal.condition-returns-in_ok-u-in-Or-clause-emits
+condition-returns-in_ok-u-in-Or-clause-emits t c =
+    let mt = rw c.deref-in-Or.ensures at c.in_ok-t-in-Or.ensures.emits in
+    let mu = rw c.deref-in-Or-2.ensures at c.in_ok-u-in-Or.ensures.emits in
     let one = condition_of c.in-Or.left.value in
     let two = condition_of c.in-Or.right.value in
     rw c.in-Or.is
     (if_ok _ _ c.end_or.result
-    (λ out does. junction_made (known_of c.args.known.now) one two (either one two) _ c.args.emitter.now c.condition-in-Or.new.emitter c.begin_or.new.self c.condition-in-Or-2.new.emitter c.end_or.new.self c.in_ok-t-in-Or.t c.in_ok-u-in-Or.u out c.requires.served mt c.in_ok-begin_or-in-Or.ensures mu
-    (λ more low ec ed. does more one two c.args.emitter.now c.condition-in-Or.new.emitter c.begin_or.new.self low ec c.in_ok-begin_or-in-Or.ensures ed)) c.end_or.ensures)
+    (λ out does. junction_made (known_of c.args.known.now) one two (either one two) _ c.args.emitter.now c.condition-in-Or.new.emitter c.begin_or.new.self c.condition-in-Or-2.new.emitter c.end_or.new.self c.in_ok-t-in-Or.t c.in_ok-u-in-Or.u out c.requires.served mt c.in_ok-begin_or-in-Or.ensures.emits mu
+    (λ more low ec ed. does more one two c.args.emitter.now c.condition-in-Or.new.emitter c.begin_or.new.self low ec c.in_ok-begin_or-in-Or.ensures.emits ed)) c.end_or.ensures.emits)
 
-pub condition-returns-in_ok-t-in-Not : goal.condition-returns-in_ok-t-in-Not
-condition-returns-in_ok-t-in-Not t c =
+pub condition-returns-in_ok-t-in-Not-clause-emits : goal.condition-returns-in_ok-t-in-Not-clause-emits
+condition-returns-in_ok-t-in-Not-clause-emits t c =
     let d = condition_of c.in-Not.operand.value in
-    let mt = rw c.deref-in-Not.ensures at c.in_ok-t-in-Not.ensures in
+    let mt = rw c.deref-in-Not.ensures at c.in_ok-t-in-Not.ensures.emits in
     rw c.in-Not.is
     (if_ok _ _ c.negation.result
-    (λ out does. turned_made (known_of c.args.known.now) d (negation_of d) c.args.emitter.now c.condition-in-Not.new.emitter c.negation.new.self c.in_ok-t-in-Not.t out c.requires.served mt (λ more ec. does more d c.args.emitter.now ec)) c.negation.ensures)
+    (λ out does. turned_made (known_of c.args.known.now) d (negation_of d) c.args.emitter.now c.condition-in-Not.new.emitter c.negation.new.self c.in_ok-t-in-Not.t out c.requires.served mt (λ more ec. does more d c.args.emitter.now ec)) c.negation.ensures.emits)
 
-pub condition-returns-in_ok-t-in-Is : goal.condition-returns-in_ok-t-in-Is
-condition-returns-in_ok-t-in-Is t c =
+pub condition-returns-in_ok-t-in-Is-clause-emits : goal.condition-returns-in_ok-t-in-Is-clause-emits
+condition-returns-in_ok-t-in-Is-clause-emits t c =
     let d = condition_of c.in-Is.operand.value in
-    let mt = rw c.deref-in-Is.ensures at c.in_ok-t-in-Is.ensures in
+    let mt = rw c.deref-in-Is.ensures at c.in_ok-t-in-Is.ensures.emits in
     rw c.in-Is.is
     (if_ok _ _ c.is_truth.result
-    (λ out does. turned_made (known_of c.args.known.now) d (is d c.in-Is.wanted) c.args.emitter.now c.condition-in-Is.new.emitter c.is_truth.new.self c.in_ok-t-in-Is.t out c.requires.served mt (λ more ec. does more d c.args.emitter.now ec)) c.is_truth.ensures)
+    (λ out does. turned_made (known_of c.args.known.now) d (is d c.in-Is.wanted) c.args.emitter.now c.condition-in-Is.new.emitter c.is_truth.new.self c.in_ok-t-in-Is.t out c.requires.served mt (λ more ec. does more d c.args.emitter.now ec)) c.is_truth.ensures.emits)
 
-pub expression-returns-in-Null : goal.expression-returns-in-Null
-expression-returns-in-Null t c =
+pub expression-returns-in-Null-clause-emits : goal.expression-returns-in-Null-clause-emits
+expression-returns-in-Null-clause-emits t c =
     rw c.in-Null.is
-    (if_ok _ _ c.null.result (λ out does. made_of (known_of c.args.known.now) null c.args.emitter.now c.null.new.self out tt c.requires.served (λ more all low. does more)) c.null.ensures)
+    (if_ok _ _ c.null.result (λ out does. made_of (known_of c.args.known.now) null c.args.emitter.now c.null.new.self out tt c.requires.served (λ more all low. does more)) c.null.ensures.emits)
 
-pub expression-returns-in-Column : goal.expression-returns-in-Column
-expression-returns-in-Column t c =
+pub expression-returns-in-Column-clause-emits : goal.expression-returns-in-Column-clause-emits
+expression-returns-in-Column-clause-emits t c =
     let typed = rw c.in-Column.is at c.requires.typed in
     rw c.in-Column.is (leaf_made (known_of c.args.known.now) (column c.in-Column.index c.in-Column.ty) c.args.emitter.now c.column_of.result typed c.requires.served c.column_of.ensures)
 
-pub expression-returns-in_ok-b-in-Arithmetic : goal.expression-returns-in_ok-b-in-Arithmetic
-expression-returns-in_ok-b-in-Arithmetic t c =
+pub expression-returns-in_ok-b-in-Arithmetic-clause-emits : goal.expression-returns-in_ok-b-in-Arithmetic-clause-emits
+expression-returns-in_ok-b-in-Arithmetic-clause-emits t c =
     let a = expression_of c.in-Arithmetic.left.value in
     let b = expression_of c.in-Arithmetic.right.value in
-    let ma = rw c.deref.ensures at c.in_ok-a-in-Arithmetic.ensures in
-    let mb = rw c.deref-in-Arithmetic.ensures at c.in_ok-b-in-Arithmetic.ensures in
+    let ma = rw c.deref.ensures at c.in_ok-a-in-Arithmetic.ensures.emits in
+    let mb = rw c.deref-in-Arithmetic.ensures at c.in_ok-b-in-Arithmetic.ensures.emits in
     let typed = rw c.in-Arithmetic.is at c.requires.typed in
     rw c.in-Arithmetic.is
     (if_ok _ _ c.arithmetic.result
     (λ out does. two_made (known_of c.args.known.now) a b (arithmetic c.in-Arithmetic.operator a b) c.args.emitter.now c.expression.new.emitter c.expression-in-Arithmetic.new.emitter c.arithmetic.new.self c.in_ok-a-in-Arithmetic.a c.in_ok-b-in-Arithmetic.b out typed c.requires.served ma mb
-    (λ more low ea eb. does more a b c.args.emitter.now c.expression.new.emitter typed low ea eb)) c.arithmetic.ensures)
+    (λ more low ea eb. does more a b c.args.emitter.now c.expression.new.emitter typed low ea eb)) c.arithmetic.ensures.emits)
 
-pub expression-returns-in_ok-a-in-Negative : goal.expression-returns-in_ok-a-in-Negative
-expression-returns-in_ok-a-in-Negative t c =
+pub expression-returns-in_ok-a-in-Negative-clause-emits : goal.expression-returns-in_ok-a-in-Negative-clause-emits
+expression-returns-in_ok-a-in-Negative-clause-emits t c =
     let a = expression_of c.in-Negative.operand.value in
-    let ma = rw c.deref-in-Negative.ensures at c.in_ok-a-in-Negative.ensures in
+    let ma = rw c.deref-in-Negative.ensures at c.in_ok-a-in-Negative.ensures.emits in
     let typed = rw c.in-Negative.is at c.requires.typed in
     rw c.in-Negative.is
     (if_ok _ _ c.negative.result
-    (λ out does. one_made (known_of c.args.known.now) a (negative a) c.args.emitter.now c.expression-in-Negative.new.emitter c.negative.new.self c.in_ok-a-in-Negative.a out typed c.requires.served ma (λ more low ea. does more a c.args.emitter.now typed low ea)) c.negative.ensures)
+    (λ out does. one_made (known_of c.args.known.now) a (negative a) c.args.emitter.now c.expression-in-Negative.new.emitter c.negative.new.self c.in_ok-a-in-Negative.a out typed c.requires.served ma (λ more low ea. does more a c.args.emitter.now typed low ea)) c.negative.ensures.emits)
 
-pub expression-returns-in_ok-a-in-Extract : goal.expression-returns-in_ok-a-in-Extract
-expression-returns-in_ok-a-in-Extract t c =
+pub expression-returns-in_ok-a-in-Extract-clause-emits : goal.expression-returns-in_ok-a-in-Extract-clause-emits
+expression-returns-in_ok-a-in-Extract-clause-emits t c =
     let a = expression_of c.in-Extract.operand.value in
-    let ma = rw c.deref-in-Extract.ensures at c.in_ok-a-in-Extract.ensures in
+    let ma = rw c.deref-in-Extract.ensures at c.in_ok-a-in-Extract.ensures.emits in
     let typed = rw c.in-Extract.is at c.requires.typed in
     rw c.in-Extract.is
     (if_ok _ _ c.extract.result
-    (λ out does. one_made (known_of c.args.known.now) a (extract c.in-Extract.field a) c.args.emitter.now c.expression-in-Extract.new.emitter c.extract.new.self c.in_ok-a-in-Extract.a out typed c.requires.served ma (λ more low ea. does more a c.args.emitter.now typed low ea)) c.extract.ensures)
+    (λ out does. one_made (known_of c.args.known.now) a (extract c.in-Extract.field a) c.args.emitter.now c.expression-in-Extract.new.emitter c.extract.new.self c.in_ok-a-in-Extract.a out typed c.requires.served ma (λ more low ea. does more a c.args.emitter.now typed low ea)) c.extract.ensures.emits)
 
 pub expression-branch-emitter-requires : goal.expression-branch-emitter-requires
 expression-branch-emitter-requires t c =
@@ -538,11 +538,11 @@ expression-branch-emitter-requires t c =
       ),
     )
 
-pub expression-returns-in-Case : goal.expression-returns-in-Case
-expression-returns-in-Case t c =
+pub expression-returns-in-Case-clause-emits : goal.expression-returns-in-Case-clause-emits
+expression-returns-in-Case-clause-emits t c =
     let choices = choices_of c.in-Case.branches.value in
     let same = cases_at choices c.of.result.scale (rw c.in-Case.is at c.of.ensures.scale) in
-    rw c.in-Case.is (subst (λ k. IfOk c.branch-emitter.result (λ out. Made (known_of c.args.known.now) (cases k choices) c.args.emitter.now c.branch-emitter.new.emitter out)) same (rw c.deref-in-Case.ensures at c.branch-emitter.ensures))
+    rw c.in-Case.is (subst (λ k. IfOk c.branch-emitter.result (λ out. Made (known_of c.args.known.now) (cases k choices) c.args.emitter.now c.branch-emitter.new.emitter out)) same (rw c.deref-in-Case.ensures at c.branch-emitter.ensures.emits))
 
 pub expression-coalesce-requires : goal.expression-coalesce-requires
 expression-coalesce-requires t c =
@@ -564,18 +564,18 @@ expression-coalesce-requires t c =
       ),
     )
 
-pub expression-returns-in-Coalesce : goal.expression-returns-in-Coalesce
-expression-returns-in-Coalesce t c =
+pub expression-returns-in-Coalesce-clause-emits : goal.expression-returns-in-Coalesce-clause-emits
+expression-returns-in-Coalesce-clause-emits t c =
     let choices = coalesced (expressions_of c.in-Coalesce.arguments.value) in
     let same = cases_at choices c.of-in-Coalesce.result.scale (rw c.in-Coalesce.is at c.of-in-Coalesce.ensures.scale) in
-    rw c.in-Coalesce.is (subst (λ k. IfOk c.coalesce.result (λ out. Made (known_of c.args.known.now) (cases k choices) c.args.emitter.now c.coalesce.new.emitter out)) same (rw c.deref-in-Coalesce.ensures at c.coalesce.ensures))
+    rw c.in-Coalesce.is (subst (λ k. IfOk c.coalesce.result (λ out. Made (known_of c.args.known.now) (cases k choices) c.args.emitter.now c.coalesce.new.emitter out)) same (rw c.deref-in-Coalesce.ensures at c.coalesce.ensures.emits))
 
 pub expression-matched-requires : goal.expression-matched-requires
 expression-matched-requires t c =
     let e = expression_of c.in-Match.operand.value in
     let choices = matches_of c.in-Match.matches.value e in
     let same = cases_at choices c.of-in-Match.result.scale (rw c.in-Match.is at c.of-in-Match.ensures.scale) in
-    let made = rw c.deref-in-Match.ensures at c.in_ok-x-in-Match.ensures in
+    let made = rw c.deref-in-Match.ensures at c.in_ok-x-in-Match.ensures.emits in
     let typed = rw c.in-Match.is at c.requires.typed in
     let known = rw c.in-Match.is at c.requires.known in
     let suits = rw c.in-Match.is at c.of-in-Match.ensures.text in (
@@ -589,68 +589,68 @@ expression-matched-requires t c =
       ),
     )
 
-pub expression-returns-in_ok-x-in-Match : goal.expression-returns-in_ok-x-in-Match
-expression-returns-in_ok-x-in-Match t c =
+pub expression-returns-in_ok-x-in-Match-clause-emits : goal.expression-returns-in_ok-x-in-Match-clause-emits
+expression-returns-in_ok-x-in-Match-clause-emits t c =
     let e = expression_of c.in-Match.operand.value in
     let choices = matches_of c.in-Match.matches.value e in
     let same = cases_at choices c.of-in-Match.result.scale (rw c.in-Match.is at c.of-in-Match.ensures.scale) in
-    let made = rw c.deref-in-Match.ensures at c.in_ok-x-in-Match.ensures in
+    let made = rw c.deref-in-Match.ensures at c.in_ok-x-in-Match.ensures.emits in
     let typed = rw c.in-Match.is at c.requires.typed in
     let before = matched_before (largest_result choices) c.in-Match.matches.value e in
     rw c.in-Match.is
     (if_ok _ _ c.matched.result
     (λ out me. shared_made (known_of c.args.known.now) e (case choices) c.args.emitter.now c.expression-in-Match.new.emitter c.matched.new.emitter c.in_ok-x-in-Match.x out typed c.requires.served made
     (subst (λ k. Made (with_operand e c.in_ok-x-in-Match.x (known_of c.args.known.now)) (cases k choices) c.expression-in-Match.new.emitter c.matched.new.emitter out) same me) before.raises before.weighs before.columns)
-    (rw (c.deref-in-Match-2.ensures, c.deref-in-Match-3.ensures) at c.matched.ensures))
+    (rw (c.deref-in-Match-2.ensures, c.deref-in-Match-3.ensures) at c.matched.ensures.emits))
 
 pub expression-against-requires : goal.expression-against-requires
 expression-against-requires t c =
     let e = expression_of c.in-NullIf.left.value in
     let r = expression_of c.in-NullIf.right.value in
-    let made = rw c.deref-in-NullIf.ensures at c.in_ok-x-in-NullIf.ensures in
+    let made = rw c.deref-in-NullIf.ensures at c.in_ok-x-in-NullIf.ensures.emits in
     let served_x = with_served (known_of c.args.known.now) e c.args.emitter.now c.expression-in-NullIf.new.emitter c.in_ok-x-in-NullIf.x made in
     let typed = rw c.in-NullIf.is at c.requires.typed in
     let known = rw c.in-NullIf.is at c.requires.known in
     (search (rules, the_lemmas), (rw (c.deref-in-NullIf-2.ensures, c.deref-in-NullIf-3.ensures) typed.0, (rw (c.deref-in-NullIf-2.ensures, c.deref-in-NullIf-3.ensures) known.0, rw c.deref-in-NullIf-3.ensures served_x)))
 
-pub expression-returns-in_ok-t-in-NullIf : goal.expression-returns-in_ok-t-in-NullIf
-expression-returns-in_ok-t-in-NullIf t c =
+pub expression-returns-in_ok-t-in-NullIf-clause-emits : goal.expression-returns-in_ok-t-in-NullIf-clause-emits
+expression-returns-in_ok-t-in-NullIf-clause-emits t c =
     let e = expression_of c.in-NullIf.left.value in
     let r = expression_of c.in-NullIf.right.value in
-    let made = rw c.deref-in-NullIf.ensures at c.in_ok-x-in-NullIf.ensures in
+    let made = rw c.deref-in-NullIf.ensures at c.in_ok-x-in-NullIf.ensures.emits in
     let served_x = with_served (known_of c.args.known.now) e c.args.emitter.now c.expression-in-NullIf.new.emitter c.in_ok-x-in-NullIf.x made in
     let typed = rw c.in-NullIf.is at c.requires.typed in
     let before = null_if_before e r in
     let test = comparison Equal e r in
-    let mt = rw (c.deref-in-NullIf-2.ensures, c.deref-in-NullIf-3.ensures) at c.in_ok-t-in-NullIf.ensures in
+    let mt = rw (c.deref-in-NullIf-2.ensures, c.deref-in-NullIf-3.ensures) at c.in_ok-t-in-NullIf.ensures.emits in
     let suits = rw c.in-NullIf.is at c.of-in-NullIf.ensures.text in
     let valued = c.expression-in-NullIf.new.emitter in
     rw c.in-NullIf.is
     (if_ok _ _ c.null_where.result
     (λ out does. shared_made (known_of c.args.known.now) e (null_if e r) c.args.emitter.now valued c.null_where.new.self c.in_ok-x-in-NullIf.x out typed c.requires.served made
-    (null_where_made (known_of c.args.known.now) test e c.in_ok-x-in-NullIf.x out valued c.against.new.emitter c.null_where.new.self c.in_ok-t-in-NullIf.t typed served_x mt (λ more low ec here. does more test e valued typed suits low ec here)) before.raises before.weighs before.columns) c.null_where.ensures)
+    (null_where_made (known_of c.args.known.now) test e c.in_ok-x-in-NullIf.x out valued c.against.new.emitter c.null_where.new.self c.in_ok-t-in-NullIf.t typed served_x mt (λ more low ec here. does more test e valued typed suits low ec here)) before.raises before.weighs before.columns) c.null_where.ensures.emits)
 
-pub expression-returns-in-Number : goal.expression-returns-in-Number
-expression-returns-in-Number t c =
+pub expression-returns-in-Number-clause-emits : goal.expression-returns-in-Number-clause-emits
+expression-returns-in-Number-clause-emits t c =
     let v = c.in-Number.value in
     let s = c.in-Number.scale in
     let typed = rw c.in-Number.is at c.requires.typed in
     let same = to_z-of_z w64 v (fits_small v typed.0) in
     rw c.in-Number.is
     (if_ok _ _ c.number.result (λ out does. made_of (known_of c.args.known.now) (number v s) c.args.emitter.now c.number.new.self out typed c.requires.served (λ more all low. does more typed))
-    (subst (λ z. IfOk c.number.result (λ out. (more : List Known) → IsTyped (number z s) → Emits more (number z s) c.args.emitter.now c.number.new.self out)) same c.number.ensures))
+    (subst (λ z. IfOk c.number.result (λ out. (more : List Known) → IsTyped (number z s) → Emits more (number z s) c.args.emitter.now c.number.new.self out)) same c.number.ensures.emits))
 
-pub expression-returns-in-Date : goal.expression-returns-in-Date
-expression-returns-in-Date t c =
+pub expression-returns-in-Date-clause-emits : goal.expression-returns-in-Date-clause-emits
+expression-returns-in-Date-clause-emits t c =
     let d = c.in-Date.day in
     let typed = rw c.in-Date.is at c.requires.typed in
     let same = to_z-of_z w32 d (date_small d typed) in
     rw c.in-Date.is
     (if_ok _ _ c.date.result (λ out does. made_of (known_of c.args.known.now) (date d) c.args.emitter.now c.date.new.self out typed c.requires.served (λ more all low. does more typed))
-    (subst (λ z. IfOk c.date.result (λ out. (more : List Known) → IsTyped (date z) → Emits more (date z) c.args.emitter.now c.date.new.self out)) same c.date.ensures))
+    (subst (λ z. IfOk c.date.result (λ out. (more : List Known) → IsTyped (date z) → Emits more (date z) c.args.emitter.now c.date.new.self out)) same c.date.ensures.emits))
 
-pub expression-returns-in-Text : goal.expression-returns-in-Text
-expression-returns-in-Text t c =
+pub expression-returns-in-Text-clause-emits : goal.expression-returns-in-Text-clause-emits
+expression-returns-in-Text-clause-emits t c =
     let typed = rw c.in-Text.is at c.requires.typed in
     rw c.in-Text.is (leaf_made (known_of c.args.known.now) _ c.args.emitter.now c.text_of.result typed c.requires.served c.text_of.ensures)
 

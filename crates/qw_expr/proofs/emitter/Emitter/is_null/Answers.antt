@@ -4,10 +4,10 @@ use Rattle.qw_expr.specs.Emits.{EmitsTruth}
 use Rattle.qw_expr.proofs.NullTests.{word_emits, never_emits}
 use Rattle.qw_expr.proofs.emitter.Emitter.is_null.Goals as goal
 
-pub returns-in-Some : goal.returns-in-Some
-returns-in-Some c known a start emitted = subst (EmitsTruth known (is_null a) start c.args.self.now) (sym c.sure.ensures) (word_emits known a start c.args.self.now c.args.operand c.in-Some.n c.in-Some.is emitted)
+pub returns-in-Some-clause-emits : goal.returns-in-Some-clause-emits
+returns-in-Some-clause-emits c known a start emitted = subst (EmitsTruth known (is_null a) start c.args.self.now) (sym c.sure.ensures) (word_emits known a start c.args.self.now c.args.operand c.in-Some.n c.in-Some.is emitted)
 
-pub returns-in_ok-t-in-None : goal.returns-in_ok-t-in-None
-returns-in_ok-t-in-None c known a start emitted =
+pub returns-in_ok-t-in-None-clause-emits : goal.returns-in_ok-t-in-None-clause-emits
+returns-in_ok-t-in-None-clause-emits c known a start emitted =
     subst (EmitsTruth known (is_null a) start c.flag.new.self) (sym c.sure-in-None.ensures)
-    (never_emits known a start c.args.self.now c.flag.new.self c.args.operand c.in_ok-t-in-None.t c.in-None.is emitted c.in_ok-t-in-None.ensures)
+    (never_emits known a start c.args.self.now c.flag.new.self c.args.operand c.in_ok-t-in-None.t c.in-None.is emitted c.in_ok-t-in-None.ensures.emits)

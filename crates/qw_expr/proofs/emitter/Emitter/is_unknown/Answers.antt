@@ -5,10 +5,10 @@ use Rattle.qw_expr.specs.Emits.{EmitsTruth}
 use Rattle.qw_expr.proofs.NullTests.{unknown_emits, known_emits}
 use Rattle.qw_expr.proofs.emitter.Emitter.is_unknown.Goals as goal
 
-pub returns-in-Some : goal.returns-in-Some
-returns-in-Some c known a start emitted = subst (EmitsTruth known (is a Unknown) start c.args.self.now) (sym c.sure.ensures) (unknown_emits known a start c.args.self.now c.args.operand c.in-Some.n c.in-Some.is emitted)
+pub returns-in-Some-clause-emits : goal.returns-in-Some-clause-emits
+returns-in-Some-clause-emits c known a start emitted = subst (EmitsTruth known (is a Unknown) start c.args.self.now) (sym c.sure.ensures) (unknown_emits known a start c.args.self.now c.args.operand c.in-Some.n c.in-Some.is emitted)
 
-pub returns-in_ok-t-in-None : goal.returns-in_ok-t-in-None
-returns-in_ok-t-in-None c known a start emitted =
+pub returns-in_ok-t-in-None-clause-emits : goal.returns-in_ok-t-in-None-clause-emits
+returns-in_ok-t-in-None-clause-emits c known a start emitted =
     subst (EmitsTruth known (is a Unknown) start c.flag.new.self) (sym c.sure-in-None.ensures)
-    (known_emits known a start c.args.self.now c.flag.new.self c.args.operand c.in_ok-t-in-None.t c.in-None.is emitted c.in_ok-t-in-None.ensures)
+    (known_emits known a start c.args.self.now c.flag.new.self c.args.operand c.in_ok-t-in-None.t c.in-None.is emitted c.in_ok-t-in-None.ensures.emits)

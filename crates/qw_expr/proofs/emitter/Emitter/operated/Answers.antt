@@ -4,8 +4,8 @@ use Rattle.qw_low.proofs.Appended.{three}
 use Rattle.qw_expr.proofs.Emitted.{onto, next_local, operated_adds}
 use Rattle.qw_expr.proofs.emitter.Emitter.operated.Goals as goal
 
-pub returns : goal.returns
-returns c = operated_adds c.args.operator c.args.left c.args.right c.number.result c.args.self.now c.end_unless.new.self
+pub returns-clause-emits : goal.returns-clause-emits
+returns-clause-emits c = operated_adds c.args.operator c.args.left c.args.right c.number.result c.args.self.now c.end_unless.new.self
     c.join_nulls.new.self.block.code.items c.begin_unless.new.self.block.code.items c.operate.new.block.code.items c.in_ok-p.p c.in_ok-free.free c.in_ok-null.null c.in_ok-made.ensures.block.0 c.in_ok-made.made
     (c.in_ok-end_unless.ensures.same.0 ∙ c.in_ok-begin_unless.ensures.same.0 ∙ c.in_ok-null.ensures.same.0 ∙ c.in_ok-_last.ensures.same.0 ∙ c.in_ok-free.ensures.same.0 ∙ c.in_ok-p.ensures.same.0)
     (c.in_ok-end_unless.ensures.same.1 ∙ c.in_ok-begin_unless.ensures.same.1 ∙ c.in_ok-null.ensures.same.1

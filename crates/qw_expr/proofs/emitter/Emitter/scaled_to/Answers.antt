@@ -3,8 +3,8 @@ use Rattle.qw_types.specs.Arithmetic.{bring}
 use Rattle.qw_expr.proofs.Emitted.{onto, converted_adds}
 use Rattle.qw_expr.proofs.emitter.Emitter.scaled_to.Goals as goal
 
-pub returns : goal.returns
-returns c = converted_adds (λ v. bring v c.args.operand.scale c.args.scale) c.args.scale c.args.operand c.number.result c.args.self.now c.end_unless.new.self
+pub returns-clause-emits : goal.returns-clause-emits
+returns-clause-emits c = converted_adds (λ v. bring v c.args.operand.scale c.args.scale) c.args.scale c.args.operand c.number.result c.args.self.now c.end_unless.new.self
     c.begin_unless.new.self.block.code.items c.bring.new.block.code.items c.in_ok-free.free c.in_ok-made.ensures.block.0 c.in_ok-made.made
     (c.in_ok-end_unless.ensures.same.0 ∙ c.in_ok-begin_unless.ensures.same.0 ∙ c.in_ok-free.ensures.same.0)
     (c.in_ok-end_unless.ensures.same.1 ∙ c.in_ok-begin_unless.ensures.same.1 ∙ c.in_ok-free.ensures.own) c.in_ok-free.ensures.local.0

@@ -1,4 +1,4 @@
-use Rattle.std.proofs.Common.{sym, subst}
+use Rattle.std.proofs.Common.{sym, subst, arith}
 use Rattle.qw_meaning.specs.declared.query.Comparison.{Comparison}
 use Rattle.qw_module.specs.declared.instruction.ValType.TheVariants.{I32}
 use Rattle.qw_low.specs.Syntax.{assign, is_zero, local, seq}
@@ -43,4 +43,5 @@ returns-in_ok-test_zero-in-Less c =
         tests_order c.args.operator c.args.left c.args.right c.args.to.free t c.in_ok-out-in-Less.out a c.in_ok-out-in-Less.ensures.place (c.in_ok-out-in-Less.ensures.block.2),
       );
       same = c.in_ok-test_zero-in-Less.ensures.same;
+      short = omega (arith, c.in_ok-out-in-Less.ensures.short, c.in_ok-test_zero-in-Less.ensures.short);
     }

@@ -6,13 +6,14 @@ use Rattle.qw_types.specs.declared.value.Val.TheVariants as val
 use Rattle.qw_meaning.specs.Expression.{Expression, Condition, null, number, date, text, column, arithmetic, negative, extract, brought, choice, comparison, is_null, both, either, negation_of, is}
 use Rattle.qw_meaning.specs.Evaluation.{Environment, value_of}
 
--- the octets of a value that is a text
-abbrev pub octets_of : Result Val Code → ℕ
-octets_of (Ok val.Null) = 0
-octets_of (Ok (val.Num v)) = 0
-octets_of (Ok (val.Date d)) = 0
-octets_of (Ok (val.Text t)) = length t
-octets_of (Err code) = 0
+-- the octets of two texts; of values that aren't both texts none are compared
+abbrev pub octets_in : Val → Val → ℕ
+octets_in (val.Text a) (val.Text b) = length a + length b
+octets_in _ _ = 0
+
+abbrev pub octets_of : Result Val Code → Result Val Code → ℕ
+octets_of (Ok a) (Ok b) = octets_in a b
+octets_of _ _ = 0
 
 abbrev mutual
   pub units : Expression → Environment → ℕ
@@ -28,7 +29,7 @@ abbrev mutual
   units (choice c a b) env = units_of c env + (units a env + units b env)
 
   pub units_of : Condition → Environment → ℕ
-  units_of (comparison op a b) env = units a env + units b env + (octets_of (value_of a env) + octets_of (value_of b env))
+  units_of (comparison op a b) env = units a env + units b env + octets_of (value_of a env) (value_of b env)
   units_of (is_null a) env = units a env
   units_of (both c d) env = units_of c env + units_of d env
   units_of (either c d) env = units_of c env + units_of d env
