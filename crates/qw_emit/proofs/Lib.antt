@@ -1,25 +1,2 @@
-mod ColumnIndices
-mod Comparisons
 pub mod CompiledLemmas
-mod Nesting
 mod OwnWeights
-mod Pieces
-mod Ready
-mod ScanBegun
-mod ScanCells
-mod ScanCompiled
-mod ScanFacts
-mod ScanLocals
-mod ScanLoop
-mod ScanMemory
-mod ScanModule
-mod ScanResult
-mod ScanRuns
-mod ScanShapeLemmas
-mod ScanStart
-mod ScanStatic
-mod ScanSteps
-mod ScanTable
-mod ScanTyped
-mod ScanValid
-mod ScanWeight

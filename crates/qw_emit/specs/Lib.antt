@@ -1,6 +1,4 @@
 pub mod Compiled
-pub mod Inner
-pub mod ScanLayout
 pub mod WorkedQueries
 pub use Rattle.qw_module.specs.Execution
 pub use Rattle.qw_module.specs.Start

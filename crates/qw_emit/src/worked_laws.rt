@@ -18,7 +18,6 @@ ghost use Rattle.qw_module.specs.Start.{weight};
 ghost use Rattle.qw_module.specs.Syntax.{done, op, call};
 ghost use Rattle.qw_module.specs.Validity.{code_of_body, sequences_of};
 ghost use Rattle.qw_meaning.specs.declared.expression.Operator.TheVariants as operator;
-ghost use Rattle.qw_meaning.specs.declared.query.Comparison.TheVariants.{Equal};
 ghost use Rattle.qw_meaning.specs.Expression.{arithmetic, column, number};
 ghost use Rattle.qw_meaning.specs.Outcome.{Outcome, Rows, Raises};
 ghost use Rattle.qw_map.specs.Areas.{World};
@@ -27,26 +26,7 @@ ghost use Rattle.qw_map.specs.Runs.{Moment};
 ghost use Rattle.qw_map.specs.Turns as turns;
 ghost use Rattle.qw_map.specs.Turns.{Done, Exception, Pages, Steps};
 ghost use Rattle.qw_emit.specs.Compiled.{units, module_weight, weight_of, bound, page_bound, raised_for, Answers, AnswersAt, GoesWith};
-ghost use Rattle.qw_emit.specs.ScanLayout.{layout_for};
 ghost use Rattle.qw_emit.specs.WorkedQueries.{above, three_rows};
-
-/// The layout of `SELECT C, A FROM T WHERE B = 5`, T being table 3: its columns are A, B and C, in the order of the table, and a result
-/// row has two cells. A column that is compared and selected twice is used once.
-#[tactic(auto, unfolding(crate::specs::ScanLayout::used))]
-pub fn layouts_of_statements()
-    ensures three_columns { layout_for (record { table = 3; columns = 2 ∷ 0 ∷ []; tested = 1; comparison = Equal; literal = pos 5 }) ≡ record {
-      columns = record { table = 3; column = 0; ty = Integer; not_null = true }
-          ∷ record { table = 3; column = 1; ty = Integer; not_null = true }
-          ∷ record { table = 3; column = 2; ty = Integer; not_null = true } ∷ [];
-      literals = [];
-      cells = kind.Number 0 ∷ kind.Number 0 ∷ [];
-    } }
-    ensures one_column { layout_for (record { table = 0; columns = 63 ∷ 63 ∷ []; tested = 63; comparison = Equal; literal = pos 5 }) ≡ record {
-      columns = record { table = 0; column = 63; ty = Integer; not_null = true } ∷ [];
-      literals = [];
-      cells = kind.Number 0 ∷ kind.Number 0 ∷ [];
-    } }
-{}
 
 /// With `SELECT A FROM T WHERE A > 5`, T being table 0, goes a layout of its column A and one whole number, and one that uses no column;
 /// not one with a column of another table, of another type, or that T hasn't, nor one whose cells are a date, two numbers or a number of

@@ -1,4 +1,0 @@
--- What restates code for proofs. No public clause rests on it.
-pub mod Emit
-pub mod ScanShape
-pub mod Sequences
