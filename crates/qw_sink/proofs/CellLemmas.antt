@@ -1,11 +1,9 @@
 -- What is known of a cell that can be read.
-use Rattle.std.proofs.Common.{◌≡◌, ℕ, ◌+◌, ◌≤◌, nat_le, Bool, true, false, List, length, take, drop, Option, Some, None, IsSome, refl}
+use Rattle.std.proofs.Common.{◌≡◌, ℕ, ◌+◌, ◌≤◌, nat_le, Bool, true, false, List, length, take, drop, IsSome, refl}
 use Rattle.std.specs.Prelude.{◌&&◌, IsUtf8}
 use Rattle.std.specs.Str.{is_utf8}
 use Rattle.std.proofs.lemmas.Str.{IsUtf8-from_is_utf8}
 use Rattle.std.proofs.lemmas.Bool.{and_parts, leb-true, false≢true}
-use Rattle.std.proofs.lemmas.Option.{none-some}
-use Rattle.qw_types.specs.declared.value.Val.{Val}
 use Rattle.qw_map.specs.Areas.{Area, are_covered}
 use Rattle.qw_map.specs.Layout.{if_so, text_cell}
 

@@ -1,4 +1,5 @@
 mod CellLemmas
+mod ChainLemmas
+mod DoneLemmas
 mod LineLemmas
-mod Received
 mod SinkLemmas

@@ -1,4 +1,4 @@
--- What a writer of lines has written: mirrors `write_rows`, `write_field` and `end_line`.
+-- What a writer of lines has written: mirrors `write_names`, `write_field` and `end_line`.
 use Rattle.std.specs.Prelude.{◌≡◌, ◌==◌, ◌&&◌, ◌||◌, ◌++◌, ℕ, List, false, length, not, Some}
 use Rattle.std.specs.declared.vec.Vec.{Vec}
 use Rattle.std.specs.declared.alloc.Global.{Global}

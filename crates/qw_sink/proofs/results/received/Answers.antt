@@ -1,8 +1,8 @@
-use Rattle.std.proofs.Common.{◌≡◌, Vec, Global, Some, ap, ◌∙◌}
+use Rattle.std.proofs.Common.{Vec, Global, ap}
 use Rattle.std.proofs.lemmas.Result.{IfOk-weaker}
 use Rattle.qw_types.specs.declared.row.Row.{Row}
 use Rattle.qw_linear.specs.Linear.{Octets}
-use Rattle.qw_sink.proofs.Received.{IsDone, Leads, done-there, leads}
+use Rattle.qw_sink.proofs.DoneLemmas.{IsDone, Leads, done-there, leads}
 use Rattle.qw_sink.proofs.results.received.Goals as goal
 use Rattle.qw_sink.proofs.results.received.Goals.{After-layout}
 

@@ -1,6 +1,6 @@
 use Rattle.qw_sink.proofs.LineLemmas.{goes-on}
-use Rattle.qw_sink.proofs.sink.write_field.Goals as goal
-use Rattle.qw_sink.proofs.sink.write_field.Goals.{in-Ok, in-Err}
+use Rattle.qw_sink.proofs.lines.write_field.Goals as goal
+use Rattle.qw_sink.proofs.lines.write_field.Goals.{in-Ok, in-Err}
 
 pub returns : goal.returns
 returns c = elim c.match-write_field.branch [

@@ -3,7 +3,7 @@ use Rattle.std.proofs.lemmas.List.{take_all}
 use Rattle.std.proofs.lemmas.Result.{on_ok_weaker}
 use Rattle.qw_sink.specs.declared.sink.Head.{Head}
 use Rattle.qw_sink.proofs.LineLemmas.{begins, few-taken, one-more}
-use Rattle.qw_sink.proofs.sink.write_names.Goals as goal
+use Rattle.qw_sink.proofs.lines.write_names.Goals as goal
 
 pub loop-head-init : goal.loop-head-init
 loop-head-init c = λ text was. begins _ text was

@@ -1,20 +1,19 @@
 -- What a bench keeps of an instance that is done.
-use Rattle.std.proofs.Common.{◌≡◌, ℕ, ◌+◌, ◌*◌, ◌^◌, ◌<◌, ◌≤◌, nat_le, true, false, inl, inr, List, ◌++◌, length, Option, Some, None, IsSome, slice_get, refl, sym, ap, ◌∙◌, subst, arith}
+use Rattle.std.proofs.Common.{◌≡◌, ℕ, ◌^◌, ◌<◌, nat_le, inl, inr, List, length, Option, Some, None, IsSome, slice_get, refl, sym, ◌∙◌, subst, arith}
 use Rattle.std.specs.Prelude.{IfSome, ◌==◌, ◌||◌}
 use Rattle.std.specs.List.{AllByRecursion}
 use Rattle.std.specs.Option.{option_and_then}
 use Rattle.std.proofs.lemmas.Bool.{cases_Bool}
-use Rattle.std.proofs.lemmas.Option.{none-some, slice_get_within, slice_get-get_or}
+use Rattle.std.proofs.lemmas.Option.{none-some, slice_get_within}
 use Rattle.qw_types.specs.declared.value.Val.{Val}
-use Rattle.qw_linear.specs.Memory.{page, most_pages}
-use Rattle.qw_map.specs.Areas.{Area, World}
+use Rattle.qw_map.specs.Areas.{World}
 use Rattle.qw_map.specs.Behaving.{HasRows}
 use Rattle.qw_map.specs.Runs.{begins}
 use Rattle.qw_map.specs.Turns.{Done, Exception, Steps, Trap, Instance, LiesWithin, end_at, end_of_raise, end_of_refusal, moment_of}
 use Rattle.qw_module.specs.Execution.{State, Running, Returned, Raised, Trapped, IsOver}
 use Rattle.qw_map.proofs.AreaLemmas.{all-back}
 use Rattle.qw_map.specs.Layout.{Layout, rows_at}
-use Rattle.qw_bench.specs.Bench.{AreServing, Serves, Task, end_in}
+use Rattle.qw_bench.specs.Bench.{Serves, Task, end_in}
 use Rattle.qw_bench.specs.Standing.{IsBench, Standing, rows_in}
 use Rattle.qw_map.proofs.TurnFacts.{found-in}
 
