@@ -1,10 +1,8 @@
--- That a statement over the schema can be compiled and begun over the tables' rows, and that turns run it to its end.
-use Rattle.std.proofs.Common.{◌≡◌, ◌⊎◌, ℕ, zero, suc, ◌≤◌, List, [], ◌∷◌, Option, Some, None, inl, inr, refl, sym, subst, length, ap, ◌∙◌, arith, map}
-use Rattle.std.specs.Prelude.{Bool, true, false, ◌==◌, ◌||◌, if◌then◌else◌, IsSome, filter, slice_get}
-use Rattle.std.specs.List.{AllByRecursion, AllZip, list_any, range_with_len}
-use Rattle.std.proofs.lemmas.Bool.{eqb-true}
+-- That queries over the schema can be compiled and begun over the tables' rows, and that turns run them to their ends.
+use Rattle.std.proofs.Common.{◌≡◌, ℕ, zero, suc, ◌≤◌, List, [], ◌∷◌, Option, Some, None, refl, sym, subst, length, ap, ◌∙◌, arith, map}
+use Rattle.std.specs.Prelude.{◌+◌, ◌++◌, IsSome, replicate, slice_get}
+use Rattle.std.specs.List.{AllByRecursion, AllZip}
 use Rattle.std.proofs.lemmas.Option.{none-some}
-use Rattle.std.specs.Option.{option_map_or}
 use Rattle.qw_types.specs.Contents.{Contents, column_type}
 use Rattle.qw_types.specs.declared.schema.Column.{Column}
 use Rattle.qw_types.specs.declared.schema.ColumnType.{ColumnType}
@@ -14,9 +12,9 @@ use Rattle.qw_types.specs.declared.value.Ty.TheVariants.{Integer}
 use Rattle.qw_meaning.specs.Simple.{HasIntegers}
 use Rattle.qw_meaning.specs.Statement.{Statement}
 use Rattle.qw_map.specs.Turns.{Act, EachInstance, turns}
-use Rattle.qw_emit.specs.ScanLayout.{is_used, layout_for, used}
+use Rattle.qw_compile.specs.Readers.{all_used}
 use Rattle.qw_bench.specs.Bench.{AreRounds, AreServing, IsColumnIn, IsStart, Program}
-use Rattle.qw_bench.specs.Standing.{Standing, AreTasksOf}
+use Rattle.qw_bench.specs.Standing.{Standing, AreLimits, AreTasksOf}
 use Rattle.qw_bench.specs.declared.bench.Limits.{Limits}
 use Rattle.qw_map.proofs.TurnFacts.{found-in as there}
 use Rattle.qw_bench.proofs.Serving.{turns-serving}
@@ -24,74 +22,16 @@ use Rattle.qw_bench.proofs.Starting.{start-serving}
 use Rattle.qw_top.specs.Delivered.{HasRun, IsProgramOf}
 use Rattle.qw_types.specs.Limits.{most_tables}
 use Rattle.qw_parse.proofs.SchemaLemmas.{ReadsSchema-tables}
-use Rattle.qw_sink.specs.declared.sink.Head.{Head}
 use Rattle.qw_top.specs.Limits.{default_limits, quantum}
-use Rattle.qw_top.specs.Top.{Asked, Files, HasQueries, HaveRoom, Names, TablesAre, asked_by, columns_of, header_of, same_limits}
+use Rattle.qw_top.specs.Top.{Asked, Files, HasQueries, HaveRoom, Names, TablesAre, same_limits}
 use Rattle.qw_top.specs.declared.stop.Stop.{Stop}
-use Rattle.qw_top.specs.declared.stop.Stop.TheVariants.{NoMemory}
-use Rattle.qw_top.specs.Inner.Inputs.{IsIntegerAt, IsStatementOf}
+use Rattle.qw_typer.specs.declared.query.TypedSelect.{TypedSelect}
+use Rattle.qw_top.specs.Inner.Queries.{IsJobOf, asked_of}
 use Rattle.qw_top.specs.Inner.Stages.{AreContentsOf, FilesStop, HasAsked, StopsToRun}
 use Rattle.qw_top.proofs.RunLemmas.{end_is, many_tasks}
 use Rattle.qw_top.proofs.StopLemmas.{run_stops}
 
--- ---- the columns of a statement are INTEGERs
-
-abbrev types_of : List Column → List Ty
-types_of columns = map (λ (c : Column). c.ty) columns
-
-integer_of : (columns : List Column) (k : ℕ) → IsIntegerAt columns k → slice_get (types_of columns) k ≡ Some Integer
-integer_of [] k (column, found, is, _) = absurd (none-some column found)
-integer_of (first ∷ columns) zero (column, found, is, _) = let same : first ≡ column = cc in rw same (ap Some is)
-integer_of (first ∷ columns) (suc k) (column, found, is, not_null) = integer_of columns k (column, found, is, not_null)
-
-integers_of : (columns : List Column) (places : List ℕ) → AllByRecursion (IsIntegerAt columns) places → AllByRecursion (λ (place : ℕ). slice_get (types_of columns) place ≡ Some Integer) places
-integers_of columns [] all = tt
-integers_of columns (place ∷ places) all = (integer_of columns place all.0, integers_of columns places all.1)
-
-pub has_integers : (schema : List Table) (statement : Statement) → IsStatementOf schema statement → HasIntegers (types_of (columns_of schema statement.table)) statement
-has_integers schema statement is = record {
-  tested = integer_of (columns_of schema statement.table) statement.tested is.0;
-  selected = integers_of (columns_of schema statement.table) statement.columns is.1;
-}
-
--- ---- the columns of its layout are columns of the tables' rows
-
-either_true : (a b : Bool) → (a || b) ≡ true → (a ≡ true) ⊎ (b ≡ true)
-either_true true b is = inl refl
-either_true false b is = inr is
-
-module _ (P : ℕ → Type 0) where
-  selected_all : (columns : List ℕ) (column : ℕ) → AllByRecursion P columns → list_any (λ c. c == column) columns ≡ true → P column
-  selected_all [] column all is = cc
-  selected_all (place ∷ columns) column all is =
-      elim (either_true (place == column) (list_any (λ c. c == column) columns) is) [
-        | inl same ↦ subst P (eqb-true place column same) all.0
-        | inr rest ↦ selected_all columns column all.1 rest
-      ]
-
-  used_one : (statement : Statement) (column : ℕ) → P statement.tested → AllByRecursion P statement.columns → is_used statement column ≡ true → P column
-  used_one statement column tested all is =
-      elim (either_true (column == statement.tested) (list_any (λ c. c == column) statement.columns) is) [
-        | inl same ↦ subst P (sym (eqb-true column statement.tested same)) tested
-        | inr selected ↦ selected_all statement.columns column all selected
-      ]
-
-  kept_all : (kept : Bool) (column : ℕ) (columns : List ℕ) → (kept ≡ true → P column) → AllByRecursion P columns → AllByRecursion P (if kept then column ∷ columns else columns)
-  kept_all true column columns holds all = (holds refl, all)
-  kept_all false column columns holds all = all
-
-  filtered_all : (statement : Statement) (places : List ℕ) → P statement.tested → AllByRecursion P statement.columns → AllByRecursion P (filter (is_used statement) places)
-  filtered_all statement [] tested all = tt
-  filtered_all statement (place ∷ places) tested all =
-      kept_all (is_used statement place) place (filter (is_used statement) places) (used_one statement place tested all) (filtered_all statement places tested all)
-
-  used_all : (statement : Statement) → P statement.tested → AllByRecursion P statement.columns → AllByRecursion P (used statement)
-  unfolding used
-  used_all statement tested all = filtered_all statement (range_with_len 0 64) tested all
-
-mapped_all : {A B : Type 0} (f : A → B) (P : A → Type 0) (Q : B → Type 0) (xs : List A) → ((x : A) → P x → Q (f x)) → AllByRecursion P xs → AllByRecursion Q (map f xs)
-mapped_all f P Q [] holds all = tt
-mapped_all f P Q (x ∷ xs) holds all = (holds x all.0, mapped_all f P Q xs holds all.1)
+-- ---- the columns of a table of the schema are columns of the tables' rows
 
 -- the rows of a table of the schema
 contents_at : (schema : List Table) (tables : List Contents) (n : ℕ) (table : Table) → AreContentsOf schema tables → slice_get schema n ≡ Some table →
@@ -102,28 +42,27 @@ contents_at (first ∷ schema) (one ∷ tables) zero table are found =
     let same : first ≡ table = cc in (one, refl, are.0 ∙ ap (λ (t : Table). map column_type t.columns) same)
 contents_at (first ∷ schema) (one ∷ tables) (suc n) table are found = contents_at schema tables n table are.1 found
 
-column_at : (columns : List Column) (k : ℕ) (column : Column) → slice_get columns k ≡ Some column → slice_get (map column_type columns) k ≡ Some (column_type column)
-column_at [] k column found = absurd (none-some column found)
-column_at (first ∷ columns) zero column found = let same : first ≡ column = cc in rw same refl
-column_at (first ∷ columns) (suc k) column found = column_at columns k column found
+-- all columns of a table, from one on, where its rows have them
+columns_from : (tables : List Contents) (n : ℕ) (one : Contents) → slice_get tables n ≡ Some one → (k : ℕ) (columns : List Column) →
+    ((j : ℕ) (column : ColumnType) → slice_get (map column_type columns) j ≡ Some column → slice_get one.columns (k + j) ≡ Some column) →
+    AllByRecursion (IsColumnIn tables) (all_used n k (map (λ (c : Column). c.ty) columns) (map (λ (c : Column). c.not_null) columns))
+columns_from tables n one there k [] has = tt
+columns_from tables n one there k (c ∷ columns) has =
+    let first : slice_get one.columns (k + 0) ≡ Some (column_type c) = has 0 (column_type c) refl in
+    let at : k + 0 ≡ k = omega arith in (
+      (one, column_type c, there, subst (λ (m : ℕ). slice_get one.columns m ≡ Some (column_type c)) at first, refl, refl),
+      columns_from tables n one there (k + 1) columns
+          (λ j column is. let next : k + suc j ≡ k + 1 + j = omega arith in subst (λ (m : ℕ). slice_get one.columns m ≡ Some column) next (has (suc j) column is)),
+    )
 
--- an INTEGER column of a table of the schema is one of the tables' rows
-column_in : (schema : List Table) (tables : List Contents) (n k : ℕ) → AreContentsOf schema tables → IsIntegerAt (columns_of schema n) k →
-    IsColumnIn tables (record { table = n; column = k; ty = Integer; not_null = true })
-column_in schema tables n k are h = by_table (slice_get schema n) refl h
-  where
-    by_table : (o : Option Table) → slice_get schema n ≡ o → IsIntegerAt (option_map_or (λ (t : Table). t.columns) o []) k → IsColumnIn tables (record { table = n; column = k; ty = Integer; not_null = true })
-    by_table None none (column, found, _, _) = absurd (none-some column found)
-    by_table (Some table) there_is (column, found, integer, not_null) =
-        let one = contents_at schema tables n table are there_is in
-        (one.0, column_type column, one.1, subst (λ (cs : List ColumnType). slice_get cs k ≡ Some (column_type column)) (sym one.2) (column_at table.columns k column found), integer, not_null)
-
-pub layout_columns : (schema : List Table) (tables : List Contents) (statement : Statement) → AreContentsOf schema tables → IsStatementOf schema statement →
-    AllByRecursion (IsColumnIn tables) (layout_for statement).columns
-layout_columns schema tables statement are is =
-    mapped_all (λ (column : ℕ). record { table = statement.table; column = column; ty = Integer; not_null = true }) (IsIntegerAt (columns_of schema statement.table)) (IsColumnIn tables) (used statement)
-    (λ k h. column_in schema tables statement.table k are h)
-    (used_all (IsIntegerAt (columns_of schema statement.table)) statement is.0 is.1)
+pub all_columns : (schema : List Table) (tables : List Contents) (n : ℕ) (table : Table) → AreContentsOf schema tables → slice_get schema n ≡ Some table →
+    AllByRecursion (IsColumnIn tables) (all_used n 0 (map (λ (c : Column). c.ty) table.columns) (map (λ (c : Column). c.not_null) table.columns))
+all_columns schema tables n table are found =
+    let one = contents_at schema tables n table are found in
+    columns_from tables n one.0 one.1 0 table.columns
+    (λ j column is.
+    let at : j ≡ 0 + j = omega arith in
+    subst (λ (m : ℕ). slice_get one.0.columns m ≡ Some column) at (subst (λ (cs : List ColumnType). slice_get cs j ≡ Some column) (sym one.2) is))
 
 -- ---- as many rows as tables
 
@@ -169,32 +108,62 @@ HasRun-from limits quantum tables queries programs before b room compiled tasks 
           rw (end_is b.shared k i.0 i.1) (ended k i.0 i.1);
     }
 
+-- what holds of each holds of the one at a place
+pub all_at : {A : Type 0} (P : A → Type 0) (xs : List A) (i : ℕ) (x : A) → AllByRecursion P xs → slice_get xs i ≡ Some x → P x
+all_at P [] i x all found = absurd (none-some x found)
+all_at P (y ∷ xs) zero x all found = let same : y ≡ x = cc in subst P same all.0
+all_at P (y ∷ xs) (suc i) x all found = all_at P xs i x all.1 found
+
+-- ---- programs of queries
+
+-- as many as queries
+pub many_jobs : (schema : List Table) (queries : List TypedSelect) (jobs : List Program) → AllZip (IsJobOf schema) queries jobs → length jobs ≡ length queries
+many_jobs schema [] [] are = refl
+many_jobs schema [] (job ∷ jobs) are = absurd are
+many_jobs schema (query ∷ queries) [] are = absurd are
+many_jobs schema (query ∷ queries) (job ∷ jobs) are = ap suc (many_jobs schema queries jobs are.1)
+
+pub jobs_compiled : (schema : List Table) (queries : List TypedSelect) (jobs : List Program) → AllZip (IsJobOf schema) queries jobs → AllZip IsProgramOf (map asked_of queries) jobs
+jobs_compiled schema [] [] are = tt
+jobs_compiled schema [] (job ∷ jobs) are = absurd are
+jobs_compiled schema (query ∷ queries) [] are = absurd are
+jobs_compiled schema (query ∷ queries) (job ∷ jobs) are = (are.0.compiled, jobs_compiled schema queries jobs are.1)
+
+pub jobs_columns : (schema : List Table) (tables : List Contents) (queries : List TypedSelect) (jobs : List Program) → AreContentsOf schema tables → AllZip (IsJobOf schema) queries jobs →
+    AllByRecursion (λ (job : Program). AllByRecursion (IsColumnIn tables) job.layout.columns) jobs
+jobs_columns schema tables [] [] held are = tt
+jobs_columns schema tables [] (job ∷ jobs) held are = absurd are
+jobs_columns schema tables (query ∷ queries) [] held are = absurd are
+jobs_columns schema tables (query ∷ queries) (job ∷ jobs) held are = (are.0.columns tables held, jobs_columns schema tables queries jobs held are.1)
+
+-- one more
+pub jobs_more : (schema : List Table) (queries : List TypedSelect) (jobs : List Program) (query : TypedSelect) (job : Program) → AllZip (IsJobOf schema) queries jobs → IsJobOf schema query job →
+    AllZip (IsJobOf schema) (queries ++ query ∷ []) (jobs ++ job ∷ [])
+jobs_more schema [] [] query job are is = (is, tt)
+jobs_more schema [] (first ∷ jobs) query job are is = absurd are
+jobs_more schema (first ∷ queries) [] query job are is = absurd are
+jobs_more schema (first ∷ queries) (one ∷ jobs) query job are is = (are.0, jobs_more schema queries jobs query job are.1 is)
+
+-- their limits
+pub limits_of : (queries : List TypedSelect) → replicate (length queries) default_limits ≡ same_limits default_limits (map asked_of queries)
+limits_of [] = refl
+limits_of (query ∷ queries) = ap (λ (limits : List Limits). default_limits ∷ limits) (limits_of queries)
+
+pub each_limit : (n : ℕ) → AllByRecursion AreLimits (replicate n default_limits)
+each_limit zero = tt
+each_limit (suc n) = (record { some_pages = omega arith; few_pages = omega arith; some_steps = omega arith }, each_limit n)
+
 -- ---- from what was read to what was run
 
-module _ (files : Files) (names : Names) (schema : List Table) (tables : List Contents) (statement : Statement) where
-  -- what was read: a statement over the schema, which the files ask for
-  abbrev pub Accepted : Type 0
-  Accepted = IsStatementOf schema statement × HasQueries files names schema tables (asked_by schema statement ∷ [])
+module _ (files : Files) (names : Names) (schema : List Table) (tables : List Contents) (queries : List Asked) (asks : HasQueries files names schema tables queries) where
+  pub accepted_few : length schema ≤ most_tables
+  accepted_few = few_tables files names schema tables queries asks
 
-  pub accepted_few : Accepted → length schema ≤ most_tables
-  accepted_few (is, asks) = few_tables files names schema tables (asked_by schema statement ∷ []) asks
+  pub accepted_contents : AreContentsOf schema tables
+  accepted_contents = contents_of files names.folder schema tables asks.before.loaded
 
-  pub accepted_statement : Accepted → IsStatementOf schema statement
-  accepted_statement (is, asks) = is
+  pub accepted_run : (b : Standing) → HasRun default_limits quantum tables queries b → HasAsked files names queries b
+  accepted_run b run = record { schema = schema; tables = tables; asks = asks; run = run }
 
-  pub accepted_contents : Accepted → AreContentsOf schema tables
-  accepted_contents (is, held) = contents_of files names.folder schema tables held.before.loaded
-
-  pub accepted_run : (header : List Head) (b : Standing) → Accepted → HasRun default_limits quantum tables (asked_by schema statement ∷ []) b → header ≡ header_of schema statement →
-      HasAsked files names (header ∷ []) b
-  accepted_run header b (is, asks) run header_is = record {
-    schema = schema;
-    tables = tables;
-    queries = asked_by schema statement ∷ [];
-    asks = asks;
-    run = run;
-    headers_are = ap (λ (h : List Head). h ∷ []) header_is;
-  }
-
-  pub accepted_stops : (stop : Stop) → Accepted → StopsToRun tables (asked_by schema statement ∷ []) stop → FilesStop files names stop
-  accepted_stops stop (is, asks) stops = run_stops files names schema tables (asked_by schema statement ∷ []) stop asks stops
+  pub accepted_stops : (stop : Stop) → StopsToRun tables queries stop → FilesStop files names stop
+  accepted_stops stop stops = run_stops files names schema tables queries stop asks stops

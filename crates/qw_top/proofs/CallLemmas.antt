@@ -14,7 +14,7 @@ use Rattle.qw_words.specs.Words.{Command, run, compile, check, Reading, command,
 use Rattle.qw_words.specs.declared.command.WordsFault.{WordsFault}
 use Rattle.qw_words.specs.declared.command.WordsFault.TheVariants as words_faults
 use Rattle.qw_top.specs.Call.{CheckSettles, CompileSettles, ExplainsBy, HasScript, HasStatement, IsEndOfWords, IsValidFile, LeavesBy, NamesBy, NotesBy, SettlesBy, TextExplains, TookText}
-use Rattle.qw_top.specs.Causes.{Cause, line_of_cause, status_of_cause, words_refused, statement_out_of_range, schema_too_long, schema_refused, queries_too_long, queries_refused, no_statement, module_too_long, module_refused}
+use Rattle.qw_top.specs.Causes.{AreOne, Cause, line_of_cause, status_of_cause, words_refused, statement_out_of_range, schema_too_long, schema_refused, queries_too_long, queries_refused, queries_mistyped, no_statement, module_too_long, module_refused}
 use Rattle.qw_top.specs.Delivered.{CommandNotes}
 use Rattle.qw_top.specs.Limits.{default_limits, quantum, most_module_octets}
 use Rattle.qw_top.specs.Notes.{want_of_memory_line}
@@ -23,11 +23,11 @@ use Rattle.qw_top.specs.Top.{Asked, Files, FilesSettle, HasQueries, HaveRoom, Is
 use Rattle.qw_top.specs.declared.status.Status.{Status}
 use Rattle.qw_top.specs.declared.status.Status.TheVariants.{Done, WordsRefused, SchemaRefused, TableFileRefused, QueriesRefused, ReadFailed, WriteFailed, Raised, PageLimitMet, NoMemory, StepLimitMet, TotalPages}
 use Rattle.std.proofs.lemmas.Option.{slice_get_within}
-use Rattle.qw_top.specs.Inner.Inputs.{IsNoQuery, IsNoSchema}
+use Rattle.qw_top.specs.Inner.Inputs.{IsNoSchema, IsNoScript}
 use Rattle.qw_top.specs.Inner.Noted.{NotesLine, NotesWords}
-use Rattle.qw_top.proofs.ContentLemmas.{IsFile-short, IsFile-unique, IsNoQuery-unique, IsNoSchema-unique, QueriesAre-refused, QueriesAre-unique, SchemaIs-refused, SchemaIs-unique}
+use Rattle.qw_top.proofs.ContentLemmas.{IsFile-short, IsFile-unique, IsNoSchema-unique, IsNoScript-one, QueriesAre-refused, QueriesAre-unique, SchemaIs-refused, SchemaIs-unique}
 use Rattle.qw_top.proofs.CommandLemmas.{text_cause, text_done}
-use Rattle.qw_top.proofs.SettleLemmas.{asked_settles_none, cause_is_refusal, fault_explains, kind_of_end, one_settled, refusal_settled, reported_asks, settled_explains}
+use Rattle.qw_top.proofs.SettleLemmas.{asked_settles_none, cause_is_refusal, fault_explains, kind_of_end, one_settled, one_status, refusal_settled, reported_asks, settled_explains}
 use Rattle.qw_top.proofs.StoppedLemmas.{cause_noted, cut_short, want_noted}
 
 -- ---- a run
@@ -136,40 +136,41 @@ refusal_cause limits files (command (check name)) status refusal why = text_caus
 -- why the files of `compile` settle a cause: at the schema file, at the queries file, or as the statement isn't there
 data CompileAt (files : Files) (names : TextNames) (k : ℕ) (cause : Cause) : Type 0 where
   at_schema : IsNoSchema files names.schema cause → CompileAt files names k cause
-  at_queries : (schema : List Table) → SchemaIs files names.schema schema → IsNoQuery files names.queries schema cause → CompileAt files names k cause
+  at_queries : (schema : List Table) → SchemaIs files names.schema schema → IsNoScript files names.queries schema cause → CompileAt files names k cause
   at_statement : (schema : List Table) (queries : List Asked) → HasScript files names schema queries → cause ≡ no_statement k → length queries < k → CompileAt files names k cause
 
 compile_at : (files : Files) (names : TextNames) (k : ℕ) (cause : Cause) → CompileSettles files names k cause → CompileAt files names k cause
 compile_at files names k schema_too_long long = at_schema (inl (refl, long))
 compile_at files names k (schema_refused fault) (text, file, refused) = at_schema (inr (fault, text, refl, file, refused))
 compile_at files names k queries_too_long (schema, declared, long) = at_queries schema declared (inl (refl, long))
-compile_at files names k (queries_refused fault) (schema, text, declared, file, refused) = at_queries schema declared (inr (fault, text, refl, file, refused))
+compile_at files names k (queries_refused fault) (schema, text, declared, file, refused) = at_queries schema declared (inr (inl (fault, text, refl, file, refused)))
+compile_at files names k (queries_mistyped fault) (schema, text, declared, file, mistyped) = at_queries schema declared (inr (inr (fault, text, refl, file, mistyped)))
 compile_at files names k (no_statement number) (is, (schema, queries, held, few)) = at_statement schema queries held (ap no_statement is) few
 compile_at files names k _ h = absurd h
 
 module _ (told : List ℕ → Option (List ℕ)) (names : TextNames) (k : ℕ) where
-  one_compile : (cause other : Cause) → CompileAt (Some told) names k cause → CompileAt (Some told) names k other → cause ≡ other
-  one_compile cause other (at_schema none) (at_schema none') = IsNoSchema-unique told names.schema cause other none none'
+  one_compile : (cause other : Cause) → CompileAt (Some told) names k cause → CompileAt (Some told) names k other → AreOne cause other
+  one_compile cause other (at_schema none) (at_schema none') = inl (IsNoSchema-unique told names.schema cause other none none')
   one_compile cause other (at_schema none) (at_queries schema declared none') = absurd (SchemaIs-refused told names.schema schema cause declared none)
   one_compile cause other (at_schema none) (at_statement schema queries held is few) = absurd (SchemaIs-refused told names.schema schema cause held.declared none)
   one_compile cause other (at_queries schema declared none) (at_schema none') = absurd (SchemaIs-refused told names.schema schema other declared none')
   one_compile cause other (at_queries schema declared none) (at_queries schema' declared' none') =
       let e = SchemaIs-unique told names.schema schema schema' declared declared' in
-      IsNoQuery-unique told names.queries schema' cause other (subst (λ (s : List Table). IsNoQuery (Some told) names.queries s cause) e none) none'
+      IsNoScript-one told names.queries schema' cause other (subst (λ (s : List Table). IsNoScript (Some told) names.queries s cause) e none) none'
   one_compile cause other (at_queries schema declared none) (at_statement schema' queries held is few) =
       let e = SchemaIs-unique told names.schema schema schema' declared held.declared in
-      absurd (QueriesAre-refused told names.queries schema' queries cause held.asked (subst (λ (s : List Table). IsNoQuery (Some told) names.queries s cause) e none))
+      absurd (QueriesAre-refused told names.queries schema' queries cause held.asked (subst (λ (s : List Table). IsNoScript (Some told) names.queries s cause) e none))
   one_compile cause other (at_statement schema queries held is few) (at_schema none') = absurd (SchemaIs-refused told names.schema schema other held.declared none')
   one_compile cause other (at_statement schema queries held is few) (at_queries schema' declared none') =
       let e = SchemaIs-unique told names.schema schema' schema declared held.declared in
-      absurd (QueriesAre-refused told names.queries schema queries other held.asked (subst (λ (s : List Table). IsNoQuery (Some told) names.queries s other) e none'))
-  one_compile cause other (at_statement schema queries held is few) (at_statement schema' queries' held' is' few') = is ∙ sym is'
+      absurd (QueriesAre-refused told names.queries schema queries other held.asked (subst (λ (s : List Table). IsNoScript (Some told) names.queries s other) e none'))
+  one_compile cause other (at_statement schema queries held is few) (at_statement schema' queries' held' is' few') = inl (is ∙ sym is')
 
   none_compiled : (one : Asked) (cause : Cause) → HasStatement (Some told) names k one → CompileAt (Some told) names k cause → ⊥
   none_compiled one cause (schema, queries, held, found) (at_schema none) = SchemaIs-refused told names.schema schema cause held.declared none
   none_compiled one cause (schema, queries, held, found) (at_queries schema' declared none) =
       let e = SchemaIs-unique told names.schema schema' schema declared held.declared in
-      QueriesAre-refused told names.queries schema queries cause held.asked (subst (λ (s : List Table). IsNoQuery (Some told) names.queries s cause) e none)
+      QueriesAre-refused told names.queries schema queries cause held.asked (subst (λ (s : List Table). IsNoScript (Some told) names.queries s cause) e none)
   none_compiled one cause (schema, queries, held, found) (at_statement schema' queries' held' is few) =
       let e = SchemaIs-unique told names.schema schema' schema held'.declared held.declared in
       let same = QueriesAre-unique told names.queries schema queries' queries (subst (λ (s : List Table). QueriesAre (Some told) names.queries s queries') e held'.asked) held.asked in
@@ -199,12 +200,12 @@ module _ (told : List ℕ → Option (List ℕ))
   none_checked name _ valid h = h
 
   module _ (limits : Limits) where
-    pub one_settled_by : (r : Reading) (cause other : Cause) → SettlesBy limits (Some told) r cause → SettlesBy limits (Some told) r other → cause ≡ other
-    one_settled_by no_command cause other h k = h ∙ sym k
-    one_settled_by no_number cause other h k = h ∙ sym k
+    pub one_settled_by : (r : Reading) (cause other : Cause) → SettlesBy limits (Some told) r cause → SettlesBy limits (Some told) r other → AreOne cause other
+    one_settled_by no_command cause other h k = inl (h ∙ sym k)
+    one_settled_by no_number cause other h k = inl (h ∙ sym k)
     one_settled_by (command (run names)) cause other h k = one_settled limits told names cause other h k
     one_settled_by (command (compile names n)) cause other h k = one_compile told names n cause other (compile_at (Some told) names n cause h) (compile_at (Some told) names n other k)
-    one_settled_by (command (check name)) cause other h k = one_check name cause other h k
+    one_settled_by (command (check name)) cause other h k = inl (one_check name cause other h k)
 
     not_words : (status : Status) → IsReported status → IsEndOfWords status → ⊥
     not_words Done r end = end
@@ -231,7 +232,7 @@ module _ (told : List ℕ → Option (List ℕ))
         elim (kind_of_end status) [
           | inl refusal ↦
               let other = refusal_cause limits (Some told) r status refusal why in
-              inl (other.2 ∙ ap status_of_cause (one_settled_by r other.0 cause other.1 h))
+              inl (other.2 ∙ one_status other.0 cause (one_settled_by r other.0 cause other.1 h))
           | inr (inl fault) ↦ inr fault
           | inr (inr reported) ↦ absurd (done_settles_none r cause status reported why h)
         ]

@@ -1,5 +1,6 @@
 -- Commands that write one text: how they end, and what they leave and note.
-use Rattle.std.proofs.Common.{◌≡◌, ◌⊎◌, ℕ, ◌<◌, ◌≤◌, ◌-◌, List, [], ◌∷◌, Option, inl, inr, refl, sym, subst, ◌∙◌, arith}
+use Rattle.std.proofs.Common.{◌≡◌, ◌⊎◌, ℕ, ◌<◌, ◌-◌, List, Option, inl, inr, refl, sym, subst}
+use Rattle.std.specs.Prelude.{Some, length, slice_get}
 use Rattle.qw_types.specs.declared.schema.Table.{Table}
 use Rattle.qw_check.specs.Check.{HasFault}
 use Rattle.qw_check.specs.declared.check.CheckFault.{CheckFault}
@@ -10,7 +11,7 @@ use Rattle.qw_top.specs.Causes.{Cause, module_refused, module_too_long, no_state
 use Rattle.qw_top.specs.Limits.{most_module_octets}
 use Rattle.qw_top.specs.declared.stop.Stop.{Stop}
 use Rattle.qw_top.specs.declared.stop.Stop.TheVariants.{NoMemory as NoMemoryLeft}
-use Rattle.qw_top.specs.Inner.Inputs.{IsNoQuery, IsNoSchema}
+use Rattle.qw_top.specs.Inner.Inputs.{IsNoSchema, IsNoScript}
 use Rattle.qw_top.specs.Inner.Stop.{StopsAs, StopsBy, StopsFor}
 use Rattle.qw_top.specs.Delivered.{CommandNotes, IsLine}
 use Rattle.qw_top.specs.Notes.{want_of_memory_line}
@@ -145,27 +146,27 @@ module _ (files : Files) (names : TextNames) (k : ℕ) where
       settle cause (inl (is, long)) = subst (CompileSettles files names k) (sym is) long
       settle cause (inr (fault, text, is, file, refused)) = subst (CompileSettles files names k) (sym is) (text, file, refused)
 
-  pub compile_query_stops : (now : Files) (schema : List Table) (stop : Stop) → now ≡ files → SchemaIs files names.schema schema → StopsAs (IsNoQuery now names.queries schema) names.queries stop →
+  pub compile_query_stops : (now : Files) (schema : List Table) (stop : Stop) → now ≡ files → SchemaIs files names.schema schema → StopsAs (IsNoScript now names.queries schema) names.queries stop →
       StopsBy (CompileSettles files names k) (IsScriptFile files names) stop
   compile_query_stops now schema stop same declared stops =
-      stage_stops (CompileSettles files names k) (IsScriptFile files names) (IsNoQuery files names.queries schema) names.queries stop (λ cause none. settle cause none) (inr (schema, declared, refl))
-      (subst (λ (f : Files). StopsAs (IsNoQuery f names.queries schema) names.queries stop) same stops)
+      stage_stops (CompileSettles files names k) (IsScriptFile files names) (IsNoScript files names.queries schema) names.queries stop (λ cause none. settle cause none) (inr (schema, declared, refl))
+      (subst (λ (f : Files). StopsAs (IsNoScript f names.queries schema) names.queries stop) same stops)
     where
-      settle : (cause : Cause) → IsNoQuery files names.queries schema cause → CompileSettles files names k cause
+      settle : (cause : Cause) → IsNoScript files names.queries schema cause → CompileSettles files names k cause
       settle cause (inl (is, long)) = subst (CompileSettles files names k) (sym is) (schema, declared, long)
-      settle cause (inr (fault, text, is, file, refused)) = subst (CompileSettles files names k) (sym is) (schema, text, declared, file, refused)
+      settle cause (inr (inl (fault, text, is, file, refused))) = subst (CompileSettles files names k) (sym is) (schema, text, declared, file, refused)
+      settle cause (inr (inr (fault, text, is, file, mistyped))) = subst (CompileSettles files names k) (sym is) (schema, text, declared, file, mistyped)
 
   -- the queries were read after the schema
   script_is : (now : Files) (schema : List Table) (queries : List Asked) → now ≡ files → SchemaIs files names.schema schema → QueriesAre now names.queries schema queries → HasScript files names schema queries
   script_is now schema queries same declared asked = record { declared = declared; asked = subst (λ (f : Files). QueriesAre f names.queries schema queries) same asked }
 
-  pub no_statement_stops : (now : Files) (schema : List Table) (one : Asked) (stop : Stop) → now ≡ files → SchemaIs files names.schema schema → QueriesAre now names.queries schema (one ∷ []) → 1 < k →
+  pub no_statement_stops : (now : Files) (schema : List Table) (queries : List Asked) (stop : Stop) → now ≡ files → SchemaIs files names.schema schema → QueriesAre now names.queries schema queries → length queries < k →
       StopsFor (no_statement k) stop → StopsBy (CompileSettles files names k) (IsScriptFile files names) stop
-  no_statement_stops now schema one stop same declared asked few stops =
-      cause_stops (CompileSettles files names k) (IsScriptFile files names) (no_statement k) stop (refl, (schema, one ∷ [], script_is now schema (one ∷ []) same declared asked, few)) stops
+  no_statement_stops now schema queries stop same declared asked few stops =
+      cause_stops (CompileSettles files names k) (IsScriptFile files names) (no_statement k) stop (refl, (schema, queries, script_is now schema queries same declared asked, few)) stops
 
-  pub statement_compiled : (now : Files) (schema : List Table) (one : Asked) (octets : List ℕ) → now ≡ files → SchemaIs files names.schema schema → QueriesAre now names.queries schema (one ∷ []) → k ≤ 1 →
-      SpellsCompiled one octets → CompileWrites files names k octets
-  statement_compiled now schema one octets same declared asked first spells =
-      let at : k - 1 ≡ 0 = omega (arith, first) in
-      (one, (schema, one ∷ [], script_is now schema (one ∷ []) same declared asked, rw at refl), spells)
+  pub statement_compiled : (now : Files) (schema : List Table) (queries : List Asked) (one : Asked) (octets : List ℕ) → now ≡ files → SchemaIs files names.schema schema → QueriesAre now names.queries schema queries →
+      slice_get queries (k - 1) ≡ Some one → SpellsCompiled one octets → CompileWrites files names k octets
+  statement_compiled now schema queries one octets same declared asked there spells =
+      (one, (schema, queries, script_is now schema queries same declared asked, there), spells)

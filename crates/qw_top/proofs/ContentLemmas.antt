@@ -7,16 +7,16 @@ use Rattle.qw_types.specs.declared.schema.Table.{Table}
 use Rattle.qw_types.specs.declared.value.Val.{Val}
 use Rattle.qw_csv.specs.Loading.{IsFirstFault, Loads}
 use Rattle.qw_csv.proofs.LoadingLaws.{loads_or_fails, same_fault, same_loads}
-use Rattle.qw_meaning.specs.Statement.{Statement}
 use Rattle.qw_parse.specs.Parse.{IsRefused, ReadsSchema}
-use Rattle.qw_parse.specs.Query.{IsQueryRefused}
-use Rattle.qw_parse.proofs.QueryLemmas.{IsQueryRefused-unique, ReadsQuery-unique, query_or_refused}
+use Rattle.qw_script.specs.Script.{IsScriptRefused}
+use Rattle.qw_script.proofs.ScriptLemmas.{refused_one, script_or_refused}
 use Rattle.qw_parse.proofs.SchemaLemmas.{IsRefused-unique, ReadsSchema-unique, reads_or_refused}
-use Rattle.qw_top.specs.Causes.{Cause, queries_refused, schema_refused, table_refused}
+use Rattle.qw_top.specs.Causes.{AreOne, Cause, queries_refused, schema_refused, table_refused}
 use Rattle.qw_top.specs.FileNames.{table_file_of}
 use Rattle.qw_top.specs.Limits.{most_table_octets, most_text_octets}
-use Rattle.qw_top.specs.Top.{Asked, HasQueries, HasTables, IsFile, IsNextTable, IsTooLong, Names, QueriesAre, ReadsScript, SchemaIs, TableIs, TablesAre, asked_by}
-use Rattle.qw_top.specs.Inner.Inputs.{IsNoQuery, IsNoSchema, IsNoTable}
+use Rattle.qw_top.specs.Top.{Asked, AsksFor, HasQueries, HasTables, IsFile, IsMistyped, IsNextTable, IsTooLong, Names, QueriesAre, SchemaIs, TableIs, TablesAre}
+use Rattle.qw_top.specs.Inner.Inputs.{IsNoSchema, IsNoScript, IsNoTable}
+use Rattle.qw_top.proofs.AskedLemmas.{AsksFor-unique, asked_or_mistyped, mistyped_one}
 
 -- ---- one file
 
@@ -127,25 +127,37 @@ module _ (told : List ℕ → Option (List ℕ)) where
   pub QueriesAre-unique : (name : List ℕ) (schema : List Table) (a b : List Asked) → QueriesAre (Some told) name schema a → QueriesAre (Some told) name schema b → a ≡ b
   QueriesAre-unique name schema a b h k =
       let e = IsFile-unique name most_text_octets h.text k.text h.file k.file in
-      let reads = subst (λ (t : List ℕ). ReadsScript schema t a) e h.reads in
-      let f = ReadsQuery-unique schema k.text reads.0 k.reads.0 reads.1 k.reads.1 in
-      reads.2 ∙ ap (λ (s : Statement). asked_by schema s ∷ []) f ∙ sym k.reads.2
+      AsksFor-unique schema k.text a b (subst (λ (t : List ℕ). AsksFor schema t a) e h.asks) k.asks
 
-  pub QueriesAre-refused : (name : List ℕ) (schema : List Table) (queries : List Asked) (cause : Cause) → QueriesAre (Some told) name schema queries → IsNoQuery (Some told) name schema cause → ⊥
+  pub QueriesAre-refused : (name : List ℕ) (schema : List Table) (queries : List Asked) (cause : Cause) → QueriesAre (Some told) name schema queries → IsNoScript (Some told) name schema cause → ⊥
   QueriesAre-refused name schema queries cause h (inl (is, long)) = IsFile-short name most_text_octets h.text h.file long
-  QueriesAre-refused name schema queries cause h (inr (fault, text, is, file, refused)) =
+  QueriesAre-refused name schema queries cause h (inr (inl (fault, text, is, file, refused))) =
       let e = IsFile-unique name most_text_octets h.text text h.file file in
-      let reads = subst (λ (t : List ℕ). ReadsScript schema t queries) e h.reads in
-      query_or_refused schema text reads.0 fault reads.1 refused
+      let asks = subst (λ (t : List ℕ). AsksFor schema t queries) e h.asks in
+      script_or_refused text asks.script fault asks.reads refused
+  QueriesAre-refused name schema queries cause h (inr (inr (fault, text, is, file, mistyped))) =
+      let e = IsFile-unique name most_text_octets h.text text h.file file in
+      asked_or_mistyped schema text queries fault (subst (λ (t : List ℕ). AsksFor schema t queries) e h.asks) mistyped
 
-  pub IsNoQuery-unique : (name : List ℕ) (schema : List Table) (cause other : Cause) → IsNoQuery (Some told) name schema cause → IsNoQuery (Some told) name schema other → cause ≡ other
-  IsNoQuery-unique name schema cause other (inl (is, long)) (inl (is', long')) = is ∙ sym is'
-  IsNoQuery-unique name schema cause other (inl (is, long)) (inr (fault, text, is', file, refused)) = absurd (IsFile-short name most_text_octets text file long)
-  IsNoQuery-unique name schema cause other (inr (fault, text, is, file, refused)) (inl (is', long)) = absurd (IsFile-short name most_text_octets text file long)
-  IsNoQuery-unique name schema cause other (inr (fault, text, is, file, refused)) (inr (fault', text', is', file', refused')) =
+  pub IsNoScript-one : (name : List ℕ) (schema : List Table) (cause other : Cause) → IsNoScript (Some told) name schema cause → IsNoScript (Some told) name schema other → AreOne cause other
+  IsNoScript-one name schema cause other (inl (is, long)) (inl (is', long')) = inl (is ∙ sym is')
+  IsNoScript-one name schema cause other (inl (is, long)) (inr (inl (fault, text, is', file, refused))) = absurd (IsFile-short name most_text_octets text file long)
+  IsNoScript-one name schema cause other (inl (is, long)) (inr (inr (fault, text, is', file, mistyped))) = absurd (IsFile-short name most_text_octets text file long)
+  IsNoScript-one name schema cause other (inr (inl (fault, text, is, file, refused))) (inl (is', long)) = absurd (IsFile-short name most_text_octets text file long)
+  IsNoScript-one name schema cause other (inr (inr (fault, text, is, file, mistyped))) (inl (is', long)) = absurd (IsFile-short name most_text_octets text file long)
+  IsNoScript-one name schema cause other (inr (inl (fault, text, is, file, refused))) (inr (inl (fault', text', is', file', refused'))) =
       let e = IsFile-unique name most_text_octets text text' file file' in
-      let f = IsQueryRefused-unique schema text' fault fault' (subst (λ (t : List ℕ). IsQueryRefused schema t fault) e refused) refused' in
-      is ∙ ap queries_refused f ∙ sym is'
+      let f = refused_one text' fault fault' (subst (λ (t : List ℕ). IsScriptRefused t fault) e refused) refused' in
+      inl (is ∙ ap queries_refused f ∙ sym is')
+  IsNoScript-one name schema cause other (inr (inl (fault, text, is, file, refused))) (inr (inr (fault', text', is', file', mistyped))) =
+      let e = IsFile-unique name most_text_octets text text' file file' in
+      absurd (script_or_refused text' mistyped.0 fault mistyped.1 (subst (λ (t : List ℕ). IsScriptRefused t fault) e refused))
+  IsNoScript-one name schema cause other (inr (inr (fault, text, is, file, mistyped))) (inr (inl (fault', text', is', file', refused))) =
+      let e = IsFile-unique name most_text_octets text' text file' file in
+      absurd (script_or_refused text mistyped.0 fault' mistyped.1 (subst (λ (t : List ℕ). IsScriptRefused t fault') e refused))
+  IsNoScript-one name schema cause other (inr (inr (fault, text, is, file, mistyped))) (inr (inr (fault', text', is', file', mistyped'))) =
+      let e = IsFile-unique name most_text_octets text text' file file' in
+      mistyped_one schema text' fault fault' cause other is is' (subst (λ (t : List ℕ). IsMistyped schema t fault) e mistyped) mistyped'
 
   -- ---- all files
 

@@ -34,18 +34,18 @@ pub record Delivered (files : Files) (names : Names) (b : Standing) (result : St
   pub reports : Reports default_limits quantum files names b report status
   pub writes : Writes status result old new report
 
-pub delivered : (files : Files) (names : Names) (headers : List (List Head)) (b : Standing) (result : Status) (old new : Option (List ℕ)) → HasAsked files names headers b →
-    ((ran : Ran headers b) → (report : List ℕ) × ShowsEnds ran.tables ran.queries b 0 report × Writes (status_of_ends (ends_below b (length ran.queries))) result old new report) →
+pub delivered : (files : Files) (names : Names) (queries : List Asked) (b : Standing) (result : Status) (old new : Option (List ℕ)) → HasAsked files names queries b →
+    ((ran : Ran queries b) → (report : List ℕ) × ShowsEnds ran.tables queries b 0 report × Writes (status_of_ends (ends_below b (length queries))) result old new report) →
     Delivered files names b result old new
-delivered files names headers b result old new asked writes =
-    let written = writes (record { tables = asked.tables; queries = asked.queries; run = asked.run; headers_are = asked.headers_are }) in
+delivered files names queries b result old new asked writes =
+    let written = writes (record { tables = asked.tables; run = asked.run }) in
     record {
       report = written.0;
-      status = status_of_ends (ends_below b (length asked.queries));
+      status = status_of_ends (ends_below b (length queries));
       reports = record {
         schema = asked.schema;
         tables = asked.tables;
-        queries = asked.queries;
+        queries = queries;
         asks = asked.asks;
         run = asked.run;
         shows = written.1;
@@ -54,31 +54,27 @@ delivered files names headers b result old new asked writes =
       writes = written.2;
     }
 
--- ---- a bench that has run queries with these headers
+-- ---- a bench that has run queries
 
-module _ (headers : List (List Head)) (b : Standing) (ran : Ran headers b) where
-  pub ran_many : length headers ≡ length b.shared.instances
-  ran_many =
-      ap length ran.headers_are ∙ length-map ran.queries (λ (asked : Asked). asked.header) ∙ sym (many_instances default_limits quantum ran.tables ran.queries b ran.run)
+module _ (queries : List Asked) (b : Standing) (ran : Ran queries b) where
+  pub ran_many : length queries ≡ length b.shared.instances
+  ran_many = sym (many_instances default_limits quantum ran.tables queries b ran.run)
 
-  pub ran_ended : (k : ℕ) → k < length headers → IsSome (end_in b.shared k)
-  ran_ended k within =
-      let many : length headers ≡ length ran.queries = ap length ran.headers_are ∙ length-map ran.queries (λ (asked : Asked). asked.header) in
-      ran.run.ended k (omega (arith, many, within))
+  pub ran_ended : (k : ℕ) → k < length queries → IsSome (end_in b.shared k)
+  ran_ended k within = ran.run.ended k within
 
-  pub ran_shows : (text : List ℕ) → AreBlocks headers b 0 text → ShowsEnds ran.tables ran.queries b 0 text
-  ran_shows text are =
-      shows_run default_limits quantum ran.tables ran.queries b ran.run text (subst (λ (hs : List (List Head)). AreBlocks hs b 0 text) ran.headers_are are)
+  pub ran_shows : (text : List ℕ) → AreBlocks queries b 0 text → ShowsEnds ran.tables queries b 0 text
+  ran_shows text are = shows_run default_limits quantum ran.tables queries b ran.run text are
 
-  pub ran_status : (status : Status) → status ≡ status_of_ends (ends_below b (length b.shared.instances)) → status ≡ status_of_ends (ends_below b (length ran.queries))
-  ran_status status is = is ∙ ap (λ (n : ℕ). status_of_ends (ends_below b n)) (many_instances default_limits quantum ran.tables ran.queries b ran.run)
+  pub ran_status : (status : Status) → status ≡ status_of_ends (ends_below b (length b.shared.instances)) → status ≡ status_of_ends (ends_below b (length queries))
+  ran_status status is = is ∙ ap (λ (n : ℕ). status_of_ends (ends_below b n)) (many_instances default_limits quantum ran.tables queries b ran.run)
 
-  pub ran_report : (report : List ℕ) × ShowsEnds ran.tables ran.queries b 0 report
-  ran_report = some_report default_limits quantum ran.tables ran.queries b ran.run
+  pub ran_report : (report : List ℕ) × ShowsEnds ran.tables queries b 0 report
+  ran_report = some_report default_limits quantum ran.tables queries b ran.run
 
-pub is_report : (headers : List (List Head)) (b : Standing) (text : List ℕ) (status : Status) → AreBlocks headers b 0 text → status ≡ status_of_ends (ends_below b (length b.shared.instances)) →
-    IsReport headers b text status
-is_report headers b text status are is = λ ran. (ran_shows headers b ran text are, ran_status headers b ran status is)
+pub is_report : (queries : List Asked) (b : Standing) (text : List ℕ) (status : Status) → AreBlocks queries b 0 text → status ≡ status_of_ends (ends_below b (length b.shared.instances)) →
+    IsReport queries b text status
+is_report queries b text status are is = λ ran. (ran_shows queries b ran text are, ran_status queries b ran status is)
 
 -- an end of a run whose report was written is explained
 module _ (files : Files) (names : Names) (b : Standing) (report : List ℕ) (status : Status) (r : Reports default_limits quantum files names b report status) where

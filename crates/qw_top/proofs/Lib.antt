@@ -1,3 +1,4 @@
+mod AskedLemmas
 pub mod BenchLemmas
 mod CallLemmas
 mod CauseLemmas
@@ -5,10 +6,10 @@ mod CommandLemmas
 mod ContentLemmas
 mod DeliverLemmas
 mod OutputLemmas
+mod QueryLemmas
 mod ReportLemmas
 mod RunLemmas
 mod SettleLemmas
-mod StatementLemmas
 mod StopLemmas
 mod StoppedLemmas
 mod WholeFileLemmas

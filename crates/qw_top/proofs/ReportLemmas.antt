@@ -1,4 +1,4 @@
--- How the header of a query's rows and the parts of a report are put together.
+-- How the parts of a report are put together.
 use Rattle.std.proofs.Common.{◌≡◌, ℕ, suc, ◌+◌, ◌<◌, Bool, true, false, List, [], ◌∷◌, ◌++◌, Option, Some, None, refl, sym, subst, length, ap, ◌∙◌, arith, append_assoc, take, get_or}
 use Rattle.std.specs.Prelude.{◌||◌, if◌then◌else◌, slice_get}
 use Rattle.std.specs.List.{cons_option, filter_map, list_any}
@@ -11,43 +11,24 @@ use Rattle.qw_bench.specs.Bench.{end_in}
 use Rattle.qw_bench.specs.Standing.{Standing}
 use Rattle.qw_sink.specs.declared.sink.Head.{Head}
 use Rattle.qw_top.specs.Delivered.{ends_below, is_exception, is_pages, is_steps, status_of_ends}
-use Rattle.qw_top.specs.Top.{head_of}
+use Rattle.qw_top.specs.Top.{Asked}
 use Rattle.qw_top.specs.Inner.Reports.{AreBlocks, IsBlock, is_page_limit, is_raised, is_step_limit, status_with}
 use Rattle.qw_top.specs.declared.status.Status.{Status}
 use Rattle.qw_top.specs.declared.status.Status.TheVariants.{Done, Raised, PageLimitMet, StepLimitMet}
 
--- ---- the header
-
-abbrev pub heads : List Column → List ℕ → List Head
-heads columns places = filter_map (λ place. option_map head_of (slice_get columns place)) places
-
--- one column more: what the header says of it at the end, where it is there
-pub heads-more : (columns : List Column) (places : List ℕ) (i : ℕ) → i < length places →
-    heads columns (take (i + 1) places) ≡ heads columns (take i places) ++ heads columns (get_or places i 0 ∷ [])
-heads-more columns places i within =
-    ap (heads columns) (take_more places i 0 within) ∙ filter_map-append (λ (p : ℕ). option_map head_of (slice_get columns p)) (take i places) (get_or places i 0 ∷ [])
-
--- what it says of one column
-pub heads-one : (columns : List Column) (place : ℕ) → option_map_or (λ (column : Column). head_of column ∷ []) (slice_get columns place) [] ≡ heads columns (place ∷ [])
-heads-one columns place = by_column (slice_get columns place)
-  where
-    by_column : (o : Option Column) → option_map_or (λ (column : Column). head_of column ∷ []) o [] ≡ cons_option (option_map head_of o) []
-    by_column None = refl
-    by_column (Some column) = refl
-
 -- ---- blocks
 
-pub AreBlocks-more : (headers : List (List Head)) (b : Standing) (k : ℕ) (header : List Head) (text block : List ℕ) (n : ℕ) → AreBlocks headers b k text → n ≡ k + length headers →
-    IsBlock header b n (end_in b.shared n) block → AreBlocks (headers ++ header ∷ []) b k (text ++ block)
-AreBlocks-more [] b k header text block n are n_is here =
+pub AreBlocks-more : (queries : List Asked) (b : Standing) (k : ℕ) (asked : Asked) (text block : List ℕ) (n : ℕ) → AreBlocks queries b k text → n ≡ k + length queries →
+    IsBlock asked.header b n (end_in b.shared n) block → AreBlocks (queries ++ asked ∷ []) b k (text ++ block)
+AreBlocks-more [] b k asked text block n are n_is here =
     let same : n ≡ k = omega (arith, n_is) in
-    (block, [], ap (λ (t : List ℕ). t ++ block) are ∙ sym (append-nil block), subst (λ (m : ℕ). IsBlock header b m (end_in b.shared m) block) same here, refl)
-AreBlocks-more (first ∷ headers) b k header text block n (piece, pieces, is, shown, more) n_is here = (
+    (block, [], ap (λ (t : List ℕ). t ++ block) are ∙ sym (append-nil block), subst (λ (m : ℕ). IsBlock asked.header b m (end_in b.shared m) block) same here, refl)
+AreBlocks-more (first ∷ queries) b k asked text block n (piece, pieces, is, shown, more) n_is here = (
   piece,
   pieces ++ block,
   ap (λ (t : List ℕ). t ++ block) is ∙ append_assoc piece pieces block,
   shown,
-  AreBlocks-more headers b (suc k) header pieces block n more (omega (arith, n_is)) here,
+  AreBlocks-more queries b (suc k) asked pieces block n more (omega (arith, n_is)) here,
 )
 
 -- ---- the status

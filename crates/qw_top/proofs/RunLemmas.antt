@@ -145,7 +145,7 @@ module _ (limits : Limits) (tables : List Contents) (asked : Asked) (b : Standin
 -- the blocks of queries show their ends, where each shows its own
 shows_blocks : (tables : List Contents) (b : Standing) (queries : List Asked) (k : ℕ) (text : List ℕ) →
     ((n j : ℕ) (asked : Asked) (block : List ℕ) → n ≡ k + j → slice_get queries j ≡ Some asked → IsBlock asked.header b n (end_in b.shared n) block → ShowsEnd tables asked b n (end_in b.shared n) block) →
-    AreBlocks (map (λ (asked : Asked). asked.header) queries) b k text → ShowsEnds tables queries b k text
+    AreBlocks queries b k text → ShowsEnds tables queries b k text
 shows_blocks tables b [] k text each are = are
 shows_blocks tables b (asked ∷ queries) k text each (block, blocks, is, first, more) = (
   block,
@@ -167,7 +167,7 @@ contains_at (y ∷ xs) (suc k) x found =
     let h = contains_at xs k x found in (suc h.0, omega (arith, h.1), h.2)
 
 pub shows_run : (limits : Limits) (quantum : ℕ) (tables : List Contents) (queries : List Asked) (b : Standing) → HasRun limits quantum tables queries b → (text : List ℕ) →
-    AreBlocks (map (λ (asked : Asked). asked.header) queries) b 0 text → ShowsEnds tables queries b 0 text
+    AreBlocks queries b 0 text → ShowsEnds tables queries b 0 text
 shows_run limits quantum tables queries b run text are =
     shows_blocks tables b queries 0 text
     (λ n j asked block n_is found here.

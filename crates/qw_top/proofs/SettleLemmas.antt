@@ -11,12 +11,12 @@ use Rattle.qw_emit.specs.Compiled.{page_bound}
 use Rattle.qw_bench.specs.Bench.{rows_in_tables}
 use Rattle.qw_bench.specs.Standing.{total_pages as pages_in_all}
 use Rattle.qw_bench.specs.declared.bench.Limits.{Limits}
-use Rattle.qw_top.specs.Causes.{Cause, words_refused, statement_out_of_range, schema_too_long, schema_refused, table_too_long, table_refused, queries_too_long, queries_refused, no_statement, module_too_long, module_refused, total_pages, status_of_cause}
+use Rattle.qw_top.specs.Causes.{AreOne, Cause, words_refused, statement_out_of_range, schema_too_long, schema_refused, table_too_long, table_refused, queries_too_long, queries_refused, queries_mistyped, no_statement, module_too_long, module_refused, total_pages, status_of_cause}
 use Rattle.qw_top.specs.Top.{Asked, AsksOne, Files, FilesSettle, HasQueries, HasTables, HaveRoom, IsEnough, IsFault, IsNextTable, IsPastSteps, IsRefusal, IsReported, Names, RaisesNothing, RunExplains, same_limits}
-use Rattle.qw_top.specs.Inner.Inputs.{IsNoQuery, IsNoSchema, IsNoTable}
+use Rattle.qw_top.specs.Inner.Inputs.{IsNoSchema, IsNoScript, IsNoTable}
 use Rattle.qw_top.specs.declared.status.Status.{Status}
 use Rattle.qw_top.specs.declared.status.Status.TheVariants.{Done, WordsRefused, SchemaRefused, TableFileRefused, QueriesRefused, ReadFailed, WriteFailed, Raised, PageLimitMet, StepLimitMet, TotalPages, NoMemory}
-use Rattle.qw_top.proofs.ContentLemmas.{HasQueries-unique, HasTables-unique, IsNoQuery-unique, IsNoSchema-unique, IsNoTable-unique, QueriesAre-refused, SchemaIs-refused, next_accepted, one_refused}
+use Rattle.qw_top.proofs.ContentLemmas.{HasQueries-unique, HasTables-unique, IsNoSchema-unique, IsNoScript-one, IsNoTable-unique, QueriesAre-refused, SchemaIs-refused, next_accepted, one_refused}
 
 -- ---- where the files settle a cause
 
@@ -24,7 +24,7 @@ use Rattle.qw_top.proofs.ContentLemmas.{HasQueries-unique, HasTables-unique, IsN
 pub data SettlesAt (limits : Limits) (files : Files) (names : Names) (cause : Cause) : Type 0 where
   at_schema : IsNoSchema files names.schema cause → SettlesAt limits files names cause
   at_table : (table : Table) → IsNextTable files names table → IsNoTable files names.folder table cause → SettlesAt limits files names cause
-  at_queries : (schema : List Table) (tables : List Contents) → HasTables files names schema tables → IsNoQuery files names.queries schema cause → SettlesAt limits files names cause
+  at_queries : (schema : List Table) (tables : List Contents) → HasTables files names schema tables → IsNoScript files names.queries schema cause → SettlesAt limits files names cause
   at_pages : (schema : List Table) (tables : List Contents) (queries : List Asked) (need : ℕ) → HasQueries files names schema tables queries →
       cause ≡ total_pages need → need ≡ pages_in_all tables (same_limits limits queries) → most_pages < need → SettlesAt limits files names cause
 
@@ -35,7 +35,8 @@ module _ (limits : Limits) (files : Files) (names : Names) where
   settled_at (table_too_long table) (next, long) = at_table table next (inl (refl, long))
   settled_at (table_refused table fault) (next, (bytes, file, fails)) = at_table table next (inr (fault, bytes, refl, file, fails))
   settled_at queries_too_long (schema, tables, held, long) = at_queries schema tables held (inl (refl, long))
-  settled_at (queries_refused fault) (schema, tables, text, held, file, refused) = at_queries schema tables held (inr (fault, text, refl, file, refused))
+  settled_at (queries_refused fault) (schema, tables, text, held, file, refused) = at_queries schema tables held (inr (inl (fault, text, refl, file, refused)))
+  settled_at (queries_mistyped fault) (schema, tables, text, held, file, mistyped) = at_queries schema tables held (inr (inr (fault, text, refl, file, mistyped)))
   settled_at (total_pages need) (schema, tables, queries, held, is, large) = at_pages schema tables queries need held refl is large
   settled_at _ h = absurd h
 
@@ -47,9 +48,10 @@ module _ (limits : Limits) (files : Files) (names : Names) where
   table_settles table cause next (inl (is, long)) = subst (FilesSettle limits files names) (sym is) (next, long)
   table_settles table cause next (inr (fault, bytes, is, file, fails)) = subst (FilesSettle limits files names) (sym is) (next, (bytes, file, fails))
 
-  pub queries_settle : (schema : List Table) (tables : List Contents) (cause : Cause) → HasTables files names schema tables → IsNoQuery files names.queries schema cause → FilesSettle limits files names cause
+  pub queries_settle : (schema : List Table) (tables : List Contents) (cause : Cause) → HasTables files names schema tables → IsNoScript files names.queries schema cause → FilesSettle limits files names cause
   queries_settle schema tables cause held (inl (is, long)) = subst (FilesSettle limits files names) (sym is) (schema, tables, held, long)
-  queries_settle schema tables cause held (inr (fault, text, is, file, refused)) = subst (FilesSettle limits files names) (sym is) (schema, tables, text, held, file, refused)
+  queries_settle schema tables cause held (inr (inl (fault, text, is, file, refused))) = subst (FilesSettle limits files names) (sym is) (schema, tables, text, held, file, refused)
+  queries_settle schema tables cause held (inr (inr (fault, text, is, file, mistyped))) = subst (FilesSettle limits files names) (sym is) (schema, tables, text, held, file, mistyped)
 
 -- ---- one cause
 
@@ -71,15 +73,15 @@ module _ (limits : Limits) (told : List ℕ → Option (List ℕ)) (names : Name
   table_first table cause other next none (at_pages schema tables queries need held _ _ _) = absurd (next_accepted told names table schema tables cause next held.before none)
 
   -- the queries file
-  queries_first : (schema : List Table) (tables : List Contents) (cause other : Cause) → HasTables (Some told) names schema tables → IsNoQuery (Some told) names.queries schema cause → SettlesAt limits (Some told) names other → cause ≡ other
+  queries_first : (schema : List Table) (tables : List Contents) (cause other : Cause) → HasTables (Some told) names schema tables → IsNoScript (Some told) names.queries schema cause → SettlesAt limits (Some told) names other → AreOne cause other
   queries_first schema tables cause other held none (at_schema none') = absurd (SchemaIs-refused told names.schema schema other held.declared none')
   queries_first schema tables cause other held none (at_table table next none') = absurd (next_accepted told names table schema tables other next held none')
   queries_first schema tables cause other held none (at_queries schema' tables' held' none') =
       let e = HasTables-unique told names schema schema' tables tables' held held' in
-      IsNoQuery-unique told names.queries schema' cause other (subst (λ (s : List Table). IsNoQuery (Some told) names.queries s cause) e.0 none) none'
+      IsNoScript-one told names.queries schema' cause other (subst (λ (s : List Table). IsNoScript (Some told) names.queries s cause) e.0 none) none'
   queries_first schema tables cause other held none (at_pages schema' tables' queries need held' _ _ _) =
       let e = HasTables-unique told names schema schema' tables tables' held held'.before in
-      absurd (QueriesAre-refused told names.queries schema' queries cause held'.asked (subst (λ (s : List Table). IsNoQuery (Some told) names.queries s cause) e.0 none))
+      absurd (QueriesAre-refused told names.queries schema' queries cause held'.asked (subst (λ (s : List Table). IsNoScript (Some told) names.queries s cause) e.0 none))
 
   -- and none
   pages_first : (schema : List Table) (tables : List Contents) (queries : List Asked) (need : ℕ) (cause other : Cause) → HasQueries (Some told) names schema tables queries →
@@ -88,18 +90,18 @@ module _ (limits : Limits) (told : List ℕ → Option (List ℕ)) (names : Name
   pages_first schema tables queries need cause other held is needed (at_table table next none) = absurd (next_accepted told names table schema tables other next held.before none)
   pages_first schema tables queries need cause other held is needed (at_queries schema' tables' held' none) =
       let e = HasTables-unique told names schema' schema tables' tables held' held.before in
-      absurd (QueriesAre-refused told names.queries schema queries other held.asked (subst (λ (s : List Table). IsNoQuery (Some told) names.queries s other) e.0 none))
+      absurd (QueriesAre-refused told names.queries schema queries other held.asked (subst (λ (s : List Table). IsNoScript (Some told) names.queries s other) e.0 none))
   pages_first schema tables queries need cause other held is needed (at_pages schema' tables' queries' need' held' is' needed' _) =
       let e = HasQueries-unique told names schema schema' tables tables' queries queries' held held' in
       let pages : pages_in_all tables (same_limits limits queries) ≡ pages_in_all tables' (same_limits limits queries') =
       ap (λ (t : List Contents). pages_in_all t (same_limits limits queries)) e.1 ∙ ap (λ (q : List Asked). pages_in_all tables' (same_limits limits q)) e.2 in
       is ∙ ap total_pages (needed ∙ pages ∙ sym needed') ∙ sym is'
 
-  one_at : (cause other : Cause) → SettlesAt limits (Some told) names cause → SettlesAt limits (Some told) names other → cause ≡ other
-  one_at cause other (at_schema none) k = schema_first cause other none k
-  one_at cause other (at_table table next none) k = table_first table cause other next none k
+  one_at : (cause other : Cause) → SettlesAt limits (Some told) names cause → SettlesAt limits (Some told) names other → AreOne cause other
+  one_at cause other (at_schema none) k = inl (schema_first cause other none k)
+  one_at cause other (at_table table next none) k = inl (table_first table cause other next none k)
   one_at cause other (at_queries schema tables held none) k = queries_first schema tables cause other held none k
-  one_at cause other (at_pages schema tables queries need held is needed _) k = pages_first schema tables queries need cause other held is needed k
+  one_at cause other (at_pages schema tables queries need held is needed _) k = inl (pages_first schema tables queries need cause other held is needed k)
 
   -- files that ask for queries with room for them settle no cause
   none_settled : (schema : List Table) (tables : List Contents) (queries : List Asked) (cause : Cause) → HasQueries (Some told) names schema tables queries → HaveRoom limits tables queries →
@@ -108,7 +110,7 @@ module _ (limits : Limits) (told : List ℕ → Option (List ℕ)) (names : Name
   none_settled schema tables queries cause held room (at_table table next none) = next_accepted told names table schema tables cause next held.before none
   none_settled schema tables queries cause held room (at_queries schema' tables' held' none) =
       let e = HasTables-unique told names schema' schema tables' tables held' held.before in
-      QueriesAre-refused told names.queries schema queries cause held.asked (subst (λ (s : List Table). IsNoQuery (Some told) names.queries s cause) e.0 none)
+      QueriesAre-refused told names.queries schema queries cause held.asked (subst (λ (s : List Table). IsNoScript (Some told) names.queries s cause) e.0 none)
   none_settled schema tables queries cause held room (at_pages schema' tables' queries' need' held' is' needed' large) =
       let e = HasQueries-unique told names schema schema' tables tables' queries queries' held held' in
       let pages : pages_in_all tables (same_limits limits queries) ≡ pages_in_all tables' (same_limits limits queries') =
@@ -118,13 +120,18 @@ module _ (limits : Limits) (told : List ℕ → Option (List ℕ)) (names : Name
 -- ---- told files
 
 module _ (limits : Limits) (told : List ℕ → Option (List ℕ)) (names : Names) where
-  pub one_settled : (cause other : Cause) → FilesSettle limits (Some told) names cause → FilesSettle limits (Some told) names other → cause ≡ other
+  pub one_settled : (cause other : Cause) → FilesSettle limits (Some told) names cause → FilesSettle limits (Some told) names other → AreOne cause other
   one_settled cause other h k = one_at limits told names cause other (settled_at limits (Some told) names cause h) (settled_at limits (Some told) names other k)
 
   -- where they ask for queries with room for them, they settle no cause
   pub asked_settles_none : (schema : List Table) (tables : List Contents) (queries : List Asked) (cause : Cause) → HasQueries (Some told) names schema tables queries → HaveRoom limits tables queries →
       FilesSettle limits (Some told) names cause → ⊥
   asked_settles_none schema tables queries cause held room h = none_settled limits told names schema tables queries cause held room (settled_at limits (Some told) names cause h)
+
+-- causes that are one have one status
+pub one_status : (cause other : Cause) → AreOne cause other → status_of_cause cause ≡ status_of_cause other
+one_status cause other (inl is) = ap status_of_cause is
+one_status cause other (inr both) = rw (both.cause_is, both.other_is) refl
 
 -- ---- kinds of ends
 
@@ -137,6 +144,7 @@ cause_is_refusal (table_too_long table) = tt
 cause_is_refusal (table_refused table fault) = tt
 cause_is_refusal queries_too_long = tt
 cause_is_refusal (queries_refused fault) = tt
+cause_is_refusal (queries_mistyped fault) = tt
 cause_is_refusal (no_statement statement) = tt
 cause_is_refusal module_too_long = tt
 cause_is_refusal (module_refused fault) = tt
@@ -196,6 +204,7 @@ settled_explains limits files names (table_too_long table) h = (table_too_long t
 settled_explains limits files names (table_refused table fault) h = (table_refused table fault, h, refl)
 settled_explains limits files names queries_too_long h = (queries_too_long, h, refl)
 settled_explains limits files names (queries_refused fault) h = (queries_refused fault, h, refl)
+settled_explains limits files names (queries_mistyped fault) h = (queries_mistyped fault, h, refl)
 settled_explains limits files names (total_pages need) h = (total_pages need, h, refl)
 settled_explains limits files names _ h = absurd h
 
@@ -222,7 +231,7 @@ settled_ends limits told names cause status h why =
     elim (kind_of_end status) [
       | inl refusal ↦
           let other = refusal_settled limits (Some told) names status refusal why in
-          inl (other.2 ∙ ap status_of_cause (one_settled limits told names other.0 cause other.1 h))
+          inl (other.2 ∙ one_status other.0 cause (one_settled limits told names other.0 cause other.1 h))
       | inr (inl fault) ↦ inr fault
       | inr (inr reported) ↦
           let asked = reported_asks limits (Some told) names status reported why in

@@ -6,19 +6,24 @@ use Rattle.qw_types.specs.declared.schema.Table.{Table}
 use Rattle.qw_csv.specs.declared.loading.LoadFault.{LoadFault}
 use Rattle.qw_csv.specs.declared.loading.LoadFault.TheVariants as load_faults
 use Rattle.qw_csv.specs.Loading.{IsFirstFault}
-use Rattle.qw_parse.specs.declared.parse.QueryFault.{QueryFault}
-use Rattle.qw_parse.specs.declared.parse.QueryFault.TheVariants as query_faults
+use Rattle.qw_script.specs.Script.{IsScriptRefused}
+use Rattle.qw_script.specs.declared.fault.ParseFault.{ParseFault}
+use Rattle.qw_script.specs.declared.fault.ParseFault.TheVariants as script_faults
+use Rattle.qw_typer.specs.declared.fault.TypeFault.{TypeFault}
+use Rattle.qw_typer.specs.declared.fault.TypeFault.TheVariants as type_faults
 use Rattle.qw_parse.specs.declared.parse.SchemaFault.{SchemaFault}
 use Rattle.qw_parse.specs.declared.parse.SchemaFault.TheVariants as schema_faults
 use Rattle.qw_parse.specs.Parse.{IsRefused}
-use Rattle.qw_parse.specs.Query.{IsQueryRefused}
-use Rattle.qw_top.specs.Causes.{Cause, queries_refused, schema_refused, table_refused, total_pages}
+use Rattle.qw_top.specs.Causes.{Cause, queries_mistyped, queries_refused, schema_refused, table_refused, total_pages}
 use Rattle.qw_top.specs.FileNames.{table_file_of}
 use Rattle.qw_top.specs.Limits.{default_limits, most_table_octets, most_text_octets}
-use Rattle.qw_top.specs.Top.{Asked, Files, FilesSettle, HasQueries, HasTables, IsFile, IsFileOf, IsNextTable, Names, QueriesAre, SchemaIs, TableIs, TablesAre}
+use Rattle.qw_top.specs.Top.{Asked, Files, FilesSettle, HasQueries, HasTables, IsFile, IsFileOf, IsMistyped, IsNextTable, Names, QueriesAre, SchemaIs, TableIs, TablesAre}
 use Rattle.qw_top.specs.declared.stop.Stop.{Stop}
 use Rattle.qw_top.specs.declared.stop.Stop.TheVariants.{Refused, Unread, NoMemory}
-use Rattle.qw_top.specs.Inner.Inputs.{IsNoQuery, IsNoSchema, IsNoTable, StopsAtTables}
+use Rattle.qw_top.specs.Inner.Inputs.{IsNoSchema, IsNoScript, IsNoTable, StopsAtTables}
+use Rattle.qw_top.specs.declared.top.queries.QueriesFault.{QueriesFault}
+use Rattle.qw_top.specs.declared.top.queries.QueriesFault.TheVariants.{Script, Typing}
+use Rattle.qw_top.specs.Inner.Queries.{Refuses, StopsForFault}
 use Rattle.qw_top.specs.Inner.Stages.{FilesStop, StopsToRun}
 use Rattle.qw_top.specs.Inner.Stop.{StopsAs, StopsFor}
 use Rattle.qw_top.proofs.SettleLemmas.{queries_settle, schema_settles, table_settles}
@@ -40,14 +45,17 @@ schema_or_memory (schema_faults.TooMany k what limit) = inr (λ same. cc)
 schema_or_memory (schema_faults.Duplicate k) = inr (λ same. cc)
 schema_or_memory (schema_faults.BadSize k) = inr (λ same. cc)
 
-query_or_memory : (fault : QueryFault) → (fault ≡ query_faults.NoMemory) ⊎ (fault ≡ query_faults.NoMemory → ⊥)
-query_or_memory query_faults.NoMemory = inl refl
-query_or_memory query_faults.NotUtf8 = inr (λ same. cc)
-query_or_memory (query_faults.NotToken at) = inr (λ same. cc)
-query_or_memory (query_faults.NotGrammar k) = inr (λ same. cc)
-query_or_memory (query_faults.TooDeep k) = inr (λ same. cc)
-query_or_memory (query_faults.TooMany k what limit) = inr (λ same. cc)
-query_or_memory (query_faults.Mistyped k kind name) = inr (λ same. cc)
+script_or_memory : (fault : ParseFault) → (fault ≡ script_faults.NoMemory) ⊎ (fault ≡ script_faults.NoMemory → ⊥)
+script_or_memory script_faults.NoMemory = inl refl
+script_or_memory script_faults.NotUtf8 = inr (λ same. cc)
+script_or_memory (script_faults.NotToken at) = inr (λ same. cc)
+script_or_memory (script_faults.NotGrammar k) = inr (λ same. cc)
+script_or_memory (script_faults.TooDeep k) = inr (λ same. cc)
+script_or_memory (script_faults.TooMany k what limit) = inr (λ same. cc)
+
+typing_or_memory : (fault : TypeFault) → (fault ≡ type_faults.NoMemory) ⊎ (fault ≡ type_faults.NoMemory → ⊥)
+typing_or_memory type_faults.NoMemory = inl refl
+typing_or_memory (type_faults.Fault k kind name) = inr (λ same. cc)
 
 load_or_memory : (fault : LoadFault) → (fault ≡ load_faults.NoMemory) ⊎ (fault ≡ load_faults.NoMemory → ⊥)
 load_or_memory load_faults.NoMemory = inl refl
@@ -70,14 +78,28 @@ module _ (files : Files) (name : List ℕ) (stop : Stop) where
         | inr other ↦ StopsFor-stage (IsNoSchema files name) name (schema_refused fault) stop (inr (fault, text, refl, file, holds)) (refused other)
       ]
 
-  pub query_refused_stops : (schema : List Table) (text : List ℕ) (fault : QueryFault) → IsFile files name most_text_octets text → (fault ≡ query_faults.NoMemory) ⊎ IsQueryRefused schema text fault →
-      (fault ≡ query_faults.NoMemory → stop ≡ NoMemory) → ((fault ≡ query_faults.NoMemory → ⊥) → StopsFor (queries_refused fault) stop) → StopsAs (IsNoQuery files name schema) name stop
-  query_refused_stops schema text fault file (inl is) memory refused = wants (IsNoQuery files name schema) name stop (memory is)
-  query_refused_stops schema text fault file (inr holds) memory refused =
-      elim (query_or_memory fault) [
-        | inl is ↦ wants (IsNoQuery files name schema) name stop (memory is)
-        | inr other ↦ StopsFor-stage (IsNoQuery files name schema) name (queries_refused fault) stop (inr (fault, text, refl, file, holds)) (refused other)
+  script_refused_stops : (schema : List Table) (text : List ℕ) (fault : ParseFault) → IsFile files name most_text_octets text → (fault ≡ script_faults.NoMemory) ⊎ IsScriptRefused text fault →
+      (fault ≡ script_faults.NoMemory → stop ≡ NoMemory) → ((fault ≡ script_faults.NoMemory → ⊥) → StopsFor (queries_refused fault) stop) → StopsAs (IsNoScript files name schema) name stop
+  script_refused_stops schema text fault file (inl is) memory refused = wants (IsNoScript files name schema) name stop (memory is)
+  script_refused_stops schema text fault file (inr holds) memory refused =
+      elim (script_or_memory fault) [
+        | inl is ↦ wants (IsNoScript files name schema) name stop (memory is)
+        | inr other ↦ StopsFor-stage (IsNoScript files name schema) name (queries_refused fault) stop (inr (inl (fault, text, refl, file, holds))) (refused other)
       ]
+
+  mistyped_stops : (schema : List Table) (text : List ℕ) (fault : TypeFault) → IsFile files name most_text_octets text → (fault ≡ type_faults.NoMemory) ⊎ IsMistyped schema text fault →
+      (fault ≡ type_faults.NoMemory → stop ≡ NoMemory) → ((fault ≡ type_faults.NoMemory → ⊥) → StopsFor (queries_mistyped fault) stop) → StopsAs (IsNoScript files name schema) name stop
+  mistyped_stops schema text fault file (inl is) memory refused = wants (IsNoScript files name schema) name stop (memory is)
+  mistyped_stops schema text fault file (inr holds) memory refused =
+      elim (typing_or_memory fault) [
+        | inl is ↦ wants (IsNoScript files name schema) name stop (memory is)
+        | inr other ↦ StopsFor-stage (IsNoScript files name schema) name (queries_mistyped fault) stop (inr (inr (fault, text, refl, file, holds))) (refused other)
+      ]
+
+  pub queries_refused_stop : (schema : List Table) (text : List ℕ) (fault : QueriesFault) → IsFile files name most_text_octets text → Refuses schema text fault → StopsForFault fault stop →
+      StopsAs (IsNoScript files name schema) name stop
+  queries_refused_stop schema text (Script fault) file refuses stops = script_refused_stops schema text fault file refuses stops.0 stops.1
+  queries_refused_stop schema text (Typing fault) file refuses stops = mistyped_stops schema text fault file refuses stops.0 stops.1
 
 pub table_refused_stops : (files : Files) (folder : List ℕ) (table : Table) (stop : Stop) (bytes : List ℕ) (fault : LoadFault) → IsFile files (table_file_of folder table.name) most_table_octets bytes →
     ((fault ≡ load_faults.NoMemory → ⊥) → IsFirstFault table bytes fault) → (fault ≡ load_faults.NoMemory → stop ≡ NoMemory) →
@@ -149,12 +171,12 @@ module _ (files : Files) (names : Names) where
 
   -- where the queries' stage stopped
   pub queries_stop : (now : Files) (schema : List Table) (tables : List Contents) (stop : Stop) → now ≡ files → HasTables files names schema tables →
-      StopsAs (IsNoQuery now names.queries schema) names.queries stop → FilesStop files names stop
+      StopsAs (IsNoScript now names.queries schema) names.queries stop → FilesStop files names stop
   queries_stop now schema tables stop same held stops =
-      StopsAs-files files names (IsNoQuery files names.queries schema) names.queries stop
+      StopsAs-files files names (IsNoScript files names.queries schema) names.queries stop
       (λ cause none. queries_settle default_limits files names schema tables cause held none)
       (inr (inr (schema, tables, held, refl)))
-      (subst (λ (f : Files). StopsAs (IsNoQuery f names.queries schema) names.queries stop) same stops)
+      (subst (λ (f : Files). StopsAs (IsNoScript f names.queries schema) names.queries stop) same stops)
 
   -- all was accepted
   pub all_accepted : (now : Files) (schema : List Table) (tables : List Contents) (queries : List Asked) → now ≡ files → HasTables files names schema tables →

@@ -3,7 +3,7 @@ use Rattle.std.proofs.Common.{◌≡◌, ◌⊎◌, ℕ, zero, ◌≤◌, List, 
 use Rattle.std.specs.Prelude.{IfSome}
 use Rattle.std.specs.String.{string_bytes}
 use Rattle.std.proofs.lemmas.List.{append-nil, take_all}
-use Rattle.qw_top.specs.Causes.{Cause, line_of_cause, status_of_cause, words_refused, statement_out_of_range, schema_too_long, schema_refused, table_too_long, table_refused, queries_too_long, queries_refused, no_statement, module_too_long, module_refused, total_pages}
+use Rattle.qw_top.specs.Causes.{Cause, line_of_cause, status_of_cause, words_refused, statement_out_of_range, schema_too_long, schema_refused, table_too_long, table_refused, queries_too_long, queries_refused, queries_mistyped, no_statement, module_too_long, module_refused, total_pages}
 use Rattle.qw_top.specs.Delivered.{CommandNotes, IsLine}
 use Rattle.qw_top.specs.Notes.{read_fault_line, want_of_memory_line}
 use Rattle.qw_top.specs.Output.{TookFront, with_text}
@@ -76,6 +76,7 @@ module _ (settles : Cause → Type 0) (named : List ℕ → Type 0) where
   cause_noted fault_name (table_refused table fault) old new settled took = (table_refused table fault, settled, refl, took)
   cause_noted fault_name queries_too_long old new settled took = (queries_too_long, settled, refl, took)
   cause_noted fault_name (queries_refused fault) old new settled took = (queries_refused fault, settled, refl, took)
+  cause_noted fault_name (queries_mistyped fault) old new settled took = (queries_mistyped fault, settled, refl, took)
   cause_noted fault_name (no_statement statement) old new settled took = (no_statement statement, settled, refl, took)
   cause_noted fault_name module_too_long old new settled took = (module_too_long, settled, refl, took)
   cause_noted fault_name (module_refused fault) old new settled took = (module_refused fault, settled, refl, took)

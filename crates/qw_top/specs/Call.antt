@@ -3,7 +3,7 @@ use Rattle.std.specs.Prelude.{◌≡◌, ◌⊎◌, ℕ, ◌<◌, ◌-◌, List,
 use Rattle.qw_types.specs.Contents.{Contents}
 use Rattle.qw_types.specs.declared.schema.Table.{Table}
 use Rattle.qw_parse.specs.Parse.{IsRefused}
-use Rattle.qw_parse.specs.Query.{IsQueryRefused}
+use Rattle.qw_script.specs.Script.{IsScriptRefused}
 use Rattle.qw_module.specs.declared.module.Module.{Module}
 use Rattle.qw_binary.specs.Contents.{contents_of}
 use Rattle.qw_binary.specs.Modules.{SpellsModule}
@@ -14,11 +14,11 @@ use Rattle.qw_emit.specs.Compiled.{IsCompiled}
 use Rattle.qw_bench.specs.Standing.{Standing}
 use Rattle.qw_bench.specs.declared.bench.Limits.{Limits}
 use Rattle.qw_words.specs.Words.{Command, run, compile, check, Reading, command, no_command, no_number, TextNames, reading}
-use Rattle.qw_top.specs.Causes.{Cause, words_refused, statement_out_of_range, schema_too_long, schema_refused, queries_too_long, queries_refused, no_statement, module_too_long, module_refused, status_of_cause}
+use Rattle.qw_top.specs.Causes.{Cause, words_refused, statement_out_of_range, schema_too_long, schema_refused, queries_too_long, queries_refused, queries_mistyped, no_statement, module_too_long, module_refused, status_of_cause}
 use Rattle.qw_top.specs.Delivered.{CommandNotes, LeavesBench, LeavesNothing, RunLeaves}
 use Rattle.qw_top.specs.Limits.{most_module_octets, most_text_octets}
 use Rattle.qw_top.specs.Output.{TookFront, with_text}
-use Rattle.qw_top.specs.Top.{Asked, Files, FilesSettle, HasQueries, IsFile, IsFileOf, IsTooLong, Names, QueriesAre, RunExplains, SchemaIs}
+use Rattle.qw_top.specs.Top.{Asked, Files, FilesSettle, HasQueries, IsFile, IsFileOf, IsMistyped, IsTooLong, Names, QueriesAre, RunExplains, SchemaIs}
 use Rattle.qw_top.specs.declared.status.Status.{Status}
 use Rattle.qw_top.specs.declared.status.Status.TheVariants.{Done, WordsRefused, ReadFailed, WriteFailed, NoMemory}
 
@@ -59,7 +59,9 @@ CompileSettles files names statement (schema_refused fault) =
 CompileSettles files names statement queries_too_long =
     (schema : List Table) × SchemaIs files names.schema schema × IsTooLong files names.queries most_text_octets
 CompileSettles files names statement (queries_refused fault) = (schema : List Table) × (text : List ℕ)
-    × SchemaIs files names.schema schema × IsFile files names.queries most_text_octets text × IsQueryRefused schema text fault
+    × SchemaIs files names.schema schema × IsFile files names.queries most_text_octets text × IsScriptRefused text fault
+CompileSettles files names statement (queries_mistyped fault) = (schema : List Table) × (text : List ℕ)
+    × SchemaIs files names.schema schema × IsFile files names.queries most_text_octets text × IsMistyped schema text fault
 CompileSettles files names statement (no_statement number) = (number ≡ statement) × ((schema : List Table) × (queries : List Asked)
     × HasScript files names schema queries × (length queries < statement))
 CompileSettles files names statement _ = ⊥

@@ -1,5 +1,5 @@
 -- Why a run ends before it has a bench, and the line that says so.
-use Rattle.std.specs.Prelude.{ℕ, List, [], ◌++◌, codes, slice_get, Option, Some, None}
+use Rattle.std.specs.Prelude.{◌≡◌, ◌⊎◌, ℕ, List, [], ◌++◌, codes, slice_get, Option, Some, None}
 use Rattle.std.specs.Fmt.{decimal}
 use Rattle.std.specs.Option.{option_map_or}
 use Rattle.qw_types.specs.declared.numeral.FieldFault.{FieldFault}
@@ -11,13 +11,17 @@ use Rattle.qw_csv.specs.declared.cell.CellFault.TheVariants as cell
 use Rattle.qw_csv.specs.declared.loading.LoadFault.{LoadFault}
 use Rattle.qw_csv.specs.declared.loading.LoadFault.TheVariants as load
 use Rattle.qw_parse.specs.declared.parse.Count.{Count}
-use Rattle.qw_parse.specs.declared.parse.Count.TheVariants.{Statements, Tables, Columns, SelectItems}
-use Rattle.qw_parse.specs.declared.parse.QueryFault.{QueryFault}
-use Rattle.qw_parse.specs.declared.parse.QueryFault.TheVariants as query
+use Rattle.qw_parse.specs.declared.parse.Count.TheVariants.{Tables, Columns}
 use Rattle.qw_parse.specs.declared.parse.SchemaFault.{SchemaFault}
 use Rattle.qw_parse.specs.declared.parse.SchemaFault.TheVariants as schema
-use Rattle.qw_parse.specs.declared.parse.TypeFault.{TypeFault}
-use Rattle.qw_parse.specs.declared.parse.TypeFault.TheVariants.{UnknownTable, UnknownColumn, LiteralTooLong, Clash}
+use Rattle.qw_script.specs.declared.fault.Count.{Count as ScriptCount}
+use Rattle.qw_script.specs.declared.fault.Count.TheVariants.{Statements, SelectItems, Nodes, LiteralOctets}
+use Rattle.qw_script.specs.declared.fault.ParseFault.{ParseFault}
+use Rattle.qw_script.specs.declared.fault.ParseFault.TheVariants as script
+use Rattle.qw_typer.specs.declared.fault.FaultKind.{FaultKind}
+use Rattle.qw_typer.specs.declared.fault.FaultKind.TheVariants.{UnknownTable, UnknownColumn, Clash, ScaleTooLarge, LiteralTooLong, BadDate}
+use Rattle.qw_typer.specs.declared.fault.TypeFault.{TypeFault}
+use Rattle.qw_typer.specs.declared.fault.TypeFault.TheVariants as typing
 use Rattle.qw_grammar.specs.declared.fault.What.{What}
 use Rattle.qw_grammar.specs.declared.fault.What.TheVariants as what
 use Rattle.qw_valid.specs.declared.valid.Part.{Part}
@@ -28,8 +32,8 @@ use Rattle.qw_top.specs.declared.status.Status.{Status}
 use Rattle.qw_top.specs.declared.status.Status.TheVariants.{WordsRefused, SchemaRefused, TableFileRefused, QueriesRefused, TotalPages}
 
 -- What the words and the files settle: no words of a command, or words whose number of a statement is out of range; a file that is
--- longer than its limit; a text that is no schema, a table file that stands for no rows, a text that is no query over the schema,
--- octets that are no valid module, each with its fault; a statement that isn't there; or more pages than a memory has.
+-- longer than its limit; a text that is no schema, a table file that stands for no rows, a text that is no script, a script with a
+-- query that means nothing over the schema, octets that are no valid module, each with its fault; a statement that isn't there; or more pages than a memory has.
 pub data Cause : Type 0 where
   words_refused : Cause
   statement_out_of_range : Cause
@@ -38,7 +42,8 @@ pub data Cause : Type 0 where
   table_too_long : Table → Cause
   table_refused : Table → LoadFault → Cause
   queries_too_long : Cause
-  queries_refused : QueryFault → Cause
+  queries_refused : ParseFault → Cause
+  queries_mistyped : TypeFault → Cause
   no_statement : (statement : ℕ) → Cause
   module_too_long : Cause
   module_refused : CheckFault → Cause
@@ -54,6 +59,7 @@ status_of_cause (table_too_long table) = TableFileRefused
 status_of_cause (table_refused table fault) = TableFileRefused
 status_of_cause queries_too_long = QueriesRefused
 status_of_cause (queries_refused fault) = QueriesRefused
+status_of_cause (queries_mistyped fault) = QueriesRefused
 status_of_cause (no_statement statement) = QueriesRefused
 status_of_cause module_too_long = QueriesRefused
 status_of_cause (module_refused fault) = QueriesRefused
@@ -79,14 +85,18 @@ in_statement words k = words ++ codes " in statement " ++ decimal k
 
 -- what there may be too many of
 abbrev pub counted : Count → List ℕ
-counted Statements = codes "statements"
 counted Tables = codes "tables"
 counted Columns = codes "columns"
-counted SelectItems = codes "select items"
+
+abbrev pub counted_in_script : ScriptCount → List ℕ
+counted_in_script Statements = codes "statements"
+counted_in_script SelectItems = codes "select items"
+counted_in_script Nodes = codes "nodes"
+counted_in_script LiteralOctets = codes "literal octets"
 
 -- more than the limit of something
-abbrev pub too_many : ℕ → Count → ℕ → List ℕ
-too_many k what limit = in_statement (codes "too many " ++ counted what) k ++ codes ", limit " ++ decimal limit
+abbrev pub too_many : ℕ → (what : List ℕ) → ℕ → List ℕ
+too_many k what limit = in_statement (codes "too many " ++ what) k ++ codes ", limit " ++ decimal limit
 
 -- why a text is no schema
 abbrev pub schema_cause : SchemaFault → List ℕ
@@ -94,27 +104,33 @@ schema_cause schema.NotUtf8 = not_utf8
 schema_cause (schema.NotToken at) = not_token at
 schema_cause (schema.NotGrammar k) = in_statement (codes "not grammar") k
 schema_cause (schema.TooDeep k) = in_statement (codes "too deep") k
-schema_cause (schema.TooMany k what limit) = too_many k what limit
+schema_cause (schema.TooMany k what limit) = too_many k (counted what) limit
 schema_cause (schema.Duplicate k) = in_statement (codes "duplicate") k
 schema_cause (schema.BadSize k) = in_statement (codes "bad size") k
 schema_cause schema.NoMemory = codes "want of memory"
 
--- what is wrong with a name or the literal
-abbrev pub kind_words : TypeFault → List ℕ
+-- why a text is no script
+abbrev pub script_cause : ParseFault → List ℕ
+script_cause script.NotUtf8 = not_utf8
+script_cause (script.NotToken at) = not_token at
+script_cause (script.NotGrammar k) = in_statement (codes "not grammar") k
+script_cause (script.TooDeep k) = in_statement (codes "too deep") k
+script_cause (script.TooMany k what limit) = too_many k (counted_in_script what) limit
+script_cause script.NoMemory = codes "want of memory"
+
+-- what is wrong with a construct of a query
+abbrev pub kind_words : FaultKind → List ℕ
 kind_words UnknownTable = codes "unknown table"
 kind_words UnknownColumn = codes "unknown column"
-kind_words LiteralTooLong = codes "literal too long"
 kind_words Clash = codes "clash"
+kind_words ScaleTooLarge = codes "scale too large"
+kind_words LiteralTooLong = codes "literal too long"
+kind_words BadDate = codes "bad date"
 
--- why a text is no query
-abbrev pub query_cause : QueryFault → List ℕ
-query_cause query.NotUtf8 = not_utf8
-query_cause (query.NotToken at) = not_token at
-query_cause (query.NotGrammar k) = in_statement (codes "not grammar") k
-query_cause (query.TooDeep k) = in_statement (codes "too deep") k
-query_cause (query.TooMany k what limit) = too_many k what limit
-query_cause (query.Mistyped k kind name) = in_statement (kind_words kind ++ codes " " ++ name) k
-query_cause query.NoMemory = codes "want of memory"
+-- why a script means nothing over the schema
+abbrev pub typing_cause : TypeFault → List ℕ
+typing_cause (typing.Fault k kind name) = in_statement (kind_words kind ++ codes " " ++ name) k
+typing_cause typing.NoMemory = codes "want of memory"
 
 -- why a field stands for no value of its column
 abbrev pub form_cause : FieldFault → List ℕ
@@ -181,7 +197,8 @@ words_of_cause (schema_refused fault) = Some (codes "schema: " ++ schema_cause f
 words_of_cause (table_too_long table) = Some (table.name ++ codes ": " ++ too_long)
 words_of_cause (table_refused table fault) = Some (table_cause table fault)
 words_of_cause queries_too_long = Some (codes "queries: " ++ too_long)
-words_of_cause (queries_refused fault) = Some (codes "queries: " ++ query_cause fault)
+words_of_cause (queries_refused fault) = Some (codes "queries: " ++ script_cause fault)
+words_of_cause (queries_mistyped fault) = Some (codes "queries: " ++ typing_cause fault)
 words_of_cause (no_statement statement) = Some (codes "queries: no statement " ++ decimal statement)
 words_of_cause module_too_long = Some (codes "module: " ++ too_long)
 words_of_cause (module_refused fault) = Some (codes "module: " ++ module_cause fault)
@@ -190,3 +207,19 @@ words_of_cause (total_pages need) = Some (codes "total pages " ++ decimal need)
 -- and the line on it
 abbrev pub line_of_cause : Cause → List ℕ
 line_of_cause cause = option_map_or (λ words. words ++ codes "\n") (words_of_cause cause) []
+
+-- ---- which of several is told
+
+-- faults of one statement's constructs, of which either may be told
+pub record AreMistyped (cause other : Cause) : Type 0 where
+  pub statement : ℕ
+  pub kind : FaultKind
+  pub name : List ℕ
+  pub other_kind : FaultKind
+  pub other_name : List ℕ
+  pub cause_is : cause ≡ queries_mistyped (typing.Fault statement kind name)
+  pub other_is : other ≡ queries_mistyped (typing.Fault statement other_kind other_name)
+
+-- one cause, or such faults
+abbrev pub AreOne : Cause → Cause → Type 0
+AreOne cause other = (cause ≡ other) ⊎ AreMistyped cause other

@@ -1,8 +1,8 @@
 -- What restates code for proofs. No public clause rests on it.
 pub mod Causes
-pub mod Compiling
 pub mod Inputs
 pub mod Noted
+pub mod Queries
 pub mod Reports
 pub mod Shelves
 pub mod Sinks

@@ -1,22 +1,20 @@
 -- What the files of a run hold, and which ends of a run the words and the files explain.
-use Rattle.std.specs.List.{filter_map}
-use Rattle.std.specs.Option.{option_map, option_map_or}
-use Rattle.std.specs.Prelude.{◌≡◌, ◌⊎◌, ℕ, ◌<◌, ◌≤◌, List, [], ◌∷◌, ◌++◌, Option, length, map, slice_get, Contains}
+use Rattle.std.specs.Prelude.{◌≡◌, ◌⊎◌, ℕ, ◌<◌, ◌≤◌, List, [], ◌∷◌, ◌++◌, Option, Some, length, map, Contains}
 use Rattle.qw_io.specs.Files.{OfFile}
 use Rattle.qw_types.specs.Contents.{Contents, column_type}
-use Rattle.qw_types.specs.Kind.{type_kind}
 use Rattle.qw_types.specs.declared.code.Code.{Code}
-use Rattle.qw_types.specs.declared.schema.Column.{Column}
 use Rattle.qw_types.specs.declared.schema.Table.{Table}
 use Rattle.qw_types.specs.declared.value.Val.{Val}
 use Rattle.qw_linear.specs.Memory.{most_pages}
 use Rattle.qw_csv.specs.Loading.{IsFirstFault, Loads}
 use Rattle.qw_meaning.specs.Outcome.{Raises, outcome}
 use Rattle.qw_meaning.specs.Select.{Specification}
-use Rattle.qw_meaning.specs.Simple.{simple}
-use Rattle.qw_meaning.specs.Statement.{Statement}
+use Rattle.qw_meaning.specs.Typing.{kind_of}
+use Rattle.qw_ast.specs.Syntax.{Select}
 use Rattle.qw_parse.specs.Parse.{IsRefused, ReadsSchema}
-use Rattle.qw_parse.specs.Query.{IsQueryRefused, ReadsQuery}
+use Rattle.qw_script.specs.Script.{IsScriptRefused, ReadsScript}
+use Rattle.qw_typer.specs.Typed.{HasFirstFault, Means}
+use Rattle.qw_typer.specs.declared.fault.TypeFault.{TypeFault}
 use Rattle.qw_module.specs.declared.module.Module.{Module}
 use Rattle.qw_module.specs.Validity.{IsShaped}
 use Rattle.qw_map.specs.Layout.{Layout}
@@ -26,7 +24,7 @@ use Rattle.qw_bench.specs.Standing.{total_pages as pages_in_all}
 use Rattle.qw_bench.specs.declared.bench.Limits.{Limits}
 use Rattle.qw_sink.specs.declared.sink.Head.{Head}
 pub use Rattle.qw_words.specs.Words.{Names}
-use Rattle.qw_top.specs.Causes.{Cause, schema_too_long, schema_refused, table_too_long, table_refused, queries_too_long, queries_refused, total_pages, status_of_cause}
+use Rattle.qw_top.specs.Causes.{Cause, schema_too_long, schema_refused, table_too_long, table_refused, queries_too_long, queries_refused, queries_mistyped, total_pages, status_of_cause}
 use Rattle.qw_top.specs.FileNames.{table_file_of}
 use Rattle.qw_top.specs.Limits.{most_table_octets, most_text_octets}
 use Rattle.qw_top.specs.declared.status.Status.{Status}
@@ -72,34 +70,38 @@ pub record Asked : Type 0 where
   pub specification : Specification
   pub header : List Head
 
--- what the header says of a column: its name, and the kind that its values are printed as
-abbrev pub head_of : Column → Head
-head_of column = record { name = column.name; kind = type_kind column.ty }
+-- The header of a specification's rows, whose columns have these names: of each column its name, and the kind of its values.
+pub record IsHeader (specification : Specification) (names : List (List ℕ)) (header : List Head) : Type 0 where
+  pub names_are : map (λ (head : Head). head.name) header ≡ names
+  pub kinds_are : map (λ (head : Head). Some head.kind) header ≡ map kind_of specification.items
 
--- the columns of a table of the schema, counted from 0
-abbrev pub columns_of : List Table → ℕ → List Column
-columns_of schema table = option_map_or (λ (t : Table). t.columns) (slice_get schema table) []
+-- a query of the text means this over the schema
+pub record IsAsked (schema : List Table) (query : Select) (one : Asked) : Type 0 where
+  pub names : List (List ℕ)
+  pub means : Means schema query one.specification names
+  pub header : IsHeader one.specification names one.header
 
--- the header of the rows that a statement gives: its columns, in its order
-abbrev pub header_of : List Table → Statement → List Head
-header_of schema statement = filter_map (λ column. option_map head_of (slice_get (columns_of schema statement.table) column)) statement.columns
+-- so do queries, one for one
+abbrev pub AreAsked : List Table → List Select → List Asked → Type 0
+AreAsked schema [] [] = Unit {0}
+AreAsked schema (query ∷ script) (one ∷ queries) = IsAsked schema query one × AreAsked schema script queries
+AreAsked schema _ _ = ⊥
 
--- the query that a statement over the schema is
-abbrev pub asked_by : List Table → Statement → Asked
-asked_by schema statement = record {
-  specification = simple (map (λ (c : Column). c.ty) (columns_of schema statement.table)) statement;
-  header = header_of schema statement;
-}
+-- The text of a script asks for these queries over the schema, one for each statement.
+pub record AsksFor (schema : List Table) (text : List ℕ) (queries : List Asked) : Type 0 where
+  pub script : List Select
+  pub reads : ReadsScript text script
+  pub asked : AreAsked schema script queries
 
--- The text of a script asks for these queries over the schema, one for each statement; today it has one.
-abbrev pub ReadsScript : List Table → (text : List ℕ) → List Asked → Type 0
-ReadsScript schema text queries = (statement : Statement) × ReadsQuery schema text statement × (queries ≡ asked_by schema statement ∷ [])
+-- The text is a script, and this is a fault of the first of its queries that has any over the schema.
+abbrev pub IsMistyped : List Table → (text : List ℕ) → TypeFault → Type 0
+IsMistyped schema text fault = (script : List Select) × ReadsScript text script × HasFirstFault schema 1 script fault
 
 -- the queries file of this name asks for these queries over the schema
 pub record QueriesAre (files : Files) (name : List ℕ) (schema : List Table) (queries : List Asked) : Type 0 where
   pub text : List ℕ
   pub file : IsFile files name most_text_octets text
-  pub reads : ReadsScript schema text queries
+  pub asks : AsksFor schema text queries
 
 -- the schema file declares these tables, and their files stand for these rows
 pub record HasTables (files : Files) (names : Names) (schema : List Table) (tables : List Contents) : Type 0 where
@@ -144,7 +146,9 @@ FilesSettle limits files names (table_refused table fault) = IsNextTable files n
 FilesSettle limits files names queries_too_long = (schema : List Table) × (tables : List Contents)
     × HasTables files names schema tables × IsTooLong files names.queries most_text_octets
 FilesSettle limits files names (queries_refused fault) = (schema : List Table) × (tables : List Contents) × (text : List ℕ)
-    × HasTables files names schema tables × IsFile files names.queries most_text_octets text × IsQueryRefused schema text fault
+    × HasTables files names schema tables × IsFile files names.queries most_text_octets text × IsScriptRefused text fault
+FilesSettle limits files names (queries_mistyped fault) = (schema : List Table) × (tables : List Contents) × (text : List ℕ)
+    × HasTables files names schema tables × IsFile files names.queries most_text_octets text × IsMistyped schema text fault
 FilesSettle limits files names (total_pages need) = (schema : List Table) × (tables : List Contents) × (queries : List Asked)
     × HasQueries files names schema tables queries × (need ≡ pages_in_all tables (same_limits limits queries)) × (most_pages < need)
 FilesSettle limits files names _ = ⊥

@@ -3,7 +3,7 @@
 ghost use Rattle.std.specs.Prelude.{◌≡◌, ◌++◌, IfOk, codes};
 ghost use Rattle.std.specs.Fmt.{decimal};
 ghost use Rattle.std.specs.String.{string_bytes};
-ghost use Rattle.qw_top.specs.Causes.{cell_cause, column_name, counted, in_statement, kind_words, line_of_cause, module_cause, part_words, query_cause, schema_cause, status_of_cause, table_cause, too_many, what_words};
+ghost use Rattle.qw_top.specs.Causes.{cell_cause, column_name, counted, counted_in_script, in_statement, kind_words, line_of_cause, module_cause, part_words, schema_cause, script_cause, status_of_cause, table_cause, too_many, typing_cause, what_words};
 ghost use Rattle.qw_top.specs.Inner.Causes.{cause_of};
 ghost use Rattle.qw_top.specs.Inner.Stop.{refusal_status};
 
@@ -12,7 +12,9 @@ use qw_check::check::CheckFault;
 use qw_csv::CellFault;
 use qw_csv::loading::LoadFault;
 use qw_grammar::fault::What;
-use qw_parse::parse::{Count, QueryFault, SchemaFault, TypeFault};
+use qw_parse::parse::{Count, SchemaFault};
+use qw_script::fault::{Count as ScriptCount, ParseFault};
+use qw_typer::fault::{FaultKind, TypeFault};
 use qw_types::{FieldFault, NoMemory, Table};
 use qw_valid::valid::Part;
 use std::alloc::Global;
@@ -25,7 +27,9 @@ pub(crate) enum Cause<'a> {
     TableTooLong(&'a Table),
     Table(&'a Table, &'a LoadFault),
     QueriesTooLong,
-    Queries(&'a QueryFault),
+    Queries(&'a ParseFault),
+    /// The queries are a script, and one means nothing over the schema.
+    Mistyped(&'a TypeFault),
     /// The queries are accepted, and have no statement of this number.
     NoStatement(u64),
     ModuleTooLong,
@@ -42,7 +46,10 @@ impl Cause<'_> {
         match self {
             Cause::SchemaTooLong | Cause::Schema(_) => Refusal::Schema,
             Cause::TableTooLong(_) | Cause::Table(_, _) => Refusal::TableFile,
-            Cause::QueriesTooLong | Cause::Queries(_) | Cause::NoStatement(_) => Refusal::Queries,
+            Cause::QueriesTooLong
+            | Cause::Queries(_)
+            | Cause::Mistyped(_)
+            | Cause::NoStatement(_) => Refusal::Queries,
             Cause::ModuleTooLong | Cause::Module(_) => Refusal::Module,
             Cause::TotalPages(_) => Refusal::TotalPages,
         }
@@ -65,7 +72,11 @@ impl Cause<'_> {
             }
             Cause::QueriesTooLong => line_on(alloc, "queries", "too long"),
             Cause::Queries(fault) => {
-                let words = query_cause(alloc, fault)?;
+                let words = script_cause(alloc, fault)?;
+                line_on(alloc, "queries", words.as_str())
+            }
+            Cause::Mistyped(fault) => {
+                let words = typing_cause(alloc, fault)?;
                 line_on(alloc, "queries", words.as_str())
             }
             Cause::NoStatement(statement) => {
@@ -108,33 +119,42 @@ fn schema_cause(alloc: Global, fault: &SchemaFault) -> Result<String, NoMemory>
             statement,
             what,
             limit,
-        } => too_many(alloc, *statement, *what, *limit),
+        } => too_many(alloc, *statement, counted(*what), *limit),
         SchemaFault::Duplicate { statement } => in_statement(alloc, "duplicate", *statement),
         SchemaFault::BadSize { statement } => in_statement(alloc, "bad size", *statement),
         SchemaFault::NoMemory => Ok(String::from_str(alloc, "want of memory")?),
     }
 }
 
-/// The words for why a text is no query.
-fn query_cause(alloc: Global, fault: &QueryFault) -> Result<String, NoMemory>
-    ensures { IfOk result (λ words. string_bytes words ≡ query_cause fault.now) }
+/// The words for why a text is no script.
+fn script_cause(alloc: Global, fault: &ParseFault) -> Result<String, NoMemory>
+    ensures { IfOk result (λ words. string_bytes words ≡ script_cause fault.now) }
 {
     match fault {
-        QueryFault::NotUtf8 => Ok(String::from_str(alloc, "not utf-8")?),
-        QueryFault::NotToken { at } => Ok(format!(in alloc; "not a token at {at}")?),
-        QueryFault::NotGrammar { statement } => in_statement(alloc, "not grammar", *statement),
-        QueryFault::TooDeep { statement } => in_statement(alloc, "too deep", *statement),
-        QueryFault::TooMany {
+        ParseFault::NotUtf8 => Ok(String::from_str(alloc, "not utf-8")?),
+        ParseFault::NotToken { at } => Ok(format!(in alloc; "not a token at {at}")?),
+        ParseFault::NotGrammar { statement } => in_statement(alloc, "not grammar", *statement),
+        ParseFault::TooDeep { statement } => in_statement(alloc, "too deep", *statement),
+        ParseFault::TooMany {
             statement,
             what,
             limit,
-        } => too_many(alloc, *statement, *what, *limit),
-        QueryFault::Mistyped {
+        } => too_many(alloc, *statement, counted_in_script(*what), *limit),
+        ParseFault::NoMemory => Ok(String::from_str(alloc, "want of memory")?),
+    }
+}
+
+/// The words for why a script means nothing over a schema.
+fn typing_cause(alloc: Global, fault: &TypeFault) -> Result<String, NoMemory>
+    ensures { IfOk result (λ words. string_bytes words ≡ typing_cause fault.now) }
+{
+    match fault {
+        TypeFault::Fault {
             statement,
             kind,
             name,
         } => mistyped(alloc, *statement, *kind, name.as_str()),
-        QueryFault::NoMemory => Ok(String::from_str(alloc, "want of memory")?),
+        TypeFault::NoMemory => Ok(String::from_str(alloc, "want of memory")?),
     }
 }
 
@@ -146,30 +166,39 @@ fn in_statement(alloc: Global, words: &str, statement: usize) -> Result<String, 
 }
 
 /// The words for too many of something in the statement of this number.
-fn too_many(alloc: Global, statement: usize, what: Count, limit: usize) -> Result<String, NoMemory>
-    ensures { IfOk result (λ cause. string_bytes cause ≡ too_many statement what limit) }
+fn too_many(alloc: Global, statement: usize, what: &str, limit: usize) -> Result<String, NoMemory>
+    ensures { IfOk result (λ cause. string_bytes cause ≡ too_many statement what.now limit) }
 {
-    let what = counted(what);
     Ok(format!(in alloc; "too many {what} in statement {statement}, limit {limit}")?)
 }
 
-/// The word for what is counted.
+/// The word for what is counted in a schema.
 fn counted(what: Count) -> &'static str
     ensures { result.now ≡ counted what }
 {
     match what {
-        Count::Statements => "statements",
         Count::Tables => "tables",
         Count::Columns => "columns",
-        Count::SelectItems => "select items",
     }
 }
 
-/// The words for a name or the literal that is at fault in the statement of this number.
+/// The words for what is counted in a script.
+fn counted_in_script(what: ScriptCount) -> &'static str
+    ensures { result.now ≡ counted_in_script what }
+{
+    match what {
+        ScriptCount::Statements => "statements",
+        ScriptCount::SelectItems => "select items",
+        ScriptCount::Nodes => "nodes",
+        ScriptCount::LiteralOctets => "literal octets",
+    }
+}
+
+/// The words for a construct that is at fault in the statement of this number, and a token of it.
 fn mistyped(
     alloc: Global,
     statement: usize,
-    kind: TypeFault,
+    kind: FaultKind,
     name: &str,
 ) -> Result<String, NoMemory>
     ensures { IfOk result (λ cause. string_bytes cause ≡ in_statement (kind_words kind ++ codes " " ++ name.now) statement) }
@@ -178,15 +207,17 @@ fn mistyped(
     Ok(format!(in alloc; "{kind} {name} in statement {statement}")?)
 }
 
-/// The words for what is wrong with a name or the literal.
-fn kind_words(kind: TypeFault) -> &'static str
+/// The words for what is wrong with a construct.
+fn kind_words(kind: FaultKind) -> &'static str
     ensures { result.now ≡ kind_words kind }
 {
     match kind {
-        TypeFault::UnknownTable => "unknown table",
-        TypeFault::UnknownColumn => "unknown column",
-        TypeFault::LiteralTooLong => "literal too long",
-        TypeFault::Clash => "clash",
+        FaultKind::UnknownTable => "unknown table",
+        FaultKind::UnknownColumn => "unknown column",
+        FaultKind::Clash => "clash",
+        FaultKind::ScaleTooLarge => "scale too large",
+        FaultKind::LiteralTooLong => "literal too long",
+        FaultKind::BadDate => "bad date",
     }
 }
 

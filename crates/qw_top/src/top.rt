@@ -10,7 +10,7 @@ ghost use Rattle.qw_bench.specs.Bench.{rows_in_tables};
 ghost use Rattle.qw_bench.specs.declared.bench.Limits.{Limits};
 ghost use Rattle.qw_words.specs.Words.{no_command, no_number, reading};
 ghost use Rattle.qw_top.specs.Call.{Asks, AsksToCheck, AsksToCompile, Explains, IsNamed, Leaves, LeavesFront, Notes, Settles};
-ghost use Rattle.qw_top.specs.Causes.{Cause, status_of_cause};
+ghost use Rattle.qw_top.specs.Causes.{AreOne, Cause, status_of_cause};
 ghost use Rattle.qw_top.specs.Limits.{default_limits, quantum};
 ghost use Rattle.qw_top.specs.declared.status.Status.{Status};
 ghost use Rattle.qw_top.specs.Notes.{want_of_memory_line};
@@ -30,6 +30,8 @@ mod compile;
 mod header;
 mod inputs;
 mod perform;
+pub mod program;
+pub mod queries;
 mod report;
 mod run;
 
@@ -103,11 +105,11 @@ pub fn kinds_of_ends()
         × (IsFault status → IsReported status → ⊥) }
 {}
 
-/// Words and told files settle one cause at most, whose status is that of a refusal. So a call that promises `Explains` ends with
-/// this refusal, or with a fault of the outside or want of memory.
+/// Words and told files settle one cause at most, or faults of one statement's typing, and its status is that of a refusal. So a
+/// call that promises `Explains` ends with this refusal, or with a fault of the outside or want of memory.
 pub fn one_cause()
     ensures one { (limits : Limits) (told : List ℕ → Option (List ℕ)) (words : List (List ℕ)) (cause other : Cause)
-        → Settles limits (Some told) words cause → Settles limits (Some told) words other → cause ≡ other }
+        → Settles limits (Some told) words cause → Settles limits (Some told) words other → AreOne cause other }
     ensures refusal { (cause : Cause) → IsRefusal (status_of_cause cause) }
     ensures ends { (limits : Limits) (told : List ℕ → Option (List ℕ)) (words : List (List ℕ)) (cause : Cause) (status : Status)
         → Settles limits (Some told) words cause → Explains limits (Some told) words status

@@ -5,14 +5,16 @@ ghost use Rattle.qw_types.specs.declared.numeral.FieldFault.TheVariants.{TooLarg
 ghost use Rattle.qw_csv.specs.declared.cell.CellFault.TheVariants as cell;
 ghost use Rattle.qw_csv.specs.declared.loading.LoadFault.TheVariants as load;
 ghost use Rattle.qw_map.specs.Turns.{Done, Exception, Pages, Steps};
-ghost use Rattle.qw_parse.specs.declared.parse.Count.TheVariants.{Columns, SelectItems};
-ghost use Rattle.qw_parse.specs.declared.parse.QueryFault.TheVariants as query;
+ghost use Rattle.qw_parse.specs.declared.parse.Count.TheVariants.{Columns};
 ghost use Rattle.qw_parse.specs.declared.parse.SchemaFault.TheVariants as schema;
-ghost use Rattle.qw_parse.specs.declared.parse.TypeFault.TheVariants.{LiteralTooLong, UnknownColumn};
+ghost use Rattle.qw_script.specs.declared.fault.Count.TheVariants.{Statements, SelectItems, Nodes, LiteralOctets};
+ghost use Rattle.qw_script.specs.declared.fault.ParseFault.TheVariants as script;
+ghost use Rattle.qw_typer.specs.declared.fault.FaultKind.TheVariants.{BadDate, Clash, LiteralTooLong, ScaleTooLarge, UnknownColumn};
+ghost use Rattle.qw_typer.specs.declared.fault.TypeFault.TheVariants.{Fault};
 ghost use Rattle.qw_grammar.specs.declared.fault.What.TheVariants.{DataSection};
 ghost use Rattle.qw_valid.specs.declared.valid.Part.TheVariants.{Exports};
 ghost use Rattle.qw_check.specs.declared.check.CheckFault.TheVariants as check;
-ghost use Rattle.qw_top.specs.Causes.{line_of_cause, module_refused, module_too_long, no_statement, queries_refused, queries_too_long, schema_refused, schema_too_long, statement_out_of_range, table_refused, table_too_long, total_pages};
+ghost use Rattle.qw_top.specs.Causes.{line_of_cause, module_refused, module_too_long, no_statement, queries_mistyped, queries_refused, queries_too_long, schema_refused, schema_too_long, statement_out_of_range, table_refused, table_too_long, total_pages};
 ghost use Rattle.qw_top.specs.Delivered.{status_of_ends};
 ghost use Rattle.qw_top.specs.Worked.{worked_table};
 ghost use Rattle.qw_top.specs.declared.status.Status.{Status};
@@ -51,11 +53,18 @@ pub fn worked_table_lines()
 /// The lines on a queries file, and on the pages of a run.
 pub fn worked_query_lines()
     ensures too_long { line_of_cause queries_too_long ≡ codes "queries: too long\n" }
-    ensures not_token { line_of_cause (queries_refused (query.NotToken 10)) ≡ codes "queries: not a token at 10\n" }
-    ensures too_many { line_of_cause (queries_refused (query.TooMany 1 SelectItems 64)) ≡ codes "queries: too many select items in statement 1, limit 64\n" }
-    ensures unknown_column { line_of_cause (queries_refused (query.Mistyped 1 UnknownColumn (codes "B"))) ≡ codes "queries: unknown column B in statement 1\n" }
-    ensures literal { line_of_cause (queries_refused (query.Mistyped 1 LiteralTooLong (codes "1000000000000000000")))
+    ensures not_token { line_of_cause (queries_refused (script.NotToken 10)) ≡ codes "queries: not a token at 10\n" }
+    ensures not_grammar { line_of_cause (queries_refused (script.NotGrammar 2)) ≡ codes "queries: not grammar in statement 2\n" }
+    ensures many_statements { line_of_cause (queries_refused (script.TooMany 1 Statements 64)) ≡ codes "queries: too many statements in statement 1, limit 64\n" }
+    ensures many_items { line_of_cause (queries_refused (script.TooMany 1 SelectItems 64)) ≡ codes "queries: too many select items in statement 1, limit 64\n" }
+    ensures many_nodes { line_of_cause (queries_refused (script.TooMany 3 Nodes 1000)) ≡ codes "queries: too many nodes in statement 3, limit 1000\n" }
+    ensures many_octets { line_of_cause (queries_refused (script.TooMany 2 LiteralOctets 16384)) ≡ codes "queries: too many literal octets in statement 2, limit 16384\n" }
+    ensures unknown_column { line_of_cause (queries_mistyped (Fault 1 UnknownColumn (codes "B"))) ≡ codes "queries: unknown column B in statement 1\n" }
+    ensures clash { line_of_cause (queries_mistyped (Fault 64 Clash (codes "'x'"))) ≡ codes "queries: clash 'x' in statement 64\n" }
+    ensures scale { line_of_cause (queries_mistyped (Fault 1 ScaleTooLarge (codes "0.1"))) ≡ codes "queries: scale too large 0.1 in statement 1\n" }
+    ensures literal { line_of_cause (queries_mistyped (Fault 1 LiteralTooLong (codes "1000000000000000000")))
         ≡ codes "queries: literal too long 1000000000000000000 in statement 1\n" }
+    ensures date { line_of_cause (queries_mistyped (Fault 1 BadDate (codes "'1998-02-29'"))) ≡ codes "queries: bad date '1998-02-29' in statement 1\n" }
     ensures pages { line_of_cause (total_pages 65536) ≡ codes "total pages 65536\n" }
 {}
 

@@ -1,7 +1,7 @@
 -- Mirrors `causes::Cause`.
 use Rattle.qw_top.specs.declared.causes.Cause.{Cause as Told}
 use Rattle.qw_top.specs.declared.causes.Cause.TheVariants as told
-use Rattle.qw_top.specs.Causes.{Cause, schema_too_long, schema_refused, table_too_long, table_refused, queries_too_long, queries_refused, no_statement, module_too_long, module_refused, total_pages}
+use Rattle.qw_top.specs.Causes.{Cause, schema_too_long, schema_refused, table_too_long, table_refused, queries_too_long, queries_refused, queries_mistyped, no_statement, module_too_long, module_refused, total_pages}
 
 -- the cause that it is
 abbrev pub cause_of : Told → Cause
@@ -11,6 +11,7 @@ cause_of (told.TableTooLong table) = table_too_long table.now
 cause_of (told.Table table fault) = table_refused table.now fault.now
 cause_of told.QueriesTooLong = queries_too_long
 cause_of (told.Queries fault) = queries_refused fault.now
+cause_of (told.Mistyped fault) = queries_mistyped fault.now
 cause_of (told.NoStatement statement) = no_statement statement
 cause_of told.ModuleTooLong = module_too_long
 cause_of (told.Module fault) = module_refused fault.now

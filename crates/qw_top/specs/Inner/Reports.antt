@@ -9,6 +9,7 @@ use Rattle.qw_bench.specs.Standing.{Standing, rows_in}
 use Rattle.qw_sink.specs.Sink.{report_of_rows, report_of_exception, report_of_pages, report_of_steps}
 use Rattle.qw_sink.specs.declared.sink.Head.{Head}
 use Rattle.qw_top.specs.Delivered.{is_exception, is_pages, is_steps}
+use Rattle.qw_top.specs.Top.{Asked}
 use Rattle.qw_top.specs.declared.status.Status.{Status}
 use Rattle.qw_top.specs.declared.status.Status.TheVariants.{Raised, PageLimitMet, StepLimitMet}
 
@@ -21,11 +22,11 @@ IsBlock header b k (Some (Pages held asked limit)) block = block ≡ report_of_p
 IsBlock header b k (Some (Steps limit)) block = block ≡ report_of_steps (suc k) limit
 IsBlock header b k (Some Trap) block = ⊥
 
--- the blocks of instances from number k on, one behind another
-abbrev pub AreBlocks : List (List Head) → Standing → (k : ℕ) → (text : List ℕ) → Type 0
+-- the blocks of queries from number k on, one behind another
+abbrev pub AreBlocks : List Asked → Standing → (k : ℕ) → (text : List ℕ) → Type 0
 AreBlocks [] b k text = text ≡ []
-AreBlocks (header ∷ headers) b k text = (block : List ℕ) × (blocks : List ℕ) × (text ≡ block ++ blocks)
-    × IsBlock header b k (end_in b.shared k) block × AreBlocks headers b (suc k) blocks
+AreBlocks (asked ∷ queries) b k text = (block : List ℕ) × (blocks : List ℕ) × (text ≡ block ++ blocks)
+    × IsBlock asked.header b k (end_in b.shared k) block × AreBlocks queries b (suc k) blocks
 
 -- whether it is that of a limit of pages that was met, of one of instructions, of an exception
 abbrev pub is_page_limit : Status → Bool

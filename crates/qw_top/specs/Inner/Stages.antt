@@ -4,7 +4,6 @@ use Rattle.qw_types.specs.Contents.{Contents, column_type}
 use Rattle.qw_types.specs.declared.schema.Table.{Table}
 use Rattle.qw_linear.specs.Memory.{most_pages}
 use Rattle.qw_bench.specs.Standing.{Standing, total_pages as pages_in_all}
-use Rattle.qw_sink.specs.declared.sink.Head.{Head}
 use Rattle.qw_top.specs.declared.status.Status.{Status}
 use Rattle.qw_top.specs.declared.status.Status.TheVariants.{Done, Raised, PageLimitMet, StepLimitMet, WriteFailed, NoMemory as EndsInWant}
 use Rattle.qw_top.specs.declared.stop.Stop.{Stop}
@@ -34,26 +33,22 @@ StopsForPages need stop = (most_pages < need) × StopsFor (total_pages need) sto
 abbrev pub StopsToRun : List Contents → List Asked → Stop → Type 0
 StopsToRun tables queries stop = (stop ≡ NoMemory) ⊎ StopsForPages (pages_in_all tables (same_limits default_limits queries)) stop
 
--- a bench has run the queries that the files ask for, and these are the headers of their rows
-pub record HasAsked (files : Files) (names : Names) (headers : List (List Head)) (b : Standing) : Type 0 where
+-- a bench has run these queries, which the files ask for
+pub record HasAsked (files : Files) (names : Names) (queries : List Asked) (b : Standing) : Type 0 where
   pub schema : List Table
   pub tables : List Contents
-  pub queries : List Asked
   pub asks : HasQueries files names schema tables queries
   pub run : HasRun default_limits quantum tables queries b
-  pub headers_are : headers ≡ map (λ (asked : Asked). asked.header) queries
 
--- a bench has run queries with these headers
-pub record Ran (headers : List (List Head)) (b : Standing) : Type 0 where
+-- a bench has run these queries
+pub record Ran (queries : List Asked) (b : Standing) : Type 0 where
   pub tables : List Contents
-  pub queries : List Asked
   pub run : HasRun default_limits quantum tables queries b
-  pub headers_are : headers ≡ map (λ (asked : Asked). asked.header) queries
 
--- the report that shows the ends of queries, whichever they are that have these headers, and the status of a run with those ends
-abbrev pub IsReport : (headers : List (List Head)) → Standing → (report : List ℕ) → Status → Type 0
-IsReport headers b report status = (ran : Ran headers b)
-    → ShowsEnds ran.tables ran.queries b 0 report × (status ≡ status_of_ends (ends_below b (length ran.queries)))
+-- the report that shows the ends of queries, over whichever tables they ran, and the status of a run with those ends
+abbrev pub IsReport : (queries : List Asked) → Standing → (report : List ℕ) → Status → Type 0
+IsReport queries b report status = (ran : Ran queries b)
+    → ShowsEnds ran.tables queries b 0 report × (status ≡ status_of_ends (ends_below b (length queries)))
 
 -- How the writing of a report ended: it was taken whole, and the run ends with this status; or a front of it was taken.
 abbrev pub Writes : (status result : Status) → (old new : Option (List ℕ)) → (report : List ℕ) → Type 0

@@ -1,13 +1,11 @@
 //! `compile`: the module of a statement.
 
-ghost use Rattle.std.specs.Prelude.{◌≡◌, ◌≢◌, ◌⊎◌, List, IfErr, IfOk, IfSome, IsTrue};
-ghost use Rattle.qw_types.specs.declared.value.Ty.{Ty};
+ghost use Rattle.std.specs.Prelude.{◌≡◌, ◌≢◌, ◌⊎◌, ◌-◌, ◌≤◌, ◌<◌, None, Some, IfErr, IfOk, IfSome, IsTrue, length, slice_get};
 ghost use Rattle.qw_io.specs.Faults.{IsCounted};
-ghost use Rattle.qw_meaning.specs.Simple.{HasIntegers};
 ghost use Rattle.qw_words.specs.Read.{texts_of};
-ghost use Rattle.qw_top.specs.Call.{CompileSettles, CompileWrites, HasStatement, IsScriptFile, LeavesText, TextExplains, TookFrontOf};
+ghost use Rattle.qw_top.specs.Call.{CompileSettles, CompileWrites, HasStatement, IsScriptFile, LeavesText, SpellsCompiled, TextExplains, TookFrontOf};
 ghost use Rattle.qw_top.specs.Delivered.{CommandNotes};
-ghost use Rattle.qw_top.specs.Inner.Compiling.{SpellsCompiledOf};
+ghost use Rattle.qw_top.specs.Inner.Queries.{IsOver, asked_of};
 ghost use Rattle.qw_top.specs.Inner.Shelves.{HasRead, told_by};
 ghost use Rattle.qw_top.specs.Inner.Stop.{StopsBy, failed_stop};
 ghost use Rattle.qw_top.specs.Notes.{want_of_memory_line};
@@ -15,16 +13,16 @@ ghost use Rattle.qw_top.specs.Output.{with_text};
 ghost use Rattle.qw_top.specs.Top.{Asked};
 
 use super::answer::answer;
-use super::inputs::{read_query, read_schema};
+use super::inputs::{read_queries, read_schema};
+use super::program::compiled;
 use crate::causes::Cause;
 use crate::notes::note_stop;
 use crate::status::Status;
 use crate::stop::{Stop, refused};
 use qw_binary::encode::encode;
-use qw_emit::emit::module_of;
 use qw_io::{Shelf, Sink};
-use qw_meaning::query::Query;
-use qw_types::NoMemory;
+use qw_typer::query::TypedSelect;
+use qw_types::{NoMemory, Schema};
 use qw_words::command::CompileWords;
 use std::alloc::Global;
 
@@ -54,18 +52,18 @@ pub(super) fn compile_statement<F: Shelf, O: Sink, E: Sink>(
     ensures no_write_fault { result ≢ Status.WriteFailed
         → (O.faults out.new ≡ O.faults out.old) × (E.faults notes.new ≡ E.faults notes.old) }
 {
-    match compiled(alloc, names, files) {
+    match octets_of_statement(alloc, names, files) {
         Ok(octets) => answer(octets.as_slice(), out, notes),
         Err(stop) => note_stop(notes, &stop),
     }
 }
 
-/// The octets of the module of the statement that the words name. Today a script has one statement.
+/// The octets of the module of the statement that the words name.
 ///
 /// # Errors
 ///
 /// A refusal of a file or of the statement's number, the name of a file that couldn't be read, or want of memory.
-fn compiled<'a, F: Shelf>(
+fn octets_of_statement<'a, F: Shelf>(
     alloc: Global,
     names: &CompileWords<'a>,
     files: &mut F,
@@ -76,19 +74,29 @@ fn compiled<'a, F: Shelf>(
     ensures shelf { HasRead (failed_stop result) (told_by F.Shelf files.old) (told_by F.Shelf files.new) }
 {
     let schema = read_schema(alloc, names.schema, files)?;
-    let query = read_query(alloc, names.queries, &schema, files)?;
-    if names.statement > 1 {
-        return Err(refused(alloc, Cause::NoStatement(names.statement)));
+    let queries = read_queries(alloc, names.queries, &schema, files)?;
+    match statement_of(&queries, names.statement) {
+        Some(query) => Ok(octets_of(alloc, &schema, query)?),
+        None => Err(refused(alloc, Cause::NoStatement(names.statement))),
     }
-    Ok(octets_of(alloc, &query)?)
 }
 
-/// The octets of the module of a statement.
-fn octets_of(alloc: Global, query: &Query) -> Result<Vec<u8>, NoMemory>
-    ensures { IfOk result (λ octets. (types : List Ty) → HasIntegers types query.now → SpellsCompiledOf types query.now octets.items) }
+/// The query of this number, counted from 1.
+fn statement_of(queries: &[TypedSelect], statement: u64) -> Option<&TypedSelect>
+    requires { 1 ≤ length queries.now }
+    ensures there { IfSome result (λ query. slice_get queries.now (statement - 1) ≡ Some query.now) }
+    ensures missing { result ≡ None → length queries.now < statement }
 {
-    let module = module_of(alloc, query)?;
-    match encode(alloc, &module) {
+    queries.get(statement.saturating_sub(1) as usize)
+}
+
+/// The octets of the module of a query over a schema.
+fn octets_of(alloc: Global, schema: &Schema, query: &TypedSelect) -> Result<Vec<u8>, NoMemory>
+    requires { IsOver schema.now query.now }
+    ensures { IfOk result (λ octets. SpellsCompiled (asked_of query.now) octets.items) }
+{
+    let compiled = compiled(alloc, schema, query)?;
+    match encode(alloc, &compiled.module) {
         Ok(octets) => Ok(octets),
         // The writer has no clause by which a module that was compiled is always spelled.
         Err(_) => Err(NoMemory),

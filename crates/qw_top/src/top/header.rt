@@ -1,61 +1,71 @@
 //! The header of the rows that a query gives.
 
-ghost use Rattle.std.specs.Prelude.{◌≡◌, ◌++◌, [], ◌∷◌, slice_get, IfOk};
+ghost use Rattle.std.specs.Prelude.{◌≡◌, ◌++◌, ◌∷◌, [], map, slice_get, IfOk, IfSome, IsSome};
 ghost use Rattle.std.specs.Option.{option_map_or};
-ghost use Rattle.qw_top.specs.Top.{columns_of, head_of, header_of};
+ghost use Rattle.qw_types.specs.Schema.{AreColumns};
+ghost use Rattle.qw_meaning.specs.Tree.{expression_of};
+ghost use Rattle.qw_meaning.specs.Typing.{IsTyped};
+ghost use Rattle.qw_top.specs.Inner.Queries.{columns_of, head_of, heads_of};
 
-use qw_meaning::query::Query;
+use qw_meaning::expression::Expr;
+use qw_meaning::kind::of_expression;
 use qw_sink::sink::{Head, Header};
+use qw_typer::query::TypedSelect;
 use qw_types::{Column, Kind, NoMemory, Schema, Text};
 use std::alloc::Global;
 
-/// The header of the rows that a statement gives over a schema.
-pub(super) fn header_of(alloc: Global, schema: &Schema, query: &Query) -> Result<Header, NoMemory>
-    ensures { IfOk result (λ header. header ≡ header_of schema.now query.now) }
+/// The header of the rows that a query gives.
+pub(super) fn header_of(alloc: Global, query: &TypedSelect) -> Result<Header, NoMemory>
+    ensures { IfOk result (λ header. header ≡ heads_of query.now.names.items (map expression_of query.now.select.items)) }
 {
-    let columns = columns_of(schema, query.table());
+    let items = query.select.items();
     let mut heads = Vec::new(alloc);
-    for place in query.columns() {
-        heads = with_head(alloc, heads, columns, *place)?;
+    for (index, name) in query.names.iter().enumerate() {
+        heads = with_head(alloc, heads, name, items, index)?;
     }
     Ok(Header::new(heads))
 }
 
-/// The heads, and behind them that of the column of this number, where it is there.
+/// The heads, and behind them that of a column of this name, where there is the item of this number that gives its values.
 fn with_head(
     alloc: Global,
     mut heads: Vec<Head>,
-    columns: &[Column],
-    place: usize,
+    name: &Text,
+    items: &[Expr],
+    index: usize,
 ) -> Result<Vec<Head>, NoMemory>
-    ensures { IfOk result (λ more. more.items ≡ heads.items ++ option_map_or (λ column. head_of column ∷ []) (slice_get columns.now place) []) }
+    requires { IfSome (slice_get items.now index) (λ item. IsTyped (expression_of item)) }
+    ensures { IfOk result (λ more. more.items ≡ heads.items ++ option_map_or (λ item. head_of name.now (expression_of item) ∷ []) (slice_get items.now index) []) }
 {
-    match columns.get(place) {
-        Some(column) => {
-            heads.push(head_of(alloc, column)?)?;
+    match items.get(index) {
+        Some(item) => {
+            heads.push(head_of(alloc, name, item)?)?;
             Ok(heads)
         }
         None => Ok(heads),
     }
 }
 
+/// The head of a column of this name, whose values an item gives.
+fn head_of(alloc: Global, name: &Text, item: &Expr) -> Result<Head, NoMemory>
+    requires { IsTyped (expression_of item.now) }
+    ensures { IfOk result (λ head. head ≡ head_of name.now (expression_of item.now)) }
+{
+    let name = String::from_str(alloc, name.as_str())?;
+    Ok(Head {
+        name: Text::new(name),
+        // Each item has a kind, since a specification takes no other.
+        kind: of_expression(item).unwrap_or(Kind::Number(0)),
+    })
+}
+
 /// The columns of a table of the schema, counted from 0; none where there is no such table.
-fn columns_of(schema: &Schema, table: usize) -> &[Column]
-    ensures { result.now ≡ columns_of schema.now table }
+pub(super) fn columns_of(schema: &Schema, table: usize) -> &[Column]
+    ensures columns { result.now ≡ columns_of schema.now table }
+    ensures limits { IsSome (slice_get schema.now table) → AreColumns result.now }
 {
     match schema.as_slice().get(table) {
         Some(table) => table.columns.as_slice(),
         None => &[],
     }
-}
-
-/// What the header says of a column.
-fn head_of(alloc: Global, column: &Column) -> Result<Head, NoMemory>
-    ensures { IfOk result (λ head. head ≡ head_of column.now) }
-{
-    let name = String::from_str(alloc, column.name.as_str())?;
-    Ok(Head {
-        name: Text::new(name),
-        kind: Kind::of_type(column.ty),
-    })
 }

@@ -1,24 +1,29 @@
 //! From the words of a command to the contents of its files.
 
-ghost use Rattle.std.specs.Prelude.{◌≡◌, ◌≢◌, [], ◌∷◌, IfOk, IfErr};
-ghost use Rattle.qw_top.specs.Causes.{queries_refused, schema_refused, table_refused};
+ghost use Rattle.std.specs.Prelude.{◌≡◌, ◌≢◌, ◌≤◌, IfOk, IfErr, length, map};
+ghost use Rattle.std.specs.List.{AllByRecursion};
+ghost use Rattle.qw_top.specs.Causes.{schema_refused, table_refused};
 ghost use Rattle.qw_top.specs.FileNames.{table_file_of};
 ghost use Rattle.qw_top.specs.Inner.Causes.{cause_of};
-ghost use Rattle.qw_top.specs.Inner.Inputs.{IsNoQuery, IsNoSchema, IsNoTable, IsStatementOf, StopsAtTables};
+ghost use Rattle.qw_top.specs.Inner.Inputs.{IsNoSchema, IsNoScript, IsNoTable, StopsAtTables};
+ghost use Rattle.qw_top.specs.Inner.Queries.{IsOver, StopsForFault, asked_of};
 ghost use Rattle.qw_words.specs.Read.{names_of};
 ghost use Rattle.qw_top.specs.Inner.Stages.{FilesStop};
 ghost use Rattle.qw_top.specs.Inner.Shelves.{HasRead, told_by};
 ghost use Rattle.qw_top.specs.Inner.Stop.{StopsAs, StopsFor, failed_stop, octets_of};
-ghost use Rattle.qw_top.specs.Top.{HasQueries, IsFile, IsTooLong, QueriesAre, SchemaIs, TableIs, TablesAre, asked_by};
+ghost use Rattle.qw_top.specs.Top.{HasQueries, IsFile, IsTooLong, QueriesAre, SchemaIs, TableIs, TablesAre};
 
+use super::queries::{QueriesFault, queries_of};
 use crate::causes::Cause;
 use crate::files::{MAX_TABLE_FILE, MAX_TEXT_FILE, ReadFault, read_whole, table_file_name};
 use crate::stop::{FileName, Stop, refused};
 use qw_csv::Loaded;
 use qw_csv::loading::{LoadFault, load};
 use qw_io::Shelf;
-use qw_meaning::query::Query;
-use qw_parse::parse::{QueryFault, SchemaFault, query_of, schema_of};
+use qw_parse::parse::{SchemaFault, schema_of};
+use qw_script::fault::ParseFault;
+use qw_typer::fault::TypeFault;
+use qw_typer::query::TypedSelect;
 use qw_types::{Schema, Table};
 use qw_words::command::RunWords;
 use std::alloc::Global;
@@ -30,8 +35,8 @@ pub struct Prepared {
     pub schema: Schema,
     /// The rows of its tables, in order.
     pub tables: Vec<Loaded>,
-    /// The query over them.
-    pub query: Query,
+    /// The queries over them, in order.
+    pub queries: Vec<TypedSelect>,
 }
 
 /// Reads the files that the words name: the schema file, the tables' files in the order of the schema, and the queries
@@ -45,18 +50,19 @@ pub fn prepare<'a, F: Shelf>(
     names: &RunWords<'a>,
     files: &mut F,
 ) -> Result<Prepared, Stop<'a>>
-    ensures accepted { IfOk result (λ run. IsStatementOf run.schema run.query
-        × HasQueries (F.files files.old) (names_of names.now) run.schema run.tables.items (asked_by run.schema run.query ∷ [])) }
+    ensures accepted { IfOk result (λ run. HasQueries (F.files files.old) (names_of names.now) run.schema run.tables.items (map asked_of run.queries.items)) }
+    ensures over { IfOk result (λ run. AllByRecursion (IsOver run.schema) run.queries.items) }
+    ensures few { IfOk result (λ run. length run.queries.items ≤ 64) }
     ensures stops { IfErr result (λ stop. FilesStop (F.files files.old) (names_of names.now) stop) }
     ensures shelf { HasRead (failed_stop result) (told_by F.Shelf files.old) (told_by F.Shelf files.new) }
 {
     let schema = read_schema(alloc, names.schema, files)?;
     let tables = read_tables(alloc, names.folder, schema.as_slice(), files)?;
-    let query = read_query(alloc, names.queries, &schema, files)?;
+    let queries = read_queries(alloc, names.queries, &schema, files)?;
     Ok(Prepared {
         schema,
         tables,
-        query,
+        queries,
     })
 }
 
@@ -143,34 +149,38 @@ fn table_stop<'a>(alloc: Global, table: &Table, fault: &LoadFault) -> Stop<'a>
     }
 }
 
-/// The query of a queries file.
-pub(super) fn read_query<'a, F: Shelf>(
+/// The queries of a queries file, in order.
+pub(super) fn read_queries<'a, F: Shelf>(
     alloc: Global,
     name: &'a str,
     schema: &Schema,
     files: &mut F,
-) -> Result<Query, Stop<'a>>
-    ensures accepted { IfOk result (λ query. QueriesAre (F.files files.old) name.now schema.now (asked_by schema.now query ∷ [])) }
-    ensures named { IfOk result (λ query. IsStatementOf schema.now query) }
-    ensures stops { IfErr result (λ stop. StopsAs (IsNoQuery (F.files files.old) name.now schema.now) name.now stop) }
+) -> Result<Vec<TypedSelect>, Stop<'a>>
+    ensures accepted { IfOk result (λ queries. QueriesAre (F.files files.old) name.now schema.now (map asked_of queries.items)) }
+    ensures over { IfOk result (λ queries. AllByRecursion (IsOver schema.now) queries.items) }
+    ensures some { IfOk result (λ queries. 1 ≤ length queries.items) }
+    ensures few { IfOk result (λ queries. length queries.items ≤ 64) }
+    ensures stops { IfErr result (λ stop. StopsAs (IsNoScript (F.files files.old) name.now schema.now) name.now stop) }
     ensures shelf { HasRead (failed_stop result) (told_by F.Shelf files.old) (told_by F.Shelf files.new) }
 {
     let name = FileName::Given(name);
     let text = read_file(alloc, files, name, MAX_TEXT_FILE, Cause::QueriesTooLong)?;
-    match query_of(alloc, schema, text.as_slice()) {
-        Ok(query) => Ok(query),
-        Err(fault) => Err(query_stop(alloc, &fault)),
+    match queries_of(alloc, schema, text.as_slice()) {
+        Ok(queries) => Ok(queries),
+        Err(fault) => Err(queries_stop(alloc, &fault)),
     }
 }
 
-/// Why a run stops at a text that is no query.
-fn query_stop<'a>(alloc: Global, fault: &QueryFault) -> Stop<'a>
-    ensures memory { fault.now ≡ QueryFault.NoMemory → result ≡ Stop.NoMemory }
-    ensures refused { fault.now ≢ QueryFault.NoMemory → StopsFor (queries_refused fault.now) result }
+/// Why a run stops at a text that asks for no queries.
+fn queries_stop<'a>(alloc: Global, fault: &QueriesFault) -> Stop<'a>
+    ensures { StopsForFault fault.now result }
 {
     match fault {
-        QueryFault::NoMemory => Stop::NoMemory,
-        fault => refused(alloc, Cause::Queries(fault)),
+        QueriesFault::Script(ParseFault::NoMemory) | QueriesFault::Typing(TypeFault::NoMemory) => {
+            Stop::NoMemory
+        }
+        QueriesFault::Script(fault) => refused(alloc, Cause::Queries(fault)),
+        QueriesFault::Typing(fault) => refused(alloc, Cause::Mistyped(fault)),
     }
 }
 

@@ -1,29 +1,32 @@
 //! From the turned bench of a run to the written report.
 
-ghost use Rattle.std.specs.Prelude.{◌≡◌, ◌≢◌, ◌<◌, ◌-◌, ◌^◌, ◌++◌, ℕ, List, length, IfOk, IsSome};
+ghost use Rattle.std.specs.Prelude.{◌≡◌, ◌≢◌, ◌<◌, ◌-◌, ◌^◌, ◌++◌, ℕ, List, length, map, IfOk, IsSome};
 ghost use Rattle.qw_io.specs.Faults.{IsCounted};
 ghost use Rattle.qw_bench.specs.Standing.{end_of};
 ghost use Rattle.qw_bench.specs.Bench.{end_in};
 ghost use Rattle.qw_top.specs.Delivered.{ShowsEnds, ends_below, status_of_ends};
+ghost use Rattle.qw_top.specs.Inner.Queries.{asked_of};
 ghost use Rattle.qw_top.specs.Inner.Reports.{AreBlocks, IsBlock, status_with};
 ghost use Rattle.qw_top.specs.Inner.Stages.{IsReport, Ran, Writes};
 
+use super::header::header_of;
 use super::run::Turned;
 use crate::output::{end_of_write, write_whole};
 use crate::status::Status;
 use qw_bench::bench::{Bench, Ended};
 use qw_io::Sink;
-use qw_sink::results::received;
-use qw_sink::sink::{Head, Header, with_exception, with_pages, with_rows_of, with_steps};
+use qw_sink::received::with_rows;
+use qw_sink::sink::{with_exception, with_pages, with_steps};
+use qw_typer::query::TypedSelect;
 use qw_types::NoMemory;
 use std::alloc::Global;
 
 /// Writes the report of a bench that has run the queries of a run. At a fault a front of it was taken.
 pub fn deliver<O: Sink>(alloc: Global, run: &Turned, out: &mut O) -> Status
-    requires { Ran run.now.headers.items run.now.bench }
-    ensures writes { (ran : Ran run.now.headers.items run.now.bench) → (report : List ℕ)
-        × ShowsEnds ran.tables ran.queries run.now.bench 0 report
-        × Writes (status_of_ends (ends_below run.now.bench (length ran.queries))) result (O.taken out.old) (O.taken out.new) report }
+    requires { Ran (map asked_of run.now.queries.items) run.now.bench }
+    ensures writes { (ran : Ran (map asked_of run.now.queries.items) run.now.bench) → (report : List ℕ)
+        × ShowsEnds ran.tables (map asked_of run.now.queries.items) run.now.bench 0 report
+        × Writes (status_of_ends (ends_below run.now.bench (length (map asked_of run.now.queries.items)))) result (O.taken out.old) (O.taken out.new) report }
     ensures fault { result ≡ Status.WriteFailed → IsCounted (O.faults out.old) (O.faults out.new) }
     ensures no_fault { result ≢ Status.WriteFailed → O.faults out.new ≡ O.faults out.old }
 {
@@ -42,10 +45,10 @@ struct Report {
 
 /// The report of a bench that has run the queries of a run.
 fn report_of(alloc: Global, run: &Turned) -> Result<Report, NoMemory>
-    requires { Ran run.now.headers.items run.now.bench }
-    ensures { IfOk result (λ report. IsReport run.now.headers.items run.now.bench report.text.items report.status) }
+    requires { Ran (map asked_of run.now.queries.items) run.now.bench }
+    ensures { IfOk result (λ report. IsReport (map asked_of run.now.queries.items) run.now.bench report.text.items report.status) }
 {
-    let text = blocks_of(alloc, &run.bench, run.headers.as_slice())?;
+    let text = blocks_of(alloc, &run.bench, run.queries.as_slice())?;
     Ok(Report {
         text,
         status: status_of(&run.bench),
@@ -53,14 +56,14 @@ fn report_of(alloc: Global, run: &Turned) -> Result<Report, NoMemory>
 }
 
 /// The parts of the report, one for each query.
-fn blocks_of(alloc: Global, bench: &Bench, headers: &[Header]) -> Result<Vec<u8>, NoMemory>
-    requires many { length headers.now ≡ length bench.now.shared.instances }
-    requires ended { (k : ℕ) → k < length headers.now → IsSome (end_in bench.now.shared k) }
-    ensures { IfOk result (λ text. AreBlocks headers.now bench.now 0 text.items) }
+fn blocks_of(alloc: Global, bench: &Bench, queries: &[TypedSelect]) -> Result<Vec<u8>, NoMemory>
+    requires many { length queries.now ≡ length bench.now.shared.instances }
+    requires ended { (k : ℕ) → k < length queries.now → IsSome (end_in bench.now.shared k) }
+    ensures { IfOk result (λ text. AreBlocks (map asked_of queries.now) bench.now 0 text.items) }
 {
     let mut text = Vec::new(alloc);
-    for (k, header) in headers.iter().enumerate() {
-        text = with_block(alloc, text, bench, k, header.as_slice())?;
+    for (k, query) in queries.iter().enumerate() {
+        text = with_block(alloc, text, bench, k, query)?;
     }
     Ok(text)
 }
@@ -71,17 +74,17 @@ fn with_block(
     report: Vec<u8>,
     bench: &Bench,
     k: usize,
-    header: &[Head],
+    query: &TypedSelect,
 ) -> Result<Vec<u8>, NoMemory>
     requires there { k < length bench.now.shared.instances }
     requires few { k < 2 ^ 64 - 1 }
     requires ended { IsSome (end_in bench.now.shared k) }
-    ensures { IfOk result (λ text. (block : List ℕ) × (text.items ≡ report.items ++ block) × IsBlock header.now bench.now k (end_in bench.now.shared k) block) }
+    ensures { IfOk result (λ text. (block : List ℕ) × (text.items ≡ report.items ++ block) × IsBlock (asked_of query.now).header bench.now k (end_in bench.now.shared k) block) }
 {
     match bench.ended(k) {
         Some(Ended::Done) => {
-            let rows = received(alloc, bench, k)?;
-            with_rows_of(alloc, report, k + 1, header, rows.as_slice())
+            let header = header_of(alloc, query)?;
+            with_rows(alloc, report, k + 1, header.as_slice(), bench, k)
         }
         Some(Ended::Raised(code)) => with_exception(alloc, report, k + 1, code),
         Some(Ended::Pages { held, asked, limit }) => {

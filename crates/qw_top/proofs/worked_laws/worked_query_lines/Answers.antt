@@ -4,4 +4,18 @@ use Rattle.qw_top.proofs.worked_laws.worked_query_lines.Goals as goal
 
 pub returns : goal.returns
 unfolding digits
-returns c = record { too_long = refl; not_token = refl; too_many = refl; unknown_column = refl; literal = refl; pages = refl }
+returns c = record {
+  too_long = refl;
+  not_token = refl;
+  not_grammar = refl;
+  many_statements = refl;
+  many_items = refl;
+  many_nodes = refl;
+  many_octets = refl;
+  unknown_column = refl;
+  clash = refl;
+  scale = refl;
+  literal = refl;
+  date = refl;
+  pages = refl;
+}

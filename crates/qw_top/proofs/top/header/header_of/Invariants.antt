@@ -1,6 +1,7 @@
-use Rattle.std.proofs.Common.{◌≡◌, take}
-use Rattle.qw_top.proofs.ReportLemmas.{heads}
+use Rattle.std.proofs.Common.{◌≡◌, map, take}
+use Rattle.qw_meaning.specs.Tree.{expression_of}
+use Rattle.qw_top.specs.Inner.Queries.{heads_of}
 use Rattle.qw_top.proofs.top.header.header_of.Given as goal
 
-abbrev pub invariant-loop-place : goal.invariant-loop-place
-invariant-loop-place l = l.heads.items ≡ heads l.columns (take l.place-index l.query.columns)
+abbrev pub invariant-loop-index : goal.invariant-loop-index
+invariant-loop-index l = l.heads.items ≡ heads_of (take l.index l.query.names.items) (map expression_of l.items)

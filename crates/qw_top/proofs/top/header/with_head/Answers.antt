@@ -6,5 +6,5 @@ use Rattle.qw_top.proofs.top.header.with_head.Goals as goal
 
 pub returns-in-None : goal.returns-in-None
 returns-in-None c =
-    let none : slice_get c.args.columns.now c.args.place ≡ None = slice_get_past c.args.columns.now c.args.place c.in-None.ensures.lookup.3 in
+    let none : slice_get c.args.items.now c.args.index ≡ None = slice_get_past c.args.items.now c.args.index c.in-None.ensures.lookup.3 in
     rw none (sym (append-nil c.args.heads.items))

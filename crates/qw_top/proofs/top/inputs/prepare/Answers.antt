@@ -16,15 +16,15 @@ returns-in_err-tables-clause-stops g c =
     let stops = rw c.as_slice.ensures.same at c.in_err-tables.ensures.stops in
     rw (p.1, p.2) (tables_stop (g.F.Shelf.files c.args.files.now) (names_of c.args.names.now) _ c.in_ok-schema.schema _ schema.shelf.same_files schema.accepted stops)
 
-pub returns-in_err-query-clause-stops : goal.returns-in_err-query-clause-stops
-returns-in_err-query-clause-stops g c =
-    let p = err_from_is_err_and c.from_residual-in_err-query.result c.from_residual-in_err-query.ensures.1 in
+pub returns-in_err-queries-clause-stops : goal.returns-in_err-queries-clause-stops
+returns-in_err-queries-clause-stops g c =
+    let p = err_from_is_err_and c.from_residual-in_err-queries.result c.from_residual-in_err-queries.ensures.1 in
     let schema = c.in_ok-schema.ensures in
     let tables = c.in_ok-tables.ensures in
     let files = g.F.Shelf.files c.args.files.now in
     let names = names_of c.args.names.now in
     let held = tables_accepted files names _ c.in_ok-schema.schema c.in_ok-tables.tables.items schema.shelf.same_files schema.accepted (rw c.as_slice.ensures.same at tables.accepted) in
-    rw (p.1, p.2) (queries_stop files names _ c.in_ok-schema.schema c.in_ok-tables.tables.items _ (tables.shelf.same_files ∙ schema.shelf.same_files) held c.in_err-query.ensures.stops)
+    rw (p.1, p.2) (queries_stop files names _ c.in_ok-schema.schema c.in_ok-tables.tables.items _ (tables.shelf.same_files ∙ schema.shelf.same_files) held c.in_err-queries.ensures.stops)
 
 pub returns-clause-accepted : goal.returns-clause-accepted
 returns-clause-accepted g c =
@@ -33,4 +33,4 @@ returns-clause-accepted g c =
     let files = g.F.Shelf.files c.args.files.now in
     let names = names_of c.args.names.now in
     let held = tables_accepted files names _ c.in_ok-schema.schema c.in_ok-tables.tables.items schema.shelf.same_files schema.accepted (rw c.as_slice.ensures.same at tables.accepted) in
-    (c.in_ok-query.ensures.named, all_accepted files names _ c.in_ok-schema.schema c.in_ok-tables.tables.items _ (tables.shelf.same_files ∙ schema.shelf.same_files) held c.in_ok-query.ensures.accepted)
+    all_accepted files names _ c.in_ok-schema.schema c.in_ok-tables.tables.items _ (tables.shelf.same_files ∙ schema.shelf.same_files) held c.in_ok-queries.ensures.accepted

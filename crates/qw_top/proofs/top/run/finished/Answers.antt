@@ -1,11 +1,11 @@
-use Rattle.std.proofs.Common.{◌∷◌, [], arith}
+use Rattle.std.proofs.Common.{◌≡◌, ◌∙◌, ℕ, ap, arith, length, map}
+use Rattle.std.specs.Prelude.{replicate}
+use Rattle.std.proofs.lemmas.Result.{err_from_is_err_and}
 use Rattle.qw_top.specs.Limits.{default_limits, quantum}
-use Rattle.qw_top.specs.Top.{asked_by}
-use Rattle.qw_top.proofs.BenchLemmas.{HasRun-from, has_integers, layout_columns, same_many}
+use Rattle.qw_top.specs.Top.{same_limits}
+use Rattle.qw_top.specs.Inner.Queries.{asked_of}
+use Rattle.qw_top.proofs.BenchLemmas.{HasRun-from, jobs_columns, jobs_compiled, limits_of, many_jobs, same_many}
 use Rattle.qw_top.proofs.top.run.finished.Goals as goal
-
-pub compiled-requires : goal.compiled-requires
-compiled-requires c = (_, has_integers c.args.schema.now c.args.query.now c.requires.statement)
 
 pub begun-requires-clause-few : goal.begun-requires-clause-few
 begun-requires-clause-few c =
@@ -13,11 +13,29 @@ begun-requires-clause-few c =
     let few = c.requires.few in
     omega (arith, many, few)
 
+pub begun-requires-clause-few_jobs : goal.begun-requires-clause-few_jobs
+begun-requires-clause-few_jobs c =
+    let many = many_jobs c.args.schema.now c.args.queries.now c.in_ok-jobs.jobs.items c.in_ok-jobs.ensures in
+    let few = c.requires.few_queries in
+    omega (arith, many, few)
+
 pub begun-requires-clause-columns : goal.begun-requires-clause-columns
-begun-requires-clause-columns c = rw c.in_ok-job.ensures.layout (layout_columns c.args.schema.now c.args.tables.now c.args.query.now c.requires.tables c.requires.statement)
+begun-requires-clause-columns c = jobs_columns c.args.schema.now c.args.tables.now c.args.queries.now c.in_ok-jobs.jobs.items c.requires.tables c.in_ok-jobs.ensures
+
+pub returns-in_err-bench-clause-stops : goal.returns-in_err-bench-clause-stops
+returns-in_err-bench-clause-stops c =
+    let p = err_from_is_err_and c.from_residual-in_err-bench.result c.from_residual-in_err-bench.ensures.1 in
+    let queries = c.args.queries.now in
+    let limits : replicate (length c.in_ok-jobs.jobs.items) default_limits ≡ same_limits default_limits (map asked_of queries) =
+    ap (λ (n : ℕ). replicate n default_limits) (many_jobs c.args.schema.now queries c.in_ok-jobs.jobs.items c.in_ok-jobs.ensures) ∙ limits_of queries in
+    rw (p.1, p.2) (rw limits at c.in_err-bench.ensures.stops)
 
 pub returns-clause-ran : goal.returns-clause-ran
 returns-clause-ran c =
-    let compiled = c.in_ok-job.ensures.compiled _ (has_integers c.args.schema.now c.args.query.now c.requires.statement) in
-    HasRun-from default_limits quantum c.args.tables.now (asked_by c.args.schema.now c.args.query.now ∷ []) (c.in_ok-job.job ∷ []) c.in_ok-bench.bench c.run_all.new.self
-    c.in_ok-bench.ensures.room (compiled, tt) c.in_ok-bench.ensures.tasks c.in_ok-bench.ensures.start c.run_all.ensures.tasks c.run_all.ensures.rounds c.run_all.ensures.ended
+    let queries = c.args.queries.now in
+    let jobs = c.in_ok-jobs.jobs.items in
+    let limits : replicate (length jobs) default_limits ≡ same_limits default_limits (map asked_of queries) =
+    ap (λ (n : ℕ). replicate n default_limits) (many_jobs c.args.schema.now queries jobs c.in_ok-jobs.ensures) ∙ limits_of queries in
+    HasRun-from default_limits quantum c.args.tables.now (map asked_of queries) jobs c.in_ok-bench.bench c.run_all.new.self
+    (rw limits at c.in_ok-bench.ensures.room) (jobs_compiled c.args.schema.now queries jobs c.in_ok-jobs.ensures) (rw limits at c.in_ok-bench.ensures.tasks) c.in_ok-bench.ensures.start c.run_all.ensures.tasks
+    c.run_all.ensures.rounds c.run_all.ensures.ended

@@ -1,13 +1,12 @@
-use Rattle.qw_words.specs.Read.{names_of}
+use Rattle.std.proofs.Common.{map}
 use Rattle.std.proofs.lemmas.Result.{err_from_is_err_and}
-use Rattle.qw_top.proofs.BenchLemmas.{accepted_contents, accepted_few, accepted_run, accepted_statement, accepted_stops}
+use Rattle.qw_words.specs.Read.{names_of}
+use Rattle.qw_top.specs.Inner.Queries.{asked_of}
+use Rattle.qw_top.proofs.BenchLemmas.{accepted_contents, accepted_few, accepted_run, accepted_stops}
 use Rattle.qw_top.proofs.top.run.run.Goals as goal
 
 pub finished-requires-clause-few : goal.finished-requires-clause-few
 finished-requires-clause-few g c = accepted_few _ _ _ _ _ c.in_ok-schema.ensures.accepted
-
-pub finished-requires-clause-statement : goal.finished-requires-clause-statement
-finished-requires-clause-statement g c = accepted_statement _ _ _ _ _ c.in_ok-schema.ensures.accepted
 
 pub finished-requires-clause-tables : goal.finished-requires-clause-tables
 finished-requires-clause-tables g c = rw c.as_slice.ensures.value (accepted_contents _ _ _ _ _ c.in_ok-schema.ensures.accepted)
@@ -16,12 +15,5 @@ pub returns-in_err-bench-clause-stops : goal.returns-in_err-bench-clause-stops
 returns-in_err-bench-clause-stops g c =
     let p = err_from_is_err_and c.from_residual-in_err-bench.result c.from_residual-in_err-bench.ensures.1 in
     let run = c.in_ok-schema.field-0 in
-    let stops = rw c.as_slice.ensures.value at c.in_err-bench.ensures.stops in
-    rw (p.1, p.2) (accepted_stops (g.F.Shelf.files c.args.files.now) (names_of c.args.names.now) run.schema run.tables.items run.query _ c.in_ok-schema.ensures.accepted stops)
-
-pub returns-clause-asked : goal.returns-clause-asked
-returns-clause-asked g c =
-    let run = c.in_ok-schema.field-0 in
-    let ran = rw c.as_slice.ensures.value at c.in_ok-bench.ensures.ran in
-    rw c.in-Ok.ensures.items (accepted_run (g.F.Shelf.files c.args.files.now) (names_of c.args.names.now) run.schema run.tables.items run.query c.in_ok-header.header c.in_ok-bench.bench
-    c.in_ok-schema.ensures.accepted ran c.in_ok-header.ensures)
+    let stops = rw (c.as_slice.ensures.value, c.as_slice-2.ensures.value) at c.in_err-bench.ensures.stops in
+    rw (p.1, p.2) (accepted_stops (g.F.Shelf.files c.args.files.now) (names_of c.args.names.now) run.schema run.tables.items (map asked_of run.queries.items) c.in_ok-schema.ensures.accepted _ stops)

@@ -1,0 +1,25 @@
+use Rattle.std.proofs.Common.{◌≡◌, ◌∙◌, List, Some, ap, map, refl, subst}
+use Rattle.std.specs.Prelude.{slice_get}
+use Rattle.std.specs.List.{AllByRecursion}
+use Rattle.qw_types.specs.Value.{IsSized}
+use Rattle.qw_types.specs.declared.schema.Column.{Column}
+use Rattle.qw_top.proofs.BenchLemmas.{all_columns}
+use Rattle.qw_top.proofs.QueryLemmas.{columns_there, sized_types}
+use Rattle.qw_top.proofs.top.program.compiled.Goals as goal
+
+pub compile-requires-clause-sized : goal.compile-requires-clause-sized
+compile-requires-clause-sized c =
+    let over = c.requires in
+    let there : slice_get c.args.schema.now c.table.result ≡ Some over.table = rw c.table.ensures.table over.there in
+    let columns : c.columns_of-columns.result.now ≡ over.table.columns = c.columns_of-columns.ensures.columns ∙ columns_there c.args.schema.now c.table.result over.table there in
+    let limits = c.columns_of-columns.ensures.limits (rw there refl) in
+    rw over.types_are (subst (λ (cs : List Column). AllByRecursion IsSized (map (λ (column : Column). column.ty) cs)) columns (sized_types c.columns_of-columns.result.now limits.sized))
+
+pub returns-in-Ok-clause-columns : goal.returns-in-Ok-clause-columns
+returns-in-Ok-clause-columns c tables are =
+    let over = c.requires in
+    let there : slice_get c.args.schema.now c.table.result ≡ Some over.table = rw c.table.ensures.table over.there in
+    let columns : c.columns_of-columns.result.now ≡ over.table.columns = c.columns_of-columns.ensures.columns ∙ columns_there c.args.schema.now c.table.result over.table there in
+    let not_null : c.deref.result.now ≡ map (λ (column : Column). column.not_null) over.table.columns =
+    c.deref.ensures.value ∙ c.in_ok-not_null.ensures ∙ ap (λ (cs : List Column). map (λ (column : Column). column.not_null) cs) columns in
+    rw (c.in-Ok.ensures.columns, not_null, over.types_are) (all_columns c.args.schema.now tables c.args.query.now.select.table over.table are over.there)

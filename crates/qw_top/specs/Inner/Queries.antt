@@ -1,0 +1,65 @@
+-- Mirrors `top::queries::queries_of`: the queries that it answers, and why there are none; and `top::header`.
+use Rattle.std.specs.Prelude.{◌≡◌, ◌⊎◌, ℕ, List, [], ◌∷◌, Some, map, slice_get, unwrap_or}
+use Rattle.std.specs.List.{AllByRecursion}
+use Rattle.std.specs.Option.{option_map_or}
+use Rattle.qw_types.specs.Contents.{Contents}
+use Rattle.qw_types.specs.declared.kind.Kind.TheVariants as kind
+use Rattle.qw_types.specs.declared.schema.Column.{Column}
+use Rattle.qw_types.specs.declared.schema.Table.{Table}
+use Rattle.qw_meaning.specs.Expression.{Expression}
+use Rattle.qw_meaning.specs.Select.{specification_of}
+use Rattle.qw_meaning.specs.Tree.{expression_of}
+use Rattle.qw_meaning.specs.Typing.{kind_of}
+use Rattle.qw_script.specs.Script.{IsScriptRefused}
+use Rattle.qw_script.specs.declared.fault.ParseFault.TheVariants as parsing
+use Rattle.qw_typer.specs.declared.fault.TypeFault.TheVariants as typing
+use Rattle.qw_typer.specs.declared.query.TypedSelect.{TypedSelect}
+use Rattle.qw_bench.specs.Bench.{IsColumnIn, Program}
+use Rattle.qw_sink.specs.declared.sink.Head.{Head}
+use Rattle.qw_top.specs.Causes.{queries_mistyped, queries_refused}
+use Rattle.qw_top.specs.Delivered.{IsProgramOf}
+use Rattle.qw_top.specs.Top.{Asked, IsMistyped}
+use Rattle.qw_top.specs.declared.stop.Stop.{Stop}
+use Rattle.qw_top.specs.declared.stop.Stop.TheVariants.{NoMemory}
+use Rattle.qw_top.specs.declared.top.queries.QueriesFault.{QueriesFault}
+use Rattle.qw_top.specs.declared.top.queries.QueriesFault.TheVariants.{Script, Typing}
+use Rattle.qw_top.specs.Inner.Stages.{AreContentsOf}
+use Rattle.qw_top.specs.Inner.Stop.{StopsFor}
+
+-- the head of a column of this name, whose values an item gives; one without a kind is none of a specification
+abbrev pub head_of : List ℕ → Expression → Head
+head_of name item = record { name = name; kind = unwrap_or (kind_of item) (kind.Number 0) }
+
+abbrev pub heads_of : List (List ℕ) → List Expression → List Head
+heads_of [] items = []
+heads_of (name ∷ names) [] = []
+heads_of (name ∷ names) (item ∷ items) = head_of name item ∷ heads_of names items
+
+-- the query that it is
+abbrev pub asked_of : TypedSelect → Asked
+asked_of query = record { specification = specification_of query.select; header = heads_of query.names.items (map expression_of query.select.items) }
+
+-- the columns of a table of the schema, counted from 0
+abbrev pub columns_of : List Table → ℕ → List Column
+columns_of schema table = option_map_or (λ (t : Table). t.columns) (slice_get schema table) []
+
+-- Its table is one of the schema's, whose columns have the types that it says.
+pub record IsOver (schema : List Table) (query : TypedSelect) : Type 0 where
+  pub table : Table
+  pub there : slice_get schema query.select.table ≡ Some table
+  pub types_are : query.select.types ≡ map (λ (c : Column). c.ty) table.columns
+
+-- a text is refused for a fault, or memory was wanted
+abbrev pub Refuses : List Table → (text : List ℕ) → QueriesFault → Type 0
+Refuses schema text (Script fault) = (fault ≡ parsing.NoMemory) ⊎ IsScriptRefused text fault
+Refuses schema text (Typing fault) = (fault ≡ typing.NoMemory) ⊎ IsMistyped schema text fault
+
+-- how a run stops for it
+abbrev pub StopsForFault : QueriesFault → Stop → Type 0
+StopsForFault (Script fault) stop = (fault ≡ parsing.NoMemory → stop ≡ NoMemory) × ((fault ≡ parsing.NoMemory → ⊥) → StopsFor (queries_refused fault) stop)
+StopsForFault (Typing fault) stop = (fault ≡ typing.NoMemory → stop ≡ NoMemory) × ((fault ≡ typing.NoMemory → ⊥) → StopsFor (queries_mistyped fault) stop)
+
+-- A program is compiled for it, and reads columns that the schema's tables have.
+pub record IsJobOf (schema : List Table) (query : TypedSelect) (job : Program) : Type 0 where
+  pub compiled : IsProgramOf (asked_of query) job
+  pub columns : (tables : List Contents) → AreContentsOf schema tables → AllByRecursion (IsColumnIn tables) job.layout.columns

@@ -1,0 +1,64 @@
+//! The modules that queries are compiled to.
+
+ghost use Rattle.std.specs.Prelude.{◌≡◌, List, IfOk, map};
+ghost use Rattle.std.specs.List.{AllByRecursion};
+ghost use Rattle.qw_types.specs.Contents.{Contents};
+ghost use Rattle.qw_types.specs.declared.schema.Column.{Column};
+ghost use Rattle.qw_emit.specs.Compiled.{IsCompiled};
+ghost use Rattle.qw_bench.specs.Bench.{IsColumnIn};
+ghost use Rattle.qw_top.specs.Inner.Queries.{IsJobOf, IsOver, asked_of};
+ghost use Rattle.qw_top.specs.Inner.Stages.{AreContentsOf};
+
+use super::header::columns_of;
+use qw_bench::bench::Job;
+use qw_compile::compile::{CompileFault, Compiled, compile};
+use qw_typer::query::TypedSelect;
+use qw_types::{Column, NoMemory, Schema};
+use qw_valid::valid::{ValidFault, validate};
+use std::alloc::Global;
+
+/// The module of a query over a schema, with its layout, whose columns are those of the query's table.
+///
+/// # Errors
+///
+/// [`NoMemory`] where memory does not suffice.
+pub fn compiled(alloc: Global, schema: &Schema, query: &TypedSelect) -> Result<Compiled, NoMemory>
+    requires { IsOver schema.now query.now }
+    ensures compiled { IfOk result (λ made. IsCompiled (asked_of query.now).specification made.layout made.module) }
+    ensures columns { IfOk result (λ made. (tables : List Contents) → AreContentsOf schema.now tables → AllByRecursion (IsColumnIn tables) made.layout.columns) }
+{
+    let columns = columns_of(schema, query.select.table());
+    let not_null = not_null_of(alloc, columns)?;
+    match compile(alloc, &query.select, &not_null) {
+        Ok(compiled) => Ok(compiled),
+        Err(CompileFault::NoMemory) => Err(NoMemory),
+        // `compile` is never too long for at most 4,000 nodes; that those of a script's query are so few is said by no clause.
+        Err(CompileFault::TooLong) => Err(NoMemory),
+    }
+}
+
+/// The program of a query over a schema. A compiled module is valid, so it is refused for want of memory alone.
+///
+/// # Errors
+///
+/// [`NoMemory`] where memory does not suffice.
+pub fn job_of(alloc: Global, schema: &Schema, query: &TypedSelect) -> Result<Job, NoMemory>
+    requires { IsOver schema.now query.now }
+    ensures { IfOk result (λ job. IsJobOf schema.now query.now job) }
+{
+    let compiled = compiled(alloc, schema, query)?;
+    match validate(alloc, compiled.module) {
+        Ok(valid) => Ok(Job::new(valid, compiled.layout)),
+        Err(ValidFault::NoMemory) => Err(NoMemory),
+        Err(ValidFault::Part(_)) => unreachable!(),
+        Err(ValidFault::Body { .. }) => unreachable!(),
+    }
+}
+
+/// Which columns are declared NOT NULL.
+fn not_null_of(alloc: Global, columns: &[Column]) -> Result<Vec<bool>, NoMemory>
+    ensures { IfOk result (λ not_null. not_null.items ≡ map (λ (column : Column). column.not_null) columns.now) }
+{
+    let not_null = columns.iter().map(|column| column.not_null).collect(alloc)?;
+    Ok(not_null)
+}
