@@ -11,7 +11,7 @@ mod linear_memory;
 #[cfg(test)]
 mod plain_rows;
 #[cfg(test)]
-mod query_texts;
+mod scripts;
 #[cfg(test)]
 mod texts;
 #[cfg(test)]

@@ -386,7 +386,7 @@ fn shown(rt: &HostRuntime, schema: &Schema) -> Result<String, Fail> {
 }
 
 /// A text so many times.
-fn repeated(rt: &HostRuntime, text: &str, count: usize) -> Result<String, Fail> {
+pub(crate) fn repeated(rt: &HostRuntime, text: &str, count: usize) -> Result<String, Fail> {
     let mut all = String::new(rt.alloc());
     for _ in 0..count {
         all.push_str(text)?;

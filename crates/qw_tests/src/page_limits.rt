@@ -17,8 +17,8 @@ const ONE_PAGE: Limits = Limits {
 
 // A bench whose instance may hold one page, over so many rows of 7, after the turns that end it.
 fn turned(alloc: Global, rows: usize) -> Result<Bench, Fail> {
-    let file = file_of(alloc, b"A,B\n", b"7,7\n", rows)?;
-    let mut bench = bench_of(alloc, &wide(alloc)?, file.as_slice(), ONE_PAGE)?;
+    let file = file_of(alloc, b"A\n", b"7\n", rows)?;
+    let mut bench = bench_of(alloc, narrow(alloc)?, file.as_slice(), ONE_PAGE)?;
     bench.run_all(1_000);
     Ok(bench)
 }
@@ -60,7 +60,7 @@ fn fault_of(alloc: Global, rows: usize, pages: u32) -> Result<Option<BenchFault>
         pages,
         steps: 1_000_000,
     };
-    let made = bench_or_fault(alloc, &narrow(alloc)?, table.as_slice(), limits)?;
+    let made = bench_or_fault(alloc, narrow(alloc)?, table.as_slice(), limits)?;
     Ok(made.err())
 }
 

@@ -1,7 +1,10 @@
 // Parts of a report in full. That the calls don't answer want of memory is what no clause says.
 
-use qw_sink::sink::{Head, with_exception, with_pages, with_rows_of, with_steps};
-use qw_types::{Code, Kind, Row, Text, Val};
+use crate::tables::{bench_of, narrow};
+use qw_bench::bench::{Bench, Ended, Limits};
+use qw_sink::received::with_rows;
+use qw_sink::sink::{Head, with_exception, with_pages, with_steps};
+use qw_types::{Code, Kind, NoMemory, Text};
 use std::alloc::{AllocError, Global};
 use std::test::Fail;
 
@@ -12,46 +15,43 @@ fn head(alloc: Global, name: &str, kind: Kind) -> Result<Head, AllocError> {
     })
 }
 
-// Columns A of numbers of two digits after the point, B of dates and C of texts, and a row for each number, one of whose other
-// values is null.
-fn header_and_rows(alloc: Global, numbers: &[i64]) -> Result<(Vec<Head>, Vec<Row>), AllocError> {
-    let header = vec![in alloc;
-        head(alloc, "A", Kind::Number(2))?,
-        head(alloc, "B", Kind::Date)?,
-        head(alloc, "C", Kind::Text)?,
-    ]?;
-    let mut rows = Vec::new(alloc);
-    for number in numbers {
-        let text = Text::new(String::from_str(alloc, "x,y")?);
-        let values = vec![in alloc; Val::Num(*number), Val::Date(20_200_229), Val::Text(text)]?;
-        rows.push(Row::new(values))?;
-        rows.push(Row::new(vec![in alloc; Val::Num(*number), Val::Null, Val::Null]?))?;
-    }
-    Ok((header, rows))
-}
-
-const REPORTS: [(usize, &[i64], &[u8]); 3] = [
-    (
-        1,
-        &[7],
-        b"QUERY 1 ROWS 2\nA,B,C\n0.07,2020-02-29,\"x,y\"\n0.07,,\n",
-    ),
-    (12, &[], b"QUERY 12 ROWS 0\nA,B,C\n"),
+// A query's number, the file of its table, whose result rows are those above 5, and its part of the report.
+const REPORTS: [(usize, &[u8], &[u8]); 3] = [
+    (1, b"A\n7\n", b"QUERY 1 ROWS 1\n\"x,y\"\n0.07\n"),
+    (12, b"A\n5\n", b"QUERY 12 ROWS 0\n\"x,y\"\n"),
     (
         3,
-        &[-2147483648, 0],
-        b"QUERY 3 ROWS 4\nA,B,C\n-21474836.48,2020-02-29,\"x,y\"\n-21474836.48,,\n0.00,2020-02-29,\"x,y\"\n0.00,,\n",
+        b"A\n2147483647\n-6\n600\n",
+        b"QUERY 3 ROWS 2\n\"x,y\"\n21474836.47\n6.00\n",
     ),
 ];
+
+// The part of a report of the one instance of a bench, and nothing if it isn't done. Its column has a name that is quoted, and two
+// digits after the point.
+fn part_of(alloc: Global, number: usize, bench: &Bench) -> Result<Vec<u8>, NoMemory> {
+    let nothing = Vec::new(alloc);
+    if bench.len() == 0 {
+        return Ok(nothing);
+    }
+    let header = vec![in alloc; head(alloc, "x,y", Kind::Number(2))?]?;
+    match bench.ended(0) {
+        Some(Ended::Done) => with_rows(alloc, nothing, number, header.as_slice(), bench, 0),
+        _ => Ok(nothing),
+    }
+}
 
 #[test]
 fn rows(rt: HostRuntime) -> Result<(), Fail> {
     let alloc = rt.alloc();
-    for (number, numbers, text) in REPORTS {
-        let (header, rows) = header_and_rows(alloc, numbers)?;
-        let report = Vec::new(alloc);
-        let report = with_rows_of(alloc, report, number, header.as_slice(), rows.as_slice())?;
-        assert_eq!(rt; report.as_slice(), text);
+    let limits = Limits {
+        pages: 1,
+        steps: 1_000_000,
+    };
+    for (number, file, text) in REPORTS {
+        let mut bench = bench_of(alloc, narrow(alloc)?, file, limits)?;
+        bench.run_all(1_000);
+        let part = part_of(alloc, number, &bench)?;
+        assert_eq!(rt; part.as_slice(), text);
     }
     Ok(())
 }

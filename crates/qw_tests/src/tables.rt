@@ -1,18 +1,16 @@
 //! Tables, files and benches that several tests use.
 
-ghost use Rattle.std.specs.Prelude.{◌≡◌, ◌≤◌, [], ◌∷◌, IfOk, true};
+ghost use Rattle.std.specs.Prelude.{◌≡◌, ◌≤◌, IfOk, true};
 ghost use Rattle.qw_types.specs.declared.value.Ty.TheVariants.{Integer};
-ghost use Rattle.qw_top.specs.Inner.Inputs.{IsIntegerAt};
 
-use qw_bench::bench::{Bench, BenchFault, Job, Limits};
+use qw_bench::bench::{Bench, BenchFault, Limits};
 use qw_csv::loading::load;
-use qw_emit::emit::module_of;
-use qw_emit::layout::layout_of;
 use qw_io::{MemoryShelf, NamedFile};
 use qw_linear::linear::MAX_PAGES;
 use qw_meaning::query::{Comparison, Query};
-use qw_types::{Column, Columns, Table, Text, Ty};
-use qw_valid::valid::validate;
+use qw_top::top::program::job_of;
+use qw_top::top::queries::queries_of;
+use qw_types::{Column, Columns, Schema, Table, Text, Ty};
 use std::alloc::{AllocError, Global};
 use std::test::Fail;
 
@@ -30,9 +28,7 @@ fn integer(alloc: Global, name: &str) -> Result<Column, AllocError>
 }
 
 /// CREATE TABLE T ( A INTEGER NOT NULL )
-pub fn narrow(alloc: Global) -> Result<Table, AllocError>
-    ensures { IfOk result (λ t. IsIntegerAt t.columns 0) }
-{
+pub fn narrow(alloc: Global) -> Result<Table, AllocError> {
     let columns = vec![in alloc; integer(alloc, "A")?]?;
     Ok(Table {
         name: Text::new(String::from_str(alloc, "T")?),
@@ -41,9 +37,7 @@ pub fn narrow(alloc: Global) -> Result<Table, AllocError>
 }
 
 /// CREATE TABLE T ( A INTEGER NOT NULL , B INTEGER NOT NULL )
-pub fn wide(alloc: Global) -> Result<Table, AllocError>
-    ensures { IfOk result (λ t. IsIntegerAt t.columns 0) }
-{
+pub fn wide(alloc: Global) -> Result<Table, AllocError> {
     let columns = vec![in alloc; integer(alloc, "A")?, integer(alloc, "B")?]?;
     Ok(Table {
         name: Text::new(String::from_str(alloc, "T")?),
@@ -112,18 +106,13 @@ pub fn words(alloc: Global, texts: &[&str]) -> Result<Vec<String>, AllocError> {
 }
 
 /// The statement that selects the first column where it compares so with the literal.
-pub fn asking(alloc: Global, comparison: Comparison, literal: i64) -> Result<Query, AllocError>
-    ensures table { IfOk result (λ query. query.table ≡ 0) }
-    ensures columns { IfOk result (λ query. query.columns ≡ 0 ∷ []) }
-    ensures tested { IfOk result (λ query. query.tested ≡ 0) }
-{
+pub fn asking(alloc: Global, comparison: Comparison, literal: i64) -> Result<Query, AllocError> {
     let columns = vec![in alloc; 0]?;
     Ok(Query::new(0, columns, 0, comparison, literal))
 }
 
-/// A bench of `SELECT A FROM T WHERE A > 5` over a table's file, before its first turn.
-pub fn bench_of(alloc: Global, table: &Table, file: &[u8], limits: Limits) -> Result<Bench, Fail>
-    requires integer { IsIntegerAt table.now.columns 0 }
+/// A bench of `SELECT A FROM T WHERE A > 5` over the file of a table T, before its first turn.
+pub fn bench_of(alloc: Global, table: Table, file: &[u8], limits: Limits) -> Result<Bench, Fail>
     requires pages { (1 ≤ limits.pages) × (limits.pages ≤ MAX_PAGES) }
     requires steps { 1 ≤ limits.steps }
 {
@@ -133,19 +122,17 @@ pub fn bench_of(alloc: Global, table: &Table, file: &[u8], limits: Limits) -> Re
 /// The same bench, or why there is none.
 pub fn bench_or_fault(
     alloc: Global,
-    table: &Table,
+    table: Table,
     file: &[u8],
     limits: Limits,
 ) -> Result<Result<Bench, BenchFault>, Fail>
-    requires integer { IsIntegerAt table.now.columns 0 }
     requires pages { (1 ≤ limits.pages) × (limits.pages ≤ MAX_PAGES) }
     requires steps { 1 ≤ limits.steps }
 {
-    let loaded = load(alloc, table, file)?;
-    let query = asking(alloc, Comparison::Greater, 5)?;
-    let layout = layout_of(alloc, &query)?;
-    let valid = validate(alloc, module_of(alloc, &query)?)?;
-    let jobs = vec![in alloc; Job::new(valid, layout)]?;
+    let schema = Schema::new(vec![in alloc; table]?);
+    let loaded = load(alloc, &schema.as_slice()[0], file)?;
+    let queries = queries_of(alloc, &schema, b"SELECT A FROM T WHERE A > 5")?;
+    let jobs = vec![in alloc; job_of(alloc, &schema, &queries[0])?]?;
     let tables = vec![in alloc; loaded]?;
     Ok(Bench::new(alloc, tables.as_slice(), jobs, &[limits]))
 }

@@ -11,6 +11,7 @@ use std::test::Fail;
 mod commands;
 mod file_limits;
 mod refused_texts;
+mod scripts;
 mod sizes;
 mod two_tables;
 

@@ -22,19 +22,19 @@ pub(super) fn noted_on(
 }
 
 // A queries file, and the line on it.
-const QUERIES: [(&[u8], &[u8]); 13] = [
+const QUERIES: [(&[u8], &[u8]); 18] = [
     (b"SELECT A FROM T WHERE A > \xFF", b"queries: not utf-8\n"),
     (b"SELECT ?", b"queries: not a token at 7\n"),
     (b"\xEF\xBB\xBFSELECT ?", b"queries: not a token at 10\n"),
     (b"", b"queries: not grammar in statement 1\n"),
-    (b"SELECT A FROM T", b"queries: not grammar in statement 1\n"),
+    (b"SELECT A FROM", b"queries: not grammar in statement 1\n"),
     (
-        b"SELECT A FROM T WHERE A > +5",
+        b"SELECT A FROM T WHERE A",
         b"queries: not grammar in statement 1\n",
     ),
     (
         b"SELECT A FROM T WHERE A > 5;;",
-        b"queries: too many statements in statement 1, limit 1\n",
+        b"queries: not grammar in statement 2\n",
     ),
     (
         b"((((((((((((((((((((((((((((((((( A",
@@ -59,6 +59,26 @@ const QUERIES: [(&[u8], &[u8]); 13] = [
     (
         b"SELECT A FROM T WHERE A > 01000000000000000000",
         b"queries: literal too long 01000000000000000000 in statement 1\n",
+    ),
+    (
+        b"SELECT A FROM T; SELECT B FROM T",
+        b"queries: unknown column B in statement 2\n",
+    ),
+    (
+        b"SELECT A FROM T U WHERE T.A > 5",
+        b"queries: unknown table T in statement 1\n",
+    ),
+    (
+        b"SELECT A FROM T WHERE A = 'x'",
+        b"queries: clash A in statement 1\n",
+    ),
+    (
+        b"SELECT A FROM T WHERE 0.0000000001 * 0.000000001 < A",
+        b"queries: scale too large 0.0000000001 in statement 1\n",
+    ),
+    (
+        b"SELECT A FROM T WHERE DATE '2000-02-30' > DATE '2000-01-01'",
+        b"queries: bad date '2000-02-30' in statement 1\n",
     ),
 ];
 
@@ -207,5 +227,40 @@ fn a_long_select_list_is_noted(rt: HostRuntime) -> Result<(), Fail> {
         notes.bytes(),
         b"queries: too many select items in statement 1, limit 64\n".as_slice()
     );
+    Ok(())
+}
+
+// More statements, nodes or octets of strings than are taken.
+#[test]
+fn large_scripts_are_noted(rt: HostRuntime) -> Result<(), Fail> {
+    let alloc = rt.alloc();
+    let statements = file_of(alloc, b"", b"SELECT A FROM T;", 65)?;
+    let nodes = file_of(
+        alloc,
+        b"SELECT A FROM T; SELECT A FROM T WHERE A > 0",
+        b" + A",
+        499,
+    )?;
+    let mut octets = file_of(alloc, b"SELECT '", b"x", 16_385)?;
+    octets.extend_from_slice(b"' FROM T")?;
+    let cases: [(&[u8], &[u8]); 3] = [
+        (
+            statements.as_slice(),
+            b"queries: too many statements in statement 1, limit 64\n",
+        ),
+        (
+            nodes.as_slice(),
+            b"queries: too many nodes in statement 2, limit 1000\n",
+        ),
+        (
+            octets.as_slice(),
+            b"queries: too many literal octets in statement 1, limit 16384\n",
+        ),
+    ];
+    for (script, line) in cases {
+        let (status, notes) = noted_on(alloc, SCHEMA, TABLE, script)?;
+        assert_eq!(rt; status, Status::QueriesRefused);
+        assert_eq!(rt; notes.bytes(), line);
+    }
     Ok(())
 }
