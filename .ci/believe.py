@@ -13,7 +13,7 @@ import sys
 TOP = os.path.join(os.path.dirname(os.path.abspath(__file__)), "..")
 CRATES = os.path.join(TOP, "crates")
 # Modules of qw_top that are public for the tests alone: what they promise is said again by the call.
-STAGES = {"files.rt", "notes.rt", "output.rt", "stop.rt"}
+STAGES = {"files.rt", "notes.rt", "output.rt", "program.rt", "queries.rt", "stop.rt"}
 WORD = re.compile(r"[^\s(){}\[\],;]+")
 IMPORT = re.compile(r"^\s*(?:ghost )?use (Rattle\.[^\s{]+?)(?:\.\{(.*)\}| as (\S+?));?$")
 

@@ -1,9 +1,9 @@
 // Runs modules that `qwasm compile` wrote in Node's WebAssembly engine, over the tables that they were compiled for, and prints what
 // `qwasm run` prints. It is an example of a host: docs/FORMATS.md says where columns, the descriptor and result rows stand.
 //
-//     node host.mjs SCHEMA DIR QUERIES MODULE
+//     node host.mjs SCHEMA DIR QUERIES MODULE..
 //
-// MODULE is the module of the one query in QUERIES. Texts are taken as qwasm accepted them, and nothing is checked again.
+// There is a MODULE for each statement of QUERIES, in their order. Texts are taken as qwasm accepted them, and nothing is checked again.
 import { readFileSync } from "node:fs";
 
 const PAGE = 65536;
@@ -25,13 +25,173 @@ function schemaOf(text) {
   }));
 }
 
-function queryOf(text, schema) {
-  const [, list, table, tested] = /SELECT\s+(.*?)\s+FROM\s+(\w+)\s+WHERE\s+(\w+)/is.exec(text);
-  const { columns } = schema.find(({ name }) => name === fold(table));
-  const selected = list.split(",").map((name) => columns.findIndex((column) => column.name === fold(name.trim())));
-  const compared = columns.findIndex((column) => column.name === fold(tested));
-  const used = columns.map((_, index) => index).filter((index) => index === compared || selected.includes(index));
-  return { table: fold(table), selected, used };
+const TOKEN = /\s+|--[^\n]*|('(?:[^']|'')*'|"(?:[^"]|"")+"|\d+\.?\d*|\.\d+|[A-Za-z]\w*|<>|<=|>=|[(),.;*+\-/=<>])/y;
+
+function tokensOf(text) {
+  const tokens = [];
+  TOKEN.lastIndex = 0;
+  for (let found; TOKEN.lastIndex < text.length && (found = TOKEN.exec(text)); ) if (found[1] !== undefined) tokens.push(found[1]);
+  return tokens;
+}
+
+const NUMBER = (scale) => ({ kind: "number", scale });
+
+// What a host has to know of a query: the table, the text literals, and of each result column the name and the kind. Kinds are those
+// that a reader of the query would come to; conditions have none.
+class Query {
+  constructor(tokens, schema) {
+    this.tokens = tokens;
+    this.at = 0;
+    const from = this.place("FROM");
+    this.table = schema.find(({ name }) => name === fold(tokens[from + 1]));
+    const where = tokens.findIndex((token) => token.toUpperCase() === "WHERE");
+    const list = this.textsBetween(1, from);
+    this.texts = where < 0 ? list : [...this.textsBetween(where, tokens.length), ...list];
+    this.results = this.list();
+  }
+
+  // FROM stands in EXTRACT too, between brackets
+  place(word) {
+    let depth = 0;
+    return this.tokens.findIndex((token) => {
+      depth += token === "(" ? 1 : token === ")" ? -1 : 0;
+      return depth === 0 && token.toUpperCase() === word;
+    });
+  }
+
+  // the strings from a token to another that stand in no date, by their octets
+  textsBetween(from, to) {
+    const isText = (at) => this.tokens[at].startsWith("'") && !["DATE", "INTERVAL"].includes(this.tokens[at - 1].toUpperCase());
+    return this.tokens.map((token, at) => (at >= from && at < to && isText(at) ? Buffer.from(token.slice(1, -1).replaceAll("''", "'")) : undefined))
+      .filter((text) => text !== undefined);
+  }
+
+  is(...words) { return this.at < this.tokens.length && words.includes(this.tokens[this.at].toUpperCase()); }
+  take(...words) { const found = this.is(...words); if (found) this.at += 1; return found ? this.tokens[this.at - 1].toUpperCase() : undefined; }
+  next() { return this.tokens[this.at++]; }
+
+  list() {
+    this.take("SELECT");
+    this.take("ALL");
+    if (this.take("*")) return this.table.columns.map((column) => ({ name: column.name, ...kindOf(column) }));
+    const results = [];
+    do {
+      const { kind, scale, column } = this.sum();
+      const named = this.take("AS") || !this.is(",", "FROM");
+      results.push({ name: named ? fold(this.next()) : column ?? `C${results.length + 1}`, kind, scale });
+    } while (this.take(","));
+    return results;
+  }
+
+  condition() {
+    do {
+      do {
+        this.take("NOT");
+        this.predicate();
+        if (this.take("IS")) { this.take("NOT"); this.next(); }
+      } while (this.take("AND"));
+    } while (this.take("OR"));
+    return {};
+  }
+
+  predicate() {
+    const first = this.sum();
+    if (this.take("=", "<>", "<", "<=", ">", ">=")) return this.sum();
+    if (this.is("IS")) return first;
+    this.take("NOT");
+    if (this.take("BETWEEN")) { this.sum(); this.take("AND"); this.sum(); }
+    if (this.take("IN")) this.arguments();
+    return first;
+  }
+
+  sum() {
+    let left = this.term();
+    while (this.take("+", "-")) left = NUMBER(Math.max(left.scale, this.term().scale));
+    return left;
+  }
+
+  term() {
+    let left = this.factor();
+    for (let operator; (operator = this.take("*", "/")); ) {
+      const right = this.factor();
+      left = NUMBER(operator === "*" ? left.scale + right.scale : left.scale);
+    }
+    return left;
+  }
+
+  factor() {
+    return this.take("+", "-") ? NUMBER(this.primary().scale) : this.primary();
+  }
+
+  primary() {
+    if (this.take("(")) { const inside = this.phrase(); this.take(")"); return inside; }
+    if (this.take("CASE")) return this.branches();
+    if (this.take("COALESCE")) return joined(this.arguments());
+    if (this.take("NULLIF")) { const { kind, scale } = this.arguments()[0]; return { kind, scale }; }
+    if (this.take("EXTRACT")) { this.at += 3; this.sum(); this.take(")"); return NUMBER(0); }
+    if (this.take("DATE")) return this.date();
+    if (this.take("NULL")) return {};
+    const token = this.next();
+    if (token.startsWith("'")) return { kind: "text" };
+    if (/^[\d.]/.test(token)) return NUMBER((token.split(".")[1] ?? "").length);
+    return this.column(this.take(".") ? this.next() : token);
+  }
+
+  // a condition or an expression: an expression ends where its brackets do
+  phrase() {
+    const start = this.at;
+    const expression = this.sum();
+    if (this.is(")", "THEN")) return expression;
+    this.at = start;
+    return this.condition();
+  }
+
+  date() {
+    this.next();
+    while (this.is("+", "-") && this.tokens[this.at + 1]?.toUpperCase() === "INTERVAL") {
+      this.at += 4;
+      if (this.take("(")) this.at += 2;
+    }
+    return { kind: "date" };
+  }
+
+  column(token) {
+    const column = this.table.columns.find(({ name }) => name === fold(token));
+    return { column: column.name, ...kindOf(column) };
+  }
+
+  arguments() {
+    const found = [];
+    this.take("(");
+    do found.push(this.sum()); while (this.take(","));
+    this.take(")");
+    return found;
+  }
+
+  branches() {
+    const results = [];
+    if (!this.is("WHEN")) this.sum();
+    while (this.take("WHEN")) { this.phrase(); this.take("THEN"); results.push(this.sum()); }
+    if (this.take("ELSE")) results.push(this.sum());
+    this.take("END");
+    return joined(results);
+  }
+}
+
+const joined = (results) => ({
+  kind: results.find(({ kind }) => kind !== undefined).kind,
+  scale: Math.max(...results.map(({ scale }) => scale ?? 0)),
+});
+
+const kindOf = ({ type, scale }) => (type === "VARCHAR" ? { kind: "text" } : type === "DATE" ? { kind: "date" } : NUMBER(scale));
+
+function statementsOf(text) {
+  const statements = [[]];
+  for (const token of tokensOf(text.replace(/^\uFEFF/, ""))) {
+    if (token === ";") statements.push([]);
+    else statements.at(-1).push(token);
+  }
+  return statements.filter((tokens) => tokens.length > 0);
 }
 
 function recordsOf(text) {
@@ -94,16 +254,18 @@ class Raised extends Error {
   constructor(code) { super(`raise ${code}`); this.code = code; }
 }
 
-function run(bytes, { pieces, tables, pages }, schema, { table, used }) {
+// All columns of the query's table have an entry in the descriptor, and the octets of its texts stand behind them.
+function run(bytes, { pieces, tables, pages }, schema, { table, texts }) {
   const memory = new WebAssembly.Memory({ initial: pages + 1, maximum: pages + PAGE_LIMIT });
   pieces.forEach(([at, octets]) => new Uint8Array(memory.buffer).set(octets, at));
   const descriptor = pages * PAGE;
-  const head = [eighth(descriptor + 64 + 16 * used.length), descriptor + PAGE];
-  const placed = tables[schema.findIndex(({ name }) => name === table)];
-  const entries = used.flatMap((column) => placed[column]);
+  const entries = tables[schema.indexOf(table)].flat();
+  const literals = Buffer.concat(texts);
+  const behind = descriptor + 64 + 4 * entries.length;
   const words = new DataView(memory.buffer);
-  head.forEach((word, index) => words.setUint32(descriptor + 4 * index, word, true));
+  [eighth(behind + literals.length), descriptor + PAGE].forEach((word, index) => words.setUint32(descriptor + 4 * index, word, true));
   entries.forEach((word, index) => words.setUint32(descriptor + 64 + 4 * index, word, true));
+  new Uint8Array(memory.buffer).set(literals, behind);
   const raise = (code) => { throw new Raised(code); };
   const { exports } = new WebAssembly.Instance(new WebAssembly.Module(bytes), { q: { memory, raise } });
   try {
@@ -115,28 +277,36 @@ function run(bytes, { pieces, tables, pages }, schema, { table, used }) {
   }
 }
 
-function* rowsOf({ view, descriptor }, cells) {
+// A number at a scale has as many digits behind its point; a date is kept as year * 10000 + month * 100 + day.
+function printed(view, at, { kind, scale }) {
+  if (view.getUint8(at + 8)) return "";
+  if (kind === "text") return Buffer.from(view.buffer, view.getUint32(at, true), view.getUint32(at + 4, true)).toString();
+  const number = view.getBigInt64(at, true);
+  if (kind === "date") return number.toString().padStart(8, "0").replace(/(....)(..)(..)/, "$1-$2-$3");
+  const digits = (number < 0n ? -number : number).toString().padStart(scale + 1, "0");
+  return (number < 0n ? "-" : "") + (scale ? `${digits.slice(0, -scale)}.${digits.slice(-scale)}` : digits);
+}
+
+function* rowsOf({ view, descriptor }, results) {
   for (let row = view.getUint32(descriptor + 8, true); row !== 0; row = view.getUint32(row, true)) {
-    yield Array.from({ length: cells }, (_, cell) => {
-      const at = row + 8 + 16 * cell;
-      return view.getUint8(at + 8) ? "" : view.getBigInt64(at, true).toString();
-    });
+    yield results.map((result, cell) => printed(view, row + 8 + 16 * cell, result));
   }
 }
 
 // ---- the report
 
-const [schemaFile, folder, queriesFile, moduleFile] = process.argv.slice(2);
-const schema = schemaOf(readFileSync(schemaFile, "utf8"));
-const query = queryOf(readFileSync(queriesFile, "utf8"), schema);
-const end = run(readFileSync(moduleFile), place(schema, folder), schema, query);
-const states = { 1: "SQLSTATE 22012", 2: "SQLSTATE 22003", 3: `PAGES ${end.held} 1 ${PAGE_LIMIT}` };
-if (end.code !== undefined) {
-  console.log(`QUERY 1 ${states[end.code]}`);
-} else {
-  const { columns } = schema.find(({ name }) => name === query.table);
-  const quoted = (field) => (/[",\r\n]/.test(field) ? `"${field.replaceAll('"', '""')}"` : field);
-  const rows = [...rowsOf(end, query.selected.length)];
-  const lines = [query.selected.map((column) => columns[column].name), ...rows].map((row) => row.map(quoted).join(","));
-  console.log([`QUERY 1 ROWS ${rows.length}`, ...lines].join("\n"));
+const quoted = (field) => (/[",\r\n]/.test(field) ? `"${field.replaceAll('"', '""')}"` : field);
+const line = (fields) => (fields.length === 1 && fields[0] === "" ? '""' : fields.map(quoted).join(","));
+
+function reported(number, end, { results }) {
+  const states = { 1: "SQLSTATE 22012", 2: "SQLSTATE 22003", 3: `PAGES ${end.held} 1 ${PAGE_LIMIT}` };
+  if (end.code !== undefined) return [`QUERY ${number} ${states[end.code]}`];
+  const rows = [...rowsOf(end, results)];
+  return [`QUERY ${number} ROWS ${rows.length}`, ...[results.map(({ name }) => name), ...rows].map(line)];
 }
+
+const [schemaFile, folder, queriesFile, ...modules] = process.argv.slice(2);
+const schema = schemaOf(readFileSync(schemaFile, "utf8"));
+const placed = place(schema, folder);
+const queries = statementsOf(readFileSync(queriesFile, "utf8")).map((tokens) => new Query(tokens, schema));
+queries.forEach((query, k) => reported(k + 1, run(readFileSync(modules[k]), placed, schema, query), query).forEach((text) => console.log(text)));
