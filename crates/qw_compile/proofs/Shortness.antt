@@ -46,9 +46,10 @@ steps_size (conditional e a b) =
     let three = length-append (steps_of b) (step.End ∷ []) in
     omega (arith, one, two, three, cost_steps e, steps_size a, steps_size b)
 steps_size (while e a) =
-    let one = length-append (expression_steps e) (step.If ∷ (steps_of a ++ step.Again ∷ step.End ∷ step.End ∷ [])) in
-    let two = length-append (steps_of a) (step.Again ∷ step.End ∷ step.End ∷ []) in
-    omega (arith, one, two, cost_steps e, steps_size a)
+    let one = length-append (expression_steps e) (step.If ∷ step.Loop ∷ (steps_of a ++ (expression_steps e ++ step.Again ∷ step.End ∷ step.End ∷ []))) in
+    let two = length-append (steps_of a) (expression_steps e ++ step.Again ∷ step.End ∷ step.End ∷ []) in
+    let three = length-append (expression_steps e) (step.Again ∷ step.End ∷ step.End ∷ []) in
+    omega (arith, one, two, three, cost_steps e, steps_size a)
 steps_size (request e x) = let all = length-append (expression_steps e) (request_steps x) in omega (arith, all, cost_steps e)
 steps_size (raise code) = omega arith
 steps_size exit = omega arith
@@ -158,7 +159,7 @@ scan_short base begins leads reads row code texts made b l few r rows =
     let three = length-append (steps_of (start_block base)) (steps_of (seq end_block columns)) in
     let four = length-append (steps_of end_block) (steps_of columns) in
     let five = length-append (steps_of begins) (steps_of leads) in
-    let six = length-append (steps_of (turn_block reads row)) (step.Again ∷ step.End ∷ step.End ∷ []) in
+    let six = length-append (steps_of (turn_block reads row)) (expression_steps more_rows ++ step.Again ∷ step.End ∷ step.End ∷ []) in
     let seven = length-append (steps_of reads) (steps_of (seq row next_row)) in
     let eight = length-append (steps_of row) (steps_of next_row) in
     omega (arith, all, one, two, three, four, five, six, seven, eight, b, l, few, r, rows, steps_size begins, steps_size leads, steps_size reads)
