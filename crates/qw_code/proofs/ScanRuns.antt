@@ -345,16 +345,17 @@ module _ (plan : Plan) (Text : Part → ℕ → List ℕ → Type 0) (rows : Lis
 
     -- the loop over all rows
     pub rows_end : spend units rows < fuel → Ready 0 [] s0 →
-        Ends (spend units rows * (size body + (cost more_rows + 3)) + (cost more_rows + 2)) (Over rows result units (size body) more_rows (meaning most fuel body) Ready at_end before_end turns_are) Never (Told result rows) (meaning most fuel (while more_rows body) s0)
+        Ends (spend units rows * (size body + (cost more_rows + 2)) + (cost more_rows + 1)) (Over rows result units (size body) more_rows (meaning most fuel body) Ready at_end before_end turns_are) Never (Told result rows) (meaning most fuel (while more_rows body) s0)
     rows_end enough ready = loop_ends rows result units (size body) more_rows (meaning most fuel body) Ready at_end before_end turns_are fuel s0 enough ready
 
 -- ---- the whole scan
 -- how many instructions the parts have, against those of the whole for each unit
-scan-weight : (start body test finish spent : ℕ) → 12 ≤ finish → start + (spent * (body + (test + 3)) + (test + 2) + 12) ≤ (start + (test + 3 + body + finish)) * (1 + spent)
+scan-weight : (start body test finish spent : ℕ) → 12 ≤ finish → start + (spent * (body + (test + 2)) + (test + 1) + 12) ≤ (start + (2 * test + 3 + body + finish)) * (1 + spent)
 scan-weight start body test finish spent most =
-    let whole : (start + (test + 3 + body + finish)) * (1 + spent) ≡ (start + (test + 3 + body + finish)) * 1 + (start + (test + 3 + body + finish)) * spent = spread-right (start + (test + 3 + body + finish)) 1 spent in
-    let turn : spent * (body + (test + 3)) ≤ (start + (test + 3 + body + finish)) * spent = rw (mul_comm spent (body + (test + 3))) (mul-le (body + (test + 3)) spent (start + (test + 3 + body + finish)) spent (omega arith) (omega arith)) in
-    let one : (start + (test + 3 + body + finish)) * 1 ≡ start + (test + 3 + body + finish) = omega arith in
+    let all : ℕ = start + (2 * test + 3 + body + finish) in
+    let whole : all * (1 + spent) ≡ all * 1 + all * spent = spread-right all 1 spent in
+    let turn : spent * (body + (test + 2)) ≤ all * spent = rw (mul_comm spent (body + (test + 2))) (mul-le (body + (test + 2)) spent all spent (omega arith) (omega arith)) in
+    let one : all * 1 ≡ all = omega arith in
     omega (arith, whole, turn, one)
 
 module _ (plan : Plan) (Text : Part → ℕ → List ℕ → Type 0) (rows : List (List Val)) (units : List Val → ℕ) (Held : (stage : ℕ) → List Val → LowState → Type 0)
@@ -389,7 +390,7 @@ module _ (plan : Plan) (Text : Part → ℕ → List ℕ → Type 0) (rows : Lis
         (meaning most fuel (scan_block plan.start (row_block plan.tests plan.reads plan.items (bytes Text (kinds_of (outs_of plan.items))))) first)
     scan_ends =
         let R : ℕ → Type 0 = Told result' rows in
-        let spent : ℕ = spend units rows * (size turning + (cost more_rows + 3)) + (cost more_rows + 2) in
+        let spent : ℕ = spend units rows * (size turning + (cost more_rows + 2)) + (cost more_rows + 1) in
         let after : Statement = seq (while more_rows turning) finish_block in
         Ends-more Finished Never R (size plan.start + (spent + 12)) _ (meaning most fuel (seq plan.start after) first)
         (scan-weight (size plan.start) (size turning) (cost more_rows) (size finish_block) (spend units rows) (omega arith))
