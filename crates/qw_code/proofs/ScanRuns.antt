@@ -1,6 +1,5 @@
 -- A scan of one table: its rows one after another, and the result at the end.
 use Rattle.std.proofs.Common.{◌≡◌, ℕ, zero, suc, ◌+◌, ◌-◌, ◌*◌, ◌/◌, ◌%◌, ◌^◌, ◌<◌, ◌≤◌, ◌⊎◌, inl, inr, Bool, true, false, if◌then◌else◌, List, [], ◌∷◌, ◌++◌, length, Some, None, Result, Ok, Err, slice_get, slice_set, length-set, length-append, refl, sym, ap, ap₂, ◌∙◌, subst, arith}
-use Rattle.std.proofs.lemmas.Bool.{ne_eqb, eq-eqb}
 use Rattle.std.proofs.Math.Nat.{mul_comm}
 use Rattle.std.proofs.lemmas.Nat.{mul-le}
 use Rattle.std.proofs.lemmas.List.{append-nil}
@@ -16,7 +15,7 @@ use Rattle.qw_map.proofs.Chains.{onto, length-onto}
 use Rattle.qw_map.proofs.TurnFacts.{slice_get-set_same, slice_get-set_other}
 use Rattle.qw_meaning.specs.Flow.{rows_given}
 use Rattle.qw_module.specs.declared.instruction.ValType.TheVariants.{I32}
-use Rattle.qw_module.specs.declared.instruction.Binary.TheVariants.{Add}
+use Rattle.qw_module.specs.declared.instruction.Binary.TheVariants.{Sub}
 use Rattle.qw_low.specs.Syntax.{Statement, local, binop, seq, while}
 use Rattle.qw_low.specs.State.{Part, Column, Own, Value, Number, Cells, LowState}
 use Rattle.qw_low.specs.Meaning.{value, cost, meaning}
@@ -143,21 +142,22 @@ module _ (plan : Plan) (Text : Part → ℕ → List ℕ → Type 0) (rows : Lis
     pub pages : most ≡ 2 + total * width / (page - width)
     pub texts_lie : (p : Part) (off : ℕ) (octets : List ℕ) → Text p off octets → (i octet : ℕ) → slice_get octets i ≡ Some octet → IsShown plan.base s0 p (off + i) octet
     pub held_kept : (k : ℕ) (r : List Val) (s t : LowState) → Kept plan.next s t → Held k r s → Held k r t
-    pub held_first : (i : ℕ) (r : List Val) (s : LowState) → slice_get rows i ≡ Some r → Since plan.known plan.base s0 s → plan.many ≤ length s.locals → slice_get s.locals 5 ≡ Some (Number (4 * i)) → slice_get s.own 0 ≡ Some page → Held 0 r s
+    pub held_first : (i : ℕ) (r : List Val) (s : LowState) → slice_get rows i ≡ Some r → Since plan.known plan.base s0 s → plan.many ≤ length s.locals →
+        slice_get s.locals 5 ≡ Some (Number (4 * (length rows - i))) → slice_get s.locals 6 ≡ Some (Number (4 * length rows)) → slice_get s.own 0 ≡ Some page → Held 0 r s
     pub tests_are : (i : ℕ) (r : List Val) → slice_get rows i ≡ Some r → AreTests most fuel (1 + units r) plan.known plan.many (λ k. Held k r) 0 plan.tests (truths r)
     pub reads_end : (i : ℕ) (r : List Val) (s : LowState) → slice_get rows i ≡ Some r → Held decided r s → plan.many ≤ length s.locals →
         Ends (size plan.reads) (λ t. Kept plan.known s t × Held (suc decided) r t) Never (λ code. ⊥) (meaning most fuel plan.reads s)
     pub items_are : (i : ℕ) (r : List Val) → slice_get rows i ≡ Some r → (some : 1 ≤ 1 + units r) →
         AreItems most fuel (1 + units r) plan.next plan.many some (Held (suc decided) r) (held_kept (suc decided) r) Text plan.next plan.items (values r)
 
-  -- between two rows: the rows so far, and the number of those that were scanned
+  -- between two rows: the rows so far, and the number of those that were scanned; the others are left
   pub record Ready (i : ℕ) (so_far : List (List Val)) (s : LowState) : Type 0 where
     pub found : List Row
     pub values_are : values_of (onto found []) ≡ so_far
     pub has : HasResult Has width plan.base found s
     pub since : Since plan.known plan.base s0 s
     pub many : plan.many ≤ length s.locals
-    pub offset : slice_get s.locals 5 ≡ Some (Number (4 * i))
+    pub offset : slice_get s.locals 5 ≡ Some (Number (4 * (length rows - i)))
     pub end : slice_get s.locals 6 ≡ Some (Number (4 * length rows))
 
   found-many : (found : List Row) → length found ≡ length (values_of (onto found []))
@@ -178,26 +178,27 @@ module _ (plan : Plan) (Text : Part → ℕ → List ℕ → Type 0) (rows : Lis
 
   module _ (p : Promises) where
     pub at_end : (so_far : List (List Val)) (s : LowState) → Ready (length rows) so_far s → value s more_rows ≡ Some (Number 0)
-    at_end so_far s ready = rw (ready.offset, ready.end, eq-eqb (4 * length rows) (4 * length rows) refl) refl
+    at_end so_far s ready = ready.offset ∙ ap (λ (n : ℕ). Some (Number n)) (omega arith)
 
     pub before_end : (i : ℕ) (so_far : List (List Val)) (s : LowState) → i < length rows → Ready i so_far s → IsSet (value s more_rows)
-    before_end i so_far s less ready = inl (0, rw (ready.offset, ready.end, ne_eqb (4 * i) (4 * length rows) (λ e. omega (arith, e, less))) refl)
+    before_end i so_far s less ready = inl (4 * (length rows - i) - 1, ready.offset ∙ ap (λ (n : ℕ). Some (Number n)) (omega (arith, less)))
 
     -- to the next row
     stepped : (i : ℕ) (so_far : List (List Val)) (t : LowState) → i < length rows → Ready i so_far t → Ends 4 (Ready (suc i) so_far) Never (λ code. ⊥) (meaning most fuel next_row t)
     stepped i so_far t less ready =
         let there : 5 < length t.locals = omega (arith, ready.many, p.high, p.behind, p.room) in
-        let next : (4 * i + 4) % 2 ^ 32 ≡ 4 * suc i = omega (arith, less, p.few) in
-        let t1 : LowState = record t { locals = slice_set t.locals 5 (Number (4 * suc i)) } in
-        assign_ends (Ready (suc i) so_far) Never (λ code. ⊥) most fuel 5 (binop I32 Add (local 5) (i32 4)) (Number (4 * suc i)) t (rw (ready.offset, next) refl) there
+        let fewer : ℕ = 4 * (length rows - suc i) in
+        let next : (4 * (length rows - i) + 2 ^ 32 - 4) % 2 ^ 32 ≡ fewer = omega (arith, less, p.few) in
+        let t1 : LowState = record t { locals = slice_set t.locals 5 (Number fewer) } in
+        assign_ends (Ready (suc i) so_far) Never (λ code. ⊥) most fuel 5 (binop I32 Sub (local 5) (i32 4)) (Number fewer) t (rw (ready.offset, next) refl) there
         (record {
           found = ready.found;
           values_are = ready.values_are;
-          has = result-kept Has width plan.base ready.found 5 t t1 (omega arith) (Kept-one t 5 (Number (4 * suc i))) ready.has;
-          since = Since-set plan.known plan.base s0 t (Number (4 * suc i)) ready.since;
-          many = omega (arith, ready.many, length-set t.locals 5 (Number (4 * suc i)));
-          offset = slice_get-set_same t.locals 5 (Number (4 * suc i)) there;
-          end = slice_get-set_other t.locals 5 6 (Number (4 * suc i)) (λ e. omega (arith, e)) ∙ ready.end;
+          has = result-kept Has width plan.base ready.found 5 t t1 (omega arith) (Kept-one t 5 (Number fewer)) ready.has;
+          since = Since-set plan.known plan.base s0 t (Number fewer) ready.since;
+          many = omega (arith, ready.many, length-set t.locals 5 (Number fewer));
+          offset = slice_get-set_same t.locals 5 (Number fewer) there;
+          end = slice_get-set_other t.locals 5 6 (Number fewer) (λ e. omega (arith, e)) ∙ ready.end;
         })
 
     -- what is kept while a row is worked on
@@ -335,7 +336,7 @@ module _ (plan : Plan) (Text : Part → ℕ → List ℕ → Type 0) (rows : Lis
           Ends-more Post Never R (size row * N + 4) (size body * N) (meaning most fuel body s) (omega (arith, whole, at_least 4 N some))
           (Ends-then Post Never R (size row * N) 4 Mid (meaning most fuel row s) (meaning most fuel next_row)
           (tests_end most fuel N plan.known plan.many (λ k. Held k r) some Mid R rest s decided plan.tests (truths r) 0 s (omega arith) (p.tests_are i r there) (Kept-same plan.known s)
-          (p.held_first i r s there ready.since ready.many ready.offset (ready.has.pages 0 (omega arith))) ready.many
+          (p.held_first i r s there ready.since ready.many ready.offset ready.end (ready.has.pages 0 (omega arith))) ready.many
           (record { true_then = true_then; false_then = false_then; raised_then = raised_then (all_true (truths r)) refl }))
           (stepped_after (result r)))
 

@@ -78,10 +78,10 @@ module _ (others : List ValType) where
 
   pub begin_typed : (base : ℕ) (columns : Statement) → base < 2 ^ 32 → IsTyped types columns → IsTyped types (begin_block base columns)
   begin_typed base columns small typed =
-      ((((refl, refl), ((I32, refl, ((omega arith, refl), (small, refl), refl)), (I32, refl, (refl, (omega arith, refl), refl))))), (((refl, refl), (I32, refl, (refl, (omega arith, refl), refl))), typed))
+      ((((refl, refl), ((I32, refl, ((omega arith, refl), (small, refl), refl)), (I32, refl, (refl, (omega arith, refl), refl))))), (((refl, refl), ((I32, refl, (refl, (omega arith, refl), refl)), (I32, refl, refl))), typed))
 
   finish_typed : IsTyped types finish_block
   finish_typed = ((refl, refl), (((refl, refl), tt, (refl, refl)), (refl, refl)))
 
   pub scan_typed : (start row : Statement) → IsTyped types start → IsTyped types row → IsTyped types (scan_block start row)
-  scan_typed start row begun done = (begun, (((refl, refl, refl), (done, (I32, refl, (refl, (omega arith, refl), refl)))), finish_typed))
+  scan_typed start row begun done = (begun, ((refl, (done, (I32, refl, (refl, (omega arith, refl), refl)))), finish_typed))
