@@ -1,14 +1,14 @@
 //! How numbers compare (ISO/IEC 9075:1992, 8.2), within 64 bits. Those of one scale compare as their words do.
 
-ghost use Rattle.std.specs.Prelude.{◌≡◌, ◌+◌, ◌-◌, ◌<◌, ◌≤◌, ◌^◌, ◌++◌, OnOk, length};
+ghost use Rattle.std.specs.Prelude.{◌≡◌, ◌+◌, ◌-◌, ◌*◌, ◌<◌, ◌≤◌, ◌^◌, ◌++◌, OnOk, length};
 ghost use Rattle.qw_types.specs.Arithmetic.{order_of};
-ghost use Rattle.qw_low.specs.Syntax.{Statement};
+ghost use Rattle.qw_low.specs.Syntax.{Statement, assign};
 ghost use Rattle.qw_low.specs.Steps.{steps_of};
 ghost use Rattle.qw_wide.specs.Numbers.{Tests};
 ghost use Rattle.qw_wide.specs.Relations.{IsTruthOf, relation_of};
-ghost use Rattle.qw_wide.specs.Inner.Blocks.{left_brought, right_brought, order_block, comparison_block};
+ghost use Rattle.qw_wide.specs.Inner.Blocks.{is_past, left_brought, right_brought, zero_test, less_block, more_block, comparison_block};
 
-use crate::arithmetic::{Scaled, ten_to};
+use crate::arithmetic::{Scaled, is_past, ten_to};
 use qw_low::block::Block;
 use qw_low::cell::Local;
 use qw_low::step::LowStep;
@@ -93,19 +93,83 @@ fn push_right_brought(
     Ok(())
 }
 
-/// Adds the steps of a number in `n` that is below, at or above 0 as one number is below, at or above another of another scale.
-fn push_order(block: &mut Block, left: Scaled, right: Scaled, n: Local) -> Result<(), NoMemory>
-    requires scales { (left.scale ≤ 18) × (right.scale ≤ 18) }
-    ensures { OnOk result (block.new.code.items ≡ block.old.code.items ++ steps_of (order_block left.scale right.scale n left.local right.local)) }
+/// Adds the steps of a test of a number against 0.
+fn push_zero_test(
+    block: &mut Block,
+    operator: Comparison,
+    n: Local,
+    out: Local,
+) -> Result<(), NoMemory>
+    ensures { OnOk result (block.new.code.items ≡ block.old.code.items ++ steps_of (assign out (zero_test operator n))) }
 {
-    if left.scale < right.scale {
-        push_left_brought(block, right.scale - left.scale, n, left.local, right.local)
-    } else {
-        push_right_brought(block, left.scale - right.scale, n, left.local, right.local)
-    }
+    block.code.extend_from_slice(&[
+        LowStep::Op(Op::LocalGet(n)),
+        LowStep::Op(Op::Const(Const::I64(0))),
+        LowStep::Op(Op::Relation(ValType::I64, relation_of(operator))),
+        LowStep::Op(Op::LocalSet(out)),
+    ])?;
+    Ok(())
 }
 
-/// Adds the steps of a comparison: at one scale a relation of the two locals, and else a test of their order.
+/// Adds the steps of a comparison whose left operand's scale is k below the right one's.
+fn push_less_scaled(
+    block: &mut Block,
+    operator: Comparison,
+    k: u8,
+    left: Scaled,
+    right: Scaled,
+    n: Local,
+    out: Local,
+) -> Result<(), NoMemory>
+    requires { k ≤ 18 }
+    ensures { OnOk result (block.new.code.items ≡ block.old.code.items ++ steps_of (less_block operator (is_past (left.most * 10 ^ k)) k n out left.local right.local)) }
+{
+    if is_past(u128::from(left.most) * u128::from(ten_to(k))) {
+        push_left_brought(block, k, n, left.local, right.local)?;
+        push_zero_test(block, operator, n, out)?;
+    } else {
+        block.code.extend_from_slice(&[
+            LowStep::Op(Op::LocalGet(left.local)),
+            LowStep::Op(Op::Const(Const::I64(ten_to(k)))),
+            LowStep::Op(Op::Binary(ValType::I64, Binary::Mul)),
+            LowStep::Op(Op::LocalGet(right.local)),
+            LowStep::Op(Op::Relation(ValType::I64, relation_of(operator))),
+            LowStep::Op(Op::LocalSet(out)),
+        ])?;
+    }
+    Ok(())
+}
+
+/// The same of a right operand whose scale is k below the left one's.
+fn push_more_scaled(
+    block: &mut Block,
+    operator: Comparison,
+    k: u8,
+    left: Scaled,
+    right: Scaled,
+    n: Local,
+    out: Local,
+) -> Result<(), NoMemory>
+    requires { k ≤ 18 }
+    ensures { OnOk result (block.new.code.items ≡ block.old.code.items ++ steps_of (more_block operator (is_past (right.most * 10 ^ k)) k n out left.local right.local)) }
+{
+    if is_past(u128::from(right.most) * u128::from(ten_to(k))) {
+        push_right_brought(block, k, n, left.local, right.local)?;
+        push_zero_test(block, operator, n, out)?;
+    } else {
+        block.code.extend_from_slice(&[
+            LowStep::Op(Op::LocalGet(left.local)),
+            LowStep::Op(Op::LocalGet(right.local)),
+            LowStep::Op(Op::Const(Const::I64(ten_to(k)))),
+            LowStep::Op(Op::Binary(ValType::I64, Binary::Mul)),
+            LowStep::Op(Op::Relation(ValType::I64, relation_of(operator))),
+            LowStep::Op(Op::LocalSet(out)),
+        ])?;
+    }
+    Ok(())
+}
+
+/// Adds the steps of a comparison: at one scale a relation of the two locals.
 fn push_comparison(
     block: &mut Block,
     operator: Comparison,
@@ -115,7 +179,7 @@ fn push_comparison(
     out: Local,
 ) -> Result<(), NoMemory>
     requires scales { (left.scale ≤ 18) × (right.scale ≤ 18) }
-    ensures { OnOk result (block.new.code.items ≡ block.old.code.items ++ steps_of (comparison_block operator left.scale right.scale n out left.local right.local)) }
+    ensures { OnOk result (block.new.code.items ≡ block.old.code.items ++ steps_of (comparison_block operator left.scale left.most right.scale right.most n out left.local right.local)) }
 {
     if left.scale == right.scale {
         block.code.extend_from_slice(&[
@@ -124,16 +188,14 @@ fn push_comparison(
             LowStep::Op(Op::Relation(ValType::I64, relation_of(operator))),
             LowStep::Op(Op::LocalSet(out)),
         ])?;
+        Ok(())
+    } else if left.scale < right.scale {
+        let k = right.scale - left.scale;
+        push_less_scaled(block, operator, k, left, right, n, out)
     } else {
-        push_order(block, left, right, n)?;
-        block.code.extend_from_slice(&[
-            LowStep::Op(Op::LocalGet(n)),
-            LowStep::Op(Op::Const(Const::I64(0))),
-            LowStep::Op(Op::Relation(ValType::I64, relation_of(operator))),
-            LowStep::Op(Op::LocalSet(out)),
-        ])?;
+        let k = left.scale - right.scale;
+        push_more_scaled(block, operator, k, left, right, n, out)
     }
-    Ok(())
 }
 
 /// Adds in the local `out` whether a comparison of two numbers is true, by their exact values: 1, and else 0. `free` is a local of its own.
