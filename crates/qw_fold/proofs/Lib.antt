@@ -1,1 +1,6 @@
+mod Bringing
+mod Congruence
+mod Constructs
+mod Evaluations
+mod Literals
 pub mod SameLemmas
