@@ -51,8 +51,10 @@ sum_same f g (x ∷ xs) h = sum_by-cons f x xs ∙ rw (h x, sum_same f g xs h) (
 
 each_same : (f g : List Val → Result (List (List Val)) Code) (flow : Flow) → ((row : List Val) → f row ≡ g row) → each f flow ≡ each g flow
 each_same f g flow h =
-    rw (flat_map_same (λ row. rows_given (f row)) (λ row. rows_given (g row)) flow.rows (λ row. ap rows_given (h row)),
-        flat_map_same (λ row. codes_given (f row)) (λ row. codes_given (g row)) flow.rows (λ row. ap codes_given (h row))) refl
+    rw (
+      flat_map_same (λ row. rows_given (f row)) (λ row. rows_given (g row)) flow.rows (λ row. ap rows_given (h row)),
+      flat_map_same (λ row. codes_given (f row)) (λ row. codes_given (g row)) flow.rows (λ row. ap codes_given (h row)),
+    ) refl
 
 pub flow_same : (query other : Specification) (tables : List (List (List Val))) → MeansTheSame query other → flow query tables ≡ flow other tables
 flow_same query other tables h =

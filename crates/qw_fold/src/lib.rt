@@ -1,4 +1,5 @@
 #![tactic(auto)]
 
+mod construct;
 mod literal;
 mod operation;

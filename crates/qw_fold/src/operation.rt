@@ -9,6 +9,7 @@ ghost use Rattle.qw_fold.specs.Folded.{AreOperands, IsFolded, IsLeft, IsNoDate, 
 ghost use Rattle.qw_fold.specs.Texts.{texts_in};
 ghost use Rattle.qw_fold.specs.Inner.Made.{BroughtTogether, IsBuilt, IsFoldOf};
 
+use crate::construct::{arithmetic_tree, extract_tree, negative_tree};
 use crate::literal::{at_scale, evaluated, is_date, is_number};
 use qw_meaning::evaluate::scale;
 use qw_meaning::expression::{Expr, Field, Operator};
@@ -45,12 +46,7 @@ pub(crate) fn arithmetic(
 }
 
 /// The same of operands that need no other scale.
-fn operation(
-    alloc: Global,
-    operator: Operator,
-    left: Expr,
-    right: Expr,
-) -> Result<Expr, NoMemory>
+fn operation(alloc: Global, operator: Operator, left: Expr, right: Expr) -> Result<Expr, NoMemory>
     requires typed { IsTyped (arithmetic operator (expression_of left) (expression_of right)) }
     requires folded { IsFolded left × IsFolded right }
     requires operands { AreOperands operator left right }
@@ -71,22 +67,6 @@ fn are_numbers(left: &Expr, right: &Expr) -> bool
     is_number(left) && is_number(right)
 }
 
-fn arithmetic_tree(
-    alloc: Global,
-    operator: Operator,
-    left: Expr,
-    right: Expr,
-) -> Result<Expr, NoMemory>
-    ensures built { IfOk result (λ tree. IsBuilt (arithmetic operator (expression_of left) (expression_of right)) (1 + nodes left + nodes right) (texts_in left ++ texts_in right) tree) }
-    ensures folded { IfOk result (λ tree. IsFolded left × IsFolded right → IsLeft operator left right × AreOperands operator left right → IsFolded tree) }
-{
-    Ok(Expr::Arithmetic(
-        operator,
-        Box::new(alloc, left)?,
-        Box::new(alloc, right)?,
-    ))
-}
-
 /// `- operand`: a literal where the operand is.
 pub(crate) fn negative(alloc: Global, operand: Expr) -> Result<Expr, NoMemory>
     requires typed { IsTyped (negative (expression_of operand)) }
@@ -101,13 +81,6 @@ pub(crate) fn negative(alloc: Global, operand: Expr) -> Result<Expr, NoMemory>
     Ok(tree)
 }
 
-fn negative_tree(alloc: Global, operand: Expr) -> Result<Expr, NoMemory>
-    ensures built { IfOk result (λ tree. IsBuilt (negative (expression_of operand)) (1 + nodes operand) (texts_in operand) tree) }
-    ensures folded { IfOk result (λ tree. IsFolded operand → IsNoNumber operand → IsFolded tree) }
-{
-    Ok(Expr::Negative(Box::new(alloc, operand)?))
-}
-
 /// `EXTRACT(field FROM operand)`: a literal where the operand is.
 pub(crate) fn extract(alloc: Global, field: Field, operand: Expr) -> Result<Expr, NoMemory>
     requires typed { IsTyped (extract field (expression_of operand)) }
@@ -120,11 +93,4 @@ pub(crate) fn extract(alloc: Global, field: Field, operand: Expr) -> Result<Expr
         return Ok(evaluated(tree));
     }
     Ok(tree)
-}
-
-fn extract_tree(alloc: Global, field: Field, operand: Expr) -> Result<Expr, NoMemory>
-    ensures built { IfOk result (λ tree. IsBuilt (extract field (expression_of operand)) (1 + nodes operand) (texts_in operand) tree) }
-    ensures folded { IfOk result (λ tree. IsFolded operand → IsNoDate operand → IsFolded tree) }
-{
-    Ok(Expr::Extract(field, Box::new(alloc, operand)?))
 }

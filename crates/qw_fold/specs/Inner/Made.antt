@@ -77,6 +77,27 @@ pub record IsBuilt (e : Expression) (count : ℕ) (texts : List (List ℕ)) (tre
   pub counted : nodes tree ≡ count
   pub same_texts : texts_in tree ≡ texts
 
+pub record AreBuilt (c : Condition) (count : ℕ) (texts : List (List ℕ)) (tree : Cond) : Type 0 where
+  pub means : condition_of tree ≡ c
+  pub counted : nodes_of tree ≡ count
+  pub same_texts : texts_within tree ≡ texts
+
+-- of lists
+pub record AllBuilt (es : Expressions) (count : ℕ) (texts : List (List ℕ)) (tree : Exprs) : Type 0 where
+  pub means : expressions_of tree ≡ es
+  pub counted : nodes_of_all tree ≡ count
+  pub same_texts : texts_of_all tree ≡ texts
+
+pub record ChoicesBuilt (cs : Choices) (count : ℕ) (texts : List (List ℕ)) (tree : Branches) : Type 0 where
+  pub means : choices_of tree ≡ cs
+  pub counted : nodes_of_branches tree ≡ count
+  pub same_texts : texts_of_branches tree ≡ texts
+
+pub record MatchesBuilt (cs : Expression → Choices) (count : ℕ) (texts : List (List ℕ)) (tree : Matches) : Type 0 where
+  pub means : (x : Expression) → matches_of tree x ≡ cs x
+  pub counted : nodes_of_matches tree ≡ count
+  pub same_texts : texts_of_matches tree ≡ texts
+
 -- two trees at the larger scale of both
 pub record BroughtTogether (a b x y : Expr) : Type 0 where
   pub left : IsBrought (max (scale_of (expression_of a)) (scale_of (expression_of b))) (expression_of a) (expression_of x)
