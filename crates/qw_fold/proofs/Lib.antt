@@ -4,3 +4,4 @@ mod Constructs
 mod Evaluations
 mod Literals
 pub mod SameLemmas
+mod Trees

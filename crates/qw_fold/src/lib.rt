@@ -3,3 +3,4 @@
 mod construct;
 mod literal;
 mod operation;
+mod tree;

@@ -1,22 +1,23 @@
 //! Literals of numbers and dates (ISO/IEC 9075:1992, 5.3), and what an operation on them comes to.
 
-ghost use Rattle.std.specs.Prelude.{◌≡◌, ◌≤◌, [], IsTrue, MatchOption, Option};
+ghost use Rattle.std.specs.Prelude.{◌≡◌, ◌≤◌, [], ℕ, IfOk, IsTrue, List, MatchOption, Option};
 ghost use Rattle.qw_types.specs.Arithmetic.{fits};
 ghost use Rattle.qw_meaning.specs.Columns.{HasColumns, HoldsIn};
 ghost use Rattle.qw_meaning.specs.Evaluation.{value_of};
-ghost use Rattle.qw_meaning.specs.Expression.{scale_of};
+ghost use Rattle.qw_meaning.specs.Expression.{Expression, scale_of};
 ghost use Rattle.qw_meaning.specs.Nodes.{nodes};
 ghost use Rattle.qw_meaning.specs.Tree.{expression_of};
 ghost use Rattle.qw_meaning.specs.Typing.{IsTyped};
 ghost use Rattle.qw_meaning.specs.declared.expression.Expr.TheVariants.{Number};
 ghost use Rattle.qw_fold.specs.Folded.{IsAtScale, IsFolded};
 ghost use Rattle.qw_fold.specs.Texts.{texts_in};
-ghost use Rattle.qw_fold.specs.Inner.Made.{IsBrought, number_in};
+ghost use Rattle.qw_fold.specs.Inner.Made.{IsBrought, IsFoldAt, IsFoldOf, number_in};
 
 use qw_meaning::evaluate::{scale, value};
 use qw_meaning::expression::Expr;
 use qw_meaning::value::Value;
-use qw_types::arithmetic;
+use qw_types::{NoMemory, Text, arithmetic};
+use std::alloc::Global;
 
 /// Whether an expression is a literal of a number.
 pub(crate) fn is_number(expr: &Expr) -> bool
@@ -47,6 +48,7 @@ pub(crate) fn at_scale(expr: Expr, to: u8) -> Expr
     ensures folded { IsFolded expr → IsFolded result }
     ensures nodes { nodes result ≡ nodes expr }
     ensures texts { texts_in result ≡ texts_in expr }
+    ensures stands { (e : Expression) (count : ℕ) (texts : List (List ℕ)) → IsFoldOf e count texts expr → IsFoldAt to e count texts result }
 {
     match expr {
         Expr::Number(number, from) if from < to => match arithmetic::bring(number, from, to) {
@@ -81,4 +83,12 @@ pub(crate) fn evaluated(expr: Expr) -> Expr
         Some(number) => Expr::Number(number, scale(&expr)),
         None => expr,
     }
+}
+
+/// Another text with the same octets.
+pub(crate) fn copy_of(alloc: Global, text: &Text) -> Result<Text, NoMemory>
+    ensures { IfOk result (λ copy. copy ≡ text.now) }
+{
+    let copy = String::from_str(alloc, text.as_str())?;
+    Ok(Text::new(copy))
 }

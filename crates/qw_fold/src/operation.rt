@@ -1,18 +1,19 @@
 //! Operators over operands that are folded (ISO/IEC 9075:1992, 6.6, 6.11, 6.12).
 
 ghost use Rattle.std.specs.Prelude.{◌≡◌, ◌+◌, ◌++◌, ◌&&◌, IfOk};
-ghost use Rattle.qw_meaning.specs.Expression.{arithmetic, extract, negative};
+ghost use Rattle.qw_meaning.specs.Expression.{arithmetic, comparison, extract, negative};
 ghost use Rattle.qw_meaning.specs.Nodes.{nodes};
 ghost use Rattle.qw_meaning.specs.Tree.{expression_of};
 ghost use Rattle.qw_meaning.specs.Typing.{IsTyped};
 ghost use Rattle.qw_fold.specs.Folded.{AreOperands, IsFolded, IsLeft, IsNoDate, IsNoNumber};
 ghost use Rattle.qw_fold.specs.Texts.{texts_in};
-ghost use Rattle.qw_fold.specs.Inner.Made.{BroughtTogether, IsBuilt, IsFoldOf};
+ghost use Rattle.qw_fold.specs.Inner.Made.{AreFoldOf, BroughtTogether, IsBuilt, IsFoldOf};
 
-use crate::construct::{arithmetic_tree, extract_tree, negative_tree};
+use crate::construct::{arithmetic_tree, compare_tree, extract_tree, negative_tree};
 use crate::literal::{at_scale, evaluated, is_date, is_number};
 use qw_meaning::evaluate::scale;
-use qw_meaning::expression::{Expr, Field, Operator};
+use qw_meaning::expression::{Cond, Expr, Field, Operator};
+use qw_meaning::query::Comparison;
 use qw_types::NoMemory;
 use std::alloc::Global;
 
@@ -93,4 +94,19 @@ pub(crate) fn extract(alloc: Global, field: Field, operand: Expr) -> Result<Expr
         return Ok(evaluated(tree));
     }
     Ok(tree)
+}
+
+/// `left op right`.
+pub(crate) fn compared(
+    alloc: Global,
+    op: Comparison,
+    left: Expr,
+    right: Expr,
+) -> Result<Cond, NoMemory>
+    requires typed { IsTyped (expression_of left) × IsTyped (expression_of right) }
+    requires folded { IsFolded left × IsFolded right }
+    ensures { IfOk result (λ made. AreFoldOf (comparison op (expression_of left) (expression_of right)) (1 + nodes left + nodes right) (texts_in left ++ texts_in right) made) }
+{
+    let (left, right) = at_one_scale(left, right);
+    compare_tree(alloc, op, left, right)
 }
