@@ -1,6 +1,7 @@
 -- What the functions of src/rules and src/tree.rt make: a tree that means the same as an expression or condition, is typed over the same
 -- columns, is folded, has at most so many nodes, and these texts.
 use Rattle.std.specs.Prelude.{◌≡◌, ◌⊎◌, ◌≤◌, ◌<◌, ℕ, ℤ, max, List, Option, Some, None, Ok, Err, Result, Bool, true, false, IsTrue}
+use Rattle.std.specs.List.{AllZip}
 use Rattle.qw_types.specs.Arithmetic.{bring, fits}
 use Rattle.qw_types.specs.declared.code.Code.{Code}
 use Rattle.qw_types.specs.declared.value.Ty.{Ty}
@@ -158,3 +159,10 @@ pub record MatchesFold (operand s : ℕ) (old : Matches) (new : Matches) : Type 
   pub folded : MatchesFolded operand s new
   pub short : nodes_of_matches new ≤ nodes_of_matches old
   pub same_texts : texts_of_matches new ≡ texts_of_matches old
+
+-- conjuncts, and the items of a select list, one for one
+abbrev pub ConjunctsFold : List Cond → List Cond → Type 0
+ConjunctsFold old new = AllZip (λ (c d : Cond). AreFoldOf (condition_of c) (nodes_of c) (texts_within c) d) old new
+
+abbrev pub ItemsFold : List Expr → List Expr → Type 0
+ItemsFold old new = AllZip (λ (e f : Expr). IsFoldOf (expression_of e) (nodes e) (texts_in e) f) old new
