@@ -1,5 +1,5 @@
 -- What a literal that is brought to a scale changes where it stands: nothing, beside a number of that scale.
-use Rattle.std.proofs.Common.{◌≡◌, ℕ, ℤ, zero, suc, pos, negsuc, neg_ℤ, ◌+◌, ◌-◌, ◌*◌, ◌^◌, ◌≤◌, ◌<◌, ◌*ℤ◌, ◌<ℤ◌, max, IsTrue, Option, Result, Ok, Err, int_cmp, Ordering, refl, sym, ap, subst, ◌∙◌, arith, unsigned_abs}
+use Rattle.std.proofs.Common.{◌≡◌, ℕ, ℤ, zero, suc, pos, negsuc, neg_ℤ, ◌+◌, ◌-◌, ◌*◌, ◌^◌, ◌≤◌, ◌<◌, ◌*ℤ◌, ◌<ℤ◌, max, IsTrue, Result, Ok, int_cmp, Ordering, refl, sym, ap, ◌∙◌, arith}
 use mathlib.Core.Path.{ap₂}
 use borrow.Author.Differences.{up, down, product_is}
 use Rattle.std.proofs.Math.Nat.{mul_assoc, mul_comm, pow-le-pow_right, mul-lt-mul_of_pos_right}
@@ -9,7 +9,7 @@ use Rattle.std.proofs.lemmas.Nat.{pow-add}
 use Rattle.std.specs.Cmp.{int_cmp_is, int_ranks}
 use Rattle.std.specs.Ordering.{MatchOrdering}
 use Rattle.std.specs.declared.cmp.Ordering.TheVariants as order
-use Rattle.qw_types.specs.Arithmetic.{◌>>=◌, bring, checked, difference_of, fits, order_of, sum_of}
+use Rattle.qw_types.specs.Arithmetic.{bring, checked, difference_of, fits, order_of, sum_of}
 use Rattle.qw_types.specs.declared.code.Code.{Code}
 
 checked_fits : (x : ℤ) → IsTrue (fits x) → ◌≡◌ {A = Result ℤ Code} (checked x) (Ok x)

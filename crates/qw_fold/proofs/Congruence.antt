@@ -1,18 +1,10 @@
 -- An expression or a condition over parts that stand for others can stand for what is over those.
-use Rattle.std.proofs.Common.{◌≡◌, ℕ, ◌+◌, ◌≤◌, max, IsTrue, List, Option, Result, Ok, refl, sym, ap, subst, ◌∙◌, arith}
-use Rattle.qw_types.specs.Arithmetic.{◌>>=◌}
-use Rattle.qw_types.specs.declared.value.Ty.{Ty}
-use Rattle.qw_types.specs.declared.kind.Kind.{Kind}
+use Rattle.std.proofs.Common.{ℕ, refl, ◌∙◌}
 use Rattle.qw_types.specs.declared.truth.Truth.{Truth}
 use Rattle.qw_meaning.specs.declared.expression.Operator.{Operator}
 use Rattle.qw_meaning.specs.declared.expression.Field.{Field}
 use Rattle.qw_meaning.specs.declared.query.Comparison.{Comparison}
-use Rattle.qw_meaning.specs.declared.query.Comparison.TheVariants.{Equal, GreaterOrEqual, LessOrEqual}
-use Rattle.qw_meaning.specs.Columns.{HasColumns, HaveColumns, IsColumnOf}
-use Rattle.qw_meaning.specs.Evaluation.{Environment, truth_of, value_of}
-use Rattle.qw_meaning.specs.Expression.{Condition, Expression, null, number, date, text, column, arithmetic, negative, extract, brought, choice, comparison, is_null, both, either, negation_of, is, scale_of}
-use Rattle.qw_meaning.specs.Typing.{AreTyped, IsTyped, kind_of}
-use Rattle.qw_fold.specs.Same.{AreSame, IsSame}
+use Rattle.qw_meaning.specs.Expression.{Condition, Expression, arithmetic, negative, extract, brought, choice, comparison, is_null, both, either, negation_of, is}
 use Rattle.qw_fold.specs.Inner.Made.{Follows, FollowsTruth}
 
 pub itself : (e : Expression) → Follows e e

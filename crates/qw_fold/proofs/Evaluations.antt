@@ -1,12 +1,9 @@
 -- What an operation on literals comes to can stand for it.
-use Rattle.std.proofs.Common.{◌≡◌, ◌⊎◌, ◌&&◌, ℕ, ℤ, neg_ℤ, ◌+◌, ◌≤◌, ◌++◌, max, Bool, true, false, IsTrue, IfOk, List, [], Option, Some, None, MatchOption, Result, Ok, Err, refl, sym, ap, subst, ◌∙◌, arith}
+use Rattle.std.proofs.Common.{◌≡◌, ◌⊎◌, ◌&&◌, ℕ, ℤ, neg_ℤ, ◌+◌, ◌≤◌, ◌++◌, true, false, IsTrue, List, [], Some, MatchOption, Result, Ok, Err, refl, sym, ap, subst, arith}
 use Rattle.std.proofs.lemmas.Bool.Decides.{nat_tests}
-use Rattle.qw_types.specs.declared.memory.NoMemory.{NoMemory}
-use Rattle.qw_types.specs.Arithmetic.{◌>>=◌, fits}
+use Rattle.qw_types.specs.Arithmetic.{fits}
 use Rattle.qw_types.specs.declared.code.Code.{Code}
-use Rattle.qw_types.specs.declared.kind.Kind.{Kind}
 use Rattle.qw_types.specs.declared.kind.Kind.TheVariants as kind
-use Rattle.qw_types.specs.declared.value.Val.{Val}
 use Rattle.qw_types.specs.declared.value.Val.TheVariants as val
 use Rattle.qw_meaning.specs.declared.expression.Expr.{Expr}
 use Rattle.qw_meaning.specs.declared.expression.Expr.TheVariants.{Number, Date}
@@ -136,7 +133,3 @@ together_stands operator a b x y made is t h = record {
   short = rw (t.left_nodes, t.right_nodes) at h.short;
   same_texts = rw (← t.left_texts, ← t.right_texts) h.same_texts;
 }
-
-pub if_ok : {A : Type 0} (P Q : A → Type 0) (r : Result A NoMemory) → ((x : A) → P x → Q x) → IfOk r P → IfOk r Q
-if_ok P Q (Ok x) f h = f x h
-if_ok P Q (Err e) f h = tt

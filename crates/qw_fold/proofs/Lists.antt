@@ -6,11 +6,9 @@ use Rattle.std.specs.List.{AllByRecursion, AllZip, flat_map}
 use Rattle.qw_types.specs.declared.value.Ty.{Ty}
 use Rattle.qw_meaning.specs.declared.expression.Expr.{Expr}
 use Rattle.qw_meaning.specs.declared.expression.Cond.{Cond}
-use Rattle.qw_meaning.specs.Expression.{Condition, Expression}
 use Rattle.qw_meaning.specs.Nodes.{nodes, nodes_of}
 use Rattle.qw_meaning.specs.Select.{IsConditionOver, IsItemOver, IsSpecification, Parts, row_types, specification_of}
 use Rattle.qw_meaning.specs.Tree.{condition_of, expression_of}
-use Rattle.qw_meaning.specs.Typing.{has_kind}
 use Rattle.qw_fold.specs.Folded.{AreFolded, IsFolded}
 use Rattle.qw_fold.specs.Same.{AreSame, IsSame, MeansTheSame}
 use Rattle.qw_fold.specs.Texts.{texts_in, texts_within}

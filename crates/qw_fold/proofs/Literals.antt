@@ -1,22 +1,19 @@
 -- A literal that is brought to a scale can stand for the one that it was: beside an operand of that scale, in a comparison, and as a result
 -- that is brought there anyway.
 use Rattle.std.proofs.Common.{◌≡◌, ◌⊎◌, inl, inr, ℕ, ℤ, pos, ◌≤◌, ◌<◌, max, IsTrue, true, Option, Some, Result, Ok, Err, le_refl, refl, sym, ap, subst, ◌∙◌, arith}
-use Rattle.qw_types.specs.Arithmetic.{◌>>=◌, bring, fits, order_of}
+use Rattle.qw_types.specs.Arithmetic.{◌>>=◌, bring, fits}
 use Rattle.qw_types.specs.declared.code.Code.{Code}
 use Rattle.qw_types.specs.declared.kind.Kind.{Kind}
 use Rattle.qw_types.specs.declared.kind.Kind.TheVariants as kind
-use Rattle.qw_types.specs.declared.value.Ty.{Ty}
 use Rattle.qw_types.specs.declared.value.Val.{Val}
 use Rattle.qw_types.specs.declared.value.Val.TheVariants as val
 use Rattle.qw_meaning.specs.declared.expression.Operator.{Operator}
 use Rattle.qw_meaning.specs.declared.expression.Operator.TheVariants.{Add, Subtract}
 use Rattle.qw_meaning.specs.declared.query.Comparison.{Comparison}
-use Rattle.qw_meaning.specs.Columns.{HasColumns, HaveColumns, IsColumnOf}
-use Rattle.qw_meaning.specs.Evaluation.{Environment, answers, as_number, combined, compared, raised, truth_if, truth_of, value_of}
-use Rattle.qw_meaning.specs.Expression.{Condition, Expression, number, arithmetic, brought, comparison, is_null, scale_after, scale_of}
-use Rattle.qw_meaning.specs.Typing.{AreTyped, IsTyped, ScalesAllowed, are_comparable, is_number, kind_of}
+use Rattle.qw_meaning.specs.Evaluation.{as_number, combined, compared, value_of}
+use Rattle.qw_meaning.specs.Expression.{Expression, number, arithmetic, brought, comparison, is_null, scale_after, scale_of}
+use Rattle.qw_meaning.specs.Typing.{IsTyped, ScalesAllowed, are_comparable, kind_of}
 use Rattle.qw_meaning.specs.Units.{octets_of}
-use Rattle.qw_fold.specs.Same.{AreSame, IsSame}
 use Rattle.qw_fold.specs.Inner.Made.{Follows, FollowsTruth, IsBrought, IsRaised, StandsAt}
 use Rattle.qw_fold.proofs.Bringing.{brought_again, difference_left, difference_right, order_left, order_right, sum_left, sum_right}
 use Rattle.qw_fold.proofs.Congruence.{brought_follows, is_null_follows, itself, then, truth_itself, truth_then}

@@ -1,26 +1,22 @@
 -- Of specifications that mean the same the one's compiled form is the other's.
-use Rattle.std.proofs.Common.{◌≡◌, ℕ, ◌+◌, ◌-◌, ◌*◌, ◌/◌, if◌then◌else◌, List, [], ◌∷◌, ◌++◌, length, map, Option, Some, Bool, Result, Ok, Err, sum_by, refl, sym, ap, subst, ◌∙◌}
+use Rattle.std.proofs.Common.{◌≡◌, ℕ, ◌+◌, ◌-◌, ◌*◌, ◌/◌, List, [], ◌∷◌, length, map, Result, sum_by, refl, sym, ap, ◌∙◌}
 use Rattle.std.proofs.lemmas.List.Elements.{length_all_zip}
 use Rattle.std.proofs.lemmas.List.Sums.{sum_by-cons}
 use Rattle.std.specs.List.{AllZip, flat_map}
-use Rattle.qw_types.specs.Arithmetic.{◌>>=◌}
 use Rattle.qw_types.specs.declared.code.Code.{Code}
 use Rattle.qw_types.specs.declared.value.Val.{Val}
-use Rattle.qw_types.specs.declared.kind.Kind.{Kind}
 use Rattle.qw_linear.specs.Memory.{page}
 use Rattle.qw_module.specs.declared.module.Module.{Module}
 use Rattle.qw_meaning.specs.Conjuncts.{passes}
-use Rattle.qw_meaning.specs.Evaluation.{Environment, chosen, truth_of, value_of}
+use Rattle.qw_meaning.specs.Evaluation.{Environment}
 use Rattle.qw_meaning.specs.Expression.{Condition, Expression}
 use Rattle.qw_meaning.specs.Flow.{Flow, codes_given, each, flow, from_entries, kept, rows_given, rows_of, selected, values_of}
-use Rattle.qw_meaning.specs.Outcome.{Outcome, ended, outcome}
+use Rattle.qw_meaning.specs.Outcome.{ended, outcome}
 use Rattle.qw_meaning.specs.Select.{Entry, Specification}
 use Rattle.qw_meaning.specs.Typing.{kind_of}
 use Rattle.qw_meaning.specs.Units as text
-use Rattle.qw_map.specs.Behaving.{beginning}
 use Rattle.qw_map.specs.Layout.{Layout, row_size}
-use Rattle.qw_map.specs.Runs.{Behaves}
-use Rattle.qw_emit.specs.Compiled.{AnswersAt, GoesWith, IsCompiled, bound, compared_at, page_bound, units, weight_of}
+use Rattle.qw_emit.specs.Compiled.{GoesWith, IsCompiled, bound, compared_at, page_bound, units, weight_of}
 use Rattle.qw_fold.specs.Same.{AreSame, IsSame, MeansTheSame}
 
 passes_same : (cs ds : List Condition) (env : Environment) → AllZip AreSame cs ds → passes cs env ≡ passes ds env

@@ -1,7 +1,6 @@
 -- What is made of trees that stand for others, arm by arm of src/tree.rt.
-use Rattle.std.proofs.Common.{◌≡◌, ◌⊎◌, ℕ, ◌+◌, ◌≤◌, ◌++◌, max, IfOk, List, Result, Ok, Err, refl, sym, ap, subst, ◌∙◌, arith}
+use Rattle.std.proofs.Common.{◌≡◌, ℕ, ◌+◌, ◌≤◌, ◌++◌, IfOk, List, Result, Ok, Err, refl, sym, subst, ◌∙◌, arith}
 use Rattle.qw_types.specs.declared.memory.NoMemory.{NoMemory}
-use Rattle.qw_types.specs.declared.truth.Truth.{Truth}
 use Rattle.qw_meaning.specs.declared.expression.Expr.{Expr}
 use Rattle.qw_meaning.specs.declared.expression.Cond.{Cond}
 use Rattle.qw_meaning.specs.declared.expression.Exprs.{Exprs}
@@ -17,7 +16,7 @@ use Rattle.qw_meaning.specs.Tree.{choices_of, condition_of, expression_of, expre
 use Rattle.qw_meaning.specs.Typing.{AreTyped, IsTyped}
 use Rattle.qw_fold.specs.Folded.{AllFolded, AreAtOneScale, AreFolded, BranchesFolded, IsAtScale, IsFolded, MatchesFolded}
 use Rattle.qw_fold.specs.Texts.{texts_in, texts_of_all, texts_of_branches, texts_of_matches, texts_within}
-use Rattle.qw_fold.specs.Inner.Made.{AllFoldAt, AreBuilt, AreFoldOf, BranchesFold, BroughtTogether, ChoicesBuilt, Follows, FollowsResults, FollowsTruth, IsBuilt, IsFoldAt, IsFoldOf, MatchesBuilt, MatchesFold, StandsAt}
+use Rattle.qw_fold.specs.Inner.Made.{AllFoldAt, AreBuilt, AreFoldOf, BranchesFold, BroughtTogether, ChoicesBuilt, Follows, FollowsTruth, IsBuilt, IsFoldAt, IsFoldOf, MatchesBuilt, MatchesFold, StandsAt}
 use Rattle.qw_fold.specs.Inner.Typed.{AllTyped, ChoicesTyped, MatchesTyped}
 use Rattle.qw_fold.proofs.Congruence.{arithmetic_follows, both_follows, comparison_follows, either_follows, then, truth_then}
 use Rattle.qw_fold.proofs.Constructs.{among_stands, between_stands, case_follows, coalesced_stand, compared_stands, largest_stays, null_if_stands, otherwise_stands, when_stands}

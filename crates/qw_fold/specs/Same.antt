@@ -1,6 +1,6 @@
 -- When two query specifications mean the same, conjunct by conjunct and item by item (ISO/IEC 9075:1992, 6.11, 7.9, 8.12): at every row the
 -- same value or truth, or the same exception.
-use Rattle.std.specs.Prelude.{◌≡◌, ℕ}
+use Rattle.std.specs.Prelude.{◌≡◌}
 use Rattle.std.specs.List.{AllZip}
 use Rattle.qw_meaning.specs.Evaluation.{Environment, truth_of, value_of}
 use Rattle.qw_meaning.specs.Expression.{Condition, Expression, scale_of}

@@ -7,6 +7,8 @@
 
 mod construct;
 pub mod fold;
+pub mod fold_laws;
 mod literal;
 mod operation;
 mod tree;
+pub mod worked_laws;

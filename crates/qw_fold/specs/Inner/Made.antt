@@ -1,5 +1,5 @@
--- What the functions of src/rules and src/tree.rt make: a tree that means the same as an expression or condition, is typed over the same
--- columns, is folded, has at most so many nodes, and these texts.
+-- What the functions of src/literal.rt, src/operation.rt, src/construct.rt, src/tree.rt and src/fold.rt make: a tree that means the same as
+-- an expression or condition, is typed over the same columns, is folded, has at most so many nodes, and these texts.
 use Rattle.std.specs.Prelude.{◌≡◌, ◌⊎◌, ◌≤◌, ◌<◌, ℕ, ℤ, max, List, Option, Some, None, Ok, Err, Result, Bool, true, false, IsTrue}
 use Rattle.std.specs.List.{AllZip}
 use Rattle.qw_types.specs.Arithmetic.{bring, fits}

@@ -1,4 +1,4 @@
-use Rattle.std.proofs.Common.{◌≡◌, ap, ◌∙◌}
+use Rattle.std.proofs.Common.{ap, ◌∙◌}
 use Rattle.qw_meaning.specs.Select.{Parts}
 use Rattle.qw_meaning.proofs.SelectLemmas.{conjuncts_typed, items_typed}
 use Rattle.qw_fold.proofs.Lists.{FoldsTo, folded_made, same_made, short_made, specification_made, texts_made}

@@ -1,4 +1,5 @@
-use Rattle.qw_fold.proofs.Evaluations.{if_ok, together_stands}
+use Rattle.qw_fold.proofs.Evaluations.{together_stands}
+use Rattle.qw_fold.proofs.Trees.{if_ok}
 use Rattle.qw_fold.proofs.operation.arithmetic.Goals as goal
 
 pub returns-in-Add : goal.returns-in-Add
