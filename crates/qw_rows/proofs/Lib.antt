@@ -1,3 +1,4 @@
+pub mod Addresses
 pub mod BasesRuns
 pub mod Elsewhere
 pub mod LiteralRuns
