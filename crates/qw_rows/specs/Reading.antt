@@ -100,7 +100,7 @@ pub record HasBases (rows : ℕ) (r : Reader) (s : LowState) : Type 0 where
   pub octets : is_text r.ty ≡ true → slice_get s.locals r.octets ≡ Some (Address (Column (3 * r.index + 1)) 0)
   pub nulls : r.not_null ≡ false → slice_get s.locals r.nulls ≡ Some (Address (Column (3 * r.index + 2)) 0)
 
--- a local below `n` says how many rows there are
+-- a local below `n` says how many rows there are: it holds four times their number
 abbrev pub HasEnd : (n rows : ℕ) → Reader → LowState → Type 0
 HasEnd n rows r s = (r.end < n) × (slice_get s.locals r.end ≡ Some (Number (4 * rows)))
 
@@ -110,7 +110,7 @@ pub record IsAtRow (n rows row : ℕ) (r : Reader) (s : LowState) : Type 0 where
   pub end : HasEnd n rows r s
   pub left : (r.left < n) × (slice_get s.locals r.left ≡ Some (Number (4 * (rows - row))))
 
--- they are declared as i32
+-- the locals for the addresses are declared as i32
 pub record DeclaresBases (types : List ValType) (r : Reader) : Type 0 where
   pub values : slice_get types r.values ≡ Some I32
   pub octets : is_text r.ty ≡ true → slice_get types r.octets ≡ Some I32
