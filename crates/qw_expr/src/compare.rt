@@ -19,7 +19,7 @@ use qw_meaning::query::Comparison;
 use qw_module::instruction::{Const, Op, ValType};
 use qw_types::{Kind, NoMemory};
 use qw_wide::arithmetic::Scaled;
-use qw_wide::order::emit_comparison;
+use qw_wide::order::emit_cmp_scaled;
 
 /// The greatest date, as a number.
 const LAST_DATE: u64 = 99_991_231;
@@ -75,7 +75,7 @@ impl Emitter {
         let n = self.fresh(ValType::I64)?;
         let null = self.join_nulls(p, left_null, right_null)?;
         self.begin_zero(null, t)?;
-        emit_comparison(&mut self.block, operator, left, right, n, t)?;
+        emit_cmp_scaled(&mut self.block, operator, left, right, n, t)?;
         self.end_unless(null)?;
         Ok(Cell {
             value: t,

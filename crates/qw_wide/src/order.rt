@@ -199,7 +199,7 @@ fn push_comparison(
 }
 
 /// Adds in the local `out` whether a comparison of two numbers is true, by their exact values: 1, and else 0. `free` is a local of its own.
-pub fn emit_comparison(
+pub fn emit_cmp_scaled(
     block: &mut Block,
     operator: Comparison,
     left: Scaled,

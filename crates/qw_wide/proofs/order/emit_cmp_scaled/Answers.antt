@@ -3,7 +3,7 @@ use Rattle.qw_low.proofs.Lengths.{added-most}
 use Rattle.qw_wide.specs.Inner.Blocks.{comparison_block}
 use Rattle.qw_wide.proofs.Lengths.{comparison-long}
 use Rattle.qw_wide.proofs.Orders.{comparison_tests}
-use Rattle.qw_wide.proofs.order.emit_comparison.Goals as goal
+use Rattle.qw_wide.proofs.order.emit_cmp_scaled.Goals as goal
 
 pub returns-clause-block : goal.returns-clause-block
 returns-clause-block c = on_ok _ _ c.push_comparison.result
