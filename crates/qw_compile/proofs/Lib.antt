@@ -4,8 +4,10 @@ pub mod ColumnSteps
 pub mod Composed
 pub mod Finished
 pub mod Joined
+pub mod LeafLemmas
 pub mod Listed
 pub mod Made
+pub mod NamedColumns
 pub mod NestingSteps
 pub mod Promised
 pub mod ReadersLaid

@@ -29,7 +29,9 @@ use Rattle.qw_code.specs.Results.{finish_block, push_block, room_block, link_blo
 use Rattle.qw_code.specs.RowCells.{Source, begin_block, cell_block, cells_block, end_block, more_rows, next_row, plain_block, scan_block, turn_block}
 use Rattle.qw_compile.specs.Emitted.{sources_of}
 use Rattle.qw_compile.specs.Limits.{all_nodes}
-use Rattle.qw_compile.specs.Texts.{texts_in, texts_of, texts_of_all, texts_of_branches, texts_of_matches, texts_within}
+use Rattle.qw_compile.specs.Leaves.{leaves_in, leaves_of, leaves_of_all, leaves_of_branches, leaves_of_matches, leaves_within}
+use Rattle.qw_compile.specs.Texts.{texts_of}
+use Rattle.qw_compile.proofs.LeafLemmas.{texts_less}
 use Rattle.qw_compile.specs.Nesting.{closings, opening}
 use Rattle.qw_compile.proofs.Sizes.{cost_steps, two_steps}
 
@@ -163,53 +165,56 @@ scan_short base begins leads reads row code texts made b l few r rows =
     let eight = length-append (steps_of row) (steps_of next_row) in
     omega (arith, all, one, two, three, four, five, six, seven, eight, b, l, few, r, rows, steps_size begins, steps_size leads, steps_size reads)
 
--- ---- each text is a node
+-- ---- each leaf is a node
 mutual
-  texts_few : (e : Expr) → length (texts_in e) ≤ nodes e
-  texts_few Null = omega arith
-  texts_few (Number v s) = omega arith
-  texts_few (Date d) = omega arith
-  texts_few (Text t) = omega arith
-  texts_few (Column i ty) = omega arith
-  texts_few (Arithmetic' operator _ a _ b) = omega (arith, length-append (texts_in a) (texts_in b), texts_few a, texts_few b)
-  texts_few (Negative' _ a) = omega (arith, texts_few a)
-  texts_few (Extract' field _ a) = omega (arith, texts_few a)
-  texts_few (Case' _ branches) = omega (arith, branches_few branches)
-  texts_few (Match' _ x _ matches) = omega (arith, length-append (texts_in x) (texts_of_matches matches), texts_few x, matches_few matches)
-  texts_few (Coalesce' _ arguments) = omega (arith, all_few arguments)
-  texts_few (NullIf' _ a _ b) = omega (arith, length-append (texts_in a) (texts_in b), texts_few a, texts_few b)
+  leaves_few : (e : Expr) → length (leaves_in e) ≤ nodes e
+  leaves_few Null = omega arith
+  leaves_few (Number v s) = omega arith
+  leaves_few (Date d) = omega arith
+  leaves_few (Text t) = omega arith
+  leaves_few (Column i ty) = omega arith
+  leaves_few (Arithmetic' operator _ a _ b) = omega (arith, length-append (leaves_in a) (leaves_in b), leaves_few a, leaves_few b)
+  leaves_few (Negative' _ a) = omega (arith, leaves_few a)
+  leaves_few (Extract' field _ a) = omega (arith, leaves_few a)
+  leaves_few (Case' _ branches) = omega (arith, branches_few branches)
+  leaves_few (Match' _ x _ matches) = omega (arith, length-append (leaves_in x) (leaves_of_matches matches), leaves_few x, matches_few matches)
+  leaves_few (Coalesce' _ arguments) = omega (arith, all_few arguments)
+  leaves_few (NullIf' _ a _ b) = omega (arith, length-append (leaves_in a) (leaves_in b), leaves_few a, leaves_few b)
 
-  condition_few : (c : Cond) → length (texts_within c) ≤ nodes_of c
-  condition_few (Compare' op _ a _ b) = omega (arith, length-append (texts_in a) (texts_in b), texts_few a, texts_few b)
-  condition_few (Between' _ x _ a _ b) = omega (arith, length-append (texts_in x) (texts_in a ++ texts_in b), length-append (texts_in a) (texts_in b), texts_few x, texts_few a, texts_few b)
-  condition_few (In' _ x _ values) = omega (arith, length-append (texts_in x) (texts_of_all values), texts_few x, all_few values)
-  condition_few (IsNull' _ a) = omega (arith, texts_few a)
-  condition_few (And' _ c _ d) = omega (arith, length-append (texts_within c) (texts_within d), condition_few c, condition_few d)
-  condition_few (Or' _ c _ d) = omega (arith, length-append (texts_within c) (texts_within d), condition_few c, condition_few d)
+  condition_few : (c : Cond) → length (leaves_within c) ≤ nodes_of c
+  condition_few (Compare' op _ a _ b) = omega (arith, length-append (leaves_in a) (leaves_in b), leaves_few a, leaves_few b)
+  condition_few (Between' _ x _ a _ b) = omega (arith, length-append (leaves_in x) (leaves_in a ++ leaves_in b), length-append (leaves_in a) (leaves_in b), leaves_few x, leaves_few a, leaves_few b)
+  condition_few (In' _ x _ values) = omega (arith, length-append (leaves_in x) (leaves_of_all values), leaves_few x, all_few values)
+  condition_few (IsNull' _ a) = omega (arith, leaves_few a)
+  condition_few (And' _ c _ d) = omega (arith, length-append (leaves_within c) (leaves_within d), condition_few c, condition_few d)
+  condition_few (Or' _ c _ d) = omega (arith, length-append (leaves_within c) (leaves_within d), condition_few c, condition_few d)
   condition_few (Not' _ c) = omega (arith, condition_few c)
   condition_few (Is' _ c t) = omega (arith, condition_few c)
 
-  all_few : (es : Exprs) → length (texts_of_all es) ≤ nodes_of_all es
-  all_few (Exprs.Last' _ e) = omega (arith, texts_few e)
-  all_few (Exprs.More' _ e _ es) = omega (arith, length-append (texts_in e) (texts_of_all es), texts_few e, all_few es)
+  all_few : (es : Exprs) → length (leaves_of_all es) ≤ nodes_of_all es
+  all_few (Exprs.Last' _ e) = omega (arith, leaves_few e)
+  all_few (Exprs.More' _ e _ es) = omega (arith, length-append (leaves_in e) (leaves_of_all es), leaves_few e, all_few es)
 
-  branches_few : (b : Branches) → length (texts_of_branches b) ≤ nodes_of_branches b
-  branches_few (Branches.Else' _ e) = omega (arith, texts_few e)
+  branches_few : (b : Branches) → length (leaves_of_branches b) ≤ nodes_of_branches b
+  branches_few (Branches.Else' _ e) = omega (arith, leaves_few e)
   branches_few (Branches.When' _ c _ e _ rest) =
-      omega (arith, length-append (texts_within c) (texts_in e ++ texts_of_branches rest), length-append (texts_in e) (texts_of_branches rest), condition_few c, texts_few e, branches_few rest)
+      omega (arith, length-append (leaves_within c) (leaves_in e ++ leaves_of_branches rest), length-append (leaves_in e) (leaves_of_branches rest), condition_few c, leaves_few e, branches_few rest)
 
-  matches_few : (m : Matches) → length (texts_of_matches m) ≤ nodes_of_matches m
+  matches_few : (m : Matches) → length (leaves_of_matches m) ≤ nodes_of_matches m
   matches_few (Matches.Last' _ v _ e _ other) =
-      omega (arith, length-append (texts_in v) (texts_in e ++ texts_in other), length-append (texts_in e) (texts_in other), texts_few v, texts_few e, texts_few other)
+      omega (arith, length-append (leaves_in v) (leaves_in e ++ leaves_in other), length-append (leaves_in e) (leaves_in other), leaves_few v, leaves_few e, leaves_few other)
   matches_few (Matches.When' _ v _ e _ rest) =
-      omega (arith, length-append (texts_in v) (texts_in e ++ texts_of_matches rest), length-append (texts_in e) (texts_of_matches rest), texts_few v, texts_few e, matches_few rest)
+      omega (arith, length-append (leaves_in v) (leaves_in e ++ leaves_of_matches rest), length-append (leaves_in e) (leaves_of_matches rest), leaves_few v, leaves_few e, matches_few rest)
 
 each_few : {X Y : Type 0} (f : X → List Y) (g : X → ℕ) (xs : List X) → ((x : X) → length (f x) ≤ g x) → length (flat_map f xs) ≤ sum_by g xs
 each_few f g [] few = omega arith
 each_few f g (x ∷ xs) few = let rest = each_few f g xs few in omega (arith, length-append (f x) (flat_map f xs), few x, rest, sum_by-cons g x xs)
 
+pub few_leaves : (parts : Parts) → length (leaves_of parts) ≤ all_nodes parts
+few_leaves parts =
+    let tests = each_few leaves_within nodes_of parts.conjuncts condition_few in
+    let items = each_few leaves_in nodes parts.items leaves_few in
+    omega (arith, length-append (flat_map leaves_within parts.conjuncts) (flat_map leaves_in parts.items), tests, items)
+
 pub few_texts : (parts : Parts) → length (texts_of parts) ≤ all_nodes parts
-few_texts parts =
-    let tests = each_few texts_within nodes_of parts.conjuncts condition_few in
-    let items = each_few texts_in nodes parts.items texts_few in
-    omega (arith, length-append (flat_map texts_within parts.conjuncts) (flat_map texts_in parts.items), tests, items)
+few_texts parts = omega (arith, few_leaves parts, texts_less (leaves_of parts))

@@ -1,6 +1,8 @@
 pub mod Emitted
+pub mod Leaves
 pub mod Limits
 pub mod Makes
+pub mod Named
 pub mod Nesting
 pub mod Readers
 pub mod Sources

@@ -70,9 +70,3 @@ text_types (suc n) behind = I32 ∷ I32 ∷ text_types n behind
 -- the types of a scan's locals behind its argument
 abbrev pub scan_locals : List Used → (texts : ℕ) → (own : List ValType) → List ValType
 scan_locals used n own = I32 ∷ I32 ∷ I32 ∷ I64 ∷ I32 ∷ I32 ∷ I32 ∷ base_types used (text_types n (cell_types used own))
-
--- the columns of a table, from one on
-abbrev pub all_used : (table column : ℕ) → List Ty → (not_null : List Bool) → List Used
-all_used table k [] b = []
-all_used table k (t ∷ types) [] = []
-all_used table k (t ∷ types) (b ∷ bs) = record { table = table; column = k; ty = t; not_null = b } ∷ all_used table (k + 1) types bs

@@ -1,4 +1,4 @@
-//! The columns of a table as columns of a layout, the locals of a scan, and the kinds of its cells.
+//! The locals of a scan, and the kinds of its cells.
 
 ghost use Rattle.std.specs.Prelude.{◌≡◌, ◌++◌, List, Some, length, map, IfOk, OnOk, IsSome};
 ghost use Rattle.std.specs.List.{All};
@@ -12,32 +12,6 @@ use qw_map::layout::Used;
 use qw_module::instruction::ValType;
 use qw_types::{Kind, NoMemory, Ty};
 use std::alloc::Global;
-
-/// All columns of a table, in their order.
-///
-/// # Errors
-///
-/// [`NoMemory`] where the list does not fit memory.
-pub fn all_columns(
-    alloc: Global,
-    table: usize,
-    types: &[Ty],
-    not_null: &[bool],
-) -> Result<Vec<Used>, NoMemory>
-    requires { length not_null.now ≡ length types.now }
-    ensures { IfOk result (λ used. used.items ≡ readers.all_used table 0 types.now not_null.now) }
-{
-    let mut used = Vec::new(alloc);
-    for (column, ty) in types.iter().enumerate() {
-        used.push(Used {
-            table,
-            column,
-            ty: *ty,
-            not_null: not_null[column],
-        })?;
-    }
-    Ok(used)
-}
 
 /// How the local of a value of a type is declared.
 fn value_type(ty: Ty) -> ValType
