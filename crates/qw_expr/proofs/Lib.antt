@@ -12,6 +12,7 @@ mod Emitted
 pub mod Junctions
 pub mod JunctionsDecide
 mod JunctionsEmitted
+pub mod Literals
 mod Lookups
 mod NullTests
 pub mod Nulls

@@ -1,5 +1,6 @@
 pub mod Cells
 pub mod Computes
 pub mod Bindings
+pub mod Literals
 pub mod Emits
 pub mod Inner

@@ -3,7 +3,7 @@
 //! - [`emitter::Emitter`]: what is emitted so far.
 //! - [`operand`]: where the value of an expression is.
 //! - [`tree`]: whole expressions and conditions, one call each.
-//! - [`known`]: columns and text literals that are in locals.
+//! - [`known`]: columns and literals that are in locals.
 //! - [`arithmetic`], [`literal`], [`compare`], [`text`], [`truth`]: what is emitted, an operator at a time.
 //! - [`worked_laws`]: cases with numbers.
 //! - `specs/Cells`: what the locals of a value hold.
