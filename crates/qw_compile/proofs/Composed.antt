@@ -49,7 +49,11 @@ use Rattle.qw_expr.specs.Computes.{Known, AreHeld, AreDeclared}
 use Rattle.qw_expr.proofs.Nulls.{known_kept}
 use Rattle.qw_rows.specs.Reading.{known_of, StandsAt, HasBases, BeginsAll, ReadsAll}
 use Rattle.qw_rows.specs.Texts.{HasPlace, LeadsToAll, AreTextsIn, LieThere, known_texts}
+use Rattle.qw_rows.specs.Constants.{IsSet, IsSmall, SetsAll, known_constant}
+use Rattle.qw_rows.specs.declared.constant.Constant.{Constant}
+use Rattle.qw_rows.specs.declared.constant.Word.{Word}
 use Rattle.qw_rows.specs.declared.literal.Literal.{Literal}
+use Rattle.qw_rows.proofs.ConstantRuns.{constants_declared, constants_held, sets_same}
 use Rattle.qw_rows.proofs.Several.{known_declared}
 use Rattle.qw_rows.proofs.TextPlaces.{lie_there_kept, lie_there_within, places_same, ready_texts, texts_declared, texts_held}
 use Rattle.qw_rows.proofs.ReadyColumns.{ready_stands_at}
@@ -64,10 +68,11 @@ use Rattle.qw_code.proofs.ScanLoop.{spend}
 use Rattle.qw_code.proofs.ScanRuns.{Plan, Promises, Since, Finished, IsShown}
 use Rattle.qw_code.proofs.StartRuns.{Started}
 use Rattle.qw_compile.specs.Emitted.{AreDecided, AreComputed}
-use Rattle.qw_compile.specs.Readers.{IsRead, readers_from, readers_of, first_text, first_cell, first_own, base_types, text_types, cell_types}
+use Rattle.qw_compile.specs.Readers.{IsRead, readers_from, readers_of, first_text, first_word, first_cell, first_own, base_types, text_types, word_types, cell_types}
+use Rattle.qw_compile.specs.Constants.{constants_from}
 use Rattle.qw_compile.specs.Texts.{literals_from}
 use Rattle.qw_compile.proofs.Promised.{StandsIn, HeldIn, IsTestAt, IsItemAt, shown, all_moved, kinds_moved, AreOwn, tests_promised, items_promised, all_use, items_high, items_kinds, headed, AreHigh, after_append}
-use Rattle.qw_compile.proofs.ReadersLaid.{served, known_all, bases_in, cells_in, entries_of, at_all, AtEach, Standing, are_there, behind_bases, behind_texts, behind_cells, cells_declared, literals_declared, texts_from, texts_in_locals}
+use Rattle.qw_compile.proofs.ReadersLaid.{served, known_all, known_literals, literal_count, texts_up, words_up, words_small, words_in_locals, words_declared, behind_words, bases_in, cells_in, entries_of, at_all, AtEach, Standing, are_there, behind_bases, behind_texts, behind_cells, cells_declared, literals_declared, texts_from, texts_in_locals}
 use Rattle.qw_compile.proofs.TextCells.{text_read}
 use Rattle.qw_compile.proofs.TextLiterals.{HasTexts, HasUtf8, IsUtf8Value, stored_utf8}
 
@@ -163,7 +168,7 @@ bases_same n b c k (u ∷ used) s t low kept has = (
   bases_same n (b + 3) (c + 3) (k + 1) used s t (omega (arith, low)) kept has.1,
 )
 
-module _ (parts : Parts) (used : List Used) (texts : List (List ℕ)) (kinds : List Kind) (tests : List Test) (items : List Item) (ownT ownI : List ValType) (begins leads reads : Statement) where
+module _ (parts : Parts) (used : List Used) (texts : List (List ℕ)) (words : List Word) (kinds : List Kind) (tests : List Test) (items : List Item) (ownT ownI : List ValType) (begins leads sets reads : Statement) where
   abbrev cs : List Condition
   cs = (specification_of parts).conjuncts
 
@@ -174,7 +179,10 @@ module _ (parts : Parts) (used : List Used) (texts : List (List ℕ)) (kinds : L
   layout = record { columns = used; literals = concat texts; cells = kinds }
 
   abbrev count : ℕ
-  count = length texts
+  count = literal_count texts words
+
+  abbrev firsts : Statement
+  firsts = seq begins (seq leads sets)
 
   abbrev start : ℕ
   start = entry_offset (length used)
@@ -182,12 +190,15 @@ module _ (parts : Parts) (used : List Used) (texts : List (List ℕ)) (kinds : L
   abbrev pub literals : List Literal
   literals = literals_from (first_text used) start texts
 
+  abbrev pub constants : List Constant
+  constants = constants_from (first_word used (length texts)) words
+
   abbrev pub known : List Known
-  known = known_all used start texts
+  known = known_all used start texts words
 
   abbrev pub plan : Plan
   plan = record {
-    start = begin_block (descriptor_size layout) (seq begins leads);
+    start = begin_block (descriptor_size layout) firsts;
     reads = reads;
     tests = tests;
     items = all_moved items;
@@ -198,7 +209,7 @@ module _ (parts : Parts) (used : List Used) (texts : List (List ℕ)) (kinds : L
   }
 
   abbrev pub others : ℕ
-  others = 7 + 6 * length used + 2 * count + (length ownT + length ownI)
+  others = 7 + 6 * length used + count + (length ownT + length ownI)
 
   -- what the parts of a scan are
   pub record IsComposed : Type 0 where
@@ -212,6 +223,8 @@ module _ (parts : Parts) (used : List Used) (texts : List (List ℕ)) (kinds : L
     pub computed : AreComputed known (first_own used count + length ownT) es items ownI
     pub begins_all : BeginsAll (readers_of used count) begins
     pub leads_all : LeadsToAll literals leads
+    pub sets_all : SetsAll constants sets
+    pub words_small : AllByRecursion IsSmall words
     pub reads_all : ReadsAll (readers_of used count) reads
     pub kinds_are : map kind_of es ≡ map Some kinds
 
@@ -224,7 +237,7 @@ module _ (parts : Parts) (used : List Used) (texts : List (List ℕ)) (kinds : L
     Held r row s = HeldIn (memory_of r) known row s
 
     abbrev Bases : Run → LowState → Type 0
-    Bases r s = AllByRecursion (λ q. HasBases q s) (readers_of used count) × AllByRecursion (HasPlace s) literals
+    Bases r s = AllByRecursion (λ q. HasBases q s) (readers_of used count) × AllByRecursion (HasPlace s) literals × AllByRecursion (IsSet s) constants
 
     -- the octets that are compared at a row
     abbrev each : Run → List Val → ℕ
@@ -235,24 +248,32 @@ module _ (parts : Parts) (used : List Used) (texts : List (List ℕ)) (kinds : L
 
     -- ---- where the values of items are
     abbrev behind : List ValType → List ValType
-    behind rest = base_types used (text_types count (cell_types used rest))
+    behind rest = base_types used (text_types (length texts) (word_types (length words) (cell_types used rest)))
 
     headed_bases : (t : ValType) (rest : List ValType) (i : ℕ) → slice_get (headed t (base_types used rest)) (8 + i) ≡ slice_get (base_types used rest) i
     headed_bases t rest i =
         let place : 8 + i ≡ suc (suc (suc (suc (suc (suc (suc (suc i))))))) = omega arith in
         ap (λ (n : ℕ). slice_get (headed t (base_types used rest)) n) place
 
-    headed_texts : (t : ValType) (rest : List ValType) (i : ℕ) → slice_get (headed t (behind rest)) (first_text used + i) ≡ slice_get (text_types count (cell_types used rest)) i
-    headed_texts t rest i = behind_bases (headed t (behind rest)) (text_types count (cell_types used rest)) 8 used (headed_bases t (text_types count (cell_types used rest))) i
+    headed_texts : (t : ValType) (rest : List ValType) (i : ℕ) → slice_get (headed t (behind rest)) (first_text used + i) ≡ slice_get (text_types (length texts) (word_types (length words) (cell_types used rest))) i
+    headed_texts t rest i =
+        behind_bases (headed t (behind rest)) (text_types (length texts) (word_types (length words) (cell_types used rest))) 8 used (headed_bases t (text_types (length texts) (word_types (length words) (cell_types used rest)))) i
+
+    headed_words : (t : ValType) (rest : List ValType) (i : ℕ) → slice_get (headed t (behind rest)) (first_word used (length texts) + i) ≡ slice_get (word_types (length words) (cell_types used rest)) i
+    headed_words t rest i = behind_texts (headed t (behind rest)) (word_types (length words) (cell_types used rest)) (first_text used) (length texts) (headed_texts t rest) i
 
     headed_cells : (t : ValType) (rest : List ValType) (i : ℕ) → slice_get (headed t (behind rest)) (first_cell used count + i) ≡ slice_get (cell_types used rest) i
-    headed_cells t rest i = behind_texts (headed t (behind rest)) (cell_types used rest) (first_text used) count (headed_texts t rest) i
+    headed_cells t rest i =
+        let place : first_cell used count + i ≡ first_word used (length texts) + length words + i = omega arith in
+        ap (λ (n : ℕ). slice_get (headed t (behind rest)) n) place ∙ behind_words (headed t (behind rest)) (cell_types used rest) (first_word used (length texts)) (length words) (headed_words t rest) i
 
     headed_known : (t : ValType) (rest : List ValType) → AreDeclared (headed t (behind rest)) known
     headed_known t rest =
-        all-append (λ (k : Known). DeclaresValue (headed t (behind rest)) k.operand) (map known_of (readers_of used count)) (known_texts literals texts)
+        all-append (λ (k : Known). DeclaresValue (headed t (behind rest)) k.operand) (map known_of (readers_of used count)) (known_literals used start texts words)
         (known_declared (headed t (behind rest)) (readers_of used count) (cells_declared (headed t (behind rest)) rest 8 (first_cell used count) 0 used (headed_cells t rest)))
-        (texts_declared (headed t (behind rest)) literals texts (literals_declared (headed t (behind rest)) (cell_types used rest) (first_text used) start texts (headed_texts t rest)))
+        (all-append (λ (k : Known). DeclaresValue (headed t (behind rest)) k.operand) (known_texts literals texts) (map known_constant constants)
+        (texts_declared (headed t (behind rest)) literals texts (literals_declared (headed t (behind rest)) (word_types (length words) (cell_types used rest)) (first_text used) start texts (headed_texts t rest)))
+        (constants_declared (headed t (behind rest)) constants (words_declared (headed t (behind rest)) (cell_types used rest) (first_word used (length texts)) words (headed_words t rest))))
 
     -- behind the locals of conjuncts are those of items
     headed_own : (t : ValType) → AreOwn (headed t (behind own)) (first_own used count + length ownT) ownI
@@ -334,23 +355,34 @@ module _ (parts : Parts) (used : List Used) (texts : List (List ℕ)) (kinds : L
       texts_there : LieThere first literals texts
       texts_there = ready_texts layout r.placed r.tables r.descriptor r.limit r.memory (Address (Own 0) 0 ∷ replicate others (Number 0)) ready literals texts refl (texts_from (first_text used) start texts)
 
-      texts_up : (below high : ℕ) (ls : List Literal) (from : ℕ) → below ≤ high → AreTextsIn from below ls → AreTextsIn from high ls
-      texts_up below high [] from le are = omega (arith, le, are)
-      texts_up below high (l ∷ ls) from le are = (are.0, are.1, texts_up below high ls are.0 le are.2)
+      leads_end : (s t : LowState) → Kept 1 first s → Kept 8 s t → AllByRecursion (λ q. HasBases q t) (readers_of used count) → Ends (size (seq leads sets)) (λ u. Kept 8 s u × Bases r u) Never (λ code. ⊥) (meaning most fuel (seq leads sets) t)
+      leads_end s t kept begun bases =
+          let long = length-replicate {A = Value} others (Number 0) in
+          Ends-then (λ u. Kept 8 s u × Bases r u) Never (λ code. ⊥) (size leads) (size sets) (λ u. Kept (first_text used) t u × AllByRecursion (HasPlace u) literals × ((row : List Val) → AreHeld (known_texts literals texts) row u)) (meaning most fuel leads t) (meaning most fuel sets)
+          (h.leads_all.runs most fuel (first_text used) texts t (lie_there_kept 8 s t literals texts begun (lie_there_kept 1 first s literals texts kept texts_there))
+          (begun.below 0 (omega arith) ∙ (kept.below 0 (omega arith) ∙ refl)) (omega arith)
+          (texts_up (first_text used) (first_text used + 2 * length texts) (length t.locals) literals (omega (arith, begun.many, kept.many, long)) (texts_in_locals (first_text used) start texts)))
+          (λ u led.
+          Ends-weaker (size sets) (size sets) (λ v. Kept (first_word used (length texts)) u v × AllByRecursion (IsSet v) constants × ((row : List Val) → AreHeld (map known_constant constants) row v)) (λ v. Kept 8 s v × Bases r v) Never Never (λ code. ⊥) (λ code. ⊥)
+          (meaning most fuel sets u) (omega arith)
+          (λ v set. (
+            Kept-then 8 (first_word used (length texts)) s u v (omega arith) (Kept-then 8 (first_text used) s t u (omega arith) begun led.0) set.0,
+            (
+              bases_same (first_word used (length texts)) 8 (first_cell used count) 0 used u v (omega arith) set.0 (bases_same (first_text used) 8 (first_cell used count) 0 used t u (omega arith) led.0 bases),
+              places_same u v 0 (first_word used (length texts)) (λ j low high. set.0.below j high) (first_text used) literals (omega arith) (texts_in_locals (first_text used) start texts) led.1,
+              set.1,
+            ),
+          )) (λ v x. x) (λ code x. x)
+          (h.sets_all.runs most fuel (first_word used (length texts)) u (words_small IsSmall (first_word used (length texts)) words h.words_small)
+          (words_up (first_word used (length texts)) (first_word used (length texts) + length words) (length u.locals) constants (omega (arith, led.0.many, begun.many, kept.many, long)) (words_in_locals (first_word used (length texts)) words))))
 
-      columns_end : (s : LowState) → Kept 1 first s → Ends (size (seq begins leads)) (λ t. Kept 8 s t × Bases r t) Never (λ code. ⊥) (meaning most fuel (seq begins leads) s)
+      columns_end : (s : LowState) → Kept 1 first s → Ends (size firsts) (λ t. Kept 8 s t × Bases r t) Never (λ code. ⊥) (meaning most fuel firsts s)
       columns_end s kept =
           let long = length-replicate {A = Value} others (Number 0) in
-          Ends-then (λ t. Kept 8 s t × Bases r t) Never (λ code. ⊥) (size begins) (size leads) (λ t. Kept 8 s t × AllByRecursion (λ q. HasBases q t) (readers_of used count)) (meaning most fuel begins s) (meaning most fuel leads)
+          Ends-then (λ t. Kept 8 s t × Bases r t) Never (λ code. ⊥) (size begins) (size (seq leads sets)) (λ t. Kept 8 s t × AllByRecursion (λ q. HasBases q t) (readers_of used count)) (meaning most fuel begins s) (meaning most fuel (seq leads sets))
           (h.begins_all.runs most fuel 8 s (entries_of s.cells (λ u. length (rows_of r.tables u.table)) 8 (first_cell used count) 0 used (entries_at s kept)) (kept.below 0 (omega arith) ∙ refl) (omega arith)
           (bases_in 8 (first_cell used count) 0 (length s.locals) used (omega (arith, kept.many, long))))
-          (λ t begun.
-          Ends-weaker (size leads) (size leads) (λ u. Kept (first_text used) t u × AllByRecursion (HasPlace u) literals × ((row : List Val) → AreHeld (known_texts literals texts) row u)) (λ u. Kept 8 s u × Bases r u) Never Never (λ code. ⊥) (λ code. ⊥)
-          (meaning most fuel leads t) (omega arith)
-          (λ u led. (Kept-then 8 (first_text used) s t u (omega arith) begun.0 led.0, (bases_same (first_text used) 8 (first_cell used count) 0 used t u (omega arith) led.0 begun.1, led.1))) (λ u x. x) (λ code x. x)
-          (h.leads_all.runs most fuel (first_text used) texts t (lie_there_kept 8 s t literals texts begun.0 (lie_there_kept 1 first s literals texts kept texts_there))
-          (begun.0.below 0 (omega arith) ∙ (kept.below 0 (omega arith) ∙ refl)) (omega arith)
-          (texts_up (first_text used + 2 * count) (length t.locals) literals (first_text used) (omega (arith, begun.0.many, kept.many, long)) (texts_in_locals (first_text used) start texts))))
+          (λ t begun. leads_end s t kept begun.0 begun.1)
 
       -- ---- at a row
       sizes_same : (s0 s : LowState) → Kept 1 first s0 → Since (first_cell used count) (descriptor_size layout) s0 s → s.columns ≡ first.columns
@@ -393,7 +425,7 @@ module _ (parts : Parts) (used : List Used) (texts : List (List ℕ)) (kinds : L
           (texts_from (first_text used) start texts) (omega arith) (omega arith) texts_there
 
       held_kept : (row : List Val) (s t : LowState) → Kept (first_own used count) s t → AreHeld known row s → AreHeld known row t
-      held_kept row s t kept held = known_kept (first_own used count) s t row known kept (served used start texts).0 held
+      held_kept row s t kept held = known_kept (first_own used count) s t row known kept (served used start texts words).0 held
 
       seen_kept : (n : ℕ) (s t : LowState) → Kept n s t → Kept n (seen c s) (seen c t)
       seen_kept n s t kept = record { others = ap (λ (x : LowState). seen c x) kept.others; many = kept.many; below = kept.below }
@@ -432,15 +464,22 @@ module _ (parts : Parts) (used : List Used) (texts : List (List ℕ)) (kinds : L
 
         places : (t : LowState) → Kept (first_cell used count) s t → AllByRecursion (HasPlace t) literals
         places t kept =
-            places_same s0 t 6 (first_cell used count) (λ j low high. kept.below j high ∙ since.locals j low high) (first_text used) literals (omega arith) (texts_in_locals (first_text used) start texts) started.bases.1
+            places_same s0 t 6 (first_cell used count) (λ j low high. kept.below j high ∙ since.locals j low high) (first_text used) literals (omega arith)
+            (texts_up (first_text used) (first_text used + 2 * length texts) (first_cell used count) literals (omega arith) (texts_in_locals (first_text used) start texts)) started.bases.1
+
+        still_set : (t : LowState) → Kept (first_cell used count) s t → AllByRecursion (IsSet (seen c t)) constants
+        still_set t kept =
+            sets_same s0 (seen c t) (first_word used (length texts)) (first_word used (length texts) + length words) (λ j low high. kept.below j (omega (arith, high)) ∙ since.locals j (omega (arith, low)) (omega (arith, high))) constants
+            (words_in_locals (first_word used (length texts)) words) started.bases.2
 
         held_after : (t : LowState) → WholeRead t × SeenRead (seen c t) → Kept (first_cell used count) s t × Held r row t
         held_after t read =
             let own_page : slice_get t.own 0 ≡ Some page = ap (λ (x : LowState). slice_get x.own 0) read.0.0.others ∙ first_page in (
               read.0.0,
               (
-                all-append (λ (k : Known). (v : Val) × (value_of k.expression (record { row = row }) ≡ Ok v) × Holds k.operand v (seen c t)) (map known_of (readers_of used count)) (known_texts literals texts) read.1.1
-                    (texts_held (seen c t) row literals texts (places t read.0.0) (texts_seen t own_page)),
+                all-append (λ (k : Known). (v : Val) × (value_of k.expression (record { row = row }) ≡ Ok v) × Holds k.operand v (seen c t)) (map known_of (readers_of used count)) (known_literals used start texts words) read.1.1
+                    (all-append (λ (k : Known). (v : Val) × (value_of k.expression (record { row = row }) ≡ Ok v) × Holds k.operand v (seen c t)) (known_texts literals texts) (map known_constant constants)
+                    (texts_held (seen c t) row literals texts (places t read.0.0) (texts_seen t own_page)) (constants_held row (seen c t) constants (still_set t read.0.0))),
                 less_kept (first_cell used count) s t read.0.0 less,
               ),
             )
@@ -497,7 +536,7 @@ module _ (parts : Parts) (used : List Used) (texts : List (List ℕ)) (kinds : L
           (shown_later (descriptor_size layout) finished.s0 finished.s finished.since.mapped finished.since.head p (off + i) octet (finished.begun.promises.texts_lie p off octets text i octet is)))
           means
 
-      pub sound : Sound parts layout plan (seq begins leads) others h.first_column (λ q. StandsIn (memory_of q)) each Held Bases r
+      pub sound : Sound parts layout plan firsts others h.first_column (λ q. StandsIn (memory_of q)) each Held Bases r
       sound = record {
         columns_end = columns_end;
         promises = promised;
@@ -512,7 +551,7 @@ module _ (parts : Parts) (used : List Used) (texts : List (List ℕ)) (kinds : L
     one_entry u in_table = (record { table = parts.table; types = parts.types }, itself (record { table = parts.table; types = parts.types }), sym in_table.0, in_table.1)
 
     pub planned : size (scan_block plan.start plan.reads (row_block plan.tests plan.items (8 + 16 * length (kinds_of (outs_of plan.items))))) ≤ 2 ^ 22 →
-        Planned parts layout plan (seq begins leads) others h.first_column (λ q. StandsIn (memory_of q)) each Held Bases
+        Planned parts layout plan firsts others h.first_column (λ q. StandsIn (memory_of q)) each Held Bases
     planned short = record {
       start_is = refl;
       base_is = refl;

@@ -96,6 +96,8 @@ one_left P ls i l less same all = subst (AllByRecursion P) (left ls i l less sam
 
 and_named-more : (columns : List ℕ) (l : Leaf) (ls : List Leaf) → and_named columns (l ∷ ls) ≡ and_named (and_named columns (l ∷ [])) ls
 and_named-more columns (leaf.Text t) ls = refl
+and_named-more columns (leaf.Number v s) ls = refl
+and_named-more columns (leaf.Date d) ls = refl
 and_named-more columns (leaf.Column i ty) ls = refl
 
 pub next_named : (ls : List Leaf) (i : ℕ) (l : Leaf) (before after all : List ℕ) → i < length ls → l ≡ get_or ls i l → after ≡ and_named before (l ∷ []) → and_named before (drop i ls) ≡ all → and_named after (drop (i + 1) ls) ≡ all
@@ -133,6 +135,8 @@ column_distinct xs i d = by_test (list_any (λ (j : ℕ). j == i) xs) refl
 named_distinct : (xs : List ℕ) (ls : List Leaf) → IsDistinct eqb xs → IsDistinct eqb (and_named xs ls)
 named_distinct xs [] d = d
 named_distinct xs (leaf.Text t ∷ ls) d = named_distinct xs ls d
+named_distinct xs (leaf.Number v s ∷ ls) d = named_distinct xs ls d
+named_distinct xs (leaf.Date day ∷ ls) d = named_distinct xs ls d
 named_distinct xs (leaf.Column i ty ∷ ls) d = named_distinct (and_column xs i) ls (column_distinct xs i d)
 
 first_distinct : (xs : List ℕ) → IsDistinct eqb xs → IsDistinct eqb (or_first xs)
@@ -170,6 +174,8 @@ column_kept xs i k h = by_test (list_any (λ (j : ℕ). j == i) xs)
 named_kept : (xs : List ℕ) (ls : List Leaf) (k : ℕ) → list_any (λ (j : ℕ). j == k) xs ≡ true → list_any (λ (j : ℕ). j == k) (and_named xs ls) ≡ true
 named_kept xs [] k h = h
 named_kept xs (leaf.Text t ∷ ls) k h = named_kept xs ls k h
+named_kept xs (leaf.Number v s ∷ ls) k h = named_kept xs ls k h
+named_kept xs (leaf.Date d ∷ ls) k h = named_kept xs ls k h
 named_kept xs (leaf.Column i ty ∷ ls) k h = named_kept (and_column xs i) ls k (column_kept xs i k h)
 
 column_there : (xs : List ℕ) (i : ℕ) → list_any (λ (j : ℕ). j == i) (and_column xs i) ≡ true
@@ -199,6 +205,8 @@ module _ (table : ℕ) (types : List Ty) (b : List Bool) where
         AllByRecursion (OfColumn (IsColumnOf types)) ls → AllByRecursion (OfColumn (IsRead used)) ls
     read_from seen [] up over = tt
     read_from seen (leaf.Text t ∷ ls) up over = (tt, read_from seen ls up over.1)
+    read_from seen (leaf.Number v s ∷ ls) up over = (tt, read_from seen ls up over.1)
+    read_from seen (leaf.Date d ∷ ls) up over = (tt, read_from seen ls up over.1)
     read_from seen (leaf.Column i ty ∷ ls) up over =
         (read_at used i ty all (up i (named_kept (and_column seen i) ls i (column_there seen i))) over.0, read_from (and_column seen i) ls up over.1)
 

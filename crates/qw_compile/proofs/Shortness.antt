@@ -29,6 +29,7 @@ use Rattle.qw_code.specs.Results.{finish_block, push_block, room_block, link_blo
 use Rattle.qw_code.specs.RowCells.{Source, begin_block, cell_block, cells_block, end_block, more_rows, next_row, plain_block, scan_block, turn_block}
 use Rattle.qw_compile.specs.Emitted.{sources_of}
 use Rattle.qw_compile.specs.Limits.{all_nodes}
+use Rattle.qw_compile.specs.Constants.{words_of}
 use Rattle.qw_compile.specs.Leaves.{leaves_in, leaves_of, leaves_of_all, leaves_of_branches, leaves_of_matches, leaves_within}
 use Rattle.qw_compile.specs.Texts.{texts_of}
 use Rattle.qw_compile.proofs.LeafLemmas.{texts_less}
@@ -150,20 +151,21 @@ row_short conjuncts items os w old tested evaluated pushed new many tests values
     omega (arith, many, tests, values, one, two, closings_long (length conjuncts), push_long w (cells_block 8 os), cells_long os 8, many_nodes items, many_nodes_of conjuncts)
 
 -- ---- a scan
-pub scan_short : (base : ℕ) (begins leads reads row : Statement) (code : List LowStep) (texts : ℕ) → code ≡ steps_of (scan_block (begin_block base (seq begins leads)) reads row) → size begins ≤ 576 → size leads ≤ 6 * texts → texts ≤ 16384 → size reads ≤ 2240 →
-    length (steps_of row) ≤ 1280040 → length code ≤ 2097152
-scan_short base begins leads reads row code texts made b l few r rows =
+pub scan_short : (base : ℕ) (begins leads sets reads row : Statement) (code : List LowStep) (texts words : ℕ) → code ≡ steps_of (scan_block (begin_block base (seq begins (seq leads sets))) reads row) → size begins ≤ 576 → size leads ≤ 6 * texts → texts ≤ 16384 →
+    size sets ≤ 2 * words → words ≤ 16384 → size reads ≤ 2240 → length (steps_of row) ≤ 1280040 → length code ≤ 2097152
+scan_short base begins leads sets reads row code texts words made b l few c few_words r rows =
     let all = ap (λ (c : List LowStep). length c) made in
-    let columns : Statement = seq begins leads in
+    let columns : Statement = seq begins (seq leads sets) in
     let one = length-append (steps_of (begin_block base columns)) (steps_of (seq (while more_rows (turn_block reads row)) finish_block)) in
     let two = length-append (steps_of (while more_rows (turn_block reads row))) (steps_of finish_block) in
     let three = length-append (steps_of (start_block base)) (steps_of (seq end_block columns)) in
     let four = length-append (steps_of end_block) (steps_of columns) in
-    let five = length-append (steps_of begins) (steps_of leads) in
+    let five = length-append (steps_of begins) (steps_of (seq leads sets)) in
+    let half = length-append (steps_of leads) (steps_of sets) in
     let six = length-append (steps_of (turn_block reads row)) (step.Again ∷ step.End ∷ step.End ∷ []) in
     let seven = length-append (steps_of reads) (steps_of (seq row next_row)) in
     let eight = length-append (steps_of row) (steps_of next_row) in
-    omega (arith, all, one, two, three, four, five, six, seven, eight, b, l, few, r, rows, steps_size begins, steps_size leads, steps_size reads)
+    omega (arith, all, one, two, three, four, five, half, six, seven, eight, b, l, few, c, few_words, r, rows, steps_size begins, steps_size leads, steps_size sets, steps_size reads)
 
 -- ---- each leaf is a node
 mutual
@@ -216,5 +218,5 @@ few_leaves parts =
     let items = each_few leaves_in nodes parts.items leaves_few in
     omega (arith, length-append (flat_map leaves_within parts.conjuncts) (flat_map leaves_in parts.items), tests, items)
 
-pub few_texts : (parts : Parts) → length (texts_of parts) ≤ all_nodes parts
-few_texts parts = omega (arith, few_leaves parts, texts_less (leaves_of parts))
+pub few_literals : (parts : Parts) → length (texts_of parts) + length (words_of parts) ≤ all_nodes parts
+few_literals parts = omega (arith, few_leaves parts, texts_less (leaves_of parts))

@@ -1,4 +1,5 @@
--- The leaves of a specification's trees, from left to right: the columns and the text literals (ISO/IEC 9075:1992, 5.3) that they take.
+-- The leaves of a specification's trees, from left to right: the columns and the literals (ISO/IEC 9075:1992, 5.3) that they take, all
+-- but NULL.
 use Rattle.std.specs.Prelude.{◌≡◌, List, [], ◌∷◌, ◌++◌, ℕ, IsUtf8}
 use Rattle.std.specs.List.{AllByRecursion, flat_map}
 use Rattle.qw_types.specs.declared.value.Ty.{Ty}
@@ -15,12 +16,14 @@ use Rattle.qw_meaning.specs.declared.expression.Branches.TheVariants as Branches
 use Rattle.qw_meaning.specs.declared.expression.Matches.TheVariants as Matches
 use Rattle.qw_expr.specs.declared.known.Leaf.{Leaf}
 use Rattle.qw_expr.specs.declared.known.Leaf.TheVariants as leaf
+use Rattle.qw_rows.specs.declared.constant.Word.{Word}
+use Rattle.qw_rows.specs.declared.constant.Word.TheVariants as word
 
 abbrev mutual
   pub leaves_in : Expr → List Leaf
   leaves_in Null = []
-  leaves_in (Number v s) = []
-  leaves_in (Date d) = []
+  leaves_in (Number v s) = leaf.Number v s ∷ []
+  leaves_in (Date d) = leaf.Date d ∷ []
   leaves_in (Text t) = leaf.Text t ∷ []
   leaves_in (Column i ty) = leaf.Column i ty ∷ []
   leaves_in (Arithmetic' operator _ a _ b) = leaves_in a ++ leaves_in b
@@ -57,20 +60,39 @@ abbrev mutual
 abbrev pub leaves_of : Parts → List Leaf
 leaves_of parts = flat_map leaves_within parts.conjuncts ++ flat_map leaves_in parts.items
 
--- the texts among leaves
+-- the texts among leaves, and the numbers and the dates
 abbrev pub texts_among : List Leaf → List (List ℕ)
 texts_among [] = []
-texts_among (leaf.Text t ∷ leaves) = t ∷ texts_among leaves
 texts_among (leaf.Column i ty ∷ leaves) = texts_among leaves
+texts_among (leaf.Number v s ∷ leaves) = texts_among leaves
+texts_among (leaf.Date d ∷ leaves) = texts_among leaves
+texts_among (leaf.Text t ∷ leaves) = t ∷ texts_among leaves
 
--- something holds of a leaf that is a text, and of one that is a column
+abbrev pub words_among : List Leaf → List Word
+words_among [] = []
+words_among (leaf.Column i ty ∷ leaves) = words_among leaves
+words_among (leaf.Number v s ∷ leaves) = word.Number v s ∷ words_among leaves
+words_among (leaf.Date d ∷ leaves) = word.Date d ∷ words_among leaves
+words_among (leaf.Text t ∷ leaves) = words_among leaves
+
+-- something holds of a leaf that is a text, of one that is a number or a date, and of one that is a column
 abbrev pub OfText : (List ℕ → Type 0) → Leaf → Type 0
-OfText Holds (leaf.Text t) = Holds t
 OfText Holds (leaf.Column i ty) = Unit {0}
+OfText Holds (leaf.Number v s) = Unit {0}
+OfText Holds (leaf.Date d) = Unit {0}
+OfText Holds (leaf.Text t) = Holds t
+
+abbrev pub OfWord : (Word → Type 0) → Leaf → Type 0
+OfWord Holds (leaf.Column i ty) = Unit {0}
+OfWord Holds (leaf.Number v s) = Holds (word.Number v s)
+OfWord Holds (leaf.Date d) = Holds (word.Date d)
+OfWord Holds (leaf.Text t) = Unit {0}
 
 abbrev pub OfColumn : (ℕ → Ty → Type 0) → Leaf → Type 0
-OfColumn Holds (leaf.Text t) = Unit {0}
 OfColumn Holds (leaf.Column i ty) = Holds i ty
+OfColumn Holds (leaf.Number v s) = Unit {0}
+OfColumn Holds (leaf.Date d) = Unit {0}
+OfColumn Holds (leaf.Text t) = Unit {0}
 
 -- leaves, whose texts are UTF-8, were added behind others
 abbrev pub Gathers : (old new more : List Leaf) → Type 0

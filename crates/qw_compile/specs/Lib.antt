@@ -1,3 +1,4 @@
+pub mod Constants
 pub mod Emitted
 pub mod Leaves
 pub mod Limits

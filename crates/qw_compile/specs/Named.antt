@@ -15,8 +15,10 @@ and_column columns i = if list_any (λ j. j == i) columns then columns else colu
 -- so the columns among leaves
 abbrev pub and_named : List ℕ → List Leaf → List ℕ
 and_named columns [] = columns
-and_named columns (leaf.Text t ∷ leaves) = and_named columns leaves
 and_named columns (leaf.Column i ty ∷ leaves) = and_named (and_column columns i) leaves
+and_named columns (leaf.Number v s ∷ leaves) = and_named columns leaves
+and_named columns (leaf.Date d ∷ leaves) = and_named columns leaves
+and_named columns (leaf.Text t ∷ leaves) = and_named columns leaves
 
 -- the first column of the table where there is none
 abbrev pub or_first : List ℕ → List ℕ

@@ -1,4 +1,4 @@
-//! The leaves of a specification's trees, from left to right: the columns and the text literals that they take.
+//! The leaves of a specification's trees, from left to right: the columns and the literals that they take.
 
 ghost use Rattle.std.specs.Prelude.{◌++◌, [], IfOk, OnOk};
 ghost use Rattle.std.specs.List.{flat_map};
@@ -16,7 +16,15 @@ fn from_expression(alloc: Global, leaves: &mut Vec<Leaf>, expr: &Expr) -> Result
     ensures { OnOk result (Gathers leaves.old.items leaves.new.items (leaves_in expr.now)) }
 {
     match expr {
-        Expr::Null | Expr::Number(_, _) | Expr::Date(_) => Ok(()),
+        Expr::Null => Ok(()),
+        Expr::Number(value, scale) => {
+            leaves.push(Leaf::Number(*value, *scale))?;
+            Ok(())
+        }
+        Expr::Date(day) => {
+            leaves.push(Leaf::Date(*day))?;
+            Ok(())
+        }
         Expr::Text(text) => {
             let copy = copy_of(alloc, text)?;
             leaves.push(Leaf::Text(copy))?;

@@ -1,10 +1,11 @@
 //! From a typed query specification to the blocks of its scan.
 //!
 //! - [`compile`]: the module of a specification, and its layout.
-//! - [`leaves`]: the columns and the text literals of its trees.
+//! - [`leaves`]: the columns and the literals of its trees.
 //! - [`named`]: the columns that it names, as a layout has them.
 //! - [`readers`]: the locals that they are read by and into.
 //! - [`texts`]: the text literals, their octets and the locals for them.
+//! - [`constants`]: the numbers and dates, and the locals for them.
 //! - [`columns`]: the locals of a scan, and the kinds of its cells.
 //! - [`lists`]: the conjuncts and the select list, one after another.
 //! - [`nesting`]: what is done where a conjunct is true stands within its choice.
@@ -17,6 +18,7 @@
 pub mod cells;
 pub mod columns;
 pub mod compile;
+pub mod constants;
 pub mod leaves;
 pub mod lists;
 pub mod named;

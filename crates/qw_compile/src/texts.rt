@@ -34,7 +34,7 @@ pub fn texts_of(alloc: Global, leaves: &[Leaf]) -> Result<Vec<Text>, NoMemory>
     for leaf in leaves {
         match leaf {
             Leaf::Text(text) => texts.push(copy_of(alloc, text)?)?,
-            Leaf::Column(_, _) => (),
+            Leaf::Column(_, _) | Leaf::Number(_, _) | Leaf::Date(_) => (),
         }
     }
     Ok(texts)

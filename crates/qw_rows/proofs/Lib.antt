@@ -1,4 +1,5 @@
 pub mod BasesRuns
+pub mod ConstantRuns
 pub mod Elsewhere
 pub mod LiteralRuns
 pub mod ReadRuns
