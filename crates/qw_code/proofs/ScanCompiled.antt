@@ -77,9 +77,9 @@ pub record Run : Type 0 where
   pub memory : List ℕ
 
 module _ (parts : Parts) (layout : Layout) (plan : Plan) (columns : Statement) (others : ℕ) (first_column : Used)
-    (Text : Run → Part → ℕ → List ℕ → Type 0) (each : Run → List Val → ℕ) (Held : Run → List Val → LowState → Type 0) (Bases : Run → LowState → Type 0) where
+    (Text : Run → Part → ℕ → List ℕ → Type 0) (each : Run → List Val → ℕ) (Held : Run → (stage : ℕ) → List Val → LowState → Type 0) (Bases : Run → LowState → Type 0) where
   abbrev scan : Statement
-  scan = scan_block plan.start plan.reads (row_block plan.tests plan.items (8 + 16 * length (kinds_of (outs_of plan.items))))
+  scan = scan_block plan.start (row_block plan.tests plan.reads plan.items (8 + 16 * length (kinds_of (outs_of plan.items))))
 
   abbrev rows : Run → List (List Val)
   rows r = rows_of r.tables parts.table

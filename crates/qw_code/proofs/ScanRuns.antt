@@ -104,7 +104,7 @@ pub record Plan : Type 0 where
   pub next : ℕ  -- the first local of conjuncts and items
   pub many : ℕ  -- how many locals there are
 
-module _ (plan : Plan) (Text : Part → ℕ → List ℕ → Type 0) (rows : List (List Val)) (units : List Val → ℕ) (Held : List Val → LowState → Type 0)
+module _ (plan : Plan) (Text : Part → ℕ → List ℕ → Type 0) (rows : List (List Val)) (units : List Val → ℕ) (Held : (stage : ℕ) → List Val → LowState → Type 0)
     (truths : List Val → List (Result Truth Code)) (values : List Val → List (Result Val Code)) (most fuel : ℕ) (s0 : LowState) where
   abbrev sources : List Source
   sources = outs_of plan.items
@@ -119,15 +119,19 @@ module _ (plan : Plan) (Text : Part → ℕ → List ℕ → Type 0) (rows : Lis
   result row = made_of (truths row) (values row)
 
   abbrev row : Statement
-  row = row_block plan.tests plan.items width
+  row = row_block plan.tests plan.reads plan.items width
 
   abbrev body : Statement
-  body = turn_block plan.reads row
+  body = turn_block row
 
   abbrev total : ℕ
   total = length (made result rows)
 
-  -- what is promised of the blocks
+  -- the stage where all conjuncts are decided
+  abbrev decided : ℕ
+  decided = length plan.tests
+
+  -- What is promised of the blocks: `Held` says what holds of a row, at first, after so many conjuncts, and where all columns are read.
   pub record Promises : Type 0 where
     pub high : 8 ≤ plan.known
     pub behind : plan.known ≤ plan.next
@@ -138,11 +142,13 @@ module _ (plan : Plan) (Text : Part → ℕ → List ℕ → Type 0) (rows : Lis
     pub few : length rows ≤ 1000000
     pub pages : most ≡ 2 + total * width / (page - width)
     pub texts_lie : (p : Part) (off : ℕ) (octets : List ℕ) → Text p off octets → (i octet : ℕ) → slice_get octets i ≡ Some octet → IsShown plan.base s0 p (off + i) octet
-    pub held_kept : (r : List Val) (s t : LowState) → Kept plan.next s t → Held r s → Held r t
-    pub reads_end : (i : ℕ) (r : List Val) (s : LowState) → slice_get rows i ≡ Some r → Since plan.known plan.base s0 s → plan.many ≤ length s.locals → slice_get s.locals 5 ≡ Some (Number (4 * i)) → slice_get s.own 0 ≡ Some page →
-        Ends (size plan.reads) (λ t. Kept plan.known s t × Held r t) Never (λ code. ⊥) (meaning most fuel plan.reads s)
-    pub tests_are : (i : ℕ) (r : List Val) → slice_get rows i ≡ Some r → (some : 1 ≤ 1 + units r) → AreTests most fuel (1 + units r) plan.next plan.many some (Held r) (held_kept r) plan.tests (truths r)
-    pub items_are : (i : ℕ) (r : List Val) → slice_get rows i ≡ Some r → (some : 1 ≤ 1 + units r) → AreItems most fuel (1 + units r) plan.next plan.many some (Held r) (held_kept r) Text plan.next plan.items (values r)
+    pub held_kept : (k : ℕ) (r : List Val) (s t : LowState) → Kept plan.next s t → Held k r s → Held k r t
+    pub held_first : (i : ℕ) (r : List Val) (s : LowState) → slice_get rows i ≡ Some r → Since plan.known plan.base s0 s → plan.many ≤ length s.locals → slice_get s.locals 5 ≡ Some (Number (4 * i)) → slice_get s.own 0 ≡ Some page → Held 0 r s
+    pub tests_are : (i : ℕ) (r : List Val) → slice_get rows i ≡ Some r → AreTests most fuel (1 + units r) plan.known plan.many (λ k. Held k r) 0 plan.tests (truths r)
+    pub reads_end : (i : ℕ) (r : List Val) (s : LowState) → slice_get rows i ≡ Some r → Held decided r s → plan.many ≤ length s.locals →
+        Ends (size plan.reads) (λ t. Kept plan.known s t × Held (suc decided) r t) Never (λ code. ⊥) (meaning most fuel plan.reads s)
+    pub items_are : (i : ℕ) (r : List Val) → slice_get rows i ≡ Some r → (some : 1 ≤ 1 + units r) →
+        AreItems most fuel (1 + units r) plan.next plan.many some (Held (suc decided) r) (held_kept (suc decided) r) Text plan.next plan.items (values r)
 
   -- between two rows: the rows so far, and the number of those that were scanned
   pub record Ready (i : ℕ) (so_far : List (List Val)) (s : LowState) : Type 0 where
@@ -258,40 +264,52 @@ module _ (plan : Plan) (Text : Part → ℕ → List ℕ → Type 0) (rows : Lis
             (λ x y. y) (λ code refused. inl refused)
             (row_added Text sources plan.base most fuel p.short p.uses now.found w room now.has enough vs (omega (arith, bound, all_rows, p.few)) supplied)
 
-      -- the items, where all conjuncts are true
-      abbrev rest : Statement
-      rest = seq (items_block plan.items) (push_block width (cells_block 8 sources))
+      -- the items, where all columns are read
+      abbrev added : Statement
+      added = seq (items_block plan.items) (push_block width (cells_block 8 sources))
 
-      true_then : all_true (truths r) ≡ Ok true → (t : LowState) → Kept plan.known s t → Held r t → Ends (size rest * N) Mid Never R (meaning most fuel rest t)
-      true_then is t kept held = by_values (all_values (values r)) refl
-          (items_end most fuel N plan.next plan.many some (Held r) (p.held_kept r) Text plan.items (values r) plan.next t (omega arith) (p.items_are i r there some) held (omega (arith, kept.many, ready.many)))
+      added_then : all_true (truths r) ≡ Ok true → (t : LowState) → Kept plan.known s t → Held (suc decided) r t → Ends (size added * N) Mid Never R (meaning most fuel added t)
+      added_then is t kept held = by_values (all_values (values r)) refl
+          (items_end most fuel N plan.next plan.many some (Held (suc decided) r) (p.held_kept (suc decided) r) Text plan.items (values r) plan.next t (omega arith) (p.items_are i r there some) held (omega (arith, kept.many, ready.many)))
         where
           result_then : result r ≡ (all_values (values r) >>= (λ vs. Ok (vs ∷ [])))
           result_then = rw is refl
 
-          weigh : size (items_block plan.items) * N + (16 + (size (cells_block 8 sources) + 17)) ≤ size rest * N
+          weigh : size (items_block plan.items) * N + (16 + (size (cells_block 8 sources) + 17)) ≤ size added * N
           weigh =
-              let whole : size rest * N ≡ size (items_block plan.items) * N + size (push_block width (cells_block 8 sources)) * N = spread (size (items_block plan.items)) (size (push_block width (cells_block 8 sources))) N in
+              let whole : size added * N ≡ size (items_block plan.items) * N + size (push_block width (cells_block 8 sources)) * N = spread (size (items_block plan.items)) (size (push_block width (cells_block 8 sources))) N in
               let more : size (push_block width (cells_block 8 sources)) ≤ size (push_block width (cells_block 8 sources)) * N = at_least (size (push_block width (cells_block 8 sources))) N some in
               omega (arith, whole, more)
 
           by_values : (q : Result (List Val) Code) → all_values (values r) ≡ q →
               Ends (size (items_block plan.items) * N) (Leaves (λ vs w. Kept plan.next t w × AllSupply Text w.locals sources vs) q) Never (Raises q) (meaning most fuel (items_block plan.items) t) →
-              Ends (size rest * N) Mid Never R (meaning most fuel rest t)
+              Ends (size added * N) Mid Never R (meaning most fuel added t)
           by_values (Err c) values_is ends =
               let raised : result r ≡ Err c = result_then ∙ rw values_is refl in
-              Ends-more Mid Never R (size (items_block plan.items) * N + (16 + (size (cells_block 8 sources) + 17))) (size rest * N) (meaning most fuel rest t) weigh
+              Ends-more Mid Never R (size (items_block plan.items) * N + (16 + (size (cells_block 8 sources) + 17))) (size added * N) (meaning most fuel added t) weigh
               (Ends-then Mid Never R (size (items_block plan.items) * N) (16 + (size (cells_block 8 sources) + 17)) Never (meaning most fuel (items_block plan.items) t) (meaning most fuel (push_block width (cells_block 8 sources)))
               (Ends-weaker (size (items_block plan.items) * N) (size (items_block plan.items) * N) Never Never Never Never (Raises {A = List Val} (Err c)) R (meaning most fuel (items_block plan.items) t) (omega arith) (λ x y. y) (λ x y. y)
               (λ code raises. inr (subst (λ (q : Result (List (List Val)) Code). Raises q code) (sym raised) raises)) ends)
               (λ x never. absurd never))
           by_values (Ok vs) values_is ends =
               let made_is : result r ≡ Ok (vs ∷ []) = result_then ∙ rw values_is refl in
-              Ends-more Mid Never R (size (items_block plan.items) * N + (16 + (size (cells_block 8 sources) + 17))) (size rest * N) (meaning most fuel rest t) weigh
+              Ends-more Mid Never R (size (items_block plan.items) * N + (16 + (size (cells_block 8 sources) + 17))) (size added * N) (meaning most fuel added t) weigh
               (Ends-then Mid Never R (size (items_block plan.items) * N) (16 + (size (cells_block 8 sources) + 17)) (λ w. Kept plan.next t w × AllSupply Text w.locals sources vs) (meaning most fuel (items_block plan.items) t) (meaning most fuel (push_block width (cells_block 8 sources)))
               (Ends-weaker (size (items_block plan.items) * N) (size (items_block plan.items) * N) (λ w. Kept plan.next t w × AllSupply Text w.locals sources vs) (λ w. Kept plan.next t w × AllSupply Text w.locals sources vs) Never Never (λ code. ⊥) R (meaning most fuel (items_block plan.items) t) (omega arith)
               (λ x y. y) (λ x y. y) (λ code never. absurd never) ends)
               (λ w done_items. pushed vs made_is w (ready-kept i (made result done) s w (Kept-then plan.known plan.known s t w (omega arith) kept (Kept-less plan.known plan.next t w p.behind done_items.0)) ready) done_items.1))
+
+      -- the other columns and the items, where all conjuncts are true
+      abbrev rest : Statement
+      rest = seq plan.reads added
+
+      true_then : all_true (truths r) ≡ Ok true → (t : LowState) → Kept plan.known s t → Held decided r t → plan.many ≤ length t.locals → Ends (size rest * N) Mid Never R (meaning most fuel rest t)
+      true_then is t kept held room =
+          let Read : LowState → Type 0 = λ u. Kept plan.known t u × Held (suc decided) r u in
+          Ends-more Mid Never R (size plan.reads + size added * N) (size rest * N) (meaning most fuel rest t) (omega (arith, spread (size plan.reads) (size added) N, at_least (size plan.reads) N some))
+          (Ends-then Mid Never R (size plan.reads) (size added * N) Read (meaning most fuel plan.reads t) (meaning most fuel added)
+          (Ends-weaker (size plan.reads) (size plan.reads) Read Read Never Never (λ code. ⊥) R (meaning most fuel plan.reads t) (omega arith) (λ x y. y) (λ x y. y) (λ code never. absurd never) (p.reads_end i r t there held room))
+          (λ u read. added_then is u (Kept-then plan.known plan.known s t u (omega arith) kept read.0) read.1))
 
       false_then : all_true (truths r) ≡ Ok false → (t : LowState) → Kept plan.known s t → Mid t
       false_then is t kept =
@@ -313,20 +331,13 @@ module _ (plan : Plan) (Text : Part → ℕ → List ℕ → Type 0) (rows : Lis
       pub turn_ends : Ends (size body * N) (Leaves (λ more t. Ready (suc i) (made result done ++ more) t) (result r)) Never R (meaning most fuel body s)
       turn_ends =
           let Post : LowState → Type 0 = Leaves (λ more t. Ready (suc i) (made result done ++ more) t) (result r) in
-          let whole : size body * N ≡ size plan.reads * N + (size row + 4) * N = spread (size plan.reads) (size row + 4) N in
-          let parts_are : (size row + 4) * N ≡ size row * N + 4 * N = spread (size row) 4 N in
-          Ends-more Post Never R (size plan.reads + (size row * N + 4)) (size body * N) (meaning most fuel body s) (omega (arith, whole, parts_are, at_least (size plan.reads) N some, at_least 4 N some))
-          (Ends-then Post Never R (size plan.reads) (size row * N + 4) (λ t. Kept plan.known s t × Held r t) (meaning most fuel plan.reads s) (meaning most fuel (seq row next_row))
-          (Ends-weaker (size plan.reads) (size plan.reads) (λ t. Kept plan.known s t × Held r t) (λ t. Kept plan.known s t × Held r t) Never Never (λ code. ⊥) R (meaning most fuel plan.reads s) (omega arith) (λ x y. y) (λ x y. y) (λ code never. absurd never)
-          (p.reads_end i r s there ready.since ready.many ready.offset (ready.has.pages 0 (omega arith))))
-          (λ t after. Ends-then Post Never R (size row * N) 4 Mid (meaning most fuel row t) (meaning most fuel next_row)
-          (tests_end most fuel N plan.next plan.many some (Held r) (p.held_kept r) Mid R rest t plan.tests (truths r) t (p.tests_are i r there some) (Kept-same plan.next t) after.1 (omega (arith, after.0.many, ready.many))
-          (record {
-            true_then = λ is u kept held. true_then is u (Kept-then plan.known plan.known s t u (omega arith) after.0 (Kept-less plan.known plan.next t u p.behind kept)) held;
-            false_then = λ is u kept. false_then is u (Kept-then plan.known plan.known s t u (omega arith) after.0 (Kept-less plan.known plan.next t u p.behind kept));
-            raised_then = raised_then (all_true (truths r)) refl;
-          }))
-          (λ u h. stepped_after (result r) u h)))
+          let whole : size body * N ≡ size row * N + 4 * N = spread (size row) 4 N in
+          Ends-more Post Never R (size row * N + 4) (size body * N) (meaning most fuel body s) (omega (arith, whole, at_least 4 N some))
+          (Ends-then Post Never R (size row * N) 4 Mid (meaning most fuel row s) (meaning most fuel next_row)
+          (tests_end most fuel N plan.known plan.many (λ k. Held k r) some Mid R rest s decided plan.tests (truths r) 0 s (omega arith) (p.tests_are i r there) (Kept-same plan.known s)
+          (p.held_first i r s there ready.since ready.many ready.offset (ready.has.pages 0 (omega arith))) ready.many
+          (record { true_then = true_then; false_then = false_then; raised_then = raised_then (all_true (truths r)) refl }))
+          (stepped_after (result r)))
 
     pub turns_are : (done left : List (List Val)) (r : List Val) (s : LowState) → rows ≡ done ++ r ∷ left → AllByRecursion (IsMade result) done → Ready (length done) (made result done) s →
         Ends (size body * (1 + units r)) (Leaves (λ more t. Ready (suc (length done)) (made result done ++ more) t) (result r)) Never (λ code. (code ≡ 3) ⊎ Raises (result r) code) (meaning most fuel body s)
@@ -346,7 +357,7 @@ scan-weight start body test finish spent most =
     let one : (start + (test + 3 + body + finish)) * 1 ≡ start + (test + 3 + body + finish) = omega arith in
     omega (arith, whole, turn, one)
 
-module _ (plan : Plan) (Text : Part → ℕ → List ℕ → Type 0) (rows : List (List Val)) (units : List Val → ℕ) (Held : List Val → LowState → Type 0)
+module _ (plan : Plan) (Text : Part → ℕ → List ℕ → Type 0) (rows : List (List Val)) (units : List Val → ℕ) (Held : (stage : ℕ) → List Val → LowState → Type 0)
     (truths : List Val → List (Result Truth Code)) (values : List Val → List (Result Val Code)) (most fuel : ℕ) where
   abbrev P0 : LowState → Type 0
   P0 s0 = Promises plan Text rows units Held truths values most fuel s0
@@ -369,13 +380,13 @@ module _ (plan : Plan) (Text : Part → ℕ → List ℕ → Type 0) (rows : Lis
   module _ (first : LowState) (enough : spend units rows < fuel)
       (start_ends : Ends (size plan.start) Begun Never (λ code. ⊥) (meaning most fuel plan.start first)) where
     abbrev turning : Statement
-    turning = turn_block plan.reads (row_block plan.tests plan.items (bytes Text (kinds_of (outs_of plan.items))))
+    turning = turn_block (row_block plan.tests plan.reads plan.items (bytes Text (kinds_of (outs_of plan.items))))
 
     abbrev result' : List Val → Result (List (List Val)) Code
     result' r = made_of (truths r) (values r)
 
-    pub scan_ends : Ends (size (scan_block plan.start plan.reads (row_block plan.tests plan.items (bytes Text (kinds_of (outs_of plan.items))))) * (1 + spend units rows)) Finished Never (Told result' rows)
-        (meaning most fuel (scan_block plan.start plan.reads (row_block plan.tests plan.items (bytes Text (kinds_of (outs_of plan.items))))) first)
+    pub scan_ends : Ends (size (scan_block plan.start (row_block plan.tests plan.reads plan.items (bytes Text (kinds_of (outs_of plan.items))))) * (1 + spend units rows)) Finished Never (Told result' rows)
+        (meaning most fuel (scan_block plan.start (row_block plan.tests plan.reads plan.items (bytes Text (kinds_of (outs_of plan.items))))) first)
     scan_ends =
         let R : ℕ → Type 0 = Told result' rows in
         let spent : ℕ = spend units rows * (size turning + (cost more_rows + 3)) + (cost more_rows + 2) in

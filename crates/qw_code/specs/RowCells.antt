@@ -91,14 +91,15 @@ kinds_of [] = []
 kinds_of (o ∷ os) = o.kind ∷ kinds_of os
 
 -- ---- a row of the table: the conjuncts of WHERE, and where all are true the select list
--- a conjunct's block, and the local where it leaves 1 if it is true, and else 0
+-- a conjunct: a block, which first reads the columns that are new with it, and an expression that is 1 behind the block where the conjunct is
+-- true, and else 0
 pub record Test : Type 0 where
-  pub out : ℕ
+  pub out : Expression
   pub block : Statement
 
 abbrev pub tests_block : List Test → (rest : Statement) → Statement
 tests_block [] rest = rest
-tests_block (g ∷ gs) rest = seq g.block (conditional (local g.out) (tests_block gs rest) skip)
+tests_block (g ∷ gs) rest = seq g.block (conditional g.out (tests_block gs rest) skip)
 
 -- an item's block, and where it leaves the value
 pub record Item : Type 0 where
@@ -113,9 +114,9 @@ abbrev pub outs_of : List Item → List Source
 outs_of [] = []
 outs_of (g ∷ gs) = g.out ∷ outs_of gs
 
--- where all conjuncts are true, the items are evaluated and the row that they make is added to the result
-abbrev pub row_block : List Test → List Item → (size : ℕ) → Statement
-row_block tests items size = tests_block tests (seq (items_block items) (push_block size (cells_block 8 (outs_of items))))
+-- where all conjuncts are true, the other columns are read, the items are evaluated, and the row that they make is added to the result
+abbrev pub row_block : List Test → (reads : Statement) → List Item → (size : ℕ) → Statement
+row_block tests reads items size = tests_block tests (seq reads (seq (items_block items) (push_block size (cells_block 8 (outs_of items)))))
 
 -- the locals of a value
 abbrev pub UsesNull : (ℕ → Type 0) → Option ℕ → Type 0
@@ -132,12 +133,12 @@ more_rows = relop I32 Ne (local 5) (local 6)
 abbrev pub next_row : Statement
 next_row = assign 5 (binop I32 Add (local 5) (i32 4))
 
--- what is done at a row: its columns are read, and the rest is done with them
-abbrev pub turn_block : (reads row : Statement) → Statement
-turn_block reads row = seq reads (seq row next_row)
+-- what is done at a row
+abbrev pub turn_block : (row : Statement) → Statement
+turn_block row = seq row next_row
 
-abbrev pub scan_block : (start reads row : Statement) → Statement
-scan_block start reads row = seq start (seq (while more_rows (turn_block reads row)) finish_block)
+abbrev pub scan_block : (start row : Statement) → Statement
+scan_block start row = seq start (seq (while more_rows (turn_block row)) finish_block)
 
 -- where the last row's offset ends: the first column's entry in the descriptor has the number of rows
 abbrev pub end_block : Statement
