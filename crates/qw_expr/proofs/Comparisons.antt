@@ -1,10 +1,7 @@
 -- What comparisons come to.
 use Rattle.std.proofs.Common.{◌≡◌, ℕ, ℤ, ◌+◌, ◌*◌, ◌<◌, ◌≤◌, Ordering, Bool, true, false, length, Option, Some, Ok, slice_get, arith}
 use Rattle.qw_types.specs.declared.truth.Truth.{Truth}
-use Rattle.qw_types.specs.declared.value.Val.{Val}
-use Rattle.qw_types.specs.declared.value.Val.TheVariants as val
 use Rattle.qw_meaning.specs.declared.query.Comparison.{Comparison}
-use Rattle.qw_meaning.specs.declared.query.Comparison.TheVariants as op
 use Rattle.qw_meaning.specs.Evaluation.{answers, truth_if}
 use Rattle.qw_module.specs.Numbers.{truth}
 use Rattle.qw_low.specs.declared.cell.Cell.{Cell}
@@ -17,10 +14,9 @@ use Rattle.qw_low.specs.Held.{SaysValue}
 use Rattle.qw_low.proofs.Results.{Kept-then, at_least, Comes}
 use Rattle.qw_low.proofs.Promises.{Ends-weaker}
 use Rattle.qw_wide.specs.Numbers.{HasNumber, Tests}
-use Rattle.qw_wide.proofs.Words.{word}
 use Rattle.qw_wide.proofs.ArithmeticRuns.{held_kept}
 use Rattle.qw_expr.specs.declared.operand.Operand.{Operand}
-use Rattle.qw_expr.specs.Cells.{HoldsTruth, Holds, IsBelow, IsBelowNull}
+use Rattle.qw_expr.specs.Cells.{HoldsTruth, IsBelow, IsBelowNull}
 use Rattle.qw_expr.specs.Inner.Nulls.{joined_null}
 use Rattle.qw_expr.proofs.Nulls.{value_says}
 use Rattle.qw_expr.proofs.Unknowns.{null_low}

@@ -136,7 +136,7 @@ module _ (known : List Known) (next : ℕ) (low_known : AreBelow next known) (o 
         tests.typed types (declared_a types da) (declared_b types db) word (first_declared types (m + 2) I64 declares))
 
 -- ---- numbers and dates
-number_in : (known : List Known) (e : Expression) (row : List Val) (x : Val) (o : Operand) (u : LowState) → IsTyped e → IsTrue (is_number (kind_of e)) → HasColumns (HoldsIn row) e → value_of e (record { row = row }) ≡ Ok x → Holds o x u → (x ≡ val.Null → ⊥) →
+pub number_in : (known : List Known) (e : Expression) (row : List Val) (x : Val) (o : Operand) (u : LowState) → IsTyped e → IsTrue (is_number (kind_of e)) → HasColumns (HoldsIn row) e → value_of e (record { row = row }) ≡ Ok x → Holds o x u → (x ≡ val.Null → ⊥) →
     (v : ℤ) × (x ≡ val.Num v) × HasNumber o.cell.value o.most v u
 number_in known e row x o u typed numeric columns is holds other = by_value x (number_of_typed e row x typed numeric columns is) holds other
   where
@@ -146,7 +146,7 @@ number_in known e row x o u typed numeric columns is holds other = by_value x (n
     by_value (val.Date d) is holds other = absurd is
     by_value (val.Text t) is holds other = absurd is
 
-compared_numbers : (o : Comparison) (x y : Val) (sa sb : ℕ) (v w : ℤ) → x ≡ val.Num v → y ≡ val.Num w → compared o x sa y sb ≡ truth_if (answers o (order_of v sa w sb))
+pub compared_numbers : (o : Comparison) (x y : Val) (sa sb : ℕ) (v w : ℤ) → x ≡ val.Num v → y ≡ val.Num w → compared o x sa y sb ≡ truth_if (answers o (order_of v sa w sb))
 compared_numbers o x y sa sb v w is_x is_y = rw (is_x, is_y) refl
 
 pub numbers_decide : (known : List Known) (next : ℕ) → AreBelow next known → (o : Comparison) (a b : Expression) (oa ob : Operand) (sa sb f : Statement) (owna ownb : List ValType) → AreTyped (comparison o a b) → IsTrue (is_number (kind_of a)) → IsTrue (is_number (kind_of b)) →
@@ -163,7 +163,7 @@ numbers_decide known next low_known o a b oa ob sa sb f owna ownb typed na nb ca
     (λ types declared. operand_declared types oa a ca.kind_is na declared) (λ types declared. operand_declared types ob b cb.kind_is nb declared)
 
 -- the greatest date, as a number
-date_in : (e : Expression) (row : List Val) (x : Val) (o : Operand) (u : LowState) → IsTyped e → IsTrue (is_date (kind_of e)) → HasColumns (HoldsIn row) e → value_of e (record { row = row }) ≡ Ok x → Holds o x u → (x ≡ val.Null → ⊥) →
+pub date_in : (e : Expression) (row : List Val) (x : Val) (o : Operand) (u : LowState) → IsTyped e → IsTrue (is_date (kind_of e)) → HasColumns (HoldsIn row) e → value_of e (record { row = row }) ≡ Ok x → Holds o x u → (x ≡ val.Null → ⊥) →
     (v : ℤ) × (x ≡ val.Date v) × HasNumber o.cell.value 99991231 v u
 date_in e row x o u typed dated columns is holds other = by_value x (if_ok_is (IsValueOf (kind_of e)) (value_of e (record { row = row })) x is (typed_value e row typed columns)) holds other
   where

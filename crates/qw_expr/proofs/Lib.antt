@@ -17,6 +17,7 @@ mod Lookups
 mod NullTests
 pub mod Nulls
 mod Shared
+mod Tests
 mod TextDecisions
 mod TreeChoices
 mod Trees

@@ -1,5 +1,5 @@
 -- What a local holds of a literal that was assigned to it.
-use Rattle.std.proofs.Common.{◌≡◌, ℕ, ℤ, pos, negsuc, ◌<◌, ◌≤◌, IsTrue, FitsSigned, length, Some, slice_get, slice_set, arith, w32, w64}
+use Rattle.std.proofs.Common.{◌≡◌, ℕ, ℤ, pos, negsuc, ◌<◌, IsTrue, FitsSigned, length, Some, slice_get, slice_set, arith, w32, w64}
 use Rattle.std.specs.Int.{cast_unsigned}
 use Rattle.std.proofs.lemmas.Int.{ints}
 use Rattle.qw_types.specs.Arithmetic.{fits}

@@ -1,5 +1,5 @@
 -- Comparisons of texts.
-use Rattle.std.proofs.Common.{◌≡◌, ℕ, ◌+◌, ◌*◌, ◌≤◌, Bool, not, FitsSigned, List, ◌∷◌, ◌++◌, length, Option, Some, Ok, slice_get, refl, sym, ap, ap₂, ◌∙◌, subst, arith, w64}
+use Rattle.std.proofs.Common.{◌≡◌, ℕ, ◌+◌, ◌*◌, ◌≤◌, Bool, FitsSigned, List, ◌∷◌, ◌++◌, length, Option, Some, Ok, slice_get, refl, sym, ap, ap₂, ◌∙◌, subst, arith, w64}
 use Rattle.std.specs.Ordering.{is_eq}
 use Rattle.qw_types.specs.TextOrder.{text_order}
 use Rattle.qw_types.specs.declared.kind.Kind.{Kind}

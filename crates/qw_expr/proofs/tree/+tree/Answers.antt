@@ -1,15 +1,14 @@
-use Rattle.std.proofs.Common.{rules, ◌≤◌, List, IfOk, sym, subst, inr, w32, w64}
+use Rattle.std.proofs.Common.{rules, ◌≤◌, IfOk, sym, subst, inr, w32, w64}
 use Rattle.qw_meaning.specs.declared.expression.Expr.{the_lemmas}
 use Rattle.qw_meaning.specs.declared.query.Comparison.TheVariants.{Equal, GreaterOrEqual, LessOrEqual}
-use Rattle.qw_meaning.specs.Expression.{among, arithmetic, between, both, brought, case, cases, coalesced, column, comparison, date, either, extract, is, is_null, largest_result, negation_of, negative, null, null_if, number, text}
+use Rattle.qw_meaning.specs.Expression.{among, arithmetic, between, both, brought, case, cases, coalesced, column, comparison, date, either, extract, is, is_null, largest_result, negation_of, negative, null, null_if, number}
 use Rattle.qw_meaning.specs.Tree.{choices_of, condition_of, expression_of, expressions_of, matches_of}
 use Rattle.qw_meaning.specs.Typing.{IsTyped, kind_of}
 use Rattle.std.proofs.lemmas.Int.{to_z-of_z}
 use Rattle.qw_wide.proofs.Words.{fits_small}
 use Rattle.qw_low.proofs.Appended.{if_ok}
 use Rattle.qw_expr.specs.Bindings.{IsAmong, IsServed, Knows, TakesKnown, known_of}
-use Rattle.qw_expr.specs.Computes.{Known}
-use Rattle.qw_expr.specs.Emits.{Emits, free_of}
+use Rattle.qw_expr.specs.Emits.{free_of}
 use Rattle.qw_expr.specs.Inner.Choices.{Suits}
 use Rattle.qw_expr.specs.Inner.Made.{Made, with_operand}
 use Rattle.qw_expr.proofs.Abbreviations.{among_first, among_known, among_typed, matched_known, matched_typed, between_first, cases_at, compared_first, matched_before, null_if_before}
