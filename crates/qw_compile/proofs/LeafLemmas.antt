@@ -207,6 +207,27 @@ module _ (known : List Known) where
     take_known (negation_of c) h = take_known c h
     take_known (is c t) h = take_known c h
 
+  mutual
+    pub known_leaves : (e : Expression) → TakesKnown known e → HasLeaves IsKnown e
+    known_leaves null h = tt
+    known_leaves (number v s) h = h
+    known_leaves (date d) h = h
+    known_leaves (text t) h = h
+    known_leaves (column i t) h = h
+    known_leaves (arithmetic operator a b) h = (known_leaves a h.0, known_leaves b h.1)
+    known_leaves (negative a) h = known_leaves a h
+    known_leaves (extract field a) h = known_leaves a h
+    known_leaves (brought a s) h = known_leaves a h
+    known_leaves (choice c a b) h = (known_conditions c h.0, (known_leaves a h.1.0, known_leaves b h.1.1))
+
+    pub known_conditions : (c : Condition) → TakeKnown known c → HaveLeaves IsKnown c
+    known_conditions (comparison op a b) h = (known_leaves a h.0, known_leaves b h.1)
+    known_conditions (is_null a) h = known_leaves a h
+    known_conditions (both c d) h = (known_conditions c h.0, known_conditions d h.1)
+    known_conditions (either c d) h = (known_conditions c h.0, known_conditions d h.1)
+    known_conditions (negation_of c) h = known_conditions c h
+    known_conditions (is c t) h = known_conditions c h
+
 -- ---- columns
 module _ (P : ℕ → Ty → Type 0) where
   mutual

@@ -2,6 +2,7 @@ pub mod Bridge
 pub mod CellSteps
 pub mod ColumnSteps
 pub mod Composed
+pub mod Conjuncts
 pub mod Finished
 pub mod Joined
 pub mod LeafLemmas
@@ -9,6 +10,7 @@ pub mod Listed
 pub mod Made
 pub mod NamedColumns
 pub mod NestingSteps
+pub mod Parts
 pub mod Promised
 pub mod ReadersLaid
 pub mod RowSteps

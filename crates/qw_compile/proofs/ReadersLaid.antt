@@ -140,7 +140,15 @@ abbrev pub known_literals : List Used → (at : ℕ) → (texts : List (List ℕ
 known_literals used at texts words = known_texts (literals_from (first_text used) at texts) texts ++ map known_constant (constants_from (first_word used (length texts)) words)
 
 abbrev pub known_all : List Used → (at : ℕ) → (texts : List (List ℕ)) → List Word → List Known
-known_all used at texts words = map known_of (readers_of used (literal_count texts words)) ++ known_literals used at texts words
+known_all used at texts words = known_literals used at texts words ++ map known_of (readers_of used (literal_count texts words))
+
+pub literals_below : (used : List Used) (at : ℕ) (texts : List (List ℕ)) (words : List Word) → AreBelow (first_cell used (literal_count texts words)) (known_literals used at texts words)
+literals_below used at texts words =
+    let n = first_cell used (literal_count texts words) in
+    all-append (λ (k : Known). IsBelow n k.operand.cell) (known_texts (literals_from (first_text used) at texts) texts) (map known_constant (constants_from (first_word used (length texts)) words))
+    (texts_below (first_text used) n (literals_from (first_text used) at texts) texts (texts_up (first_text used) (first_text used + 2 * length texts) n (literals_from (first_text used) at texts) (omega arith) (texts_in_locals (first_text used) at texts)))
+    (constants_below (first_word used (length texts)) n (constants_from (first_word used (length texts)) words)
+    (words_up (first_word used (length texts)) (first_word used (length texts) + length words) n (constants_from (first_word used (length texts)) words) (omega arith) (words_in_locals (first_word used (length texts)) words)))
 
 pub served : (used : List Used) (at : ℕ) (texts : List (List ℕ)) (words : List Word) → IsServed (first_own used (literal_count texts words)) (known_all used at texts words)
 served used at texts words =
@@ -153,12 +161,13 @@ served used at texts words =
     (words_up (first_word used (length texts)) (first_word used (length texts) + length words) (first_own used n) (constants_from (first_word used (length texts)) words) (omega arith) (words_in_locals (first_word used (length texts)) words)) in
     let IsBelowOne : Known → Type 0 = λ (k : Known). IsBelow (first_own used n) k.operand.cell in
     let IsDescribed : Known → Type 0 = λ (q : Known). (q.operand.kind ≡ kind_of q.expression) × (q.operand.scale ≡ scale_of q.expression) in (
-      all-append IsBelowOne (map known_of (readers_of used n)) (known_literals used at texts words)
-          (known_below (first_cell used n) (first_own used n) (readers_of used n) (cells_in 8 (first_cell used n) 0 (first_own used n) used (omega arith)))
-          (all-append IsBelowOne (known_texts (literals_from (first_text used) at texts) texts) (map known_constant (constants_from (first_word used (length texts)) words)) below_texts below_words),
-      all-append IsDescribed (map known_of (readers_of used n)) (known_literals used at texts words) (described 8 (first_cell used n) 0 used)
+      all-append IsBelowOne (known_literals used at texts words) (map known_of (readers_of used n))
+          (all-append IsBelowOne (known_texts (literals_from (first_text used) at texts) texts) (map known_constant (constants_from (first_word used (length texts)) words)) below_texts below_words)
+          (known_below (first_cell used n) (first_own used n) (readers_of used n) (cells_in 8 (first_cell used n) 0 (first_own used n) used (omega arith))),
+      all-append IsDescribed (known_literals used at texts words) (map known_of (readers_of used n))
           (all-append IsDescribed (known_texts (literals_from (first_text used) at texts) texts) (map known_constant (constants_from (first_word used (length texts)) words)) (texts_described (first_text used) at texts)
-          (constants_described (constants_from (first_word used (length texts)) words))),
+          (constants_described (constants_from (first_word used (length texts)) words)))
+          (described 8 (first_cell used n) 0 used),
     )
 
 pub knows : (b c k : ℕ) (used : List Used) (i : ℕ) (t : Ty) → IsRead used i t → Knows (map known_of (readers_from b c k used)) (column i t)

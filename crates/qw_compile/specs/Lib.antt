@@ -4,6 +4,7 @@ pub mod Leaves
 pub mod Limits
 pub mod Makes
 pub mod Named
+pub mod Needed
 pub mod Nesting
 pub mod Readers
 pub mod Sources

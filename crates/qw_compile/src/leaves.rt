@@ -2,6 +2,7 @@
 
 ghost use Rattle.std.specs.Prelude.{◌++◌, [], IfOk, OnOk};
 ghost use Rattle.std.specs.List.{flat_map};
+ghost use Rattle.qw_compile.specs.Leaves as gathered;
 ghost use Rattle.qw_compile.specs.Leaves.{Gathers, leaves_in, leaves_of_all, leaves_of_branches, leaves_of_matches, leaves_within};
 
 use crate::texts::copy_of;
@@ -132,6 +133,19 @@ fn from_matches(alloc: Global, leaves: &mut Vec<Leaf>, matches: &Matches) -> Res
             from_matches(alloc, leaves, rest)
         }
     }
+}
+
+/// The leaves of a condition.
+///
+/// # Errors
+///
+/// [`NoMemory`] where memory does not suffice.
+pub fn leaves_within(alloc: Global, cond: &Cond) -> Result<Vec<Leaf>, NoMemory>
+    ensures { IfOk result (λ leaves. Gathers [] leaves.items (gathered.leaves_within cond.now)) }
+{
+    let mut leaves = Vec::new(alloc);
+    from_condition(alloc, &mut leaves, cond)?;
+    Ok(leaves)
 }
 
 /// Adds those of conjuncts.

@@ -8,6 +8,7 @@
 //! - [`constants`]: the numbers and dates, and the locals for them.
 //! - [`columns`]: the locals of a scan, and the kinds of its cells.
 //! - [`lists`]: the conjuncts and the select list, one after another.
+//! - [`needed`]: how many columns are read where an expression is evaluated.
 //! - [`nesting`]: what is done where a conjunct is true stands within its choice.
 //! - [`cells`]: the cells of a result row.
 //! - [`row`]: what is done at a row.
@@ -22,6 +23,7 @@ pub mod constants;
 pub mod leaves;
 pub mod lists;
 pub mod named;
+pub mod needed;
 pub mod nesting;
 pub mod readers;
 pub mod row;

@@ -57,6 +57,15 @@ pub fn literal_locals(texts: usize, words: usize) -> usize
     TEXT_LOCALS as usize * texts + words
 }
 
+/// How many literals there are, of so many texts and of so many numbers and dates.
+pub fn literals_in(texts: usize, words: usize) -> usize
+    requires texts { texts ≤ 100000 }
+    requires words { words ≤ 100000 }
+    ensures { result ≡ texts + words }
+{
+    texts + words
+}
+
 /// The first local of the columns' values, behind so many locals of literals.
 pub fn first_cell(columns: usize, literals: usize) -> Local
     requires columns { columns ≤ 64 }
@@ -187,11 +196,11 @@ pub fn bindings_of(
 ) -> Result<Vec<Binding>, NoMemory>
     requires sized { All (λ r. IsSized r.ty) readers.now }
     requires many { length literals.now ≡ length texts.now }
-    ensures { IfOk result (λ made. bindings.known_of made.items ≡ map known_of readers.now ++ (known_texts literals.now texts.now ++ map known_constant constants.now)) }
+    ensures { IfOk result (λ made. bindings.known_of made.items ≡ (known_texts literals.now texts.now ++ map known_constant constants.now) ++ map known_of readers.now) }
 {
     let mut made = Vec::new(alloc);
-    bind_columns(&mut made, readers)?;
     bind_texts(alloc, &mut made, literals, texts)?;
     bind_constants(&mut made, constants)?;
+    bind_columns(&mut made, readers)?;
     Ok(made)
 }
