@@ -2,11 +2,15 @@ pub mod Bridge
 pub mod CellSteps
 pub mod ColumnSteps
 pub mod Composed
+pub mod Conjuncts
 pub mod Finished
 pub mod Joined
+pub mod LeafLemmas
 pub mod Listed
 pub mod Made
+pub mod NamedColumns
 pub mod NestingSteps
+pub mod Parts
 pub mod Promised
 pub mod ReadersLaid
 pub mod RowSteps

@@ -1,9 +1,11 @@
-use Rattle.std.proofs.Common.{◌≡◌, ◌∙◌, List, Some, ap, map, refl, subst}
+use Rattle.std.proofs.Common.{◌≡◌, ◌∙◌, Bool, List, Some, ap, map, refl, subst}
 use Rattle.std.specs.Prelude.{slice_get}
 use Rattle.std.specs.List.{AllByRecursion}
 use Rattle.qw_types.specs.Value.{IsSized}
 use Rattle.qw_types.specs.declared.schema.Column.{Column}
-use Rattle.qw_top.proofs.BenchLemmas.{all_columns}
+use Rattle.qw_types.specs.declared.value.Ty.{Ty}
+use Rattle.qw_compile.specs.Named.{IsOfTable}
+use Rattle.qw_top.proofs.BenchLemmas.{columns_in}
 use Rattle.qw_top.proofs.QueryLemmas.{columns_there, sized_types}
 use Rattle.qw_top.proofs.top.program.compiled.Goals as goal
 
@@ -22,4 +24,6 @@ returns-in-Ok-clause-columns c tables are =
     let columns : c.columns_of-columns.result.now ≡ over.table.columns = c.columns_of-columns.ensures.columns ∙ columns_there c.args.schema.now c.table.result over.table there in
     let not_null : c.deref.result.now ≡ map (λ (column : Column). column.not_null) over.table.columns =
     c.deref.ensures.value ∙ c.in_ok-not_null.ensures ∙ ap (λ (cs : List Column). map (λ (column : Column). column.not_null) cs) columns in
-    rw (c.in-Ok.ensures.columns, not_null, over.types_are) (all_columns c.args.schema.now tables c.args.query.now.select.table over.table are over.there)
+    columns_in c.args.schema.now tables c.args.query.now.select.table over.table are over.there c.in-Ok.compiled.layout.columns
+    (subst (λ (types : List Ty). AllByRecursion (IsOfTable c.args.query.now.select.table types (map (λ (column : Column). column.not_null) over.table.columns)) c.in-Ok.compiled.layout.columns) over.types_are
+    (subst (λ (b : List Bool). AllByRecursion (IsOfTable c.args.query.now.select.table c.args.query.now.select.types b) c.in-Ok.compiled.layout.columns) not_null c.in-Ok.ensures.of_table))
