@@ -1,5 +1,5 @@
 -- The scan of a specification: its plan, and what is promised of the plan's blocks.
-use Rattle.std.proofs.Common.{◌≡◌, ℕ, zero, suc, ◌+◌, ◌*◌, ◌^◌, ◌≤◌, nat_le, ◌&&◌, if◌then◌else◌, Bool, true, false, inl, inr, IsUtf8, Ok, sum_by, Option, Some, None, List, [], ◌∷◌, ◌++◌, length, map, take, replicate, slice_get, Contains, refl, sym, ap, ap₂, ◌∙◌, subst, arith}
+use Rattle.std.proofs.Common.{◌≡◌, ℕ, zero, suc, ◌+◌, ◌-◌, ◌*◌, ◌^◌, ◌≤◌, nat_le, ◌&&◌, if◌then◌else◌, Bool, true, false, inl, inr, IsUtf8, Ok, sum_by, Option, Some, None, List, [], ◌∷◌, ◌++◌, length, map, take, replicate, slice_get, Contains, refl, sym, ap, ap₂, ◌∙◌, subst, arith}
 use Rattle.std.specs.List.{AllByRecursion, concat}
 use Rattle.std.proofs.lemmas.Bool.{and_from, and_parts, le-leb, leb-true}
 use Rattle.std.proofs.lemmas.List.{append-nil, length-map, length-replicate}
@@ -26,7 +26,7 @@ use Rattle.qw_meaning.specs.Units as text
 use Rattle.qw_meaning.specs.Units.{units_of}
 use Rattle.qw_meaning.proofs.SelectLemmas.{columns_more, conditions_more}
 use Rattle.qw_map.specs.Areas.{World}
-use Rattle.qw_map.specs.Columns.{column_values}
+use Rattle.qw_map.specs.Columns.{column_values, values_size}
 use Rattle.qw_map.specs.Layout.{Layout, HasColumn, IsReady, IsReadyColumn, descriptor_size, entry_offset, first_world, text_areas, text_cell}
 use Rattle.qw_map.specs.declared.layout.Placed.{Placed}
 use Rattle.qw_map.specs.declared.layout.Used.{Used}
@@ -47,7 +47,7 @@ use Rattle.qw_low.proofs.Results.{Kept-then}
 use Rattle.qw_expr.specs.Cells.{DeclaresValue, Holds, IsBelow}
 use Rattle.qw_expr.specs.Computes.{Known, AreBelow, AreHeld, AreDeclared}
 use Rattle.qw_expr.proofs.Nulls.{known_below_more, known_kept}
-use Rattle.qw_rows.specs.Reading.{known_of, IsThere, StandsAt, HasBases, BeginsAll}
+use Rattle.qw_rows.specs.Reading.{known_of, IsThere, StandsAt, HasBases, HasOctets, BeginsAll}
 use Rattle.qw_rows.specs.declared.reader.Reader.{Reader}
 use Rattle.qw_rows.specs.Texts.{HasPlace, LeadsToAll, AreTextsIn, LieThere, known_texts}
 use Rattle.qw_rows.specs.Constants.{IsSet, IsSmall, SetsAll, known_constant}
@@ -57,7 +57,7 @@ use Rattle.qw_rows.specs.declared.literal.Literal.{Literal}
 use Rattle.qw_rows.proofs.ConstantRuns.{constants_declared, constants_held, sets_same}
 use Rattle.qw_rows.proofs.Several.{known_declared}
 use Rattle.qw_rows.proofs.TextPlaces.{lie_there_kept, lie_there_within, places_same, ready_texts, texts_declared, texts_held}
-use Rattle.qw_rows.proofs.ReadyColumns.{ready_stands_at}
+use Rattle.qw_rows.proofs.ReadyColumns.{ready_long, ready_stands_at}
 use Rattle.qw_rows.proofs.Elsewhere.{stands_same}
 use Rattle.qw_emit.specs.Compiled.{IsUsedOf, compared_at, page_bound}
 use Rattle.qw_code.specs.RowCells.{Test, Item, begin_block, kinds_of, outs_of, row_block, scan_block}
@@ -76,7 +76,7 @@ use Rattle.qw_compile.specs.Texts.{literals_from}
 use Rattle.qw_compile.proofs.Promised.{held_more, StandsIn, HeldIn, IsTestAt, IsItemAt, shown, all_moved, kinds_moved, AreOwn, tests_promised, items_promised, all_use, items_high, items_kinds, headed, AreHigh, after_append}
 use Rattle.qw_compile.proofs.LeafLemmas.{all_back, all_front}
 use Rattle.qw_compile.proofs.Parts.{all_map_take, bases_there, joined_map, done_below, part_all, part_cells, read_at, read_last, read_past, take_all}
-use Rattle.qw_compile.proofs.ReadersLaid.{literals_below, readers_many, served, known_all, known_literals, literal_count, texts_up, words_up, words_small, words_in_locals, words_declared, behind_words, bases_in, cells_in, entries_of, at_all, AtEach, Standing, are_there, behind_bases, behind_texts, behind_cells, cells_declared, literals_declared, texts_from, texts_in_locals}
+use Rattle.qw_compile.proofs.ReadersLaid.{literals_below, readers_many, served, known_all, known_literals, literal_count, texts_up, words_up, words_small, words_in_locals, words_declared, behind_words, bases_in, cells_in, IsEntered, entries_of, at_all, AtEach, Standing, are_there, behind_bases, behind_texts, behind_cells, cells_declared, literals_declared, texts_from, texts_in_locals}
 use Rattle.qw_compile.proofs.TextCells.{text_read}
 use Rattle.qw_compile.proofs.TextLiterals.{HasTexts, HasUtf8, IsUtf8Value, stored_utf8}
 
@@ -161,15 +161,15 @@ abbrev pub IsReadItem : List Used → Expression → Type 0
 IsReadItem used e = HasTexts IsUtf8 e × IsTyped e × HasKind e × HasColumns (IsRead used) e
 
 -- the addresses of columns' parts are still there
-bases_same : (n b c k : ℕ) (used : List Used) (s t : LowState) → b + 3 * length used ≤ n → Kept n s t → AllByRecursion (λ q. HasBases q s) (readers_from b c k used) → AllByRecursion (λ q. HasBases q t) (readers_from b c k used)
-bases_same n b c k [] s t low kept has = tt
-bases_same n b c k (u ∷ used) s t low kept has = (
+bases_same : (n rows b c k : ℕ) (used : List Used) (s t : LowState) → b + 3 * length used ≤ n → Kept n s t → AllByRecursion (λ q. HasBases rows q s) (readers_from b c k used) → AllByRecursion (λ q. HasBases rows q t) (readers_from b c k used)
+bases_same n rows b c k [] s t low kept has = tt
+bases_same n rows b c k (u ∷ used) s t low kept has = (
   record {
     values = kept.below b (omega (arith, low)) ∙ has.0.values;
     octets = λ is. kept.below (b + 1) (omega (arith, low)) ∙ has.0.octets is;
     nulls = λ is. kept.below (b + 2) (omega (arith, low)) ∙ has.0.nulls is;
   },
-  bases_same n (b + 3) (c + 3) (k + 1) used s t (omega (arith, low)) kept has.1,
+  bases_same n rows (b + 3) (c + 3) (k + 1) used s t (omega (arith, low)) kept has.1,
 )
 
 module _ (parts : Parts) (used : List Used) (texts : List (List ℕ)) (words : List Word) (kinds : List Kind) (tests : List Test) (ends : List ℕ) (items : List Item) (ownT ownI : List ValType) (begins leads sets reads : Statement) where
@@ -250,8 +250,9 @@ module _ (parts : Parts) (used : List Used) (texts : List (List ℕ)) (words : L
     pub record IsAt (r : Run) (row : List Val) (s : LowState) : Type 0 where
       pub index : ℕ
       pub there : slice_get (rows_of r.tables parts.table) index ≡ Some row
-      pub offset : slice_get s.locals 5 ≡ Some (Number (4 * index))
-      pub bases : AllByRecursion (λ q. HasBases q s) readers
+      pub left : slice_get s.locals 5 ≡ Some (Number (4 * (length (rows_of r.tables parts.table) - index)))
+      pub end : slice_get s.locals 6 ≡ Some (Number (4 * length (rows_of r.tables parts.table)))
+      pub bases : AllByRecursion (λ q. HasBases (length (rows_of r.tables parts.table)) q s) readers
       pub sizes : s.columns ≡ (first r).columns
       pub mapped : (p a b : ℕ) → s.cells (Column p) a b ≡ (first r).cells (Column p) a b
 
@@ -266,7 +267,7 @@ module _ (parts : Parts) (used : List Used) (texts : List (List ℕ)) (words : L
     Held r k row s = At r row (stage k) s
 
     abbrev Bases : Run → LowState → Type 0
-    Bases r s = AllByRecursion (λ q. HasBases q s) (readers_of used count) × AllByRecursion (HasPlace s) literals × AllByRecursion (IsSet s) constants
+    Bases r s = AllByRecursion (λ q. HasBases (length (rows_of r.tables parts.table)) q s) (readers_of used count) × AllByRecursion (HasPlace s) literals × AllByRecursion (IsSet s) constants
 
     -- the octets that are compared at a row
     abbrev each : Run → List Val → ℕ
@@ -376,15 +377,20 @@ module _ (parts : Parts) (used : List Used) (texts : List (List ℕ)) (words : L
           (all_both (IsReadItem used) (λ e. text.units e (record { row = row }) ≤ sum_by (λ (e : Expression). text.units e (record { row = row })) es) es h.items_read (one-below (λ (e : Expression). text.units e (record { row = row })) es))
 
       -- ---- before the loop
-      entries_at : (s : LowState) → Kept 1 s1 s → AtEach (λ k u. KnowsEntry s.cells k u (length (rows_of r.tables u.table))) 0 used
-      entries_at s kept = at_all (λ k u. KnowsEntry s.cells k u (length (rows_of r.tables u.table))) used (λ k u found.
-          subst (λ (c : Cells). KnowsEntry c k u (length (rows_of r.tables u.table))) (sym (ap (λ (x : LowState). x.cells) kept.others))
-          (entries-known layout r.placed r.tables r.descriptor r.limit r.memory ready k u found))
+      entries_at : (s : LowState) → Kept 1 s1 s → AtEach (IsEntered (length rows) s) 0 used
+      entries_at s kept = at_all (IsEntered (length rows) s) used (λ k u found.
+          let in_table = one_of (IsColumnIn parts) used k u h.columns found in
+          subst (λ (n : ℕ). IsEntered (length (rows_of r.tables n)) s k u) in_table.0 (
+            subst (λ (c : Cells). KnowsEntry c k u (length (rows_of r.tables u.table))) (sym (ap (λ (x : LowState). x.cells) kept.others))
+                (entries-known layout r.placed r.tables r.descriptor r.limit r.memory ready k u found),
+            subst (λ (l : List ℕ). HasOctets l (3 * k) (values_size u.ty (length (rows_of r.tables u.table)))) (sym (ap (λ (x : LowState). x.columns) kept.others))
+                (ready_long layout r.placed r.tables r.descriptor r.limit r.memory ready k u found),
+          ))
 
       texts_there : LieThere s1 literals texts
       texts_there = ready_texts layout r.placed r.tables r.descriptor r.limit r.memory (Address (Own 0) 0 ∷ replicate others (Number 0)) ready literals texts refl (texts_from (first_text used) start texts)
 
-      leads_end : (s t : LowState) → Kept 1 s1 s → Kept 8 s t → AllByRecursion (λ q. HasBases q t) (readers_of used count) → Ends (size (seq leads sets)) (λ u. Kept 8 s u × Bases r u) Never (λ code. ⊥) (meaning most fuel (seq leads sets) t)
+      leads_end : (s t : LowState) → Kept 1 s1 s → Kept 8 s t → AllByRecursion (λ q. HasBases (length rows) q t) (readers_of used count) → Ends (size (seq leads sets)) (λ u. Kept 8 s u × Bases r u) Never (λ code. ⊥) (meaning most fuel (seq leads sets) t)
       leads_end s t kept begun bases =
           let long = length-replicate {A = Value} others (Number 0) in
           Ends-then (λ u. Kept 8 s u × Bases r u) Never (λ code. ⊥) (size leads) (size sets) (λ u. Kept (first_text used) t u × AllByRecursion (HasPlace u) literals × ((row : List Val) → AreHeld (known_texts literals texts) row u)) (meaning most fuel leads t) (meaning most fuel sets)
@@ -397,7 +403,7 @@ module _ (parts : Parts) (used : List Used) (texts : List (List ℕ)) (words : L
           (λ v set. (
             Kept-then 8 (first_word used (length texts)) s u v (omega arith) (Kept-then 8 (first_text used) s t u (omega arith) begun led.0) set.0,
             (
-              bases_same (first_word used (length texts)) 8 (first_cell used count) 0 used u v (omega arith) set.0 (bases_same (first_text used) 8 (first_cell used count) 0 used t u (omega arith) led.0 bases),
+              bases_same (first_word used (length texts)) (length rows) 8 (first_cell used count) 0 used u v (omega arith) set.0 (bases_same (first_text used) (length rows) 8 (first_cell used count) 0 used t u (omega arith) led.0 bases),
               places_same u v 0 (first_word used (length texts)) (λ j low high. set.0.below j high) (first_text used) literals (omega arith) (texts_in_locals (first_text used) start texts) led.1,
               set.1,
             ),
@@ -405,11 +411,11 @@ module _ (parts : Parts) (used : List Used) (texts : List (List ℕ)) (words : L
           (h.sets_all.runs most fuel (first_word used (length texts)) u (words_small IsSmall (first_word used (length texts)) words h.words_small)
           (words_up (first_word used (length texts)) (first_word used (length texts) + length words) (length u.locals) constants (omega (arith, led.0.many, begun.many, kept.many, long)) (words_in_locals (first_word used (length texts)) words))))
 
-      columns_end : (s : LowState) → Kept 1 s1 s → Ends (size firsts) (λ t. Kept 8 s t × Bases r t) Never (λ code. ⊥) (meaning most fuel firsts s)
-      columns_end s kept =
+      columns_end : (s : LowState) → Kept 1 s1 s → slice_get s.locals 6 ≡ Some (Number (4 * length rows)) → Ends (size firsts) (λ t. Kept 8 s t × Bases r t) Never (λ code. ⊥) (meaning most fuel firsts s)
+      columns_end s kept end =
           let long = length-replicate {A = Value} others (Number 0) in
-          Ends-then (λ t. Kept 8 s t × Bases r t) Never (λ code. ⊥) (size begins) (size (seq leads sets)) (λ t. Kept 8 s t × AllByRecursion (λ q. HasBases q t) (readers_of used count)) (meaning most fuel begins s) (meaning most fuel (seq leads sets))
-          (h.begins_all.runs most fuel 8 s (entries_of s.cells (λ u. length (rows_of r.tables u.table)) 8 (first_cell used count) 0 used (entries_at s kept)) (kept.below 0 (omega arith) ∙ refl) (omega arith)
+          Ends-then (λ t. Kept 8 s t × Bases r t) Never (λ code. ⊥) (size begins) (size (seq leads sets)) (λ t. Kept 8 s t × AllByRecursion (λ q. HasBases (length rows) q t) (readers_of used count)) (meaning most fuel begins s) (meaning most fuel (seq leads sets))
+          (h.begins_all.runs most fuel 8 (length rows) s (entries_of 8 (length rows) s (omega arith) end 8 (first_cell used count) 0 used (entries_at s kept)) (kept.below 0 (omega arith) ∙ refl) (omega arith)
           (bases_in 8 (first_cell used count) 0 (length s.locals) used (omega (arith, kept.many, long))))
           (λ t begun. leads_end s t kept begun.0 begun.1)
 
@@ -463,8 +469,9 @@ module _ (parts : Parts) (used : List Used) (texts : List (List ℕ)) (words : L
       is_at_kept row n s t low kept at = record {
         index = at.index;
         there = at.there;
-        offset = kept.below 5 (omega (arith, low)) ∙ at.offset;
-        bases = bases_same n 8 (first_cell used count) 0 used s t (omega (arith, low)) kept at.bases;
+        left = kept.below 5 (omega (arith, low)) ∙ at.left;
+        end = kept.below 6 (omega (arith, low)) ∙ at.end;
+        bases = bases_same n (length rows) 8 (first_cell used count) 0 used s t (omega (arith, low)) kept at.bases;
         sizes = ap (λ (x : LowState). x.columns) kept.others ∙ at.sizes;
         mapped = λ p a b. ap (λ (x : LowState). x.cells (Column p) a b) kept.others ∙ at.mapped p a b;
       }
@@ -517,9 +524,10 @@ module _ (parts : Parts) (used : List Used) (texts : List (List ℕ)) (words : L
         part_at : (q : LowState) → q.locals ≡ s.locals → q.columns ≡ s1.columns → ((p a b : ℕ) → q.cells (Column p) a b ≡ s1.cells (Column p) a b) →
             Ends (size a) (λ t. Kept low q t × AreHeld (map known_of p.part) row t) Never (λ code. ⊥) (meaning most fuel a q)
         part_at q locals sizes same =
-            p.reads.runs most fuel low row q
-            (part_all 8 (first_cell used count) 0 used done upto a p (IsThere low row q)
-            (are_there low at.1.index row s q (omega arith) (ap (λ (l : List Value). slice_get l 5) locals ∙ at.1.offset) (λ j down up. ap (λ (l : List Value). slice_get l j) locals)
+            p.reads.runs most fuel low (length rows) row q
+            (part_all 8 (first_cell used count) 0 used done upto a p (IsThere low (length rows) row q)
+            (are_there low (length rows) at.1.index row s q (omega arith) (slice_get_within rows at.1.index row at.1.there) (ap (λ (l : List Value). slice_get l 5) locals ∙ at.1.left)
+            (ap (λ (l : List Value). slice_get l 6) locals ∙ at.1.end) (λ j down up. ap (λ (l : List Value). slice_get l j) locals)
             8 (first_cell used count) 0 used (omega arith) (omega arith) at.1.bases (at_all (Standing row q.cells q.columns at.1.index) used (standing q.cells q.columns sizes same at.1.index row at.1.there))))
             (part_cells 8 (first_cell used count) 0 used done upto a p (length q.locals) (let long = ap (λ (l : List Value). length l) locals in omega (arith, many, long)))
 
@@ -546,8 +554,8 @@ module _ (parts : Parts) (used : List Used) (texts : List (List ℕ)) (words : L
 
       -- at a row's beginning no column is read
       held_first : (s0 : LowState) → Started (descriptor_size layout) (length rows) (Bases r) s1 s0 → (i : ℕ) (row : List Val) (s : LowState) → slice_get rows i ≡ Some row → Since (first_cell used count) (descriptor_size layout) s0 s →
-          slice_get s.locals 5 ≡ Some (Number (4 * i)) → slice_get s.own 0 ≡ Some page → At r row 0 s
-      held_first s0 started i row s there since offset own_page = (
+          slice_get s.locals 5 ≡ Some (Number (4 * (length rows - i))) → slice_get s.locals 6 ≡ Some (Number (4 * length rows)) → slice_get s.own 0 ≡ Some page → At r row 0 s
+      held_first s0 started i row s there since left end own_page = (
         (
           all-append IsHeld literals_known [] (all-append IsHeld (known_texts literals texts) (map known_constant constants) (texts_held (seen c s) row literals texts places (texts_seen s own_page)) (constants_held row (seen c s) constants set)) tt,
           still_known s0 s started.kept since,
@@ -555,8 +563,9 @@ module _ (parts : Parts) (used : List Used) (texts : List (List ℕ)) (words : L
         record {
           index = i;
           there = there;
-          offset = offset;
-          bases = bases_there (first_cell used count) s0 s since.locals 8 (first_cell used count) 0 used (omega arith) (omega arith) started.bases.0;
+          left = left;
+          end = end;
+          bases = bases_there (first_cell used count) (length rows) s0 s since.locals 8 (first_cell used count) 0 used (omega arith) (omega arith) started.bases.0;
           sizes = sizes_same s0 s started.kept since;
           mapped = mapped_same s0 s started.kept since;
         },
@@ -626,7 +635,7 @@ module _ (parts : Parts) (used : List Used) (texts : List (List ℕ)) (words : L
             shown_later (descriptor_size layout) s1 s0 (λ k a b. ap (λ (x : LowState). x.cells (Column k) a b) started.kept.others) (λ a b low high. ap (λ (x : LowState). x.cells (Own 0) a b) started.kept.others) p (off + i) octet
             (shown_at (descriptor_size layout) p (off + i) octet (text.1 i octet is));
         held_kept = λ k row s t kept at. kept_at row (stage k) s t kept at;
-        held_first = λ i row s there since many offset own_page. held_first s0 started i row s there since offset own_page;
+        held_first = λ i row s there since many left end own_page. held_first s0 started i row s there since left end own_page;
         tests_are = λ i row there. let room = room_at rows i row there in
             tests_promised literals_known readers row most fuel (1 + each r row) (first_cell used count) (first_own used count) plan.many (omega arith) (omega (arith, room)) (omega arith) (At r row)
             (λ e s at. held_more c s (known_after literals_known readers e) row at.0) (kept_at row) (λ done upto a p s at many. part_ends row done upto a p s at many)

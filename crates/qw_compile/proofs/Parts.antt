@@ -128,16 +128,16 @@ done_below b c k used done within =
     take_short (suc n) (u ∷ us) = let rest = take_short n us in omega (arith, rest)
 
 -- the addresses of columns' parts are still there where their locals are the same
-pub bases_there : (n : ℕ) (s0 s : LowState) → ((i : ℕ) → 6 ≤ i → i < n → slice_get s.locals i ≡ slice_get s0.locals i) → (b c k : ℕ) (used : List Used) → 6 ≤ b → b + 3 * length used ≤ n →
-    AllByRecursion (λ q. HasBases q s0) (readers_from b c k used) → AllByRecursion (λ q. HasBases q s) (readers_from b c k used)
-bases_there n s0 s same b c k [] low high has = tt
-bases_there n s0 s same b c k (u ∷ used) low high has = (
+pub bases_there : (n rows : ℕ) (s0 s : LowState) → ((i : ℕ) → 6 ≤ i → i < n → slice_get s.locals i ≡ slice_get s0.locals i) → (b c k : ℕ) (used : List Used) → 6 ≤ b → b + 3 * length used ≤ n →
+    AllByRecursion (λ q. HasBases rows q s0) (readers_from b c k used) → AllByRecursion (λ q. HasBases rows q s) (readers_from b c k used)
+bases_there n rows s0 s same b c k [] low high has = tt
+bases_there n rows s0 s same b c k (u ∷ used) low high has = (
   record {
     values = same b (omega (arith, low)) (omega (arith, high)) ∙ has.0.values;
     octets = λ is. same (b + 1) (omega (arith, low)) (omega (arith, high)) ∙ has.0.octets is;
     nulls = λ is. same (b + 2) (omega (arith, low)) (omega (arith, high)) ∙ has.0.nulls is;
   },
-  bases_there n s0 s same (b + 3) (c + 3) (k + 1) used (omega (arith, low)) (omega (arith, high)) has.1,
+  bases_there n rows s0 s same (b + 3) (c + 3) (k + 1) used (omega (arith, low)) (omega (arith, high)) has.1,
 )
 
 -- ---- how many are read at a stage, which is the number of conjuncts that are decided

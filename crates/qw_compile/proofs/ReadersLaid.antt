@@ -1,5 +1,5 @@
 -- The locals of the columns that a scan reads and of text literals, and what they are known to hold.
-use Rattle.std.proofs.Common.{◌≡◌, ℕ, zero, suc, ◌+◌, ◌*◌, ◌<◌, ◌≤◌, inl, inr, Bool, true, false, Option, Some, List, [], ◌∷◌, ◌++◌, length, map, slice_get, refl, sym, ap, ap₂, ◌∙◌, subst, arith}
+use Rattle.std.proofs.Common.{◌≡◌, ℕ, zero, suc, ◌+◌, ◌-◌, ◌*◌, ◌<◌, ◌≤◌, inl, inr, Bool, true, false, Option, Some, List, [], ◌∷◌, ◌++◌, length, map, slice_get, refl, sym, ap, ap₂, ◌∙◌, subst, arith}
 use Rattle.std.specs.List.{AllByRecursion}
 use Rattle.std.proofs.lemmas.Option.{same_Some}
 use Rattle.qw_types.specs.Value.{IsSized}
@@ -12,6 +12,7 @@ use Rattle.qw_module.specs.declared.instruction.ValType.TheVariants.{I32, I64}
 use Rattle.qw_meaning.specs.Expression.{column, scale_of}
 use Rattle.qw_meaning.specs.Typing.{kind_of}
 use Rattle.qw_map.proofs.AreaLemmas.{all-append}
+use Rattle.qw_map.specs.Columns.{values_size}
 use Rattle.qw_map.specs.declared.layout.Used.{Used}
 use Rattle.qw_low.specs.State.{Number, Cells, LowState}
 use Rattle.qw_low.specs.Begin.{KnowsEntry}
@@ -19,7 +20,7 @@ use Rattle.qw_expr.specs.Bindings.{Knows, IsServed}
 use Rattle.qw_expr.specs.Cells.{IsBelow, DeclaresValue, DeclaresKind, DeclaresNull}
 use Rattle.qw_expr.specs.Computes.{Known, AreBelow}
 use Rattle.qw_rows.specs.declared.reader.Reader.{Reader}
-use Rattle.qw_rows.specs.Reading.{known_of, operand_of, HasNullWord, StandsAt, AreBases, IsCellIn, HasBases, DeclaresBases, AreBasesIn, AreCellsIn, HasEntryOf, IsThere}
+use Rattle.qw_rows.specs.Reading.{known_of, operand_of, HasNullWord, HasOctets, StandsAt, AreBases, IsCellIn, HasBases, DeclaresBases, AreBasesIn, AreCellsIn, HasEntryOf, IsThere}
 use Rattle.qw_rows.specs.Texts.{text_operand, known_texts, AreFrom, AreTextsIn}
 use Rattle.qw_rows.specs.Constants.{AreConstantsIn, constant_operand, known_constant, literal_of, operand_at}
 use Rattle.qw_rows.specs.declared.constant.Constant.{Constant}
@@ -222,14 +223,23 @@ behind_cells types rest c (u ∷ used) same i =
     let place : c + 3 * length (u ∷ used) + i ≡ c + 3 + 3 * length used + i = omega arith in
     ap (λ (n : ℕ). slice_get types n) place ∙ behind_cells types rest (c + 3) used (behind types c (value_type u.ty) I32 I32 (cell_types used rest) same) i
 
-pub all_declared : (types : List ValType) (readers : List Reader) → AllByRecursion (λ (r : Reader). slice_get types r.row ≡ Some I32) readers → AllByRecursion (DeclaresBases types) readers → AllByRecursion (λ (r : Reader). DeclaresValue types (operand_of r)) readers →
-    AllByRecursion (λ (r : Reader). (slice_get types r.row ≡ Some I32) × DeclaresBases types r × DeclaresValue types (operand_of r)) readers
-all_declared types [] rows bases cells = tt
-all_declared types (r ∷ readers) rows bases cells = ((rows.0, bases.0, cells.0), all_declared types readers rows.1 bases.1 cells.1)
+-- so are the locals that tell the row
+abbrev pub CountsDeclared : List ValType → Reader → Type 0
+CountsDeclared types r = (slice_get types r.left ≡ Some I32) × (slice_get types r.end ≡ Some I32)
 
-pub rows_declared : (types : List ValType) (b c k : ℕ) (used : List Used) → slice_get types 5 ≡ Some I32 → AllByRecursion (λ (r : Reader). slice_get types r.row ≡ Some I32) (readers_from b c k used)
-rows_declared types b c k [] is = tt
-rows_declared types b c k (u ∷ used) is = (is, rows_declared types (b + 3) (c + 3) (k + 1) used is)
+pub all_declared : (types : List ValType) (readers : List Reader) → AllByRecursion (CountsDeclared types) readers → AllByRecursion (DeclaresBases types) readers → AllByRecursion (λ (r : Reader). DeclaresValue types (operand_of r)) readers →
+    AllByRecursion (λ (r : Reader). (slice_get types r.left ≡ Some I32) × (slice_get types r.end ≡ Some I32) × DeclaresBases types r × DeclaresValue types (operand_of r)) readers
+all_declared types [] rows bases cells = tt
+all_declared types (r ∷ readers) rows bases cells = ((rows.0.0, rows.0.1, bases.0, cells.0), all_declared types readers rows.1 bases.1 cells.1)
+
+pub begins_declared : (types : List ValType) (readers : List Reader) → AllByRecursion (CountsDeclared types) readers → AllByRecursion (DeclaresBases types) readers →
+    AllByRecursion (λ (r : Reader). (slice_get types r.end ≡ Some I32) × DeclaresBases types r) readers
+begins_declared types [] rows bases = tt
+begins_declared types (r ∷ readers) rows bases = ((rows.0.1, bases.0), begins_declared types readers rows.1 bases.1)
+
+pub rows_declared : (types : List ValType) (b c k : ℕ) (used : List Used) → slice_get types 5 ≡ Some I32 → slice_get types 6 ≡ Some I32 → AllByRecursion (CountsDeclared types) (readers_from b c k used)
+rows_declared types b c k [] left end = tt
+rows_declared types b c k (u ∷ used) left end = ((left, end), rows_declared types (b + 3) (c + 3) (k + 1) used left end)
 
 pub behind_texts : (types rest : List ValType) (x n : ℕ) → ((i : ℕ) → slice_get types (x + i) ≡ slice_get (text_types n rest) i) → (i : ℕ) → slice_get types (x + 2 * n + i) ≡ slice_get rest i
 behind_texts types rest x zero same i = let place : x + 2 * 0 + i ≡ x + i = omega arith in ap (λ (k : ℕ). slice_get types k) place ∙ same i
@@ -279,9 +289,14 @@ at_each P k (u ∷ used) all =
 pub at_all : (P : ℕ → Used → Type 0) (used : List Used) → ((i : ℕ) (u : Used) → slice_get used i ≡ Some u → P i u) → AtEach P 0 used
 at_all P used all = at_each P 0 used (λ i u same. let place : i ≡ 0 + i = omega arith in subst (λ (n : ℕ). P n u) place (all i u same))
 
-pub entries_of : (cells : Cells) (rows : Used → ℕ) (b c k : ℕ) (used : List Used) → AtEach (λ i u. KnowsEntry cells i u (rows u)) k used → AllByRecursion (HasEntryOf cells) (readers_from b c k used)
-entries_of cells rows b c k [] all = tt
-entries_of cells rows b c k (u ∷ used) all = ((u, rows u, refl, refl, all.0), entries_of cells rows (b + 3) (c + 3) (k + 1) used all.1)
+-- a column's entry, of so many rows, of which each has a place among the values
+abbrev pub IsEntered : (rows : ℕ) → LowState → ℕ → Used → Type 0
+IsEntered rows s k u = KnowsEntry s.cells k u rows × HasOctets s.columns (3 * k) (values_size u.ty rows)
+
+pub entries_of : (n rows : ℕ) (s : LowState) → 6 < n → slice_get s.locals 6 ≡ Some (Number (4 * rows)) → (b c k : ℕ) (used : List Used) → AtEach (IsEntered rows s) k used → AllByRecursion (HasEntryOf n rows s) (readers_from b c k used)
+entries_of n rows s more end b c k [] all = tt
+entries_of n rows s more end b c k (u ∷ used) all =
+    (record { used = u; type_is = refl; null_is = refl; entry = all.0.0; values = all.0.1; end = (more, end) }, entries_of n rows s more end (b + 3) (c + 3) (k + 1) used all.1)
 
 -- ---- at a row
 pub record Standing (values : List Val) (cells : Cells) (columns : List ℕ) (row k : ℕ) (u : Used) : Type 0 where
@@ -290,9 +305,9 @@ pub record Standing (values : List Val) (cells : Cells) (columns : List ℕ) (ro
   pub stands : StandsAt cells columns k u.ty u.not_null row v
   pub sized : IsSized u.ty
 
-module _ (n row : ℕ) (values : List Val) (s0 s : LowState) (more : 5 < n) (row_is : slice_get s.locals 5 ≡ Some (Number (4 * row))) (same : (i : ℕ) → 6 ≤ i → i < n → slice_get s.locals i ≡ slice_get s0.locals i) where
-  pub are_there : (b c k : ℕ) (used : List Used) → 6 ≤ b → b + 3 * length used ≤ n → AllByRecursion (λ r. HasBases r s0) (readers_from b c k used) → AtEach (Standing values s.cells s.columns row) k used →
-      AllByRecursion (IsThere n values s) (readers_from b c k used)
+module _ (n rows row : ℕ) (values : List Val) (s0 s : LowState) (more : 6 < n) (within : row < rows) (left : slice_get s.locals 5 ≡ Some (Number (4 * (rows - row)))) (end : slice_get s.locals 6 ≡ Some (Number (4 * rows))) (same : (i : ℕ) → 6 ≤ i → i < n → slice_get s.locals i ≡ slice_get s0.locals i) where
+  pub are_there : (b c k : ℕ) (used : List Used) → 6 ≤ b → b + 3 * length used ≤ n → AllByRecursion (λ r. HasBases rows r s0) (readers_from b c k used) → AtEach (Standing values s.cells s.columns row) k used →
+      AllByRecursion (IsThere n rows values s) (readers_from b c k used)
   are_there b c k [] low high bases all = tt
   are_there b c k (u ∷ used) low high bases all =
       let one = all.0 in
@@ -308,8 +323,7 @@ module _ (n row : ℕ) (values : List Val) (s0 s : LowState) (more : 5 < n) (row
             octets = λ is. same (b + 1) (omega (arith, low)) (omega (arith, high)) ∙ held.octets is;
             nulls = λ is. same (b + 2) (omega (arith, low)) (omega (arith, high)) ∙ held.nulls is;
           };
-          row_is = row_is;
-          row_below = more;
+          at_row = record { within = within; end = (more, end); left = (omega (arith, more), left) };
           bases_below = record {
             values = (omega arith, omega (arith, high));
             octets = λ is. (omega arith, omega (arith, high), λ e. omega (arith, e));

@@ -102,13 +102,13 @@ sum_further f (y ∷ xs) (suc i) x less same =
 sum_next : {X : Type 0} (f : X → ℕ) (xs : List X) (i : ℕ) (x : X) → i < length xs → x ≡ get_or xs i x → sum_by f (take (i + 1) xs) ≡ sum_by f (take i xs) + f x
 sum_next f xs i x less same = let at : i + 1 ≡ suc i = omega arith in ap (λ (j : ℕ). sum_by f (take j xs)) at ∙ sum_further f xs i x less same
 
-pub next_test_short : (xs : List Cond) (i : ℕ) (x : Cond) (old now new done upto : ℕ) → i < length xs → x ≡ get_or xs i x → now ≤ old + 105 * done + 304 * sum_by nodes_of (take i xs) → new + 105 * done ≤ now + 105 * upto + 304 * nodes_of x →
-    new ≤ old + 105 * upto + 304 * sum_by nodes_of (take (i + 1) xs)
+pub next_test_short : (xs : List Cond) (i : ℕ) (x : Cond) (old now new done upto : ℕ) → i < length xs → x ≡ get_or xs i x → now ≤ old + 117 * done + 304 * sum_by nodes_of (take i xs) → new + 117 * done ≤ now + 117 * upto + 304 * nodes_of x →
+    new ≤ old + 117 * upto + 304 * sum_by nodes_of (take (i + 1) xs)
 next_test_short xs i x old now new done upto less same before added = let sums = sum_next nodes_of xs i x less same in omega (arith, before, added, sums)
 
 -- a part of a row's reads
-pub part_short : (rs part : List Reader) (done upto : ℕ) (a : Statement) (old new : List LowStep) → take done rs ++ part ≡ take upto rs → done ≤ upto → upto ≤ length rs → size a ≤ 35 * length part → new ≡ old ++ steps_of a →
-    length new + 105 * done ≤ length old + 105 * upto
+pub part_short : (rs part : List Reader) (done upto : ℕ) (a : Statement) (old new : List LowStep) → take done rs ++ part ≡ take upto rs → done ≤ upto → upto ≤ length rs → size a ≤ 39 * length part → new ≡ old ++ steps_of a →
+    length new + 117 * done ≤ length old + 117 * upto
 part_short rs part done upto a old new is ahead within short added =
     let all = ap (λ (l : List LowStep). length l) added ∙ length-append old (steps_of a) in
     let counts = ap (λ (l : List Reader). length l) is in
@@ -120,7 +120,7 @@ part_short rs part done upto a old new is ahead within short added =
     taken (suc n) [] le = absurd (omega (arith, le))
     taken (suc n) (x ∷ xs) le = ap suc (taken n xs (omega (arith, le)))
 
-pub conjunct_short : (old mid now new : List LowStep) (done upto n : ℕ) → length mid + 105 * done ≤ length old + 105 * upto → length now ≤ length mid + 300 * n → length new ≤ length now + 4 → 1 ≤ n → length new + 105 * done ≤ length old + 105 * upto + 304 * n
+pub conjunct_short : (old mid now new : List LowStep) (done upto n : ℕ) → length mid + 117 * done ≤ length old + 117 * upto → length now ≤ length mid + 300 * n → length new ≤ length now + 4 → 1 ≤ n → length new + 117 * done ≤ length old + 117 * upto + 304 * n
 conjunct_short old mid now new done upto n one two three some = omega (arith, one, two, three, some)
 
 pub next_item_short : (xs : List Expr) (i : ℕ) (x : Expr) (old now new : ℕ) → i < length xs → x ≡ get_or xs i x → now ≤ old + 300 * sum_by nodes (take i xs) → new ≤ now + 300 * nodes x → new ≤ old + 300 * sum_by nodes (take (i + 1) xs)
@@ -160,17 +160,17 @@ sources_many [] = refl
 sources_many (x ∷ os) = ap suc (sources_many os)
 
 -- what the parts of a row's code add up to
-pub row_short : (conjuncts : List Cond) (items : List Expr) (os : List Source) (w done all : ℕ) (old tested read evaluated pushed new : List LowStep) → length os ≡ length items → length tested ≤ length old + 105 * done + 304 * sum_by nodes_of conjuncts →
-    length read + 105 * done ≤ length tested + 105 * all → length evaluated ≤ length read + 300 * sum_by nodes items → pushed ≡ evaluated ++ steps_of (push_block w (cells_block 8 os)) → new ≡ pushed ++ closings (length conjuncts) →
-    length new ≤ length old + (320 * (sum_by nodes_of conjuncts + sum_by nodes items) + 105 * all + 40)
+pub row_short : (conjuncts : List Cond) (items : List Expr) (os : List Source) (w done all : ℕ) (old tested read evaluated pushed new : List LowStep) → length os ≡ length items → length tested ≤ length old + 117 * done + 304 * sum_by nodes_of conjuncts →
+    length read + 117 * done ≤ length tested + 117 * all → length evaluated ≤ length read + 300 * sum_by nodes items → pushed ≡ evaluated ++ steps_of (push_block w (cells_block 8 os)) → new ≡ pushed ++ closings (length conjuncts) →
+    length new ≤ length old + (320 * (sum_by nodes_of conjuncts + sum_by nodes items) + 117 * all + 40)
 row_short conjuncts items os w done all old tested read evaluated pushed new many tests reads values push close =
     let one = ap (λ (l : List LowStep). length l) push ∙ length-append evaluated (steps_of (push_block w (cells_block 8 os))) in
     let two = ap (λ (l : List LowStep). length l) close ∙ length-append pushed (closings (length conjuncts)) in
     omega (arith, many, tests, reads, values, one, two, closings_long (length conjuncts), push_long w (cells_block 8 os), cells_long os 8, many_nodes items, many_nodes_of conjuncts)
 
 -- ---- a scan
-pub scan_short : (base : ℕ) (begins leads sets row : Statement) (code : List LowStep) (texts words : ℕ) → code ≡ steps_of (scan_block (begin_block base (seq begins (seq leads sets))) row) → size begins ≤ 576 → size leads ≤ 6 * texts → texts ≤ 16384 →
-    size sets ≤ 2 * words → words ≤ 16384 → length (steps_of row) ≤ 1286760 → length code ≤ 2097152
+pub scan_short : (base : ℕ) (begins leads sets row : Statement) (code : List LowStep) (texts words : ℕ) → code ≡ steps_of (scan_block (begin_block base (seq begins (seq leads sets))) row) → size begins ≤ 832 → size leads ≤ 6 * texts → texts ≤ 16384 →
+    size sets ≤ 2 * words → words ≤ 16384 → length (steps_of row) ≤ 1287528 → length code ≤ 2097152
 scan_short base begins leads sets row code texts words made b l few c few_words rows =
     let all = ap (λ (c : List LowStep). length c) made in
     let columns : Statement = seq begins (seq leads sets) in

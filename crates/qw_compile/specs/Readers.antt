@@ -17,7 +17,7 @@ abbrev pub null_word : (not_null : Bool) → (local : ℕ) → Option ℕ
 null_word true x = None
 null_word false x = Some x
 
--- Each column has three locals for its parts, and three for its value; the row's offset is in local 5.
+-- Each column has three locals for its parts, and three for its value; what is left of the rows is told by local 5, and all of them by local 6.
 abbrev pub reader_of : (bases cells index : ℕ) → Used → Reader
 reader_of b c k u = record {
   index = k;
@@ -27,7 +27,8 @@ reader_of b c k u = record {
   values = b;
   octets = b + 1;
   nulls = b + 2;
-  row = 5;
+  left = 5;
+  end = 6;
   cell = record { value = c; length = c + 1; null = null_word u.not_null (c + 2) };
 }
 

@@ -22,8 +22,11 @@ use std::alloc::Global;
 /// The first local behind those of every scan.
 const FIRST_BASE: Local = 8;
 
-/// The row's offset: four times its number.
-const ROW: Local = 5;
+/// Four times the number of rows that are left.
+const LEFT: Local = 5;
+
+/// Four times the number of all rows.
+const END: Local = 6;
 
 /// Each column has so many locals for the addresses of its parts, and as many for its value.
 const LOCALS: u32 = 3;
@@ -98,7 +101,8 @@ fn reader_of(base: Local, cell: Local, index: u32, used: Used) -> Reader
         values: base,
         octets: base + 1,
         nulls: base + 2,
-        row: ROW,
+        left: LEFT,
+        end: END,
         cell: Cell {
             value: cell,
             length: cell + 1,
