@@ -17,6 +17,7 @@ pub mod RowSteps
 pub mod Shortness
 pub mod Sizes
 pub mod TextCells
+pub mod TextLeaves
 pub mod TextLiterals
 pub mod TextSteps
 pub mod Whole
