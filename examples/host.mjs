@@ -90,19 +90,21 @@ class Query {
     return results;
   }
 
-  condition() {
+  // a condition, of which an expression may have been taken
+  condition(taken) {
+    let first = taken;
     do {
       do {
-        this.take("NOT");
-        this.predicate();
+        while (this.take("NOT"));
+        this.predicate(first);
+        first = undefined;
         if (this.take("IS")) { this.take("NOT"); this.next(); }
       } while (this.take("AND"));
     } while (this.take("OR"));
     return {};
   }
 
-  predicate() {
-    const first = this.sum();
+  predicate(first = this.sum()) {
     if (this.take("=", "<>", "<", "<=", ">", ">=")) return this.sum();
     if (this.is("IS")) return first;
     this.take("NOT");
@@ -146,11 +148,8 @@ class Query {
 
   // a condition or an expression: an expression ends where its brackets do
   phrase() {
-    const start = this.at;
-    const expression = this.sum();
-    if (this.is(")", "THEN")) return expression;
-    this.at = start;
-    return this.condition();
+    const expression = this.is("NOT") ? undefined : this.sum();
+    return expression && this.is(")", "THEN") ? expression : this.condition(expression);
   }
 
   date() {
