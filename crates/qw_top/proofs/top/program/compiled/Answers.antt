@@ -1,4 +1,4 @@
-use Rattle.std.proofs.Common.{◌≡◌, ℕ, ◌∙◌, Bool, List, Some, ap, map, refl, subst}
+use Rattle.std.proofs.Common.{◌≡◌, ℕ, ◌∙◌, Bool, List, Some, sym, ap, map, refl, subst}
 use Rattle.std.specs.Prelude.{slice_get}
 use Rattle.std.specs.List.{AllByRecursion}
 use Rattle.qw_types.specs.Value.{IsSized}
@@ -9,6 +9,7 @@ use Rattle.qw_fold.proofs.SameLemmas.{compiled_same}
 use Rattle.qw_compile.specs.Named.{IsOfTable}
 use Rattle.qw_top.proofs.BenchLemmas.{columns_in}
 use Rattle.qw_top.proofs.QueryLemmas.{columns_there, sized_types}
+use Rattle.qw_top.proofs.ShortLemmas.{short_folded}
 use Rattle.qw_top.proofs.top.program.compiled.Goals as goal
 
 pub compile-requires-clause-sized : goal.compile-requires-clause-sized
@@ -35,3 +36,9 @@ returns-in-Ok-clause-columns c tables are =
 pub returns-in-Ok-clause-compiled : goal.returns-in-Ok-clause-compiled
 returns-in-Ok-clause-compiled c =
     compiled_same (specification_of c.args.query.now.select) (specification_of c.in_ok-folded.folded) c.in-Ok.compiled.layout c.in-Ok.compiled.module c.in_ok-folded.ensures.same c.in-Ok.ensures.compiled
+
+pub unreachable-requires : goal.unreachable-requires
+unreachable-requires c =
+    let short = short_folded c.args.query.now.select c.in_ok-folded.folded c.in_ok-folded.ensures.short c.in_ok-folded.ensures.texts c.requires.short in
+    let none = sym c.in-Err-TooLong.field-0-is ∙ c.in-Err-TooLong.ensures.short short in
+    cc
