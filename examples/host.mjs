@@ -36,8 +36,8 @@ function tokensOf(text) {
 
 const NUMBER = (scale) => ({ kind: "number", scale });
 
-// What a host has to know of a query: the table, the text literals, and of each result column the name and the kind. Kinds are those
-// that a reader of the query would come to; conditions have none.
+// What a host has to know of a query: the table, the columns that it names, WHERE first, the text literals, and of each result column the
+// name and the kind. Kinds are those that a reader of the query would come to; conditions have none.
 class Query {
   constructor(tokens, schema) {
     this.tokens = tokens;
@@ -47,7 +47,14 @@ class Query {
     const where = tokens.findIndex((token) => token.toUpperCase() === "WHERE");
     const list = this.textsBetween(1, from);
     this.texts = where < 0 ? list : [...this.textsBetween(where, tokens.length), ...list];
+    this.named = new Set();
+    if (where >= 0) {
+      this.at = where + 1;
+      this.condition();
+    }
+    this.at = 0;
     this.results = this.list();
+    this.columns = this.named.size > 0 ? [...this.named] : [0];
   }
 
   // FROM stands in EXTRACT too, between brackets
@@ -73,7 +80,7 @@ class Query {
   list() {
     this.take("SELECT");
     this.take("ALL");
-    if (this.take("*")) return this.table.columns.map((column) => ({ name: column.name, ...kindOf(column) }));
+    if (this.take("*")) return this.table.columns.map((_, index) => this.columnAt(index)).map(({ column, ...kind }) => ({ name: column, ...kind }));
     const results = [];
     do {
       const { kind, scale, column } = this.sum();
@@ -83,19 +90,21 @@ class Query {
     return results;
   }
 
-  condition() {
+  // a condition, of which an expression may have been taken
+  condition(taken) {
+    let first = taken;
     do {
       do {
-        this.take("NOT");
-        this.predicate();
+        while (this.take("NOT"));
+        this.predicate(first);
+        first = undefined;
         if (this.take("IS")) { this.take("NOT"); this.next(); }
       } while (this.take("AND"));
     } while (this.take("OR"));
     return {};
   }
 
-  predicate() {
-    const first = this.sum();
+  predicate(first = this.sum()) {
     if (this.take("=", "<>", "<", "<=", ">", ">=")) return this.sum();
     if (this.is("IS")) return first;
     this.take("NOT");
@@ -139,11 +148,8 @@ class Query {
 
   // a condition or an expression: an expression ends where its brackets do
   phrase() {
-    const start = this.at;
-    const expression = this.sum();
-    if (this.is(")", "THEN")) return expression;
-    this.at = start;
-    return this.condition();
+    const expression = this.is("NOT") ? undefined : this.sum();
+    return expression && this.is(")", "THEN") ? expression : this.condition(expression);
   }
 
   date() {
@@ -156,8 +162,12 @@ class Query {
   }
 
   column(token) {
-    const column = this.table.columns.find(({ name }) => name === fold(token));
-    return { column: column.name, ...kindOf(column) };
+    return this.columnAt(this.table.columns.findIndex(({ name }) => name === fold(token)));
+  }
+
+  columnAt(index) {
+    this.named.add(index);
+    return { column: this.table.columns[index].name, ...kindOf(this.table.columns[index]) };
   }
 
   arguments() {
@@ -254,12 +264,12 @@ class Raised extends Error {
   constructor(code) { super(`raise ${code}`); this.code = code; }
 }
 
-// All columns of the query's table have an entry in the descriptor, and the octets of its texts stand behind them.
-function run(bytes, { pieces, tables, pages }, schema, { table, texts }) {
+// The columns that the query names have an entry in the descriptor, and the octets of its texts stand behind them.
+function run(bytes, { pieces, tables, pages }, schema, { table, columns, texts }) {
   const memory = new WebAssembly.Memory({ initial: pages + 1, maximum: pages + PAGE_LIMIT });
   pieces.forEach(([at, octets]) => new Uint8Array(memory.buffer).set(octets, at));
   const descriptor = pages * PAGE;
-  const entries = tables[schema.indexOf(table)].flat();
+  const entries = columns.flatMap((column) => tables[schema.indexOf(table)][column]);
   const literals = Buffer.concat(texts);
   const behind = descriptor + 64 + 4 * entries.length;
   const words = new DataView(memory.buffer);

@@ -62,7 +62,7 @@ module _ (most : ℕ) where
   turns-tell : (e : Expression) (body : LowState → Outcome) → ((s : LowState) → Tells most (body s)) → (fuel : ℕ) (s : LowState) → Tells most (turns e body fuel s)
   turns-tell e body each zero s = tt
   turns-tell e body each (suc fuel) s = chosen-tells (value s e) _ (λ n. zero-tells n _ _
-      (counted (cost e + 2) (and_then (body s) (λ t. counting 1 (turns e body fuel t))) (followed (body s) (λ t. counting 1 (turns e body fuel t)) (each s) (λ t. counted 1 (turns e body fuel t) (turns-tell e body each fuel t)))) tt)
+      (counted (cost e + 2) (and_then (body s) (λ t. turns e body fuel t)) (followed (body s) (λ t. turns e body fuel t) (each s) (λ t. turns-tell e body each fuel t))) tt)
 
   raise-tells : (code : ℕ) (s : LowState) → Tells most (raised code s)
   raise-tells zero s = tt

@@ -1,5 +1,5 @@
 -- A row of the table: its conjuncts, its items, and the row that they make.
-use Rattle.std.proofs.Common.{◌≡◌, ℕ, ◌+◌, ◌*◌, ◌<◌, ◌≤◌, inl, inr, Bool, true, false, List, [], ◌∷◌, length, Option, Some, None, Result, Ok, Err, slice_get, refl, sym, ◌∙◌, subst, arith}
+use Rattle.std.proofs.Common.{◌≡◌, ℕ, suc, ◌+◌, ◌*◌, ◌<◌, ◌≤◌, inl, inr, Bool, true, false, List, [], ◌∷◌, length, Option, Some, None, Result, Ok, Err, slice_get, refl, sym, ◌∙◌, subst, arith}
 use Rattle.qw_types.specs.Arithmetic.{◌>>=◌}
 use Rattle.qw_types.specs.declared.code.Code.{Code}
 use Rattle.qw_types.specs.declared.truth.Truth.{Truth}
@@ -9,9 +9,9 @@ use Rattle.qw_types.specs.declared.value.Val.TheVariants as val
 use Rattle.qw_meaning.specs.Evaluation.{chosen}
 use Rattle.qw_meaning.specs.Typing.{IsValueOf}
 use Rattle.qw_low.specs.declared.cell.Cell.{Cell}
-use Rattle.qw_low.specs.Syntax.{local, Statement, skip, conditional}
+use Rattle.qw_low.specs.Syntax.{Statement, skip, conditional}
 use Rattle.qw_low.specs.State.{Part, Value, Number, Cells, LowState}
-use Rattle.qw_low.specs.Meaning.{meaning}
+use Rattle.qw_low.specs.Meaning.{value, cost, meaning}
 use Rattle.qw_low.specs.Size.{size}
 use Rattle.qw_low.specs.Promise.{Ends}
 use Rattle.qw_low.specs.Raising.{Leaves, Raises, Kept}
@@ -86,68 +86,72 @@ abbrev pub all_values : List (Result Val Code) → Result (List Val) Code
 all_values [] = Ok []
 all_values (r ∷ rs) = r >>= (λ v. all_values rs >>= (λ vs. Ok (v ∷ vs)))
 
-module _ (most fuel N n many : ℕ) (some : 1 ≤ N) (Held : LowState → Type 0) (held_kept : (s t : LowState) → Kept n s t → Held s → Held t) where
+-- `Held` says what holds of a row at a stage, which is the number of conjuncts that are decided
+module _ (most fuel N known many : ℕ) (Held : ℕ → LowState → Type 0) where
+  -- what a conjunct's block leaves: its truth, and what the next stage wants, in locals from `known` on
+  abbrev pub IsDecided : (stage : ℕ) → Test → LowState → Truth → LowState → Type 0
+  IsDecided k g s v t = Kept known s t × Held (suc k) t × (value t g.out ≡ Some (Number (truth_word v)))
+
   -- a conjunct's block leaves its truth, or raises its exception
-  abbrev pub HasTest : Test → Result Truth Code → Type 0
-  HasTest g r = (s : LowState) → Held s → many ≤ length s.locals →
-      Ends (size g.block * N) (Leaves (λ v t. Kept n s t × (slice_get t.locals g.out ≡ Some (Number (truth_word v)))) r) Never (Raises r) (meaning most fuel g.block s)
+  abbrev pub HasTest : (stage : ℕ) → Test → Result Truth Code → Type 0
+  HasTest k g r = (s : LowState) → Held k s → many ≤ length s.locals → Ends (size g.block * N) (Leaves (IsDecided k g s) r) Never (Raises r) (meaning most fuel g.block s)
 
-  abbrev pub AreTests : List Test → List (Result Truth Code) → Type 0
-  AreTests [] [] = Unit {0}
-  AreTests (g ∷ gs) (r ∷ rs) = HasTest g r × AreTests gs rs
-  AreTests _ _ = ⊥
+  abbrev pub AreTests : (stage : ℕ) → List Test → List (Result Truth Code) → Type 0
+  AreTests k [] [] = Unit {0}
+  AreTests k (g ∷ gs) (r ∷ rs) = HasTest k g r × AreTests (suc k) gs rs
+  AreTests k _ _ = ⊥
 
-  module _ (P : LowState → Type 0) (R : ℕ → Type 0) (rest : Statement) (s0 : LowState) where
+  module _ (some : 1 ≤ N) (P : LowState → Type 0) (R : ℕ → Type 0) (rest : Statement) (s0 : LowState) (last : ℕ) where
     -- what follows the conjuncts, by what they come to
     pub record Onward (r : Result Bool Code) : Type 0 where
-      pub true_then : r ≡ Ok true → (t : LowState) → Kept n s0 t → Held t → Ends (size rest * N) P Never R (meaning most fuel rest t)
-      pub false_then : r ≡ Ok false → (t : LowState) → Kept n s0 t → P t
+      pub true_then : r ≡ Ok true → (t : LowState) → Kept known s0 t → Held last t → many ≤ length t.locals → Ends (size rest * N) P Never R (meaning most fuel rest t)
+      pub false_then : r ≡ Ok false → (t : LowState) → Kept known s0 t → P t
       pub raised_then : (code : ℕ) → Raises r code → R code
 
-    weigh : (a b total : ℕ) → total ≡ a + (1 + 1 + (b + 0)) → a * N + (1 + 1 + b * N) ≤ total * N
-    weigh a b total is =
-        let one : (a + (1 + 1 + (b + 0))) * N ≡ a * N + (1 + 1 + (b + 0)) * N = spread a (1 + 1 + (b + 0)) N in
-        let two : (1 + 1 + (b + 0)) * N ≡ (1 + 1) * N + (b + 0) * N = spread (1 + 1) (b + 0) N in
+    weigh : (a b c total : ℕ) → total ≡ a + (c + 1 + (b + 0)) → a * N + (c + 1 + b * N) ≤ total * N
+    weigh a b c total is =
+        let one : (a + (c + 1 + (b + 0))) * N ≡ a * N + (c + 1 + (b + 0)) * N = spread a (c + 1 + (b + 0)) N in
+        let two : (c + 1 + (b + 0)) * N ≡ (c + 1) * N + (b + 0) * N = spread (c + 1) (b + 0) N in
         let three : (b + 0) * N ≡ b * N + 0 * N = spread b 0 N in
-        let four : 1 + 1 ≤ (1 + 1) * N = at_least (1 + 1) N some in
+        let four : c + 1 ≤ (c + 1) * N = at_least (c + 1) N some in
         rw is (omega (arith, one, two, three, four))
 
-    pub tests_end : (gs : List Test) (rs : List (Result Truth Code)) (s : LowState) → AreTests gs rs → Kept n s0 s → Held s → many ≤ length s.locals → Onward (all_true rs) →
+    pub tests_end : (gs : List Test) (rs : List (Result Truth Code)) (k : ℕ) (s : LowState) → k + length gs ≡ last → AreTests k gs rs → Kept known s0 s → Held k s → many ≤ length s.locals → Onward (all_true rs) →
         Ends (size (tests_block gs rest) * N) P Never R (meaning most fuel (tests_block gs rest) s)
-    tests_end [] [] s are kept held room onward = onward.true_then refl s kept held
-    tests_end [] (r ∷ rs) s are kept held room onward = absurd are
-    tests_end (g ∷ gs) [] s are kept held room onward = absurd are
-    tests_end (g ∷ gs) (r ∷ rs) s are kept held room onward =
-        Ends-more P Never R (size g.block * N + (1 + 1 + size (tests_block gs rest) * N)) (size (tests_block (g ∷ gs) rest) * N) _ (weigh (size g.block) (size (tests_block gs rest)) (size (tests_block (g ∷ gs) rest)) refl)
-        (Ends-then P Never R (size g.block * N) (1 + 1 + size (tests_block gs rest) * N) (Leaves (λ v t. Kept n s t × (slice_get t.locals g.out ≡ Some (Number (truth_word v)))) r) (meaning most fuel g.block s) (meaning most fuel (conditional (local g.out) (tests_block gs rest) skip))
-        (Ends-weaker (size g.block * N) (size g.block * N) (Leaves (λ v t. Kept n s t × (slice_get t.locals g.out ≡ Some (Number (truth_word v)))) r) (Leaves (λ v t. Kept n s t × (slice_get t.locals g.out ≡ Some (Number (truth_word v)))) r) Never Never (Raises r) R (meaning most fuel g.block s)
+    tests_end [] [] k s stage are kept held room onward = onward.true_then refl s kept (subst (λ (j : ℕ). Held j s) (omega (arith, stage)) held) room
+    tests_end [] (r ∷ rs) k s stage are kept held room onward = absurd are
+    tests_end (g ∷ gs) [] k s stage are kept held room onward = absurd are
+    tests_end (g ∷ gs) (r ∷ rs) k s stage are kept held room onward =
+        Ends-more P Never R (size g.block * N + (cost g.out + 1 + size (tests_block gs rest) * N)) (size (tests_block (g ∷ gs) rest) * N) _
+        (weigh (size g.block) (size (tests_block gs rest)) (cost g.out) (size (tests_block (g ∷ gs) rest)) refl)
+        (Ends-then P Never R (size g.block * N) (cost g.out + 1 + size (tests_block gs rest) * N) (Leaves (IsDecided k g s) r) (meaning most fuel g.block s) (meaning most fuel choice)
+        (Ends-weaker (size g.block * N) (size g.block * N) (Leaves (IsDecided k g s) r) (Leaves (IsDecided k g s) r) Never Never (Raises r) R (meaning most fuel g.block s)
         (omega arith) (λ t x. x) (λ t x. x) (λ code raised. onward.raised_then code (first_raised r code raised)) (are.0 s held room))
-        (λ t left. chosen_then r onward t left (λ kept_t onward_t. tests_end gs rs t are.1 kept_t (held_kept s t (left_of r t left) held) (omega (arith, (left_of r t left).many, room)) onward_t)))
+        (λ t left. chosen_then r onward t left (λ now onward_t. tests_end gs rs (suc k) t (omega (arith, stage)) are.1 (stays t now.0) now.1 (omega (arith, now.0.many, room)) onward_t)))
       where
+        choice : Statement
+        choice = conditional g.out (tests_block gs rest) skip
+
         first_raised : (r : Result Truth Code) (code : ℕ) → Raises r code → Raises (r >>= (λ v. chosen v (all_true rs) (Ok false))) code
         first_raised (Ok v) code raised = absurd raised
         first_raised (Err c) code raised = raised
 
-        stays : (t : LowState) → Kept n s t → Kept n s0 t
-        stays t left = Kept-then n n s0 s t (omega arith) kept left
+        stays : (t : LowState) → Kept known s t → Kept known s0 t
+        stays t left = Kept-then known known s0 s t (omega arith) kept left
 
-        untrue : (t : LowState) → slice_get t.locals g.out ≡ Some (Number 0) → P t → Ends (1 + 1 + size (tests_block gs rest) * N) P Never R (meaning most fuel (conditional (local g.out) (tests_block gs rest) skip) t)
-        untrue t is post = conditional_ends P Never R most fuel (size (tests_block gs rest) * N) (local g.out) (tests_block gs rest) skip t (inr (is, (omega arith, post)))
+        untrue : (t : LowState) → value t g.out ≡ Some (Number 0) → P t → Ends (cost g.out + 1 + size (tests_block gs rest) * N) P Never R (meaning most fuel choice t)
+        untrue t is post = conditional_ends P Never R most fuel (size (tests_block gs rest) * N) g.out (tests_block gs rest) skip t (inr (is, (omega arith, post)))
 
-        left_of : (r : Result Truth Code) (t : LowState) → Leaves (λ v t. Kept n s t × (slice_get t.locals g.out ≡ Some (Number (truth_word v)))) r t → Kept n s t
-        left_of (Ok v) t left = left.0
-        left_of (Err c) t left = absurd left
-
-        chosen_then : (r : Result Truth Code) → Onward (r >>= (λ v. chosen v (all_true rs) (Ok false))) → (t : LowState) → Leaves (λ v t. Kept n s t × (slice_get t.locals g.out ≡ Some (Number (truth_word v)))) r t →
-            (Kept n s0 t → Onward (all_true rs) → Ends (size (tests_block gs rest) * N) P Never R (meaning most fuel (tests_block gs rest) t)) →
-            Ends (1 + 1 + size (tests_block gs rest) * N) P Never R (meaning most fuel (conditional (local g.out) (tests_block gs rest) skip) t)
+        chosen_then : (r : Result Truth Code) → Onward (r >>= (λ v. chosen v (all_true rs) (Ok false))) → (t : LowState) → Leaves (IsDecided k g s) r t →
+            (Kept known s t × Held (suc k) t → Onward (all_true rs) → Ends (size (tests_block gs rest) * N) P Never R (meaning most fuel (tests_block gs rest) t)) →
+            Ends (cost g.out + 1 + size (tests_block gs rest) * N) P Never R (meaning most fuel choice t)
         chosen_then (Err c) onward t left again = absurd left
-        chosen_then (Ok True) onward t left again = conditional_ends P Never R most fuel (size (tests_block gs rest) * N) (local g.out) (tests_block gs rest) skip t
-            (inl (inl (0, left.1), again (stays t left.0) onward))
-        chosen_then (Ok False) onward t left again = untrue t left.1 (onward.false_then refl t (stays t left.0))
-        chosen_then (Ok Unknown) onward t left again = untrue t left.1 (onward.false_then refl t (stays t left.0))
+        chosen_then (Ok True) onward t left again = conditional_ends P Never R most fuel (size (tests_block gs rest) * N) g.out (tests_block gs rest) skip t (inl (inl (0, left.2), again (left.0, left.1) onward))
+        chosen_then (Ok False) onward t left again = untrue t left.2 (onward.false_then refl t (stays t left.0))
+        chosen_then (Ok Unknown) onward t left again = untrue t left.2 (onward.false_then refl t (stays t left.0))
 
-  -- ---- the items
+-- ---- the items
+module _ (most fuel N n many : ℕ) (some : 1 ≤ N) (Held : LowState → Type 0) (held_kept : (s t : LowState) → Kept n s t → Held s → Held t) where
   module _ (Text : Part → ℕ → List ℕ → Type 0) where
     abbrev pub Below : ℕ → ℕ → Type 0
     Below m i = (5 ≤ i) × (i < m)

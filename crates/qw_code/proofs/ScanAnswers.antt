@@ -64,7 +64,7 @@ result_of cs es row = made_of (truths_of cs row) (values_in es row)
 result-path : (cs : List Condition) (es : List Expression) → row_result cs es ≡ result_of cs es
 result-path cs es = λ i row. result-is cs es row i
 
-module _ (parts : Parts) (tables : List (List (List Val))) (layout : Layout) (plan : Plan) (Text : Part → ℕ → List ℕ → Type 0) (units : List Val → ℕ) (Held : List Val → LowState → Type 0)
+module _ (parts : Parts) (tables : List (List (List Val))) (layout : Layout) (plan : Plan) (Text : Part → ℕ → List ℕ → Type 0) (units : List Val → ℕ) (Held : (stage : ℕ) → List Val → LowState → Type 0)
     (most pages fuel descriptor : ℕ) (start : Moment) where
   abbrev cs : List Condition
   cs = (specification_of parts).conjuncts

@@ -1,5 +1,5 @@
 -- The module of a scan is the compiled form of its query specification.
-use Rattle.std.proofs.Common.{◌≡◌, ℕ, zero, suc, ◌+◌, ◌*◌, ◌^◌, ◌<◌, ◌≤◌, List, [], ◌∷◌, length, map, replicate, Some, slice_get, refl, sym, subst, arith}
+use Rattle.std.proofs.Common.{◌≡◌, ℕ, zero, suc, ◌+◌, ◌*◌, ◌^◌, ◌<◌, ◌≤◌, List, [], ◌∷◌, length, map, replicate, Some, slice_get, refl, sym, ap, ◌∙◌, subst, arith}
 use Rattle.std.proofs.lemmas.List.{length-replicate}
 use Rattle.std.proofs.lemmas.Nat.{mul-le}
 use Rattle.qw_types.specs.declared.value.Val.{Val}
@@ -52,7 +52,6 @@ first-fresh layout placed tables descriptor limit memory others used ready there
       held = refl;
       descriptor = refl;
       count = zero-there others 3 (omega arith);
-      offset = zero-there others 4 (omega arith);
       free = head.0;
       root = head.2;
       rows_are = entry.3;
@@ -77,9 +76,9 @@ pub record Run : Type 0 where
   pub memory : List ℕ
 
 module _ (parts : Parts) (layout : Layout) (plan : Plan) (columns : Statement) (others : ℕ) (first_column : Used)
-    (Text : Run → Part → ℕ → List ℕ → Type 0) (each : Run → List Val → ℕ) (Held : Run → List Val → LowState → Type 0) (Bases : Run → LowState → Type 0) where
+    (Text : Run → Part → ℕ → List ℕ → Type 0) (each : Run → List Val → ℕ) (Held : Run → (stage : ℕ) → List Val → LowState → Type 0) (Bases : Run → LowState → Type 0) where
   abbrev scan : Statement
-  scan = scan_block plan.start plan.reads (row_block plan.tests plan.items (8 + 16 * length (kinds_of (outs_of plan.items))))
+  scan = scan_block plan.start (row_block plan.tests plan.reads plan.items (8 + 16 * length (kinds_of (outs_of plan.items))))
 
   abbrev rows : Run → List (List Val)
   rows r = rows_of r.tables parts.table
@@ -95,7 +94,7 @@ module _ (parts : Parts) (layout : Layout) (plan : Plan) (columns : Statement) (
 
   -- what is promised of the plan's blocks in each run over tables that are ready
   pub record Sound (r : Run) : Type 0 where
-    pub columns_end : (s : LowState) → Kept 1 (first r) s → Ends (size columns) (λ t. Kept 8 s t × Bases r t) Never (λ code. ⊥) (meaning (pages r) (fuel r) columns s)
+    pub columns_end : (s : LowState) → Kept 1 (first r) s → slice_get s.locals 6 ≡ Some (Number (4 * length (rows r))) → Ends (size columns) (λ t. Kept 8 s t × Bases r t) Never (λ code. ⊥) (meaning (pages r) (fuel r) columns s)
     pub promises : (s0 : LowState) → Started (descriptor_size layout) (length (rows r)) (Bases r) (first r) s0 →
         Promises plan (Text r) (rows r) (each r) (Held r) (truths_of (specification_of parts).conjuncts) (values_in (specification_of parts).items) (pages r) (fuel r) s0
     pub spent : spend (each r) (rows r) ≤ units (specification_of parts) r.tables
@@ -147,7 +146,7 @@ module _ (parts : Parts) (layout : Layout) (plan : Plan) (columns : Statement) (
           has = subst (λ (base : ℕ). HasResult (HasRow (Text r) (kinds_of (outs_of plan.items))) (bytes (Text r) (kinds_of (outs_of plan.items))) base [] s0) (sym planned.base_is) (empty-result (HasRow (Text r) (kinds_of (outs_of plan.items))) (bytes (Text r) (kinds_of (outs_of plan.items))) (descriptor_size layout) (length (rows r)) (Bases r) (first r) s0 fresh started);
           since = Since-same plan.known plan.base s0;
           many = omega (arith, planned.many_is, started.kept.many, length-replicate {A = Value} others (Number 0));
-          offset = started.offset;
+          offset = started.offset ∙ ap (λ (n : ℕ). Some (Number n)) (omega arith);
           end = started.end;
         };
       }

@@ -110,6 +110,6 @@ module _ (rows : List (List Val)) (result : List Val → Result (List (List Val)
   turn : (k : ℕ) (s : LowState) → Between k s → ((value s e ≡ Some (Number 0)) × Over s) ⊎ (IsSet (value s e) × (j : ℕ) × (j < k) × Ends ((k - j) * each) (Between j) Never R (body s))
   turn k s b = turn_at k s b.done b.left b.parts b.units_are b.all b.ready
 
-  pub loop_ends : (fuel : ℕ) (s : LowState) → spend units rows < fuel → Ready 0 [] s → Ends (spend units rows * (each + (cost e + 3)) + (cost e + 2)) Over Never R (turns e body fuel s)
+  pub loop_ends : (fuel : ℕ) (s : LowState) → spend units rows < fuel → Ready 0 [] s → Ends (spend units rows * (each + (cost e + 2)) + (cost e + 1)) Over Never R (turns e body fuel s)
   loop_ends fuel s enough ready = turns_spend each Between Over Never R e body turn fuel (spend units rows) s enough
       (record { done = []; left = rows; parts = refl; units_are = refl; all = tt; ready = ready })

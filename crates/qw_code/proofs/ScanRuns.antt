@@ -1,6 +1,5 @@
 -- A scan of one table: its rows one after another, and the result at the end.
 use Rattle.std.proofs.Common.{◌≡◌, ℕ, zero, suc, ◌+◌, ◌-◌, ◌*◌, ◌/◌, ◌%◌, ◌^◌, ◌<◌, ◌≤◌, ◌⊎◌, inl, inr, Bool, true, false, if◌then◌else◌, List, [], ◌∷◌, ◌++◌, length, Some, None, Result, Ok, Err, slice_get, slice_set, length-set, length-append, refl, sym, ap, ap₂, ◌∙◌, subst, arith}
-use Rattle.std.proofs.lemmas.Bool.{ne_eqb, eq-eqb}
 use Rattle.std.proofs.Math.Nat.{mul_comm}
 use Rattle.std.proofs.lemmas.Nat.{mul-le}
 use Rattle.std.proofs.lemmas.List.{append-nil}
@@ -16,7 +15,7 @@ use Rattle.qw_map.proofs.Chains.{onto, length-onto}
 use Rattle.qw_map.proofs.TurnFacts.{slice_get-set_same, slice_get-set_other}
 use Rattle.qw_meaning.specs.Flow.{rows_given}
 use Rattle.qw_module.specs.declared.instruction.ValType.TheVariants.{I32}
-use Rattle.qw_module.specs.declared.instruction.Binary.TheVariants.{Add}
+use Rattle.qw_module.specs.declared.instruction.Binary.TheVariants.{Sub}
 use Rattle.qw_low.specs.Syntax.{Statement, local, binop, seq, while}
 use Rattle.qw_low.specs.State.{Part, Column, Own, Value, Number, Cells, LowState}
 use Rattle.qw_low.specs.Meaning.{value, cost, meaning}
@@ -104,7 +103,7 @@ pub record Plan : Type 0 where
   pub next : ℕ  -- the first local of conjuncts and items
   pub many : ℕ  -- how many locals there are
 
-module _ (plan : Plan) (Text : Part → ℕ → List ℕ → Type 0) (rows : List (List Val)) (units : List Val → ℕ) (Held : List Val → LowState → Type 0)
+module _ (plan : Plan) (Text : Part → ℕ → List ℕ → Type 0) (rows : List (List Val)) (units : List Val → ℕ) (Held : (stage : ℕ) → List Val → LowState → Type 0)
     (truths : List Val → List (Result Truth Code)) (values : List Val → List (Result Val Code)) (most fuel : ℕ) (s0 : LowState) where
   abbrev sources : List Source
   sources = outs_of plan.items
@@ -119,15 +118,19 @@ module _ (plan : Plan) (Text : Part → ℕ → List ℕ → Type 0) (rows : Lis
   result row = made_of (truths row) (values row)
 
   abbrev row : Statement
-  row = row_block plan.tests plan.items width
+  row = row_block plan.tests plan.reads plan.items width
 
   abbrev body : Statement
-  body = turn_block plan.reads row
+  body = turn_block row
 
   abbrev total : ℕ
   total = length (made result rows)
 
-  -- what is promised of the blocks
+  -- the stage where all conjuncts are decided
+  abbrev decided : ℕ
+  decided = length plan.tests
+
+  -- What is promised of the blocks: `Held` says what holds of a row, at first, after so many conjuncts, and where all columns are read.
   pub record Promises : Type 0 where
     pub high : 8 ≤ plan.known
     pub behind : plan.known ≤ plan.next
@@ -138,20 +141,23 @@ module _ (plan : Plan) (Text : Part → ℕ → List ℕ → Type 0) (rows : Lis
     pub few : length rows ≤ 1000000
     pub pages : most ≡ 2 + total * width / (page - width)
     pub texts_lie : (p : Part) (off : ℕ) (octets : List ℕ) → Text p off octets → (i octet : ℕ) → slice_get octets i ≡ Some octet → IsShown plan.base s0 p (off + i) octet
-    pub held_kept : (r : List Val) (s t : LowState) → Kept plan.next s t → Held r s → Held r t
-    pub reads_end : (i : ℕ) (r : List Val) (s : LowState) → slice_get rows i ≡ Some r → Since plan.known plan.base s0 s → plan.many ≤ length s.locals → slice_get s.locals 5 ≡ Some (Number (4 * i)) → slice_get s.own 0 ≡ Some page →
-        Ends (size plan.reads) (λ t. Kept plan.known s t × Held r t) Never (λ code. ⊥) (meaning most fuel plan.reads s)
-    pub tests_are : (i : ℕ) (r : List Val) → slice_get rows i ≡ Some r → (some : 1 ≤ 1 + units r) → AreTests most fuel (1 + units r) plan.next plan.many some (Held r) (held_kept r) plan.tests (truths r)
-    pub items_are : (i : ℕ) (r : List Val) → slice_get rows i ≡ Some r → (some : 1 ≤ 1 + units r) → AreItems most fuel (1 + units r) plan.next plan.many some (Held r) (held_kept r) Text plan.next plan.items (values r)
+    pub held_kept : (k : ℕ) (r : List Val) (s t : LowState) → Kept plan.next s t → Held k r s → Held k r t
+    pub held_first : (i : ℕ) (r : List Val) (s : LowState) → slice_get rows i ≡ Some r → Since plan.known plan.base s0 s → plan.many ≤ length s.locals →
+        slice_get s.locals 5 ≡ Some (Number (4 * (length rows - i))) → slice_get s.locals 6 ≡ Some (Number (4 * length rows)) → slice_get s.own 0 ≡ Some page → Held 0 r s
+    pub tests_are : (i : ℕ) (r : List Val) → slice_get rows i ≡ Some r → AreTests most fuel (1 + units r) plan.known plan.many (λ k. Held k r) 0 plan.tests (truths r)
+    pub reads_end : (i : ℕ) (r : List Val) (s : LowState) → slice_get rows i ≡ Some r → Held decided r s → plan.many ≤ length s.locals →
+        Ends (size plan.reads) (λ t. Kept plan.known s t × Held (suc decided) r t) Never (λ code. ⊥) (meaning most fuel plan.reads s)
+    pub items_are : (i : ℕ) (r : List Val) → slice_get rows i ≡ Some r → (some : 1 ≤ 1 + units r) →
+        AreItems most fuel (1 + units r) plan.next plan.many some (Held (suc decided) r) (held_kept (suc decided) r) Text plan.next plan.items (values r)
 
-  -- between two rows: the rows so far, and the number of those that were scanned
+  -- between two rows: the rows so far, and the number of those that were scanned; the others are left
   pub record Ready (i : ℕ) (so_far : List (List Val)) (s : LowState) : Type 0 where
     pub found : List Row
     pub values_are : values_of (onto found []) ≡ so_far
     pub has : HasResult Has width plan.base found s
     pub since : Since plan.known plan.base s0 s
     pub many : plan.many ≤ length s.locals
-    pub offset : slice_get s.locals 5 ≡ Some (Number (4 * i))
+    pub offset : slice_get s.locals 5 ≡ Some (Number (4 * (length rows - i)))
     pub end : slice_get s.locals 6 ≡ Some (Number (4 * length rows))
 
   found-many : (found : List Row) → length found ≡ length (values_of (onto found []))
@@ -172,26 +178,27 @@ module _ (plan : Plan) (Text : Part → ℕ → List ℕ → Type 0) (rows : Lis
 
   module _ (p : Promises) where
     pub at_end : (so_far : List (List Val)) (s : LowState) → Ready (length rows) so_far s → value s more_rows ≡ Some (Number 0)
-    at_end so_far s ready = rw (ready.offset, ready.end, eq-eqb (4 * length rows) (4 * length rows) refl) refl
+    at_end so_far s ready = ready.offset ∙ ap (λ (n : ℕ). Some (Number n)) (omega arith)
 
     pub before_end : (i : ℕ) (so_far : List (List Val)) (s : LowState) → i < length rows → Ready i so_far s → IsSet (value s more_rows)
-    before_end i so_far s less ready = inl (0, rw (ready.offset, ready.end, ne_eqb (4 * i) (4 * length rows) (λ e. omega (arith, e, less))) refl)
+    before_end i so_far s less ready = inl (4 * (length rows - i) - 1, ready.offset ∙ ap (λ (n : ℕ). Some (Number n)) (omega (arith, less)))
 
     -- to the next row
     stepped : (i : ℕ) (so_far : List (List Val)) (t : LowState) → i < length rows → Ready i so_far t → Ends 4 (Ready (suc i) so_far) Never (λ code. ⊥) (meaning most fuel next_row t)
     stepped i so_far t less ready =
         let there : 5 < length t.locals = omega (arith, ready.many, p.high, p.behind, p.room) in
-        let next : (4 * i + 4) % 2 ^ 32 ≡ 4 * suc i = omega (arith, less, p.few) in
-        let t1 : LowState = record t { locals = slice_set t.locals 5 (Number (4 * suc i)) } in
-        assign_ends (Ready (suc i) so_far) Never (λ code. ⊥) most fuel 5 (binop I32 Add (local 5) (i32 4)) (Number (4 * suc i)) t (rw (ready.offset, next) refl) there
+        let fewer : ℕ = 4 * (length rows - suc i) in
+        let next : (4 * (length rows - i) + 2 ^ 32 - 4) % 2 ^ 32 ≡ fewer = omega (arith, less, p.few) in
+        let t1 : LowState = record t { locals = slice_set t.locals 5 (Number fewer) } in
+        assign_ends (Ready (suc i) so_far) Never (λ code. ⊥) most fuel 5 (binop I32 Sub (local 5) (i32 4)) (Number fewer) t (rw (ready.offset, next) refl) there
         (record {
           found = ready.found;
           values_are = ready.values_are;
-          has = result-kept Has width plan.base ready.found 5 t t1 (omega arith) (Kept-one t 5 (Number (4 * suc i))) ready.has;
-          since = Since-set plan.known plan.base s0 t (Number (4 * suc i)) ready.since;
-          many = omega (arith, ready.many, length-set t.locals 5 (Number (4 * suc i)));
-          offset = slice_get-set_same t.locals 5 (Number (4 * suc i)) there;
-          end = slice_get-set_other t.locals 5 6 (Number (4 * suc i)) (λ e. omega (arith, e)) ∙ ready.end;
+          has = result-kept Has width plan.base ready.found 5 t t1 (omega arith) (Kept-one t 5 (Number fewer)) ready.has;
+          since = Since-set plan.known plan.base s0 t (Number fewer) ready.since;
+          many = omega (arith, ready.many, length-set t.locals 5 (Number fewer));
+          offset = slice_get-set_same t.locals 5 (Number fewer) there;
+          end = slice_get-set_other t.locals 5 6 (Number fewer) (λ e. omega (arith, e)) ∙ ready.end;
         })
 
     -- what is kept while a row is worked on
@@ -258,40 +265,52 @@ module _ (plan : Plan) (Text : Part → ℕ → List ℕ → Type 0) (rows : Lis
             (λ x y. y) (λ code refused. inl refused)
             (row_added Text sources plan.base most fuel p.short p.uses now.found w room now.has enough vs (omega (arith, bound, all_rows, p.few)) supplied)
 
-      -- the items, where all conjuncts are true
-      abbrev rest : Statement
-      rest = seq (items_block plan.items) (push_block width (cells_block 8 sources))
+      -- the items, where all columns are read
+      abbrev added : Statement
+      added = seq (items_block plan.items) (push_block width (cells_block 8 sources))
 
-      true_then : all_true (truths r) ≡ Ok true → (t : LowState) → Kept plan.known s t → Held r t → Ends (size rest * N) Mid Never R (meaning most fuel rest t)
-      true_then is t kept held = by_values (all_values (values r)) refl
-          (items_end most fuel N plan.next plan.many some (Held r) (p.held_kept r) Text plan.items (values r) plan.next t (omega arith) (p.items_are i r there some) held (omega (arith, kept.many, ready.many)))
+      added_then : all_true (truths r) ≡ Ok true → (t : LowState) → Kept plan.known s t → Held (suc decided) r t → Ends (size added * N) Mid Never R (meaning most fuel added t)
+      added_then is t kept held = by_values (all_values (values r)) refl
+          (items_end most fuel N plan.next plan.many some (Held (suc decided) r) (p.held_kept (suc decided) r) Text plan.items (values r) plan.next t (omega arith) (p.items_are i r there some) held (omega (arith, kept.many, ready.many)))
         where
           result_then : result r ≡ (all_values (values r) >>= (λ vs. Ok (vs ∷ [])))
           result_then = rw is refl
 
-          weigh : size (items_block plan.items) * N + (16 + (size (cells_block 8 sources) + 17)) ≤ size rest * N
+          weigh : size (items_block plan.items) * N + (16 + (size (cells_block 8 sources) + 17)) ≤ size added * N
           weigh =
-              let whole : size rest * N ≡ size (items_block plan.items) * N + size (push_block width (cells_block 8 sources)) * N = spread (size (items_block plan.items)) (size (push_block width (cells_block 8 sources))) N in
+              let whole : size added * N ≡ size (items_block plan.items) * N + size (push_block width (cells_block 8 sources)) * N = spread (size (items_block plan.items)) (size (push_block width (cells_block 8 sources))) N in
               let more : size (push_block width (cells_block 8 sources)) ≤ size (push_block width (cells_block 8 sources)) * N = at_least (size (push_block width (cells_block 8 sources))) N some in
               omega (arith, whole, more)
 
           by_values : (q : Result (List Val) Code) → all_values (values r) ≡ q →
               Ends (size (items_block plan.items) * N) (Leaves (λ vs w. Kept plan.next t w × AllSupply Text w.locals sources vs) q) Never (Raises q) (meaning most fuel (items_block plan.items) t) →
-              Ends (size rest * N) Mid Never R (meaning most fuel rest t)
+              Ends (size added * N) Mid Never R (meaning most fuel added t)
           by_values (Err c) values_is ends =
               let raised : result r ≡ Err c = result_then ∙ rw values_is refl in
-              Ends-more Mid Never R (size (items_block plan.items) * N + (16 + (size (cells_block 8 sources) + 17))) (size rest * N) (meaning most fuel rest t) weigh
+              Ends-more Mid Never R (size (items_block plan.items) * N + (16 + (size (cells_block 8 sources) + 17))) (size added * N) (meaning most fuel added t) weigh
               (Ends-then Mid Never R (size (items_block plan.items) * N) (16 + (size (cells_block 8 sources) + 17)) Never (meaning most fuel (items_block plan.items) t) (meaning most fuel (push_block width (cells_block 8 sources)))
               (Ends-weaker (size (items_block plan.items) * N) (size (items_block plan.items) * N) Never Never Never Never (Raises {A = List Val} (Err c)) R (meaning most fuel (items_block plan.items) t) (omega arith) (λ x y. y) (λ x y. y)
               (λ code raises. inr (subst (λ (q : Result (List (List Val)) Code). Raises q code) (sym raised) raises)) ends)
               (λ x never. absurd never))
           by_values (Ok vs) values_is ends =
               let made_is : result r ≡ Ok (vs ∷ []) = result_then ∙ rw values_is refl in
-              Ends-more Mid Never R (size (items_block plan.items) * N + (16 + (size (cells_block 8 sources) + 17))) (size rest * N) (meaning most fuel rest t) weigh
+              Ends-more Mid Never R (size (items_block plan.items) * N + (16 + (size (cells_block 8 sources) + 17))) (size added * N) (meaning most fuel added t) weigh
               (Ends-then Mid Never R (size (items_block plan.items) * N) (16 + (size (cells_block 8 sources) + 17)) (λ w. Kept plan.next t w × AllSupply Text w.locals sources vs) (meaning most fuel (items_block plan.items) t) (meaning most fuel (push_block width (cells_block 8 sources)))
               (Ends-weaker (size (items_block plan.items) * N) (size (items_block plan.items) * N) (λ w. Kept plan.next t w × AllSupply Text w.locals sources vs) (λ w. Kept plan.next t w × AllSupply Text w.locals sources vs) Never Never (λ code. ⊥) R (meaning most fuel (items_block plan.items) t) (omega arith)
               (λ x y. y) (λ x y. y) (λ code never. absurd never) ends)
               (λ w done_items. pushed vs made_is w (ready-kept i (made result done) s w (Kept-then plan.known plan.known s t w (omega arith) kept (Kept-less plan.known plan.next t w p.behind done_items.0)) ready) done_items.1))
+
+      -- the other columns and the items, where all conjuncts are true
+      abbrev rest : Statement
+      rest = seq plan.reads added
+
+      true_then : all_true (truths r) ≡ Ok true → (t : LowState) → Kept plan.known s t → Held decided r t → plan.many ≤ length t.locals → Ends (size rest * N) Mid Never R (meaning most fuel rest t)
+      true_then is t kept held room =
+          let Read : LowState → Type 0 = λ u. Kept plan.known t u × Held (suc decided) r u in
+          Ends-more Mid Never R (size plan.reads + size added * N) (size rest * N) (meaning most fuel rest t) (omega (arith, spread (size plan.reads) (size added) N, at_least (size plan.reads) N some))
+          (Ends-then Mid Never R (size plan.reads) (size added * N) Read (meaning most fuel plan.reads t) (meaning most fuel added)
+          (Ends-weaker (size plan.reads) (size plan.reads) Read Read Never Never (λ code. ⊥) R (meaning most fuel plan.reads t) (omega arith) (λ x y. y) (λ x y. y) (λ code never. absurd never) (p.reads_end i r t there held room))
+          (λ u read. added_then is u (Kept-then plan.known plan.known s t u (omega arith) kept read.0) read.1))
 
       false_then : all_true (truths r) ≡ Ok false → (t : LowState) → Kept plan.known s t → Mid t
       false_then is t kept =
@@ -313,20 +332,13 @@ module _ (plan : Plan) (Text : Part → ℕ → List ℕ → Type 0) (rows : Lis
       pub turn_ends : Ends (size body * N) (Leaves (λ more t. Ready (suc i) (made result done ++ more) t) (result r)) Never R (meaning most fuel body s)
       turn_ends =
           let Post : LowState → Type 0 = Leaves (λ more t. Ready (suc i) (made result done ++ more) t) (result r) in
-          let whole : size body * N ≡ size plan.reads * N + (size row + 4) * N = spread (size plan.reads) (size row + 4) N in
-          let parts_are : (size row + 4) * N ≡ size row * N + 4 * N = spread (size row) 4 N in
-          Ends-more Post Never R (size plan.reads + (size row * N + 4)) (size body * N) (meaning most fuel body s) (omega (arith, whole, parts_are, at_least (size plan.reads) N some, at_least 4 N some))
-          (Ends-then Post Never R (size plan.reads) (size row * N + 4) (λ t. Kept plan.known s t × Held r t) (meaning most fuel plan.reads s) (meaning most fuel (seq row next_row))
-          (Ends-weaker (size plan.reads) (size plan.reads) (λ t. Kept plan.known s t × Held r t) (λ t. Kept plan.known s t × Held r t) Never Never (λ code. ⊥) R (meaning most fuel plan.reads s) (omega arith) (λ x y. y) (λ x y. y) (λ code never. absurd never)
-          (p.reads_end i r s there ready.since ready.many ready.offset (ready.has.pages 0 (omega arith))))
-          (λ t after. Ends-then Post Never R (size row * N) 4 Mid (meaning most fuel row t) (meaning most fuel next_row)
-          (tests_end most fuel N plan.next plan.many some (Held r) (p.held_kept r) Mid R rest t plan.tests (truths r) t (p.tests_are i r there some) (Kept-same plan.next t) after.1 (omega (arith, after.0.many, ready.many))
-          (record {
-            true_then = λ is u kept held. true_then is u (Kept-then plan.known plan.known s t u (omega arith) after.0 (Kept-less plan.known plan.next t u p.behind kept)) held;
-            false_then = λ is u kept. false_then is u (Kept-then plan.known plan.known s t u (omega arith) after.0 (Kept-less plan.known plan.next t u p.behind kept));
-            raised_then = raised_then (all_true (truths r)) refl;
-          }))
-          (λ u h. stepped_after (result r) u h)))
+          let whole : size body * N ≡ size row * N + 4 * N = spread (size row) 4 N in
+          Ends-more Post Never R (size row * N + 4) (size body * N) (meaning most fuel body s) (omega (arith, whole, at_least 4 N some))
+          (Ends-then Post Never R (size row * N) 4 Mid (meaning most fuel row s) (meaning most fuel next_row)
+          (tests_end most fuel N plan.known plan.many (λ k. Held k r) some Mid R rest s decided plan.tests (truths r) 0 s (omega arith) (p.tests_are i r there) (Kept-same plan.known s)
+          (p.held_first i r s there ready.since ready.many ready.offset ready.end (ready.has.pages 0 (omega arith))) ready.many
+          (record { true_then = true_then; false_then = false_then; raised_then = raised_then (all_true (truths r)) refl }))
+          (stepped_after (result r)))
 
     pub turns_are : (done left : List (List Val)) (r : List Val) (s : LowState) → rows ≡ done ++ r ∷ left → AllByRecursion (IsMade result) done → Ready (length done) (made result done) s →
         Ends (size body * (1 + units r)) (Leaves (λ more t. Ready (suc (length done)) (made result done ++ more) t) (result r)) Never (λ code. (code ≡ 3) ⊎ Raises (result r) code) (meaning most fuel body s)
@@ -334,19 +346,20 @@ module _ (plan : Plan) (Text : Part → ℕ → List ℕ → Type 0) (rows : Lis
 
     -- the loop over all rows
     pub rows_end : spend units rows < fuel → Ready 0 [] s0 →
-        Ends (spend units rows * (size body + (cost more_rows + 3)) + (cost more_rows + 2)) (Over rows result units (size body) more_rows (meaning most fuel body) Ready at_end before_end turns_are) Never (Told result rows) (meaning most fuel (while more_rows body) s0)
+        Ends (spend units rows * (size body + (cost more_rows + 2)) + (cost more_rows + 1)) (Over rows result units (size body) more_rows (meaning most fuel body) Ready at_end before_end turns_are) Never (Told result rows) (meaning most fuel (while more_rows body) s0)
     rows_end enough ready = loop_ends rows result units (size body) more_rows (meaning most fuel body) Ready at_end before_end turns_are fuel s0 enough ready
 
 -- ---- the whole scan
 -- how many instructions the parts have, against those of the whole for each unit
-scan-weight : (start body test finish spent : ℕ) → 12 ≤ finish → start + (spent * (body + (test + 3)) + (test + 2) + 12) ≤ (start + (test + 3 + body + finish)) * (1 + spent)
+scan-weight : (start body test finish spent : ℕ) → 12 ≤ finish → start + (spent * (body + (test + 2)) + (test + 1) + 12) ≤ (start + (2 * test + 3 + body + finish)) * (1 + spent)
 scan-weight start body test finish spent most =
-    let whole : (start + (test + 3 + body + finish)) * (1 + spent) ≡ (start + (test + 3 + body + finish)) * 1 + (start + (test + 3 + body + finish)) * spent = spread-right (start + (test + 3 + body + finish)) 1 spent in
-    let turn : spent * (body + (test + 3)) ≤ (start + (test + 3 + body + finish)) * spent = rw (mul_comm spent (body + (test + 3))) (mul-le (body + (test + 3)) spent (start + (test + 3 + body + finish)) spent (omega arith) (omega arith)) in
-    let one : (start + (test + 3 + body + finish)) * 1 ≡ start + (test + 3 + body + finish) = omega arith in
+    let all : ℕ = start + (2 * test + 3 + body + finish) in
+    let whole : all * (1 + spent) ≡ all * 1 + all * spent = spread-right all 1 spent in
+    let turn : spent * (body + (test + 2)) ≤ all * spent = rw (mul_comm spent (body + (test + 2))) (mul-le (body + (test + 2)) spent all spent (omega arith) (omega arith)) in
+    let one : all * 1 ≡ all = omega arith in
     omega (arith, whole, turn, one)
 
-module _ (plan : Plan) (Text : Part → ℕ → List ℕ → Type 0) (rows : List (List Val)) (units : List Val → ℕ) (Held : List Val → LowState → Type 0)
+module _ (plan : Plan) (Text : Part → ℕ → List ℕ → Type 0) (rows : List (List Val)) (units : List Val → ℕ) (Held : (stage : ℕ) → List Val → LowState → Type 0)
     (truths : List Val → List (Result Truth Code)) (values : List Val → List (Result Val Code)) (most fuel : ℕ) where
   abbrev P0 : LowState → Type 0
   P0 s0 = Promises plan Text rows units Held truths values most fuel s0
@@ -369,16 +382,16 @@ module _ (plan : Plan) (Text : Part → ℕ → List ℕ → Type 0) (rows : Lis
   module _ (first : LowState) (enough : spend units rows < fuel)
       (start_ends : Ends (size plan.start) Begun Never (λ code. ⊥) (meaning most fuel plan.start first)) where
     abbrev turning : Statement
-    turning = turn_block plan.reads (row_block plan.tests plan.items (bytes Text (kinds_of (outs_of plan.items))))
+    turning = turn_block (row_block plan.tests plan.reads plan.items (bytes Text (kinds_of (outs_of plan.items))))
 
     abbrev result' : List Val → Result (List (List Val)) Code
     result' r = made_of (truths r) (values r)
 
-    pub scan_ends : Ends (size (scan_block plan.start plan.reads (row_block plan.tests plan.items (bytes Text (kinds_of (outs_of plan.items))))) * (1 + spend units rows)) Finished Never (Told result' rows)
-        (meaning most fuel (scan_block plan.start plan.reads (row_block plan.tests plan.items (bytes Text (kinds_of (outs_of plan.items))))) first)
+    pub scan_ends : Ends (size (scan_block plan.start (row_block plan.tests plan.reads plan.items (bytes Text (kinds_of (outs_of plan.items))))) * (1 + spend units rows)) Finished Never (Told result' rows)
+        (meaning most fuel (scan_block plan.start (row_block plan.tests plan.reads plan.items (bytes Text (kinds_of (outs_of plan.items))))) first)
     scan_ends =
         let R : ℕ → Type 0 = Told result' rows in
-        let spent : ℕ = spend units rows * (size turning + (cost more_rows + 3)) + (cost more_rows + 2) in
+        let spent : ℕ = spend units rows * (size turning + (cost more_rows + 2)) + (cost more_rows + 1) in
         let after : Statement = seq (while more_rows turning) finish_block in
         Ends-more Finished Never R (size plan.start + (spent + 12)) _ (meaning most fuel (seq plan.start after) first)
         (scan-weight (size plan.start) (size turning) (cost more_rows) (size finish_block) (spend units rows) (omega arith))

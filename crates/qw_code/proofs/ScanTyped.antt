@@ -6,7 +6,7 @@ use Rattle.qw_module.specs.declared.instruction.ValType.{ValType}
 use Rattle.qw_module.specs.declared.instruction.ValType.TheVariants.{I32, I64}
 use Rattle.qw_low.specs.declared.cell.Cell.{Cell}
 use Rattle.qw_low.specs.Syntax.{Statement}
-use Rattle.qw_low.specs.Typing.{IsTyped}
+use Rattle.qw_low.specs.Typing.{HasType, IsTyped}
 use Rattle.qw_code.specs.Results.{push_block, finish_block}
 use Rattle.qw_code.specs.RowCells.{Source, plain_block, cell_block, cells_block, Test, tests_block, Item, items_block, outs_of, row_block, begin_block, scan_block}
 
@@ -31,7 +31,7 @@ AreDeclared types (o ∷ os) = (IsDeclared types o.kind o.cell × IsDeclaredNull
 
 abbrev pub AreTestsTyped : List ValType → List Test → Type 0
 AreTestsTyped types [] = Unit {0}
-AreTestsTyped types (g ∷ gs) = (IsTyped types g.block × (slice_get types g.out ≡ Some I32)) × AreTestsTyped types gs
+AreTestsTyped types (g ∷ gs) = (IsTyped types g.block × HasType types g.out I32) × AreTestsTyped types gs
 
 abbrev pub AreItemsTyped : List ValType → List Item → Type 0
 AreItemsTyped types [] = Unit {0}
@@ -72,15 +72,16 @@ module _ (others : List ValType) where
   items_typed [] h = tt
   items_typed (g ∷ gs) h = (h.0, items_typed gs h.1)
 
-  pub row_typed : (tests : List Test) (items : List Item) (size : ℕ) → size < 2 ^ 32 → AreTestsTyped types tests → AreItemsTyped types items → AreDeclared types (outs_of items) → IsTyped types (row_block tests items size)
-  row_typed tests items size small tested evaluated declared = tests_typed tests _ tested (items_typed items evaluated, push_typed size (cells_block 8 (outs_of items)) small (cells_typed (outs_of items) 8 declared))
+  pub row_typed : (tests : List Test) (reads : Statement) (items : List Item) (size : ℕ) → size < 2 ^ 32 → AreTestsTyped types tests → IsTyped types reads → AreItemsTyped types items → AreDeclared types (outs_of items) →
+      IsTyped types (row_block tests reads items size)
+  row_typed tests reads items size small tested read evaluated declared = tests_typed tests _ tested (read, (items_typed items evaluated, push_typed size (cells_block 8 (outs_of items)) small (cells_typed (outs_of items) 8 declared)))
 
   pub begin_typed : (base : ℕ) (columns : Statement) → base < 2 ^ 32 → IsTyped types columns → IsTyped types (begin_block base columns)
   begin_typed base columns small typed =
-      ((((refl, refl), ((I32, refl, ((omega arith, refl), (small, refl), refl)), (I32, refl, (refl, (omega arith, refl), refl))))), (((refl, refl), (I32, refl, (refl, (omega arith, refl), refl))), typed))
+      ((((refl, refl), ((I32, refl, ((omega arith, refl), (small, refl), refl)), (I32, refl, (refl, (omega arith, refl), refl))))), (((refl, refl), ((I32, refl, (refl, (omega arith, refl), refl)), (I32, refl, refl))), typed))
 
   finish_typed : IsTyped types finish_block
   finish_typed = ((refl, refl), (((refl, refl), tt, (refl, refl)), (refl, refl)))
 
-  pub scan_typed : (start reads row : Statement) → IsTyped types start → IsTyped types reads → IsTyped types row → IsTyped types (scan_block start reads row)
-  scan_typed start reads row begun read done = (begun, (((refl, refl, refl), (read, (done, (I32, refl, (refl, (omega arith, refl), refl))))), finish_typed))
+  pub scan_typed : (start row : Statement) → IsTyped types start → IsTyped types row → IsTyped types (scan_block start row)
+  scan_typed start row begun done = (begun, ((refl, (done, (I32, refl, (refl, (omega arith, refl), refl)))), finish_typed))

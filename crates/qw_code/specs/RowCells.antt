@@ -7,13 +7,12 @@ use Rattle.qw_types.specs.declared.kind.Kind.TheVariants as kind
 use Rattle.qw_types.specs.declared.value.Val.{Val}
 use Rattle.qw_types.specs.declared.value.Val.TheVariants as val
 use Rattle.qw_module.specs.declared.instruction.ValType.TheVariants.{I32, I64}
-use Rattle.qw_module.specs.declared.instruction.Binary.TheVariants.{Add, Shl}
-use Rattle.qw_module.specs.declared.instruction.Relation.TheVariants.{Ne}
+use Rattle.qw_module.specs.declared.instruction.Binary.TheVariants.{Shl, Sub}
 use Rattle.qw_module.specs.declared.instruction.Load.TheVariants as loads
 use Rattle.qw_module.specs.declared.instruction.Store.TheVariants as stores
 use Rattle.qw_meaning.specs.Typing.{IsValueOf}
 use Rattle.qw_low.specs.declared.cell.Cell.{Cell}
-use Rattle.qw_low.specs.Syntax.{Expression, local, binop, relop, Statement, skip, seq, assign, load, store, conditional, while}
+use Rattle.qw_low.specs.Syntax.{Expression, local, binop, Statement, skip, seq, assign, load, store, conditional, while}
 use Rattle.qw_low.specs.State.{Part, Own, Value, Number, Address, Cells}
 use Rattle.qw_code.specs.Results.{i32, start_block, push_block, finish_block}
 
@@ -91,14 +90,15 @@ kinds_of [] = []
 kinds_of (o ∷ os) = o.kind ∷ kinds_of os
 
 -- ---- a row of the table: the conjuncts of WHERE, and where all are true the select list
--- a conjunct's block, and the local where it leaves 1 if it is true, and else 0
+-- a conjunct: a block, which first reads the columns that are new with it, and an expression that is 1 behind the block where the conjunct is
+-- true, and else 0
 pub record Test : Type 0 where
-  pub out : ℕ
+  pub out : Expression
   pub block : Statement
 
 abbrev pub tests_block : List Test → (rest : Statement) → Statement
 tests_block [] rest = rest
-tests_block (g ∷ gs) rest = seq g.block (conditional (local g.out) (tests_block gs rest) skip)
+tests_block (g ∷ gs) rest = seq g.block (conditional g.out (tests_block gs rest) skip)
 
 -- an item's block, and where it leaves the value
 pub record Item : Type 0 where
@@ -113,9 +113,9 @@ abbrev pub outs_of : List Item → List Source
 outs_of [] = []
 outs_of (g ∷ gs) = g.out ∷ outs_of gs
 
--- where all conjuncts are true, the items are evaluated and the row that they make is added to the result
-abbrev pub row_block : List Test → List Item → (size : ℕ) → Statement
-row_block tests items size = tests_block tests (seq (items_block items) (push_block size (cells_block 8 (outs_of items))))
+-- where all conjuncts are true, the other columns are read, the items are evaluated, and the row that they make is added to the result
+abbrev pub row_block : List Test → (reads : Statement) → List Item → (size : ℕ) → Statement
+row_block tests reads items size = tests_block tests (seq reads (seq (items_block items) (push_block size (cells_block 8 (outs_of items)))))
 
 -- the locals of a value
 abbrev pub UsesNull : (ℕ → Type 0) → Option ℕ → Type 0
@@ -125,24 +125,24 @@ UsesNull P (Some n) = P n
 abbrev pub Uses : (ℕ → Type 0) → Cell → Type 0
 Uses P c = P c.value × P c.length × UsesNull P c.null
 
--- ---- the scan: the row's offset, four times its number, counts up to the last one's end
+-- ---- the scan: four times the number of rows that are left counts down to 0
 abbrev pub more_rows : Expression
-more_rows = relop I32 Ne (local 5) (local 6)
+more_rows = local 5
 
 abbrev pub next_row : Statement
-next_row = assign 5 (binop I32 Add (local 5) (i32 4))
+next_row = assign 5 (binop I32 Sub (local 5) (i32 4))
 
--- what is done at a row: its columns are read, and the rest is done with them
-abbrev pub turn_block : (reads row : Statement) → Statement
-turn_block reads row = seq reads (seq row next_row)
+-- what is done at a row
+abbrev pub turn_block : (row : Statement) → Statement
+turn_block row = seq row next_row
 
-abbrev pub scan_block : (start reads row : Statement) → Statement
-scan_block start reads row = seq start (seq (while more_rows (turn_block reads row)) finish_block)
+abbrev pub scan_block : (start row : Statement) → Statement
+scan_block start row = seq start (seq (while more_rows (turn_block row)) finish_block)
 
--- where the last row's offset ends: the first column's entry in the descriptor has the number of rows
+-- four times the number of rows, which the first column's entry in the descriptor has; all are left
 abbrev pub end_block : Statement
-end_block = seq (load 6 (loads.Full I32) 76 (local 0)) (assign 6 (binop I32 Shl (local 6) (i32 2)))
+end_block = seq (load 6 (loads.Full I32) 76 (local 0)) (seq (assign 6 (binop I32 Shl (local 6) (i32 2))) (assign 5 (local 6)))
 
--- before the loop: the result's locals, the end, and what the columns want
+-- before the loop: the result's locals, the rows' number, and what the columns want
 abbrev pub begin_block : (descriptor_size : ℕ) → (columns : Statement) → Statement
 begin_block descriptor_size columns = seq (start_block descriptor_size) (seq end_block columns)

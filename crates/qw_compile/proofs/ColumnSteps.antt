@@ -11,6 +11,9 @@ use Rattle.qw_expr.specs.declared.operand.Operand.{Operand}
 use Rattle.qw_expr.specs.Bindings as bindings
 use Rattle.qw_expr.specs.Computes.{Known}
 use Rattle.qw_rows.specs.declared.reader.Reader.{Reader}
+use Rattle.qw_meaning.specs.Expression.{Expression}
+use Rattle.qw_rows.specs.Constants.{constant_operand, known_constant, literal_of}
+use Rattle.qw_rows.specs.declared.constant.Constant.{Constant}
 use Rattle.qw_rows.specs.Reading.{known_of, operand_of}
 use Rattle.qw_code.specs.RowCells.{Source, kinds_of}
 use Rattle.qw_compile.specs.Emitted.{source_of, sources_of}
@@ -42,6 +45,15 @@ next_binding rs i r o made new old less same before added =
     ∙ (ap₂ (λ (ks : List Known) (p : Operand). ks ++ record { expression = bindings.named (leaf.Column (get_or rs i r).column (get_or rs i r).ty); operand = p } ∷ []) before same
     ∙ (append_assoc old (map known_of (take i rs)) (known_of (get_or rs i r) ∷ [])
     ∙ ap (λ (ks : List Known). old ++ ks) (sym (map_more known_of rs i r less)))))
+
+pub next_constant : (cs : List Constant) (i : ℕ) (c : Constant) (b : Binding) (made new : List Binding) (old : List Known) → i < length cs → bindings.named b.leaf ≡ literal_of (get_or cs i c).word → b.operand ≡ constant_operand (get_or cs i c) →
+    bindings.known_of made ≡ old ++ map known_constant (take i cs) → new ≡ made ++ b ∷ [] → bindings.known_of new ≡ old ++ map known_constant (take (i + 1) cs)
+next_constant cs i c b made new old less leaf_is operand_is before added =
+    ap bindings.known_of added
+    ∙ (known_end made b
+    ∙ (ap₂ (λ (ks : List Known) (k : Known). ks ++ k ∷ []) before (ap₂ (λ (e : Expression) (o : Operand). record { expression = e; operand = o }) leaf_is operand_is)
+    ∙ (append_assoc old (map known_constant (take i cs)) (known_constant (get_or cs i c) ∷ [])
+    ∙ ap (λ (ks : List Known). old ++ ks) (sym (map_more known_constant cs i c less)))))
 
 kinds_end : (ss : List Source) (s : Source) → kinds_of (ss ++ s ∷ []) ≡ kinds_of ss ++ s.kind ∷ []
 kinds_end [] s = refl

@@ -1,5 +1,5 @@
 -- The scan of a specification: its plan, and what is promised of the plan's blocks.
-use Rattle.std.proofs.Common.{◌≡◌, ℕ, zero, suc, ◌+◌, ◌*◌, ◌^◌, ◌≤◌, nat_le, ◌&&◌, if◌then◌else◌, Bool, true, false, inl, inr, IsUtf8, Ok, sum_by, Option, Some, None, List, [], ◌∷◌, ◌++◌, length, map, replicate, slice_get, Contains, refl, sym, ap, ap₂, ◌∙◌, subst, arith}
+use Rattle.std.proofs.Common.{◌≡◌, ℕ, zero, suc, ◌+◌, ◌-◌, ◌*◌, ◌^◌, ◌≤◌, nat_le, ◌&&◌, if◌then◌else◌, Bool, true, false, inl, inr, IsUtf8, Ok, sum_by, Option, Some, None, List, [], ◌∷◌, ◌++◌, length, map, take, replicate, slice_get, Contains, refl, sym, ap, ap₂, ◌∙◌, subst, arith}
 use Rattle.std.specs.List.{AllByRecursion, concat}
 use Rattle.std.proofs.lemmas.Bool.{and_from, and_parts, le-leb, leb-true}
 use Rattle.std.proofs.lemmas.List.{append-nil, length-map, length-replicate}
@@ -26,7 +26,7 @@ use Rattle.qw_meaning.specs.Units as text
 use Rattle.qw_meaning.specs.Units.{units_of}
 use Rattle.qw_meaning.proofs.SelectLemmas.{columns_more, conditions_more}
 use Rattle.qw_map.specs.Areas.{World}
-use Rattle.qw_map.specs.Columns.{column_values}
+use Rattle.qw_map.specs.Columns.{column_values, values_size}
 use Rattle.qw_map.specs.Layout.{Layout, HasColumn, IsReady, IsReadyColumn, descriptor_size, entry_offset, first_world, text_areas, text_cell}
 use Rattle.qw_map.specs.declared.layout.Placed.{Placed}
 use Rattle.qw_map.specs.declared.layout.Used.{Used}
@@ -44,30 +44,39 @@ use Rattle.qw_low.proofs.BeginLemmas.{entries-known}
 use Rattle.qw_low.proofs.LessKnown.{IsLess, seen, seen_ends}
 use Rattle.qw_low.proofs.Promises.{Ends-then, Ends-weaker}
 use Rattle.qw_low.proofs.Results.{Kept-then}
-use Rattle.qw_expr.specs.Cells.{DeclaresValue, Holds}
-use Rattle.qw_expr.specs.Computes.{Known, AreHeld, AreDeclared}
-use Rattle.qw_expr.proofs.Nulls.{known_kept}
-use Rattle.qw_rows.specs.Reading.{known_of, StandsAt, HasBases, BeginsAll, ReadsAll}
+use Rattle.qw_expr.specs.Cells.{DeclaresValue, Holds, IsBelow}
+use Rattle.qw_expr.specs.Computes.{Known, AreBelow, AreHeld, AreDeclared}
+use Rattle.qw_expr.proofs.Nulls.{known_below_more, known_kept}
+use Rattle.qw_rows.specs.Reading.{known_of, IsThere, StandsAt, HasBases, HasOctets, BeginsAll}
+use Rattle.qw_rows.specs.declared.reader.Reader.{Reader}
 use Rattle.qw_rows.specs.Texts.{HasPlace, LeadsToAll, AreTextsIn, LieThere, known_texts}
+use Rattle.qw_rows.specs.Constants.{IsSet, IsSmall, SetsAll, known_constant}
+use Rattle.qw_rows.specs.declared.constant.Constant.{Constant}
+use Rattle.qw_rows.specs.declared.constant.Word.{Word}
 use Rattle.qw_rows.specs.declared.literal.Literal.{Literal}
+use Rattle.qw_rows.proofs.ConstantRuns.{constants_declared, constants_held, sets_same}
 use Rattle.qw_rows.proofs.Several.{known_declared}
 use Rattle.qw_rows.proofs.TextPlaces.{lie_there_kept, lie_there_within, places_same, ready_texts, texts_declared, texts_held}
-use Rattle.qw_rows.proofs.ReadyColumns.{ready_stands_at}
+use Rattle.qw_rows.proofs.ReadyColumns.{ready_long, ready_stands_at}
 use Rattle.qw_rows.proofs.Elsewhere.{stands_same}
 use Rattle.qw_emit.specs.Compiled.{IsUsedOf, compared_at, page_bound}
 use Rattle.qw_code.specs.RowCells.{Test, Item, begin_block, kinds_of, outs_of, row_block, scan_block}
 use Rattle.qw_code.proofs.PushRuns.{Never}
+use Rattle.qw_code.proofs.RowRuns.{Kept-less}
 use Rattle.qw_code.proofs.RunWorlds.{Keeps}
 use Rattle.qw_code.proofs.ScanAnswers.{pages-are, truths_of, values_in}
 use Rattle.qw_code.proofs.ScanCompiled.{Run, Sound, Planned}
 use Rattle.qw_code.proofs.ScanLoop.{spend}
 use Rattle.qw_code.proofs.ScanRuns.{Plan, Promises, Since, Finished, IsShown}
 use Rattle.qw_code.proofs.StartRuns.{Started}
-use Rattle.qw_compile.specs.Emitted.{AreDecided, AreComputed}
-use Rattle.qw_compile.specs.Readers.{IsRead, readers_from, readers_of, first_text, first_cell, first_own, base_types, text_types, cell_types}
+use Rattle.qw_compile.specs.Emitted.{known_after, last_end, ReadsPart, AreDecided, AreComputed}
+use Rattle.qw_compile.specs.Readers.{IsRead, readers_from, readers_of, first_text, first_word, first_cell, first_own, base_types, text_types, word_types, cell_types}
+use Rattle.qw_compile.specs.Constants.{constants_from}
 use Rattle.qw_compile.specs.Texts.{literals_from}
-use Rattle.qw_compile.proofs.Promised.{StandsIn, HeldIn, IsTestAt, IsItemAt, shown, all_moved, kinds_moved, AreOwn, tests_promised, items_promised, all_use, items_high, items_kinds, headed, AreHigh, after_append}
-use Rattle.qw_compile.proofs.ReadersLaid.{served, known_all, bases_in, cells_in, entries_of, at_all, AtEach, Standing, are_there, behind_bases, behind_texts, behind_cells, cells_declared, literals_declared, texts_from, texts_in_locals}
+use Rattle.qw_compile.proofs.Promised.{held_more, StandsIn, HeldIn, IsTestAt, IsItemAt, shown, all_moved, kinds_moved, AreOwn, tests_promised, items_promised, all_use, items_high, items_kinds, headed, AreHigh, after_append}
+use Rattle.qw_compile.proofs.LeafLemmas.{all_back, all_front}
+use Rattle.qw_compile.proofs.Parts.{all_map_take, bases_there, joined_map, done_below, part_all, part_cells, read_at, read_last, read_past, take_all}
+use Rattle.qw_compile.proofs.ReadersLaid.{literals_below, readers_many, served, known_all, known_literals, literal_count, texts_up, words_up, words_small, words_in_locals, words_declared, behind_words, bases_in, cells_in, IsEntered, entries_of, at_all, AtEach, Standing, are_there, behind_bases, behind_texts, behind_cells, cells_declared, literals_declared, texts_from, texts_in_locals}
 use Rattle.qw_compile.proofs.TextCells.{text_read}
 use Rattle.qw_compile.proofs.TextLiterals.{HasTexts, HasUtf8, IsUtf8Value, stored_utf8}
 
@@ -152,18 +161,18 @@ abbrev pub IsReadItem : List Used → Expression → Type 0
 IsReadItem used e = HasTexts IsUtf8 e × IsTyped e × HasKind e × HasColumns (IsRead used) e
 
 -- the addresses of columns' parts are still there
-bases_same : (n b c k : ℕ) (used : List Used) (s t : LowState) → b + 3 * length used ≤ n → Kept n s t → AllByRecursion (λ q. HasBases q s) (readers_from b c k used) → AllByRecursion (λ q. HasBases q t) (readers_from b c k used)
-bases_same n b c k [] s t low kept has = tt
-bases_same n b c k (u ∷ used) s t low kept has = (
+bases_same : (n rows b c k : ℕ) (used : List Used) (s t : LowState) → b + 3 * length used ≤ n → Kept n s t → AllByRecursion (λ q. HasBases rows q s) (readers_from b c k used) → AllByRecursion (λ q. HasBases rows q t) (readers_from b c k used)
+bases_same n rows b c k [] s t low kept has = tt
+bases_same n rows b c k (u ∷ used) s t low kept has = (
   record {
     values = kept.below b (omega (arith, low)) ∙ has.0.values;
     octets = λ is. kept.below (b + 1) (omega (arith, low)) ∙ has.0.octets is;
     nulls = λ is. kept.below (b + 2) (omega (arith, low)) ∙ has.0.nulls is;
   },
-  bases_same n (b + 3) (c + 3) (k + 1) used s t (omega (arith, low)) kept has.1,
+  bases_same n rows (b + 3) (c + 3) (k + 1) used s t (omega (arith, low)) kept has.1,
 )
 
-module _ (parts : Parts) (used : List Used) (texts : List (List ℕ)) (kinds : List Kind) (tests : List Test) (items : List Item) (ownT ownI : List ValType) (begins leads reads : Statement) where
+module _ (parts : Parts) (used : List Used) (texts : List (List ℕ)) (words : List Word) (kinds : List Kind) (tests : List Test) (ends : List ℕ) (items : List Item) (ownT ownI : List ValType) (begins leads sets reads : Statement) where
   abbrev cs : List Condition
   cs = (specification_of parts).conjuncts
 
@@ -174,7 +183,10 @@ module _ (parts : Parts) (used : List Used) (texts : List (List ℕ)) (kinds : L
   layout = record { columns = used; literals = concat texts; cells = kinds }
 
   abbrev count : ℕ
-  count = length texts
+  count = literal_count texts words
+
+  abbrev firsts : Statement
+  firsts = seq begins (seq leads sets)
 
   abbrev start : ℕ
   start = entry_offset (length used)
@@ -182,12 +194,21 @@ module _ (parts : Parts) (used : List Used) (texts : List (List ℕ)) (kinds : L
   abbrev pub literals : List Literal
   literals = literals_from (first_text used) start texts
 
+  abbrev pub constants : List Constant
+  constants = constants_from (first_word used (length texts)) words
+
+  abbrev pub readers : List Reader
+  readers = readers_of used count
+
+  abbrev pub literals_known : List Known
+  literals_known = known_literals used start texts words
+
   abbrev pub known : List Known
-  known = known_all used start texts
+  known = known_all used start texts words
 
   abbrev pub plan : Plan
   plan = record {
-    start = begin_block (descriptor_size layout) (seq begins leads);
+    start = begin_block (descriptor_size layout) firsts;
     reads = reads;
     tests = tests;
     items = all_moved items;
@@ -198,7 +219,7 @@ module _ (parts : Parts) (used : List Used) (texts : List (List ℕ)) (kinds : L
   }
 
   abbrev pub others : ℕ
-  others = 7 + 6 * length used + 2 * count + (length ownT + length ownI)
+  others = 7 + 6 * length used + count + (length ownT + length ownI)
 
   -- what the parts of a scan are
   pub record IsComposed : Type 0 where
@@ -208,11 +229,13 @@ module _ (parts : Parts) (used : List Used) (texts : List (List ℕ)) (kinds : L
     pub tests_read : AllByRecursion (IsReadTest used) cs
     pub items_read : AllByRecursion (IsReadItem used) es
     pub few_items : length es ≤ 512
-    pub decided : AreDecided known (first_own used count) cs tests ownT
+    pub decided : AreDecided literals_known readers (first_own used count) 0 ends cs tests ownT
+    pub reading : ReadsPart readers (last_end 0 ends) (length readers) reads
     pub computed : AreComputed known (first_own used count + length ownT) es items ownI
     pub begins_all : BeginsAll (readers_of used count) begins
     pub leads_all : LeadsToAll literals leads
-    pub reads_all : ReadsAll (readers_of used count) reads
+    pub sets_all : SetsAll constants sets
+    pub words_small : AllByRecursion IsSmall words
     pub kinds_are : map kind_of es ≡ map Some kinds
 
   module _ (h : IsComposed) where
@@ -220,11 +243,31 @@ module _ (parts : Parts) (used : List Used) (texts : List (List ℕ)) (kinds : L
     abbrev pub memory_of : Run → Cells
     memory_of r = shown (descriptor_size layout) (cells_of layout r.placed r.descriptor r.limit r.memory)
 
-    abbrev Held : Run → List Val → LowState → Type 0
-    Held r row s = HeldIn (memory_of r) known row s
+    abbrev first : Run → LowState
+    first r = first_state layout r.placed r.descriptor r.limit r.memory (Address (Own 0) 0 ∷ replicate others (Number 0))
+
+    -- where a row is worked on, whose columns stand where they stood at first
+    pub record IsAt (r : Run) (row : List Val) (s : LowState) : Type 0 where
+      pub index : ℕ
+      pub there : slice_get (rows_of r.tables parts.table) index ≡ Some row
+      pub left : slice_get s.locals 5 ≡ Some (Number (4 * (length (rows_of r.tables parts.table) - index)))
+      pub end : slice_get s.locals 6 ≡ Some (Number (4 * length (rows_of r.tables parts.table)))
+      pub bases : AllByRecursion (λ q. HasBases (length (rows_of r.tables parts.table)) q s) readers
+      pub sizes : s.columns ≡ (first r).columns
+      pub mapped : (p a b : ℕ) → s.cells (Column p) a b ≡ (first r).cells (Column p) a b
+
+    -- where so many columns are read, what is known is held
+    abbrev pub At : Run → List Val → (done : ℕ) → LowState → Type 0
+    At r row done s = HeldIn (memory_of r) (known_after literals_known readers done) row s × IsAt r row s
+
+    abbrev pub stage : ℕ → ℕ
+    stage k = read_at 0 ends (length readers) k
+
+    abbrev pub Held : Run → (stage : ℕ) → List Val → LowState → Type 0
+    Held r k row s = At r row (stage k) s
 
     abbrev Bases : Run → LowState → Type 0
-    Bases r s = AllByRecursion (λ q. HasBases q s) (readers_of used count) × AllByRecursion (HasPlace s) literals
+    Bases r s = AllByRecursion (λ q. HasBases (length (rows_of r.tables parts.table)) q s) (readers_of used count) × AllByRecursion (HasPlace s) literals × AllByRecursion (IsSet s) constants
 
     -- the octets that are compared at a row
     abbrev each : Run → List Val → ℕ
@@ -235,24 +278,32 @@ module _ (parts : Parts) (used : List Used) (texts : List (List ℕ)) (kinds : L
 
     -- ---- where the values of items are
     abbrev behind : List ValType → List ValType
-    behind rest = base_types used (text_types count (cell_types used rest))
+    behind rest = base_types used (text_types (length texts) (word_types (length words) (cell_types used rest)))
 
     headed_bases : (t : ValType) (rest : List ValType) (i : ℕ) → slice_get (headed t (base_types used rest)) (8 + i) ≡ slice_get (base_types used rest) i
     headed_bases t rest i =
         let place : 8 + i ≡ suc (suc (suc (suc (suc (suc (suc (suc i))))))) = omega arith in
         ap (λ (n : ℕ). slice_get (headed t (base_types used rest)) n) place
 
-    headed_texts : (t : ValType) (rest : List ValType) (i : ℕ) → slice_get (headed t (behind rest)) (first_text used + i) ≡ slice_get (text_types count (cell_types used rest)) i
-    headed_texts t rest i = behind_bases (headed t (behind rest)) (text_types count (cell_types used rest)) 8 used (headed_bases t (text_types count (cell_types used rest))) i
+    headed_texts : (t : ValType) (rest : List ValType) (i : ℕ) → slice_get (headed t (behind rest)) (first_text used + i) ≡ slice_get (text_types (length texts) (word_types (length words) (cell_types used rest))) i
+    headed_texts t rest i =
+        behind_bases (headed t (behind rest)) (text_types (length texts) (word_types (length words) (cell_types used rest))) 8 used (headed_bases t (text_types (length texts) (word_types (length words) (cell_types used rest)))) i
+
+    headed_words : (t : ValType) (rest : List ValType) (i : ℕ) → slice_get (headed t (behind rest)) (first_word used (length texts) + i) ≡ slice_get (word_types (length words) (cell_types used rest)) i
+    headed_words t rest i = behind_texts (headed t (behind rest)) (word_types (length words) (cell_types used rest)) (first_text used) (length texts) (headed_texts t rest) i
 
     headed_cells : (t : ValType) (rest : List ValType) (i : ℕ) → slice_get (headed t (behind rest)) (first_cell used count + i) ≡ slice_get (cell_types used rest) i
-    headed_cells t rest i = behind_texts (headed t (behind rest)) (cell_types used rest) (first_text used) count (headed_texts t rest) i
+    headed_cells t rest i =
+        let place : first_cell used count + i ≡ first_word used (length texts) + length words + i = omega arith in
+        ap (λ (n : ℕ). slice_get (headed t (behind rest)) n) place ∙ behind_words (headed t (behind rest)) (cell_types used rest) (first_word used (length texts)) (length words) (headed_words t rest) i
 
     headed_known : (t : ValType) (rest : List ValType) → AreDeclared (headed t (behind rest)) known
     headed_known t rest =
-        all-append (λ (k : Known). DeclaresValue (headed t (behind rest)) k.operand) (map known_of (readers_of used count)) (known_texts literals texts)
-        (known_declared (headed t (behind rest)) (readers_of used count) (cells_declared (headed t (behind rest)) rest 8 (first_cell used count) 0 used (headed_cells t rest)))
-        (texts_declared (headed t (behind rest)) literals texts (literals_declared (headed t (behind rest)) (cell_types used rest) (first_text used) start texts (headed_texts t rest)))
+        all-append (λ (k : Known). DeclaresValue (headed t (behind rest)) k.operand) literals_known (map known_of readers)
+        (all-append (λ (k : Known). DeclaresValue (headed t (behind rest)) k.operand) (known_texts literals texts) (map known_constant constants)
+        (texts_declared (headed t (behind rest)) literals texts (literals_declared (headed t (behind rest)) (word_types (length words) (cell_types used rest)) (first_text used) start texts (headed_texts t rest)))
+        (constants_declared (headed t (behind rest)) constants (words_declared (headed t (behind rest)) (cell_types used rest) (first_word used (length texts)) words (headed_words t rest))))
+        (known_declared (headed t (behind rest)) readers (cells_declared (headed t (behind rest)) rest 8 (first_cell used count) 0 used (headed_cells t rest)))
 
     -- behind the locals of conjuncts are those of items
     headed_own : (t : ValType) → AreOwn (headed t (behind own)) (first_own used count + length ownT) ownI
@@ -275,8 +326,8 @@ module _ (parts : Parts) (used : List Used) (texts : List (List ℕ)) (kinds : L
       abbrev rows : List (List Val)
       rows = rows_of r.tables parts.table
 
-      abbrev first : LowState
-      first = first_state layout r.placed r.descriptor r.limit r.memory (Address (Own 0) 0 ∷ replicate others (Number 0))
+      abbrev s1 : LowState
+      s1 = first r
 
       abbrev most : ℕ
       most = page_bound (specification_of parts) r.tables
@@ -326,37 +377,53 @@ module _ (parts : Parts) (used : List Used) (texts : List (List ℕ)) (kinds : L
           (all_both (IsReadItem used) (λ e. text.units e (record { row = row }) ≤ sum_by (λ (e : Expression). text.units e (record { row = row })) es) es h.items_read (one-below (λ (e : Expression). text.units e (record { row = row })) es))
 
       -- ---- before the loop
-      entries_at : (s : LowState) → Kept 1 first s → AtEach (λ k u. KnowsEntry s.cells k u (length (rows_of r.tables u.table))) 0 used
-      entries_at s kept = at_all (λ k u. KnowsEntry s.cells k u (length (rows_of r.tables u.table))) used (λ k u found.
-          subst (λ (c : Cells). KnowsEntry c k u (length (rows_of r.tables u.table))) (sym (ap (λ (x : LowState). x.cells) kept.others))
-          (entries-known layout r.placed r.tables r.descriptor r.limit r.memory ready k u found))
+      entries_at : (s : LowState) → Kept 1 s1 s → AtEach (IsEntered (length rows) s) 0 used
+      entries_at s kept = at_all (IsEntered (length rows) s) used (λ k u found.
+          let in_table = one_of (IsColumnIn parts) used k u h.columns found in
+          subst (λ (n : ℕ). IsEntered (length (rows_of r.tables n)) s k u) in_table.0 (
+            subst (λ (c : Cells). KnowsEntry c k u (length (rows_of r.tables u.table))) (sym (ap (λ (x : LowState). x.cells) kept.others))
+                (entries-known layout r.placed r.tables r.descriptor r.limit r.memory ready k u found),
+            subst (λ (l : List ℕ). HasOctets l (3 * k) (values_size u.ty (length (rows_of r.tables u.table)))) (sym (ap (λ (x : LowState). x.columns) kept.others))
+                (ready_long layout r.placed r.tables r.descriptor r.limit r.memory ready k u found),
+          ))
 
-      texts_there : LieThere first literals texts
+      texts_there : LieThere s1 literals texts
       texts_there = ready_texts layout r.placed r.tables r.descriptor r.limit r.memory (Address (Own 0) 0 ∷ replicate others (Number 0)) ready literals texts refl (texts_from (first_text used) start texts)
 
-      texts_up : (below high : ℕ) (ls : List Literal) (from : ℕ) → below ≤ high → AreTextsIn from below ls → AreTextsIn from high ls
-      texts_up below high [] from le are = omega (arith, le, are)
-      texts_up below high (l ∷ ls) from le are = (are.0, are.1, texts_up below high ls are.0 le are.2)
-
-      columns_end : (s : LowState) → Kept 1 first s → Ends (size (seq begins leads)) (λ t. Kept 8 s t × Bases r t) Never (λ code. ⊥) (meaning most fuel (seq begins leads) s)
-      columns_end s kept =
+      leads_end : (s t : LowState) → Kept 1 s1 s → Kept 8 s t → AllByRecursion (λ q. HasBases (length rows) q t) (readers_of used count) → Ends (size (seq leads sets)) (λ u. Kept 8 s u × Bases r u) Never (λ code. ⊥) (meaning most fuel (seq leads sets) t)
+      leads_end s t kept begun bases =
           let long = length-replicate {A = Value} others (Number 0) in
-          Ends-then (λ t. Kept 8 s t × Bases r t) Never (λ code. ⊥) (size begins) (size leads) (λ t. Kept 8 s t × AllByRecursion (λ q. HasBases q t) (readers_of used count)) (meaning most fuel begins s) (meaning most fuel leads)
-          (h.begins_all.runs most fuel 8 s (entries_of s.cells (λ u. length (rows_of r.tables u.table)) 8 (first_cell used count) 0 used (entries_at s kept)) (kept.below 0 (omega arith) ∙ refl) (omega arith)
+          Ends-then (λ u. Kept 8 s u × Bases r u) Never (λ code. ⊥) (size leads) (size sets) (λ u. Kept (first_text used) t u × AllByRecursion (HasPlace u) literals × ((row : List Val) → AreHeld (known_texts literals texts) row u)) (meaning most fuel leads t) (meaning most fuel sets)
+          (h.leads_all.runs most fuel (first_text used) texts t (lie_there_kept 8 s t literals texts begun (lie_there_kept 1 s1 s literals texts kept texts_there))
+          (begun.below 0 (omega arith) ∙ (kept.below 0 (omega arith) ∙ refl)) (omega arith)
+          (texts_up (first_text used) (first_text used + 2 * length texts) (length t.locals) literals (omega (arith, begun.many, kept.many, long)) (texts_in_locals (first_text used) start texts)))
+          (λ u led.
+          Ends-weaker (size sets) (size sets) (λ v. Kept (first_word used (length texts)) u v × AllByRecursion (IsSet v) constants × ((row : List Val) → AreHeld (map known_constant constants) row v)) (λ v. Kept 8 s v × Bases r v) Never Never (λ code. ⊥) (λ code. ⊥)
+          (meaning most fuel sets u) (omega arith)
+          (λ v set. (
+            Kept-then 8 (first_word used (length texts)) s u v (omega arith) (Kept-then 8 (first_text used) s t u (omega arith) begun led.0) set.0,
+            (
+              bases_same (first_word used (length texts)) (length rows) 8 (first_cell used count) 0 used u v (omega arith) set.0 (bases_same (first_text used) (length rows) 8 (first_cell used count) 0 used t u (omega arith) led.0 bases),
+              places_same u v 0 (first_word used (length texts)) (λ j low high. set.0.below j high) (first_text used) literals (omega arith) (texts_in_locals (first_text used) start texts) led.1,
+              set.1,
+            ),
+          )) (λ v x. x) (λ code x. x)
+          (h.sets_all.runs most fuel (first_word used (length texts)) u (words_small IsSmall (first_word used (length texts)) words h.words_small)
+          (words_up (first_word used (length texts)) (first_word used (length texts) + length words) (length u.locals) constants (omega (arith, led.0.many, begun.many, kept.many, long)) (words_in_locals (first_word used (length texts)) words))))
+
+      columns_end : (s : LowState) → Kept 1 s1 s → slice_get s.locals 6 ≡ Some (Number (4 * length rows)) → Ends (size firsts) (λ t. Kept 8 s t × Bases r t) Never (λ code. ⊥) (meaning most fuel firsts s)
+      columns_end s kept end =
+          let long = length-replicate {A = Value} others (Number 0) in
+          Ends-then (λ t. Kept 8 s t × Bases r t) Never (λ code. ⊥) (size begins) (size (seq leads sets)) (λ t. Kept 8 s t × AllByRecursion (λ q. HasBases (length rows) q t) (readers_of used count)) (meaning most fuel begins s) (meaning most fuel (seq leads sets))
+          (h.begins_all.runs most fuel 8 (length rows) s (entries_of 8 (length rows) s (omega arith) end 8 (first_cell used count) 0 used (entries_at s kept)) (kept.below 0 (omega arith) ∙ refl) (omega arith)
           (bases_in 8 (first_cell used count) 0 (length s.locals) used (omega (arith, kept.many, long))))
-          (λ t begun.
-          Ends-weaker (size leads) (size leads) (λ u. Kept (first_text used) t u × AllByRecursion (HasPlace u) literals × ((row : List Val) → AreHeld (known_texts literals texts) row u)) (λ u. Kept 8 s u × Bases r u) Never Never (λ code. ⊥) (λ code. ⊥)
-          (meaning most fuel leads t) (omega arith)
-          (λ u led. (Kept-then 8 (first_text used) s t u (omega arith) begun.0 led.0, (bases_same (first_text used) 8 (first_cell used count) 0 used t u (omega arith) led.0 begun.1, led.1))) (λ u x. x) (λ code x. x)
-          (h.leads_all.runs most fuel (first_text used) texts t (lie_there_kept 8 s t literals texts begun.0 (lie_there_kept 1 first s literals texts kept texts_there))
-          (begun.0.below 0 (omega arith) ∙ (kept.below 0 (omega arith) ∙ refl)) (omega arith)
-          (texts_up (first_text used + 2 * count) (length t.locals) literals (first_text used) (omega (arith, begun.0.many, kept.many, long)) (texts_in_locals (first_text used) start texts))))
+          (λ t begun. leads_end s t kept begun.0 begun.1)
 
       -- ---- at a row
-      sizes_same : (s0 s : LowState) → Kept 1 first s0 → Since (first_cell used count) (descriptor_size layout) s0 s → s.columns ≡ first.columns
+      sizes_same : (s0 s : LowState) → Kept 1 s1 s0 → Since (first_cell used count) (descriptor_size layout) s0 s → s.columns ≡ s1.columns
       sizes_same s0 s kept since = since.columns ∙ ap (λ (x : LowState). x.columns) kept.others
 
-      standing : (cells : Cells) (columns : List ℕ) → columns ≡ first.columns → ((p a b : ℕ) → cells (Column p) a b ≡ first.cells (Column p) a b) → (i : ℕ) (row : List Val) → slice_get rows i ≡ Some row →
+      standing : (cells : Cells) (columns : List ℕ) → columns ≡ s1.columns → ((p a b : ℕ) → cells (Column p) a b ≡ s1.cells (Column p) a b) → (i : ℕ) (row : List Val) → slice_get rows i ≡ Some row →
           (k : ℕ) (u : Used) → slice_get used k ≡ Some u → Standing row cells columns i k u
       standing cells columns sizes same i row there k u found =
           let has = has_at i row there k u found in
@@ -365,21 +432,21 @@ module _ (parts : Parts) (used : List Used) (texts : List (List ℕ)) (kinds : L
             v = has.0;
             value_is = has.1;
             stands = subst (λ (l : List ℕ). StandsAt cells l k u.ty u.not_null i has.0) (sym sizes)
-                (stands_same first.cells cells same k i first.columns u.ty u.not_null has.0
+                (stands_same s1.cells cells same k i s1.columns u.ty u.not_null has.0
                 (ready_stands_at layout r.placed r.tables r.descriptor r.limit r.memory ready k i u has.0 found (column_at (rows_of r.tables u.table) i u.column row has.0 (ap (λ (n : ℕ). slice_get (rows_of r.tables n) i) in_table.0 ∙ there) has.1)));
             sized = in_table.2;
           }
 
-      mapped_same : (s0 s : LowState) → Kept 1 first s0 → Since (first_cell used count) (descriptor_size layout) s0 s → (p a b : ℕ) → s.cells (Column p) a b ≡ first.cells (Column p) a b
+      mapped_same : (s0 s : LowState) → Kept 1 s1 s0 → Since (first_cell used count) (descriptor_size layout) s0 s → (p a b : ℕ) → s.cells (Column p) a b ≡ s1.cells (Column p) a b
       mapped_same s0 s kept since p a b = since.mapped p a b ∙ ap (λ (x : LowState). x.cells (Column p) a b) kept.others
 
       -- what is seen is still known
-      still_known : (s0 s : LowState) → Kept 1 first s0 → Since (first_cell used count) (descriptor_size layout) s0 s → IsLess c s.cells
+      still_known : (s0 s : LowState) → Kept 1 s1 s0 → Since (first_cell used count) (descriptor_size layout) s0 s → IsLess c s.cells
       still_known s0 s kept since (Column p) a b v is = mapped_same s0 s kept since p a b ∙ is
       still_known s0 s kept since (Own (suc k)) a b v is = absurd cc
       still_known s0 s kept since (Own zero) a b v is = by_test (nat_le 24 a && nat_le (a + b) (descriptor_size layout)) refl is
         where
-          by_test : (inside : Bool) → (nat_le 24 a && nat_le (a + b) (descriptor_size layout)) ≡ inside → (if inside then first.cells (Own 0) a b else None) ≡ Some v → s.cells (Own 0) a b ≡ Some v
+          by_test : (inside : Bool) → (nat_le 24 a && nat_le (a + b) (descriptor_size layout)) ≡ inside → (if inside then s1.cells (Own 0) a b else None) ≡ Some v → s.cells (Own 0) a b ≡ Some v
           by_test false tested found = absurd cc
           by_test true tested found =
               let tests = inside_of (descriptor_size layout) a b tested in
@@ -388,12 +455,9 @@ module _ (parts : Parts) (used : List Used) (texts : List (List ℕ)) (kinds : L
       -- the texts are seen
       texts_seen : (t : LowState) → slice_get t.own 0 ≡ Some page → LieThere (seen c t) literals texts
       texts_seen t first_page =
-          lie_there_within first (seen c t) first_page 24 (descriptor_size layout) start literals texts
+          lie_there_within s1 (seen c t) first_page 24 (descriptor_size layout) start literals texts
           (λ a b low high. let inside : (nat_le 24 a && nat_le (a + b) (descriptor_size layout)) ≡ true = inside_from (descriptor_size layout) a b low high in rw inside refl)
           (texts_from (first_text used) start texts) (omega arith) (omega arith) texts_there
-
-      held_kept : (row : List Val) (s t : LowState) → Kept (first_own used count) s t → AreHeld known row s → AreHeld known row t
-      held_kept row s t kept held = known_kept (first_own used count) s t row known kept (served used start texts).0 held
 
       seen_kept : (n : ℕ) (s t : LowState) → Kept n s t → Kept n (seen c s) (seen c t)
       seen_kept n s t kept = record { others = ap (λ (x : LowState). seen c x) kept.others; many = kept.many; below = kept.below }
@@ -401,63 +465,132 @@ module _ (parts : Parts) (used : List Used) (texts : List (List ℕ)) (kinds : L
       less_kept : (n : ℕ) (s t : LowState) → Kept n s t → IsLess c s.cells → IsLess c t.cells
       less_kept n s t kept less = subst (λ (d : Cells). IsLess c d) (sym (ap (λ (x : LowState). x.cells) kept.others)) less
 
-      both_kept : (row : List Val) (s t : LowState) → Kept (first_own used count) s t → HeldIn c known row s → HeldIn c known row t
-      both_kept row s t kept held = (held_kept row (seen c s) (seen c t) (seen_kept (first_own used count) s t kept) held.0, less_kept (first_own used count) s t kept held.1)
+      is_at_kept : (row : List Val) (n : ℕ) (s t : LowState) → first_cell used count ≤ n → Kept n s t → IsAt r row s → IsAt r row t
+      is_at_kept row n s t low kept at = record {
+        index = at.index;
+        there = at.there;
+        left = kept.below 5 (omega (arith, low)) ∙ at.left;
+        end = kept.below 6 (omega (arith, low)) ∙ at.end;
+        bases = bases_same n (length rows) 8 (first_cell used count) 0 used s t (omega (arith, low)) kept at.bases;
+        sizes = ap (λ (x : LowState). x.columns) kept.others ∙ at.sizes;
+        mapped = λ p a b. ap (λ (x : LowState). x.cells (Column p) a b) kept.others ∙ at.mapped p a b;
+      }
+
+      -- what is known where some columns are read is below the locals of conjuncts and items
+      after_below : (done : ℕ) → done ≤ length used → AreBelow (first_cell used count + 3 * done) (known_after literals_known readers done)
+      after_below done within =
+          all-append (λ (k : Known). IsBelow (first_cell used count + 3 * done) k.operand.cell) literals_known (map known_of (take done readers))
+          (known_below_more (first_cell used count) (first_cell used count + 3 * done) literals_known (omega arith) (literals_below used start texts words)) (done_below 8 (first_cell used count) 0 used done within)
+
+      held_kept : (row : List Val) (done : ℕ) (s t : LowState) → done ≤ length used → Kept (first_cell used count + 3 * done) s t → AreHeld (known_after literals_known readers done) row s → AreHeld (known_after literals_known readers done) row t
+      held_kept row done s t within kept held = known_kept (first_cell used count + 3 * done) s t row (known_after literals_known readers done) kept (after_below done within) held
+
+      -- what is known is below the locals of conjuncts and items
+      own_below : (e : ℕ) → AreBelow (first_own used count) (known_after literals_known readers e)
+      own_below e =
+          let IsLow : Known → Type 0 = λ (k : Known). IsBelow (first_own used count) k.operand.cell in
+          let all = (served used start texts words).0 in
+          all-append IsLow literals_known (map known_of (take e readers)) (all_front IsLow literals_known (map known_of readers) all) (all_map_take IsLow known_of e readers (all_back IsLow literals_known (map known_of readers) all))
+
+      kept_at : (row : List Val) (e : ℕ) (s t : LowState) → Kept (first_own used count) s t → At r row e s → At r row e t
+      kept_at row e s t kept at = (
+        (known_kept (first_own used count) (seen c s) (seen c t) row (known_after literals_known readers e) (seen_kept (first_own used count) s t kept) (own_below e) at.0.0, less_kept (first_own used count) s t kept at.0.1),
+        is_at_kept row (first_own used count) s t (omega arith) kept at.1,
+      )
 
       few_rows : length rows ≤ 1000000
       few_rows =
           let in_table = one_of (IsColumnIn parts) used 0 h.first_column h.columns h.first_is in
           subst (λ (n : ℕ). length (rows_of r.tables n) ≤ 1000000) in_table.0 (ready_at 0 h.first_column h.first_is).1.few
 
-      -- the columns of a row are read, and what is known is held
-      module _ (s0 : LowState) (started : Started (descriptor_size layout) (length rows) (Bases r) first s0) (i : ℕ) (row : List Val) (s : LowState) (there : slice_get rows i ≡ Some row)
-          (since : Since (first_cell used count) (descriptor_size layout) s0 s) (many : plan.many ≤ length s.locals) (offset : slice_get s.locals 5 ≡ Some (Number (4 * i))) (first_page : slice_get s.own 0 ≡ Some page) where
-        less : IsLess c s.cells
-        less = still_known s0 s started.kept since
+      -- columns of a row are read, and what is known is held
+      module _ (row : List Val) (done upto : ℕ) (a : Statement) (p : ReadsPart readers done upto a) (s : LowState) (at : At r row done s) (many : plan.many ≤ length s.locals) where
+        abbrev low : ℕ
+        low = first_cell used count + 3 * done
+
+        within_upto : upto ≤ length used
+        within_upto = let inside = p.within in omega (arith, inside, readers_many 8 (first_cell used count) 0 used)
+
+        within_done : done ≤ length used
+        within_done = let ahead = p.ahead in omega (arith, ahead, within_upto)
 
         abbrev WholeRead : LowState → Type 0
-        WholeRead t = Kept (first_cell used count) s t × AreHeld (map known_of (readers_of used count)) row t
+        WholeRead t = Kept low s t × AreHeld (map known_of p.part) row t
 
         abbrev SeenRead : LowState → Type 0
-        SeenRead t = Kept (first_cell used count) (seen c s) t × AreHeld (map known_of (readers_of used count)) row t
+        SeenRead t = Kept low (seen c s) t × AreHeld (map known_of p.part) row t
 
         -- in a state with the same locals
-        reads_at : (q : LowState) → q.locals ≡ s.locals → q.columns ≡ first.columns → ((p a b : ℕ) → q.cells (Column p) a b ≡ first.cells (Column p) a b) →
-            Ends (size reads) (λ t. Kept (first_cell used count) q t × AreHeld (map known_of (readers_of used count)) row t) Never (λ code. ⊥) (meaning most fuel reads q)
-        reads_at q locals sizes same =
-            h.reads_all.runs most fuel (first_cell used count) row q
-            (are_there (first_cell used count) i row s0 q (omega arith) (ap (λ (l : List Value). slice_get l 5) locals ∙ offset) (λ j low high. ap (λ (l : List Value). slice_get l j) locals ∙ since.locals j low high)
-            8 (first_cell used count) 0 used (omega arith) (omega arith) started.bases.0 (at_all (Standing row q.cells q.columns i) used (standing q.cells q.columns sizes same i row there)))
-            (cells_in 8 (first_cell used count) 0 (length q.locals) used (let long = ap (λ (l : List Value). length l) locals in omega (arith, many, long)))
+        part_at : (q : LowState) → q.locals ≡ s.locals → q.columns ≡ s1.columns → ((p a b : ℕ) → q.cells (Column p) a b ≡ s1.cells (Column p) a b) →
+            Ends (size a) (λ t. Kept low q t × AreHeld (map known_of p.part) row t) Never (λ code. ⊥) (meaning most fuel a q)
+        part_at q locals sizes same =
+            p.reads.runs most fuel low (length rows) row q
+            (part_all 8 (first_cell used count) 0 used done upto a p (IsThere low (length rows) row q)
+            (are_there low (length rows) at.1.index row s q (omega arith) (slice_get_within rows at.1.index row at.1.there) (ap (λ (l : List Value). slice_get l 5) locals ∙ at.1.left)
+            (ap (λ (l : List Value). slice_get l 6) locals ∙ at.1.end) (λ j down up. ap (λ (l : List Value). slice_get l j) locals)
+            8 (first_cell used count) 0 used (omega arith) (omega arith) at.1.bases (at_all (Standing row q.cells q.columns at.1.index) used (standing q.cells q.columns sizes same at.1.index row at.1.there))))
+            (part_cells 8 (first_cell used count) 0 used done upto a p (length q.locals) (let long = ap (λ (l : List Value). length l) locals in omega (arith, many, long)))
 
-        places : (t : LowState) → Kept (first_cell used count) s t → AllByRecursion (HasPlace t) literals
-        places t kept =
-            places_same s0 t 6 (first_cell used count) (λ j low high. kept.below j high ∙ since.locals j low high) (first_text used) literals (omega arith) (texts_in_locals (first_text used) start texts) started.bases.1
+        -- what was known, and what was read
+        all_held : (x t : LowState) → Kept low x t → AreHeld (known_after literals_known readers done) row x → AreHeld (map known_of p.part) row t → AreHeld (known_after literals_known readers upto) row t
+        all_held x t kept before part =
+            let IsHeld : Known → Type 0 = λ (k : Known). (v : Val) × (value_of k.expression (record { row = row }) ≡ Ok v) × Holds k.operand v t in
+            let still : AreHeld (known_after literals_known readers done) row t = held_kept row done x t within_done kept before in
+            let joined : map known_of (take done readers) ++ map known_of p.part ≡ map known_of (take upto readers) = sym (joined_map known_of (take done readers) p.part) ∙ ap (map known_of) p.part_is in
+            all-append IsHeld literals_known (map known_of (take upto readers)) (all_front IsHeld literals_known (map known_of (take done readers)) still)
+            (subst (AllByRecursion IsHeld) joined (all-append IsHeld (map known_of (take done readers)) (map known_of p.part) (all_back IsHeld literals_known (map known_of (take done readers)) still) part))
 
-        held_after : (t : LowState) → WholeRead t × SeenRead (seen c t) → Kept (first_cell used count) s t × Held r row t
-        held_after t read =
-            let own_page : slice_get t.own 0 ≡ Some page = ap (λ (x : LowState). slice_get x.own 0) read.0.0.others ∙ first_page in (
-              read.0.0,
-              (
-                all-append (λ (k : Known). (v : Val) × (value_of k.expression (record { row = row }) ≡ Ok v) × Holds k.operand v (seen c t)) (map known_of (readers_of used count)) (known_texts literals texts) read.1.1
-                    (texts_held (seen c t) row literals texts (places t read.0.0) (texts_seen t own_page)),
-                less_kept (first_cell used count) s t read.0.0 less,
-              ),
-            )
+        held_after : (t : LowState) → WholeRead t × SeenRead (seen c t) → Kept (first_cell used count) s t × At r row upto t
+        held_after t read = (
+          Kept-less (first_cell used count) low s t (omega arith) read.0.0,
+          ((all_held (seen c s) (seen c t) read.1.0 at.0.0 read.1.1, less_kept low s t read.0.0 at.0.1), is_at_kept row low s t (omega arith) read.0.0 at.1),
+        )
 
-        pub read_ends : Ends (size reads) (λ t. Kept (first_cell used count) s t × Held r row t) Never (λ code. ⊥) (meaning most fuel reads s)
-        read_ends =
-            Ends-weaker (size reads) (size reads) (λ t. WholeRead t × SeenRead (seen c t)) (λ t. Kept (first_cell used count) s t × Held r row t) Never Never (λ code. ⊥) (λ code. ⊥) (meaning most fuel reads s) (omega arith) held_after (λ t x. x) (λ code x. x)
-            (seen_ends most fuel (size reads) (size reads) WholeRead SeenRead Never Never (λ code. ⊥) (λ code. ⊥) c (λ t q. ap (λ (x : LowState). x.cells) q.0.others) reads s less
-            (reads_at (seen c s) refl (sizes_same s0 s started.kept since) (λ p a b. refl)) (reads_at s refl (sizes_same s0 s started.kept since) (mapped_same s0 s started.kept since)))
+        pub part_ends : Ends (size a) (λ t. Kept (first_cell used count) s t × At r row upto t) Never (λ code. ⊥) (meaning most fuel a s)
+        part_ends =
+            Ends-weaker (size a) (size a) (λ t. WholeRead t × SeenRead (seen c t)) (λ t. Kept (first_cell used count) s t × At r row upto t) Never Never (λ code. ⊥) (λ code. ⊥) (meaning most fuel a s) (omega arith) held_after (λ t x. x) (λ code x. x)
+            (seen_ends most fuel (size a) (size a) WholeRead SeenRead Never Never (λ code. ⊥) (λ code. ⊥) c (λ t q. ap (λ (x : LowState). x.cells) q.0.others) a s at.0.1
+            (part_at (seen c s) refl at.1.sizes (λ p a b. refl)) (part_at s refl at.1.sizes at.1.mapped))
+
+      -- at a row's beginning no column is read
+      held_first : (s0 : LowState) → Started (descriptor_size layout) (length rows) (Bases r) s1 s0 → (i : ℕ) (row : List Val) (s : LowState) → slice_get rows i ≡ Some row → Since (first_cell used count) (descriptor_size layout) s0 s →
+          slice_get s.locals 5 ≡ Some (Number (4 * (length rows - i))) → slice_get s.locals 6 ≡ Some (Number (4 * length rows)) → slice_get s.own 0 ≡ Some page → At r row 0 s
+      held_first s0 started i row s there since left end own_page = (
+        (
+          all-append IsHeld literals_known [] (all-append IsHeld (known_texts literals texts) (map known_constant constants) (texts_held (seen c s) row literals texts places (texts_seen s own_page)) (constants_held row (seen c s) constants set)) tt,
+          still_known s0 s started.kept since,
+        ),
+        record {
+          index = i;
+          there = there;
+          left = left;
+          end = end;
+          bases = bases_there (first_cell used count) (length rows) s0 s since.locals 8 (first_cell used count) 0 used (omega arith) (omega arith) started.bases.0;
+          sizes = sizes_same s0 s started.kept since;
+          mapped = mapped_same s0 s started.kept since;
+        },
+      )
+        where
+          IsHeld : Known → Type 0
+          IsHeld k = (v : Val) × (value_of k.expression (record { row = row }) ≡ Ok v) × Holds k.operand v (seen c s)
+
+          places : AllByRecursion (HasPlace s) literals
+          places =
+              places_same s0 s 6 (first_cell used count) since.locals (first_text used) literals (omega arith)
+              (texts_up (first_text used) (first_text used + 2 * length texts) (first_cell used count) literals (omega arith) (texts_in_locals (first_text used) start texts)) started.bases.1
+
+          set : AllByRecursion (IsSet (seen c s)) constants
+          set =
+              sets_same s0 (seen c s) (first_word used (length texts)) (first_word used (length texts) + length words) (λ j down up. since.locals j (omega (arith, down)) (omega (arith, up))) constants
+              (words_in_locals (first_word used (length texts)) words) started.bases.2
 
       -- a text of the result is read where it lies
-      shown_at : (base : ℕ) (p : Part) (at octet : ℕ) → shown base first.cells p at 1 ≡ Some (Number octet) → IsShown base first p at octet
+      shown_at : (base : ℕ) (p : Part) (at octet : ℕ) → shown base s1.cells p at 1 ≡ Some (Number octet) → IsShown base s1 p at octet
       shown_at base (Column k) at octet is = is
       shown_at base (Own (suc k)) at octet is = absurd cc
       shown_at base (Own zero) at octet is = by_test (nat_le 24 at && nat_le (at + 1) base) refl is
         where
-          by_test : (inside : Bool) → (nat_le 24 at && nat_le (at + 1) base) ≡ inside → (if inside then first.cells (Own 0) at 1 else None) ≡ Some (Number octet) → IsShown base first (Own 0) at octet
+          by_test : (inside : Bool) → (nat_le 24 at && nat_le (at + 1) base) ≡ inside → (if inside then s1.cells (Own 0) at 1 else None) ≡ Some (Number octet) → IsShown base s1 (Own 0) at octet
           by_test false tested found = absurd cc
           by_test true tested found = let tests = inside_of base at 1 tested in (tests.0, tests.1, found)
 
@@ -467,7 +600,28 @@ module _ (parts : Parts) (used : List Used) (texts : List (List ℕ)) (kinds : L
       shown_later base s t mapped head (Own zero) at octet is = (is.0, is.1, head at 1 is.0 is.1 ∙ is.2)
       shown_later base s t mapped head (Own (suc k)) at octet is = is
 
-      promised : (s0 : LowState) → Started (descriptor_size layout) (length rows) (Bases r) first s0 → Promises plan (StandsIn c) rows (each r) (Held r) (truths_of cs) (values_in es) most fuel s0
+      -- stages
+      many_ends : (next done : ℕ) (es : List ℕ) (ds : List Condition) (gs : List Test) (own : List ValType) → AreDecided literals_known readers next done es ds gs own → length es ≡ length gs
+      many_ends next done [] [] [] own are = refl
+      many_ends next done (e ∷ es) (d ∷ ds) (g ∷ gs) own are = ap suc (many_ends (next + length are.0) e es ds gs are.1 are.4)
+      many_ends next done es ds gs own are = absurd are
+
+      last_stage : stage (length tests) ≡ last_end 0 ends
+      last_stage = ap stage (sym (many_ends (first_own used count) 0 ends cs tests ownT h.decided)) ∙ read_last 0 ends (length readers)
+
+      past_stage : stage (suc (length tests)) ≡ length readers
+      past_stage = ap (λ (k : ℕ). stage (suc k)) (sym (many_ends (first_own used count) 0 ends cs tests ownT h.decided)) ∙ read_past 0 ends (length readers)
+
+      part_last : (row : List Val) (s : LowState) → Held r (length tests) row s → plan.many ≤ length s.locals → Ends (size reads) (λ t. Kept (first_cell used count) s t × Held r (suc (length tests)) row t) Never (λ code. ⊥) (meaning most fuel reads s)
+      part_last row s at many =
+          subst (λ (e : ℕ). Ends (size reads) (λ t. Kept (first_cell used count) s t × At r row e t) Never (λ code. ⊥) (meaning most fuel reads s)) (sym past_stage)
+          (part_ends row (last_end 0 ends) (length readers) reads h.reading s (subst (λ (e : ℕ). At r row e s) last_stage at) many)
+
+      at_end : (row : List Val) (s : LowState) → Held r (suc (length tests)) row s → HeldIn c known row s
+      at_end row s at =
+          subst (λ (rs : List Reader). HeldIn c (literals_known ++ map known_of rs) row s) (take_all readers) (subst (λ (e : ℕ). HeldIn c (known_after literals_known readers e) row s) past_stage at.0)
+
+      promised : (s0 : LowState) → Started (descriptor_size layout) (length rows) (Bases r) s1 s0 → Promises plan (StandsIn c) rows (each r) (Held r) (truths_of cs) (values_in es) most fuel s0
       promised s0 started = record {
         high = omega arith;
         behind = omega arith;
@@ -478,14 +632,19 @@ module _ (parts : Parts) (used : List Used) (texts : List (List ℕ)) (kinds : L
         few = few_rows;
         pages = pages-are parts r.tables layout plan (StandsIn c) (each r) (Held r) most most fuel r.descriptor (record { world = first_world layout r.placed r.descriptor r.limit; state = Returned; memory = r.memory }) kinds-many;
         texts_lie = λ p off octets text i octet is.
-            shown_later (descriptor_size layout) first s0 (λ k a b. ap (λ (x : LowState). x.cells (Column k) a b) started.kept.others) (λ a b low high. ap (λ (x : LowState). x.cells (Own 0) a b) started.kept.others) p (off + i) octet
+            shown_later (descriptor_size layout) s1 s0 (λ k a b. ap (λ (x : LowState). x.cells (Column k) a b) started.kept.others) (λ a b low high. ap (λ (x : LowState). x.cells (Own 0) a b) started.kept.others) p (off + i) octet
             (shown_at (descriptor_size layout) p (off + i) octet (text.1 i octet is));
-        held_kept = both_kept;
-        reads_end = λ i row s there since many offset first_page. read_ends s0 started i row s there since many offset first_page;
-        tests_are = λ i row there some. let room = room_at rows i row there in
-            tests_promised known c row most fuel (1 + each r row) (first_own used count) plan.many some (omega (arith, room)) (held_kept row) (both_kept row) (first_own used count) cs tests ownT (omega arith) (omega arith) h.decided (tests_at i row there);
+        held_kept = λ k row s t kept at. kept_at row (stage k) s t kept at;
+        held_first = λ i row s there since many left end own_page. held_first s0 started i row s there since left end own_page;
+        tests_are = λ i row there. let room = room_at rows i row there in
+            tests_promised literals_known readers row most fuel (1 + each r row) (first_cell used count) (first_own used count) plan.many (omega arith) (omega (arith, room)) (omega arith) (At r row)
+            (λ e s at. held_more c s (known_after literals_known readers e) row at.0) (kept_at row) (λ done upto a p s at many. part_ends row done upto a p s at many)
+            (length readers) stage 0 (first_own used count) 0 ends cs tests ownT (λ j. let place : 0 + j ≡ j = omega arith in ap stage place) (omega arith) (omega arith) h.decided (tests_at i row there);
+        reads_end = λ i row s there at many. part_last row s at many;
         items_are = λ i row there some. let room = room_at rows i row there in
-            items_promised known c row most fuel (1 + each r row) (first_own used count) plan.many some (omega (arith, room)) (held_kept row) (both_kept row) (first_own used count) (first_own used count + length ownT) es items ownI (omega arith) (omega arith) h.computed (items_at i row there) high;
+            items_promised known c row most fuel (1 + each r row) (first_own used count) plan.many some (omega (arith, room)) (Held r (suc (length tests)) row) (λ s at. at_end row s at)
+            (λ s t kept at. kept_at row (stage (suc (length tests))) s t kept at) (first_own used count) (first_own used count + length ownT) es items ownI (omega arith) (omega arith) h.computed
+            (items_at i row there) high;
       }
 
       read_back : (w : World) (t : LowState) (memory : List ℕ) → StandsFor w t memory → Keeps (first_world layout r.placed r.descriptor r.limit) w →
@@ -497,7 +656,7 @@ module _ (parts : Parts) (used : List Used) (texts : List (List ℕ)) (kinds : L
           (shown_later (descriptor_size layout) finished.s0 finished.s finished.since.mapped finished.since.head p (off + i) octet (finished.begun.promises.texts_lie p off octets text i octet is)))
           means
 
-      pub sound : Sound parts layout plan (seq begins leads) others h.first_column (λ q. StandsIn (memory_of q)) each Held Bases r
+      pub sound : Sound parts layout plan firsts others h.first_column (λ q. StandsIn (memory_of q)) each Held Bases r
       sound = record {
         columns_end = columns_end;
         promises = promised;
@@ -511,8 +670,8 @@ module _ (parts : Parts) (used : List Used) (texts : List (List ℕ)) (kinds : L
     one_entry : (u : Used) → IsColumnIn parts u → IsUsedOf (specification_of parts).entries u
     one_entry u in_table = (record { table = parts.table; types = parts.types }, itself (record { table = parts.table; types = parts.types }), sym in_table.0, in_table.1)
 
-    pub planned : size (scan_block plan.start plan.reads (row_block plan.tests plan.items (8 + 16 * length (kinds_of (outs_of plan.items))))) ≤ 2 ^ 22 →
-        Planned parts layout plan (seq begins leads) others h.first_column (λ q. StandsIn (memory_of q)) each Held Bases
+    pub planned : size (scan_block plan.start (row_block plan.tests plan.reads plan.items (8 + 16 * length (kinds_of (outs_of plan.items))))) ≤ 2 ^ 22 →
+        Planned parts layout plan firsts others h.first_column (λ q. StandsIn (memory_of q)) each Held Bases
     planned short = record {
       start_is = refl;
       base_is = refl;

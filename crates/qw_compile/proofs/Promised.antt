@@ -2,6 +2,7 @@
 use Rattle.std.proofs.Common.{◌≡◌, ℕ, zero, suc, ◌+◌, ◌*◌, ◌<◌, ◌≤◌, nat_le, ◌&&◌, if◌then◌else◌, IsTrue, IsUtf8, Option, Some, None, List, [], ◌∷◌, ◌++◌, length, map, Result, Ok, Err, IfOk, slice_get, refl, sym, ap, ap₂, ◌∙◌, subst, length-append, arith}
 use Rattle.std.specs.List.{AllByRecursion}
 use Rattle.qw_types.specs.declared.code.Code.{Code}
+use Rattle.qw_types.specs.declared.truth.Truth.{Truth}
 use Rattle.qw_types.specs.declared.kind.Kind.{Kind}
 use Rattle.qw_types.specs.declared.kind.Kind.TheVariants as kind
 use Rattle.qw_types.specs.declared.value.Val.{Val}
@@ -18,20 +19,28 @@ use Rattle.qw_low.specs.declared.cell.Cell.{Cell}
 use Rattle.qw_low.specs.Syntax.{Statement, seq}
 use Rattle.qw_low.specs.State.{Part, Column, Own, Value, Number, Cells, LowState}
 use Rattle.qw_low.specs.Held.{LiesAt, SaysNull, SaysValue}
-use Rattle.qw_low.specs.Meaning.{meaning}
+use Rattle.qw_low.specs.Meaning.{value, meaning}
+use Rattle.qw_low.specs.Promise.{Ends}
 use Rattle.qw_low.specs.Size.{size}
 use Rattle.qw_low.specs.Raising.{Leaves, Raises, Kept}
 use Rattle.qw_low.proofs.LessKnown.{IsLess, seen, seen_ends}
-use Rattle.qw_low.proofs.Promises.{Ends-weaker}
+use Rattle.qw_low.proofs.Promises.{Ends-more, Ends-then, Ends-weaker}
+use Rattle.qw_low.proofs.Results.{Kept-then, at_least}
+use Rattle.qw_expr.specs.declared.test.Test as exprs
+use Rattle.qw_expr.specs.Tests as expr_tests
+use Rattle.qw_expr.specs.Tests.{tested}
+use Rattle.qw_rows.specs.declared.reader.Reader.{Reader}
 use Rattle.qw_expr.specs.declared.operand.Operand.{Operand}
 use Rattle.qw_expr.specs.Cells.{Holds, HoldsValue, IsBelow, IsBelowNull, DeclaresKind, DeclaresNull}
 use Rattle.qw_expr.specs.Computes.{Known, AreHeld, AreDeclared, Computes}
 use Rattle.qw_code.specs.RowCells.{Source, Supplies, UsesNull, Test, Item, items_block, outs_of, cell_block, cells_block, plain_block, kinds_of}
 use Rattle.qw_code.proofs.PushRuns.{Never}
-use Rattle.qw_code.proofs.RowRuns.{AreTests, HasTest, HasItem, AreItems, AllUse, Kept-less}
+use Rattle.qw_code.proofs.RowRuns.{AreTests, HasItem, AreItems, AllUse, Kept-less, truth_word}
+use Rattle.qw_code.proofs.Spending.{spread}
 use Rattle.qw_code.proofs.ScanAnswers.{truths_of, values_in}
-use Rattle.qw_compile.specs.Emitted.{source_of, AreDecided, AreComputed}
-use Rattle.qw_compile.proofs.Bridge.{decided, lacks-there, says-there}
+use Rattle.qw_compile.specs.Emitted.{source_of, known_after, ReadsPart, IsDecided, AreDecided, AreComputed}
+use Rattle.qw_compile.proofs.Bridge.{lacks-there, same_word, says-there}
+use Rattle.qw_compile.proofs.Parts.{read_at}
 use Rattle.qw_compile.proofs.TextLiterals.{HasTexts, HasUtf8, IsUtf8Value, value_utf8}
 
 -- ---- texts
@@ -167,21 +176,56 @@ pub record IsItemAt (N : ℕ) (row : List Val) (e : Expression) : Type 0 where
   pub utf8 : HasColumns (HasUtf8 row) e
   pub enough : 1 + units e (record { row = row }) ≤ N
 
-module _ (known : List Known) (c : Cells) (row : List Val) (most fuel N n many : ℕ) (some : 1 ≤ N) (within : N ≤ fuel) (held_kept : (s t : LowState) → Kept n s t → AreHeld known row s → AreHeld known row t)
-    (both_kept : (s t : LowState) → Kept n s t → HeldIn c known row s → HeldIn c known row t) where
-  pub tests_promised : (next : ℕ) (cs : List Condition) (gs : List Test) (own : List ValType) → n ≤ next → next + length own ≤ many → AreDecided known next cs gs own → AllByRecursion (IsTestAt N row) cs →
-      AreTests most fuel N n many some (HeldIn c known row) both_kept gs (truths_of cs row)
-  tests_promised next [] [] own low room are at = tt
-  tests_promised next [] (g ∷ gs) own low room are at = absurd are
-  tests_promised next (d ∷ cs) [] own low room are at = absurd are
-  tests_promised next (d ∷ cs) (g ∷ gs) own low room are at =
-      let all : length own ≡ length are.1 + length are.2 = ap (λ (o : List ValType). length o) are.3 ∙ length-append are.1 are.2 in
-      let one = decided most fuel N n many some within known row held_kept d next are.0 g.block are.1 are.5 low (omega (arith, room, all)) at.0.1 at.0.0 in (
-        subst (λ (x : ℕ). HasTest most fuel N n many some (HeldIn c known row) both_kept (record { out = x; block = g.block }) (truth_of d (record { row = row }))) (sym are.4)
-            (λ s held long. one s (held_more c s known row held) long),
-        tests_promised (next + length are.1) cs gs are.2 (omega (arith, low)) (omega (arith, room, all)) are.6 at.1,
-      )
+-- `At` says what holds where so many columns are read
+module _ (literals : List Known) (readers : List Reader) (row : List Val) (most fuel N low n many : ℕ) (some : 1 ≤ N) (within : N ≤ fuel) (lower : low ≤ n) (At : ℕ → LowState → Type 0)
+    (holds : (e : ℕ) (s : LowState) → At e s → AreHeld (known_after literals readers e) row s) (kept : (e : ℕ) (s t : LowState) → Kept n s t → At e s → At e t)
+    (reads_end : (done upto : ℕ) (a : Statement) → ReadsPart readers done upto a → (s : LowState) → At done s → many ≤ length s.locals → Ends (size a) (λ t. Kept low s t × At upto t) Never (λ code. ⊥) (meaning most fuel a s)) where
+  abbrev Decided : (upto : ℕ) → Test → LowState → Truth → LowState → Type 0
+  Decided upto g s v t = Kept low s t × At upto t × (value t g.out ≡ Some (Number (truth_word v)))
 
+  decided_left : (done upto : ℕ) (g : Test) (out : exprs.Test) (s t : LowState) (next : ℕ) → n ≤ next → g.out ≡ tested out → Kept low s t → At upto t → (r : Result Truth Code) (u : LowState) →
+      Leaves (λ v u. Kept next t u × (value u (tested out) ≡ Some (Number (expr_tests.truth_word v)))) r u → Leaves (Decided upto g s) r u
+  decided_left done upto g out s t next high is before at (Ok v) u h = (
+    Kept-then low low s t u (omega arith) before (Kept-less low next t u (omega (arith, lower, high)) h.0),
+    kept upto t u (Kept-less n next t u high h.0) at,
+    ap (value u) is ∙ (h.1 ∙ ap (λ (x : ℕ). Some (Number x)) (same_word v)),
+  )
+  decided_left done upto g out s t next high is before at (Err code) u h = h
+
+  conjunct_promised : (c : Condition) (next done upto : ℕ) (g : Test) (own : List ValType) → n ≤ next → next + length own ≤ many → IsDecided literals readers next done upto c g own → IsTestAt N row c →
+      (s : LowState) → At done s → many ≤ length s.locals → Ends (size g.block * N) (Leaves (Decided upto g s) (truth_of c (record { row = row }))) Never (Raises (truth_of c (record { row = row }))) (meaning most fuel g.block s)
+  conjunct_promised c next done upto g own high room d at s held long =
+      let r : Result Truth Code = truth_of c (record { row = row }) in
+      let P : LowState → Type 0 = Leaves (Decided upto g s) r in
+      let R : ℕ → Type 0 = Raises r in
+      let Read : LowState → Type 0 = λ t. Kept low s t × At upto t in
+      subst (λ (b : Statement). Ends (size b * N) P Never R (meaning most fuel b s)) (sym d.block_is)
+      (Ends-more P Never R (size d.reads + size d.decides * N) (size (seq d.reads d.decides) * N) (meaning most fuel (seq d.reads d.decides) s) (omega (arith, spread (size d.reads) (size d.decides) N, at_least (size d.reads) N some))
+      (Ends-then P Never R (size d.reads) (size d.decides * N) Read (meaning most fuel d.reads s) (meaning most fuel d.decides)
+      (Ends-weaker (size d.reads) (size d.reads) Read Read Never Never (λ code. ⊥) R (meaning most fuel d.reads s) (omega arith) (λ t x. x) (λ t x. x) (λ code x. absurd x) (reads_end done upto d.reads d.reading s held long))
+      (λ t now.
+      Ends-weaker (size d.decides * N) (size d.decides * N) (Leaves (λ v u. Kept next t u × (value u (tested d.out) ≡ Some (Number (expr_tests.truth_word v)))) r) P Never Never R R (meaning most fuel d.decides t) (omega arith)
+      (decided_left done upto g d.out s t next high d.out_is now.0 now.1 r) (λ u x. x) (λ code x. x)
+      (d.deciding.runs most fuel N row t at.1 within (holds upto t now.1) at.0 (let many_t = now.0.many in omega (arith, room, long, many_t))))))
+
+  abbrev HasTestAt : (done upto : ℕ) → Test → Result Truth Code → Type 0
+  HasTestAt done upto g r = (s : LowState) → At done s → many ≤ length s.locals → Ends (size g.block * N) (Leaves (Decided upto g s) r) Never (Raises r) (meaning most fuel g.block s)
+
+  pub tests_promised : (all : ℕ) (stage : ℕ → ℕ) (k next done : ℕ) (ends : List ℕ) (cs : List Condition) (gs : List Test) (own : List ValType) → ((j : ℕ) → stage (k + j) ≡ read_at done ends all j) → n ≤ next → next + length own ≤ many →
+      AreDecided literals readers next done ends cs gs own → AllByRecursion (IsTestAt N row) cs → AreTests most fuel N low many (λ j. At (stage j)) k gs (truths_of cs row)
+  tests_promised all stage k next done [] [] [] own same high room are at = tt
+  tests_promised all stage k next done (e ∷ ends) (c ∷ cs) (g ∷ gs) own same high room are at =
+      let many_own : length own ≡ length are.0 + length are.1 = ap (λ (o : List ValType). length o) are.2 ∙ length-append are.0 are.1 in
+      let here : stage k ≡ done = (let place : k ≡ k + 0 = omega arith in ap stage place) ∙ same 0 in
+      let there : stage (suc k) ≡ e = (let place : suc k ≡ k + 1 = omega arith in ap stage place) ∙ same 1 in (
+        subst (λ (d : ℕ). HasTestAt d (stage (suc k)) g (truth_of c (record { row = row }))) (sym here)
+            (subst (λ (u : ℕ). HasTestAt done u g (truth_of c (record { row = row }))) (sym there) (conjunct_promised c next done e g are.0 high (omega (arith, room, many_own)) are.3 at.0)),
+        tests_promised all stage (suc k) (next + length are.0) e ends cs gs are.1 (λ j. (let place : suc k + j ≡ k + suc j = omega arith in ap stage place) ∙ same (suc j)) (omega (arith, high)) (omega (arith, room, many_own)) are.4 at.1,
+      )
+  tests_promised all stage k next done ends cs gs own same high room are at = absurd are
+
+module _ (known : List Known) (c : Cells) (row : List Val) (most fuel N n many : ℕ) (some : 1 ≤ N) (within : N ≤ fuel) (Held : LowState → Type 0) (inside : (s : LowState) → Held s → HeldIn c known row s)
+    (both_kept : (s t : LowState) → Kept n s t → Held s → Held t) where
   -- ---- items
   long_used : (k : Option Kind) (cell : Cell) (t : List ℕ) (locals : List Value) → IsValueOf k (val.Text t) → slice_get locals cell.length ≡ Some (Number (length t)) → slice_get locals (used_length k cell) ≡ Some (Number (length t))
   long_used None cell t locals of is = absurd cc
@@ -213,23 +257,23 @@ module _ (known : List Known) (c : Cells) (row : List Val) (most fuel N n many :
   left from next out s le (Err code) typed utf8 t h = h.0
 
   item_promised : (e : Expression) (from next : ℕ) (out : Operand) (a : Statement) (own : List ValType) → from ≤ next → next + length own ≤ many → Computes known e next out a own → IsItemAt N row e →
-      HasItem most fuel N n many some (HeldIn c known row) both_kept (StandsIn c) from (record { out = moved (source_of out); block = a }) (value_of e (record { row = row }))
+      HasItem most fuel N n many some Held both_kept (StandsIn c) from (record { out = moved (source_of out); block = a }) (value_of e (record { row = row }))
   item_promised e from next out a own le room computes at =
       let r : Result Val Code = value_of e (record { row = row }) in
       let typed : IfOk r (λ v. IsValueOf out.kind v) = subst (λ (k : Option Kind). IfOk r (λ v. IsValueOf k v)) (sym computes.kind_is) (typed_value e row at.typed at.columns) in
       λ s held long.
       Ends-weaker (size a * N) (size a * N) (λ t. Whole next out s r t × Seen next out s r (seen c t)) (Leaves (λ v t. Kept from s t × (Supplies (StandsIn c) t.locals (moved (source_of out)).cell v × IsValueOf out.kind v)) r) Never Never (Raises r) (Raises r)
       (meaning most fuel a s) (omega arith) (left from next out s le r typed (value_utf8 e row at.texts at.utf8)) (λ t x. x) (λ code x. x)
-      (seen_ends most fuel (size a * N) (size a * N) (Whole next out s r) (Seen next out s r) Never Never (Raises r) (Raises r) c (seen-cells next out s r) a s held.1
-      (computes.runs most fuel N row (seen c s) at.enough within held.0 at.columns (omega (arith, room, long)))
-      (computes.runs most fuel N row s at.enough within (held_more c s known row held) at.columns (omega (arith, room, long))))
+      (seen_ends most fuel (size a * N) (size a * N) (Whole next out s r) (Seen next out s r) Never Never (Raises r) (Raises r) c (seen-cells next out s r) a s (inside s held).1
+      (computes.runs most fuel N row (seen c s) at.enough within (inside s held).0 at.columns (omega (arith, room, long)))
+      (computes.runs most fuel N row s at.enough within (held_more c s known row (inside s held)) at.columns (omega (arith, room, long))))
 
   null_uses : (later : ℕ) (null : Option ℕ) → UsesNull (λ i. 8 ≤ i) null → IsBelowNull later null → UsesNull (λ i. (5 ≤ i) × (i < later)) null
   null_uses later None high below = tt
   null_uses later (Some x) high below = (omega (arith, high), below)
 
   pub items_promised : (from next : ℕ) (es : List Expression) (gs : List Item) (own : List ValType) → from ≤ next → next + length own ≤ many → AreComputed known next es gs own → AllByRecursion (IsItemAt N row) es → AreHigh gs →
-      AreItems most fuel N n many some (HeldIn c known row) both_kept (StandsIn c) from (all_moved gs) (values_in es row)
+      AreItems most fuel N n many some Held both_kept (StandsIn c) from (all_moved gs) (values_in es row)
   items_promised from next [] [] own low room are at high = tt
   items_promised from next [] (g ∷ gs) own low room are at high = absurd are
   items_promised from next (e ∷ es) [] own low room are at high = absurd are
@@ -238,7 +282,7 @@ module _ (known : List Known) (c : Cells) (row : List Val) (most fuel N n many :
       let cell_is : g.out.cell ≡ are.0.cell = ap (λ (o : Source). o.cell) are.4 in
       let below : IsBelow (next + length are.1) g.out.cell = subst (IsBelow (next + length are.1)) (sym cell_is) are.5.below in
       let later : ℕ = next + length are.1 in (
-        subst (λ (o : Source). HasItem most fuel N n many some (HeldIn c known row) both_kept (StandsIn c) from (record { out = moved o; block = g.block }) (value_of e (record { row = row }))) (sym are.4)
+        subst (λ (o : Source). HasItem most fuel N n many some Held both_kept (StandsIn c) from (record { out = moved o; block = g.block }) (value_of e (record { row = row }))) (sym are.4)
             (item_promised e from next are.0 g.block are.1 low (omega (arith, room, all)) are.5 at.0),
         later,
         omega (arith, low),

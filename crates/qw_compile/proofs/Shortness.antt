@@ -25,12 +25,16 @@ use Rattle.qw_low.specs.Size.{size}
 use Rattle.qw_low.specs.Steps.{expression_steps, request_steps, steps_of}
 use Rattle.qw_low.specs.Translation.{unaligned}
 use Rattle.qw_expr.specs.declared.operand.Operand.{Operand}
+use Rattle.qw_rows.specs.declared.reader.Reader.{Reader}
 use Rattle.qw_code.specs.Results.{finish_block, push_block, room_block, link_block, start_block}
 use Rattle.qw_code.specs.RowCells.{Source, begin_block, cell_block, cells_block, end_block, more_rows, next_row, plain_block, scan_block, turn_block}
 use Rattle.qw_compile.specs.Emitted.{sources_of}
 use Rattle.qw_compile.specs.Limits.{all_nodes}
-use Rattle.qw_compile.specs.Texts.{texts_in, texts_of, texts_of_all, texts_of_branches, texts_of_matches, texts_within}
-use Rattle.qw_compile.specs.Nesting.{closings, opening}
+use Rattle.qw_compile.specs.Constants.{words_of}
+use Rattle.qw_compile.specs.Leaves.{leaves_in, leaves_of, leaves_of_all, leaves_of_branches, leaves_of_matches, leaves_within}
+use Rattle.qw_compile.specs.Texts.{texts_of}
+use Rattle.qw_compile.proofs.LeafLemmas.{texts_less}
+use Rattle.qw_compile.specs.Nesting.{closings}
 use Rattle.qw_compile.proofs.Sizes.{cost_steps, two_steps}
 
 -- a statement has at most three times as many steps as instructions
@@ -46,9 +50,10 @@ steps_size (conditional e a b) =
     let three = length-append (steps_of b) (step.End ∷ []) in
     omega (arith, one, two, three, cost_steps e, steps_size a, steps_size b)
 steps_size (while e a) =
-    let one = length-append (expression_steps e) (step.If ∷ (steps_of a ++ step.Again ∷ step.End ∷ step.End ∷ [])) in
-    let two = length-append (steps_of a) (step.Again ∷ step.End ∷ step.End ∷ []) in
-    omega (arith, one, two, cost_steps e, steps_size a)
+    let one = length-append (expression_steps e) (step.If ∷ step.Loop ∷ (steps_of a ++ (expression_steps e ++ step.Again ∷ step.End ∷ step.End ∷ []))) in
+    let two = length-append (steps_of a) (expression_steps e ++ step.Again ∷ step.End ∷ step.End ∷ []) in
+    let three = length-append (expression_steps e) (step.Again ∷ step.End ∷ step.End ∷ []) in
+    omega (arith, one, two, three, cost_steps e, steps_size a)
 steps_size (request e x) = let all = length-append (expression_steps e) (request_steps x) in omega (arith, all, cost_steps e)
 steps_size (raise code) = omega arith
 steps_size exit = omega arith
@@ -68,7 +73,7 @@ some_nodes (Match' _ x _ matches) = omega arith
 some_nodes (Coalesce' _ arguments) = omega arith
 some_nodes (NullIf' _ a _ b) = omega arith
 
-some_nodes_of : (c : Cond) → 1 ≤ nodes_of c
+pub some_nodes_of : (c : Cond) → 1 ≤ nodes_of c
 some_nodes_of (Compare' op _ a _ b) = omega arith
 some_nodes_of (Between' _ x _ a _ b) = omega arith
 some_nodes_of (In' _ x _ values) = omega arith
@@ -97,14 +102,29 @@ sum_further f (y ∷ xs) (suc i) x less same =
 sum_next : {X : Type 0} (f : X → ℕ) (xs : List X) (i : ℕ) (x : X) → i < length xs → x ≡ get_or xs i x → sum_by f (take (i + 1) xs) ≡ sum_by f (take i xs) + f x
 sum_next f xs i x less same = let at : i + 1 ≡ suc i = omega arith in ap (λ (j : ℕ). sum_by f (take j xs)) at ∙ sum_further f xs i x less same
 
-pub next_test_short : (xs : List Cond) (i : ℕ) (x : Cond) (old now mid new : ℕ) → i < length xs → x ≡ get_or xs i x → now ≤ old + 302 * sum_by nodes_of (take i xs) → mid ≤ now + 300 * nodes_of x → new ≡ mid + 2 → new ≤ old + 302 * sum_by nodes_of (take (i + 1) xs)
-next_test_short xs i x old now mid new less same before added last = let sums = sum_next nodes_of xs i x less same in omega (arith, before, added, last, sums, some_nodes_of x)
+pub next_test_short : (xs : List Cond) (i : ℕ) (x : Cond) (old now new done upto : ℕ) → i < length xs → x ≡ get_or xs i x → now ≤ old + 117 * done + 304 * sum_by nodes_of (take i xs) → new + 117 * done ≤ now + 117 * upto + 304 * nodes_of x →
+    new ≤ old + 117 * upto + 304 * sum_by nodes_of (take (i + 1) xs)
+next_test_short xs i x old now new done upto less same before added = let sums = sum_next nodes_of xs i x less same in omega (arith, before, added, sums)
+
+-- a part of a row's reads
+pub part_short : (rs part : List Reader) (done upto : ℕ) (a : Statement) (old new : List LowStep) → take done rs ++ part ≡ take upto rs → done ≤ upto → upto ≤ length rs → size a ≤ 39 * length part → new ≡ old ++ steps_of a →
+    length new + 117 * done ≤ length old + 117 * upto
+part_short rs part done upto a old new is ahead within short added =
+    let all = ap (λ (l : List LowStep). length l) added ∙ length-append old (steps_of a) in
+    let counts = ap (λ (l : List Reader). length l) is in
+    let sums = length-append (take done rs) part in
+    omega (arith, all, counts, sums, taken done rs (omega (arith, ahead, within)), taken upto rs within, short, steps_size a)
+  where
+    taken : (n : ℕ) (xs : List Reader) → n ≤ length xs → length (take n xs) ≡ n
+    taken zero xs le = refl
+    taken (suc n) [] le = absurd (omega (arith, le))
+    taken (suc n) (x ∷ xs) le = ap suc (taken n xs (omega (arith, le)))
+
+pub conjunct_short : (old mid now new : List LowStep) (done upto n : ℕ) → length mid + 117 * done ≤ length old + 117 * upto → length now ≤ length mid + 300 * n → length new ≤ length now + 4 → 1 ≤ n → length new + 117 * done ≤ length old + 117 * upto + 304 * n
+conjunct_short old mid now new done upto n one two three some = omega (arith, one, two, three, some)
 
 pub next_item_short : (xs : List Expr) (i : ℕ) (x : Expr) (old now new : ℕ) → i < length xs → x ≡ get_or xs i x → now ≤ old + 300 * sum_by nodes (take i xs) → new ≤ now + 300 * nodes x → new ≤ old + 300 * sum_by nodes (take (i + 1) xs)
 next_item_short xs i x old now new less same before added = let sums = sum_next nodes xs i x less same in omega (arith, before, added, sums)
-
-pub opened_long : (code new : List LowStep) (out : ℕ) → new ≡ code ++ opening out → length new ≡ length code + 2
-opened_long code new out added = ap (λ (l : List LowStep). length l) added ∙ length-append code (opening out)
 
 -- ---- a row
 closings_long : (n : ℕ) → length (closings n) ≡ 2 * n
@@ -140,76 +160,80 @@ sources_many [] = refl
 sources_many (x ∷ os) = ap suc (sources_many os)
 
 -- what the parts of a row's code add up to
-pub row_short : (conjuncts : List Cond) (items : List Expr) (os : List Source) (w : ℕ) (old tested evaluated pushed new : List LowStep) → length os ≡ length items → length tested ≤ length old + 302 * sum_by nodes_of conjuncts → length evaluated ≤ length tested + 300 * sum_by nodes items →
-    pushed ≡ evaluated ++ steps_of (push_block w (cells_block 8 os)) → new ≡ pushed ++ closings (length conjuncts) → length new ≤ length old + (320 * (sum_by nodes_of conjuncts + sum_by nodes items) + 40)
-row_short conjuncts items os w old tested evaluated pushed new many tests values push close =
+pub row_short : (conjuncts : List Cond) (items : List Expr) (os : List Source) (w done all : ℕ) (old tested read evaluated pushed new : List LowStep) → length os ≡ length items → length tested ≤ length old + 117 * done + 304 * sum_by nodes_of conjuncts →
+    length read + 117 * done ≤ length tested + 117 * all → length evaluated ≤ length read + 300 * sum_by nodes items → pushed ≡ evaluated ++ steps_of (push_block w (cells_block 8 os)) → new ≡ pushed ++ closings (length conjuncts) →
+    length new ≤ length old + (320 * (sum_by nodes_of conjuncts + sum_by nodes items) + 117 * all + 40)
+row_short conjuncts items os w done all old tested read evaluated pushed new many tests reads values push close =
     let one = ap (λ (l : List LowStep). length l) push ∙ length-append evaluated (steps_of (push_block w (cells_block 8 os))) in
     let two = ap (λ (l : List LowStep). length l) close ∙ length-append pushed (closings (length conjuncts)) in
-    omega (arith, many, tests, values, one, two, closings_long (length conjuncts), push_long w (cells_block 8 os), cells_long os 8, many_nodes items, many_nodes_of conjuncts)
+    omega (arith, many, tests, reads, values, one, two, closings_long (length conjuncts), push_long w (cells_block 8 os), cells_long os 8, many_nodes items, many_nodes_of conjuncts)
 
 -- ---- a scan
-pub scan_short : (base : ℕ) (begins leads reads row : Statement) (code : List LowStep) (texts : ℕ) → code ≡ steps_of (scan_block (begin_block base (seq begins leads)) reads row) → size begins ≤ 576 → size leads ≤ 6 * texts → texts ≤ 16384 → size reads ≤ 2240 →
-    length (steps_of row) ≤ 1280040 → length code ≤ 2097152
-scan_short base begins leads reads row code texts made b l few r rows =
+pub scan_short : (base : ℕ) (begins leads sets row : Statement) (code : List LowStep) (texts words : ℕ) → code ≡ steps_of (scan_block (begin_block base (seq begins (seq leads sets))) row) → size begins ≤ 832 → size leads ≤ 6 * texts → texts ≤ 16384 →
+    size sets ≤ 2 * words → words ≤ 16384 → length (steps_of row) ≤ 1287528 → length code ≤ 2097152
+scan_short base begins leads sets row code texts words made b l few c few_words rows =
     let all = ap (λ (c : List LowStep). length c) made in
-    let columns : Statement = seq begins leads in
-    let one = length-append (steps_of (begin_block base columns)) (steps_of (seq (while more_rows (turn_block reads row)) finish_block)) in
-    let two = length-append (steps_of (while more_rows (turn_block reads row))) (steps_of finish_block) in
+    let columns : Statement = seq begins (seq leads sets) in
+    let one = length-append (steps_of (begin_block base columns)) (steps_of (seq (while more_rows (turn_block row)) finish_block)) in
+    let two = length-append (steps_of (while more_rows (turn_block row))) (steps_of finish_block) in
     let three = length-append (steps_of (start_block base)) (steps_of (seq end_block columns)) in
     let four = length-append (steps_of end_block) (steps_of columns) in
-    let five = length-append (steps_of begins) (steps_of leads) in
-    let six = length-append (steps_of (turn_block reads row)) (step.Again ∷ step.End ∷ step.End ∷ []) in
-    let seven = length-append (steps_of reads) (steps_of (seq row next_row)) in
+    let five = length-append (steps_of begins) (steps_of (seq leads sets)) in
+    let half = length-append (steps_of leads) (steps_of sets) in
+    let six = length-append (steps_of (turn_block row)) (expression_steps more_rows ++ step.Again ∷ step.End ∷ step.End ∷ []) in
     let eight = length-append (steps_of row) (steps_of next_row) in
-    omega (arith, all, one, two, three, four, five, six, seven, eight, b, l, few, r, rows, steps_size begins, steps_size leads, steps_size reads)
+    omega (arith, all, one, two, three, four, five, half, six, eight, b, l, few, c, few_words, rows, steps_size begins, steps_size leads, steps_size sets)
 
--- ---- each text is a node
+-- ---- each leaf is a node
 mutual
-  texts_few : (e : Expr) → length (texts_in e) ≤ nodes e
-  texts_few Null = omega arith
-  texts_few (Number v s) = omega arith
-  texts_few (Date d) = omega arith
-  texts_few (Text t) = omega arith
-  texts_few (Column i ty) = omega arith
-  texts_few (Arithmetic' operator _ a _ b) = omega (arith, length-append (texts_in a) (texts_in b), texts_few a, texts_few b)
-  texts_few (Negative' _ a) = omega (arith, texts_few a)
-  texts_few (Extract' field _ a) = omega (arith, texts_few a)
-  texts_few (Case' _ branches) = omega (arith, branches_few branches)
-  texts_few (Match' _ x _ matches) = omega (arith, length-append (texts_in x) (texts_of_matches matches), texts_few x, matches_few matches)
-  texts_few (Coalesce' _ arguments) = omega (arith, all_few arguments)
-  texts_few (NullIf' _ a _ b) = omega (arith, length-append (texts_in a) (texts_in b), texts_few a, texts_few b)
+  leaves_few : (e : Expr) → length (leaves_in e) ≤ nodes e
+  leaves_few Null = omega arith
+  leaves_few (Number v s) = omega arith
+  leaves_few (Date d) = omega arith
+  leaves_few (Text t) = omega arith
+  leaves_few (Column i ty) = omega arith
+  leaves_few (Arithmetic' operator _ a _ b) = omega (arith, length-append (leaves_in a) (leaves_in b), leaves_few a, leaves_few b)
+  leaves_few (Negative' _ a) = omega (arith, leaves_few a)
+  leaves_few (Extract' field _ a) = omega (arith, leaves_few a)
+  leaves_few (Case' _ branches) = omega (arith, branches_few branches)
+  leaves_few (Match' _ x _ matches) = omega (arith, length-append (leaves_in x) (leaves_of_matches matches), leaves_few x, matches_few matches)
+  leaves_few (Coalesce' _ arguments) = omega (arith, all_few arguments)
+  leaves_few (NullIf' _ a _ b) = omega (arith, length-append (leaves_in a) (leaves_in b), leaves_few a, leaves_few b)
 
-  condition_few : (c : Cond) → length (texts_within c) ≤ nodes_of c
-  condition_few (Compare' op _ a _ b) = omega (arith, length-append (texts_in a) (texts_in b), texts_few a, texts_few b)
-  condition_few (Between' _ x _ a _ b) = omega (arith, length-append (texts_in x) (texts_in a ++ texts_in b), length-append (texts_in a) (texts_in b), texts_few x, texts_few a, texts_few b)
-  condition_few (In' _ x _ values) = omega (arith, length-append (texts_in x) (texts_of_all values), texts_few x, all_few values)
-  condition_few (IsNull' _ a) = omega (arith, texts_few a)
-  condition_few (And' _ c _ d) = omega (arith, length-append (texts_within c) (texts_within d), condition_few c, condition_few d)
-  condition_few (Or' _ c _ d) = omega (arith, length-append (texts_within c) (texts_within d), condition_few c, condition_few d)
+  condition_few : (c : Cond) → length (leaves_within c) ≤ nodes_of c
+  condition_few (Compare' op _ a _ b) = omega (arith, length-append (leaves_in a) (leaves_in b), leaves_few a, leaves_few b)
+  condition_few (Between' _ x _ a _ b) = omega (arith, length-append (leaves_in x) (leaves_in a ++ leaves_in b), length-append (leaves_in a) (leaves_in b), leaves_few x, leaves_few a, leaves_few b)
+  condition_few (In' _ x _ values) = omega (arith, length-append (leaves_in x) (leaves_of_all values), leaves_few x, all_few values)
+  condition_few (IsNull' _ a) = omega (arith, leaves_few a)
+  condition_few (And' _ c _ d) = omega (arith, length-append (leaves_within c) (leaves_within d), condition_few c, condition_few d)
+  condition_few (Or' _ c _ d) = omega (arith, length-append (leaves_within c) (leaves_within d), condition_few c, condition_few d)
   condition_few (Not' _ c) = omega (arith, condition_few c)
   condition_few (Is' _ c t) = omega (arith, condition_few c)
 
-  all_few : (es : Exprs) → length (texts_of_all es) ≤ nodes_of_all es
-  all_few (Exprs.Last' _ e) = omega (arith, texts_few e)
-  all_few (Exprs.More' _ e _ es) = omega (arith, length-append (texts_in e) (texts_of_all es), texts_few e, all_few es)
+  all_few : (es : Exprs) → length (leaves_of_all es) ≤ nodes_of_all es
+  all_few (Exprs.Last' _ e) = omega (arith, leaves_few e)
+  all_few (Exprs.More' _ e _ es) = omega (arith, length-append (leaves_in e) (leaves_of_all es), leaves_few e, all_few es)
 
-  branches_few : (b : Branches) → length (texts_of_branches b) ≤ nodes_of_branches b
-  branches_few (Branches.Else' _ e) = omega (arith, texts_few e)
+  branches_few : (b : Branches) → length (leaves_of_branches b) ≤ nodes_of_branches b
+  branches_few (Branches.Else' _ e) = omega (arith, leaves_few e)
   branches_few (Branches.When' _ c _ e _ rest) =
-      omega (arith, length-append (texts_within c) (texts_in e ++ texts_of_branches rest), length-append (texts_in e) (texts_of_branches rest), condition_few c, texts_few e, branches_few rest)
+      omega (arith, length-append (leaves_within c) (leaves_in e ++ leaves_of_branches rest), length-append (leaves_in e) (leaves_of_branches rest), condition_few c, leaves_few e, branches_few rest)
 
-  matches_few : (m : Matches) → length (texts_of_matches m) ≤ nodes_of_matches m
+  matches_few : (m : Matches) → length (leaves_of_matches m) ≤ nodes_of_matches m
   matches_few (Matches.Last' _ v _ e _ other) =
-      omega (arith, length-append (texts_in v) (texts_in e ++ texts_in other), length-append (texts_in e) (texts_in other), texts_few v, texts_few e, texts_few other)
+      omega (arith, length-append (leaves_in v) (leaves_in e ++ leaves_in other), length-append (leaves_in e) (leaves_in other), leaves_few v, leaves_few e, leaves_few other)
   matches_few (Matches.When' _ v _ e _ rest) =
-      omega (arith, length-append (texts_in v) (texts_in e ++ texts_of_matches rest), length-append (texts_in e) (texts_of_matches rest), texts_few v, texts_few e, matches_few rest)
+      omega (arith, length-append (leaves_in v) (leaves_in e ++ leaves_of_matches rest), length-append (leaves_in e) (leaves_of_matches rest), leaves_few v, leaves_few e, matches_few rest)
 
 each_few : {X Y : Type 0} (f : X → List Y) (g : X → ℕ) (xs : List X) → ((x : X) → length (f x) ≤ g x) → length (flat_map f xs) ≤ sum_by g xs
 each_few f g [] few = omega arith
 each_few f g (x ∷ xs) few = let rest = each_few f g xs few in omega (arith, length-append (f x) (flat_map f xs), few x, rest, sum_by-cons g x xs)
 
-pub few_texts : (parts : Parts) → length (texts_of parts) ≤ all_nodes parts
-few_texts parts =
-    let tests = each_few texts_within nodes_of parts.conjuncts condition_few in
-    let items = each_few texts_in nodes parts.items texts_few in
-    omega (arith, length-append (flat_map texts_within parts.conjuncts) (flat_map texts_in parts.items), tests, items)
+pub few_leaves : (parts : Parts) → length (leaves_of parts) ≤ all_nodes parts
+few_leaves parts =
+    let tests = each_few leaves_within nodes_of parts.conjuncts condition_few in
+    let items = each_few leaves_in nodes parts.items leaves_few in
+    omega (arith, length-append (flat_map leaves_within parts.conjuncts) (flat_map leaves_in parts.items), tests, items)
+
+pub few_literals : (parts : Parts) → length (texts_of parts) + length (words_of parts) ≤ all_nodes parts
+few_literals parts = omega (arith, few_leaves parts, texts_less (leaves_of parts))

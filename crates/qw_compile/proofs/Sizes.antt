@@ -1,11 +1,11 @@
 -- A statement has at most twice as many instructions as steps.
 use Rattle.std.proofs.Common.{◌≡◌, ◌+◌, ◌*◌, ◌≤◌, [], ◌∷◌, ◌++◌, length, refl, length-append, arith}
 use Rattle.qw_module.specs.declared.instruction.ValType.TheVariants.{I32}
-use Rattle.qw_module.specs.declared.instruction.Binary.TheVariants.{Add}
+use Rattle.qw_module.specs.declared.instruction.Binary.TheVariants.{Add, Sub}
 use Rattle.qw_module.specs.declared.instruction.Op.TheVariants as o
 use Rattle.qw_low.specs.declared.step.LowStep.{LowStep}
 use Rattle.qw_low.specs.declared.step.LowStep.TheVariants as step
-use Rattle.qw_low.specs.Syntax.{Expression, constant_of, local, unop, binop, divop, is_zero, relop, cvtop, advance, Statement, skip, seq, assign, load, store, conditional, while, request, raise, exit}
+use Rattle.qw_low.specs.Syntax.{Expression, constant_of, local, unop, binop, divop, is_zero, relop, cvtop, advance, retreat, Statement, skip, seq, assign, load, store, conditional, while, request, raise, exit}
 use Rattle.qw_low.specs.Meaning.{cost}
 use Rattle.qw_low.specs.Size.{size}
 use Rattle.qw_low.specs.Steps.{expression_steps, request_steps, steps_of}
@@ -30,6 +30,7 @@ cost_steps (is_zero t e) = one_step e (step.Op (o.Eqz t)) (cost_steps e)
 cost_steps (relop t r left right) = two_steps left right (step.Op (o.Relation t r)) (cost_steps left) (cost_steps right)
 cost_steps (cvtop c e) = one_step e (step.Op (o.Convert c)) (cost_steps e)
 cost_steps (advance a n) = two_steps a n (step.Op (o.Binary I32 Add)) (cost_steps a) (cost_steps n)
+cost_steps (retreat a n) = two_steps a n (step.Op (o.Binary I32 Sub)) (cost_steps a) (cost_steps n)
 
 pub size_steps : (a : Statement) → size a ≤ 2 * length (steps_of a)
 size_steps skip = omega arith
@@ -43,9 +44,10 @@ size_steps (conditional e a b) =
     let three = length-append (steps_of b) (step.End ∷ []) in
     omega (arith, one, two, three, cost_steps e, size_steps a, size_steps b)
 size_steps (while e a) =
-    let one = length-append (expression_steps e) (step.If ∷ (steps_of a ++ step.Again ∷ step.End ∷ step.End ∷ [])) in
-    let two = length-append (steps_of a) (step.Again ∷ step.End ∷ step.End ∷ []) in
-    omega (arith, one, two, cost_steps e, size_steps a)
+    let one = length-append (expression_steps e) (step.If ∷ step.Loop ∷ (steps_of a ++ (expression_steps e ++ step.Again ∷ step.End ∷ step.End ∷ []))) in
+    let two = length-append (steps_of a) (expression_steps e ++ step.Again ∷ step.End ∷ step.End ∷ []) in
+    let three = length-append (expression_steps e) (step.Again ∷ step.End ∷ step.End ∷ []) in
+    omega (arith, one, two, three, cost_steps e, size_steps a)
 size_steps (request e x) = let all = length-append (expression_steps e) (request_steps x) in omega (arith, all, cost_steps e)
 size_steps (raise code) = omega arith
 size_steps exit = omega arith

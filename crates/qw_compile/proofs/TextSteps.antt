@@ -1,9 +1,9 @@
--- One more text: its octets, its literal, its binding, and the types of its locals.
+-- One more text: its octets, its literal, its binding, and the types of its locals; and those of one more number or date.
 use Rattle.std.proofs.Common.{◌≡◌, ℕ, zero, suc, ◌+◌, ◌<◌, ◌≤◌, None, List, [], ◌∷◌, ◌++◌, length, length-append, drop, drop-cons, get_or, refl, sym, ap, ap₂, ◌∙◌, append_assoc, append-nil, arith}
 use Rattle.std.specs.List.{concat}
 use Rattle.std.proofs.lemmas.List.{drop_all}
 use Rattle.qw_module.specs.declared.instruction.ValType.{ValType}
-use Rattle.qw_module.specs.declared.instruction.ValType.TheVariants.{I32}
+use Rattle.qw_module.specs.declared.instruction.ValType.TheVariants.{I32, I64}
 use Rattle.qw_expr.specs.declared.known.Binding.{Binding}
 use Rattle.qw_expr.specs.declared.known.Leaf.TheVariants as leaf
 use Rattle.qw_expr.specs.declared.operand.Operand.{Operand}
@@ -12,7 +12,7 @@ use Rattle.qw_expr.specs.Computes.{Known}
 use Rattle.qw_meaning.specs.Expression.{text}
 use Rattle.qw_rows.specs.declared.literal.Literal.{Literal}
 use Rattle.qw_rows.specs.Texts.{known_texts, text_operand}
-use Rattle.qw_compile.specs.Readers.{text_types}
+use Rattle.qw_compile.specs.Readers.{text_types, word_types}
 use Rattle.qw_compile.specs.Texts.{literals_from}
 use Rattle.qw_compile.proofs.ColumnSteps.{known_end}
 
@@ -79,3 +79,15 @@ next_types n locals new old rest added before =
     ∙ (append_assoc locals (I32 ∷ I32 ∷ []) rest
     ∙ (before (I32 ∷ I32 ∷ rest)
     ∙ ap (λ (l : List ValType). old ++ l) (text_behind n rest ∙ ap (λ (k : ℕ). text_types k rest) one)))
+
+word_behind : (n : ℕ) (rest : List ValType) → word_types n (I64 ∷ rest) ≡ word_types (suc n) rest
+word_behind zero rest = refl
+word_behind (suc n) rest = ap (λ (l : List ValType). I64 ∷ l) (word_behind n rest)
+
+pub next_words : (n : ℕ) (locals new old rest : List ValType) → new ≡ locals ++ I64 ∷ [] → ((more : List ValType) → locals ++ more ≡ old ++ word_types n more) → new ++ rest ≡ old ++ word_types (n + 1) rest
+next_words n locals new old rest added before =
+    let one : suc n ≡ n + 1 = omega arith in
+    ap (λ (l : List ValType). l ++ rest) added
+    ∙ (append_assoc locals (I64 ∷ []) rest
+    ∙ (before (I64 ∷ rest)
+    ∙ ap (λ (l : List ValType). old ++ l) (word_behind n rest ∙ ap (λ (k : ℕ). word_types k rest) one)))

@@ -1,6 +1,10 @@
+pub mod Constants
 pub mod Emitted
+pub mod Leaves
 pub mod Limits
 pub mod Makes
+pub mod Named
+pub mod Needed
 pub mod Nesting
 pub mod Readers
 pub mod Sources

@@ -1,14 +1,14 @@
 -- The steps around what is done where conjuncts are true.
 use Rattle.std.specs.Prelude.{ℕ, zero, suc, List, [], ◌∷◌, ◌++◌}
-use Rattle.qw_module.specs.declared.instruction.Op.TheVariants as o
 use Rattle.qw_low.specs.declared.step.LowStep.{LowStep}
 use Rattle.qw_low.specs.declared.step.LowStep.TheVariants as step
-use Rattle.qw_low.specs.Steps.{steps_of}
+use Rattle.qw_low.specs.Steps.{expression_steps, steps_of}
+use Rattle.qw_low.specs.Syntax.{Expression}
 use Rattle.qw_code.specs.RowCells.{Test}
 
--- behind a conjunct's block, whose truth is in a local
-abbrev pub opening : ℕ → List LowStep
-opening out = step.Op (o.LocalGet out) ∷ step.If ∷ []
+-- behind a conjunct's block, with an expression that is 1 where it is true
+abbrev pub opening : Expression → List LowStep
+opening out = expression_steps out ++ step.If ∷ []
 
 -- the blocks of conjuncts, each within the one before
 abbrev pub openings : List Test → List LowStep

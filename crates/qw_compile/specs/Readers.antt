@@ -1,4 +1,4 @@
--- The columns that a scan reads, and the locals for them and for text literals.
+-- The columns that a scan reads, and the locals for them and for literals.
 use Rattle.std.specs.Prelude.{◌≡◌, ℕ, zero, suc, ◌+◌, ◌*◌, ◌⊎◌, Bool, true, false, Option, Some, None, List, [], ◌∷◌, length}
 use Rattle.qw_types.specs.declared.value.Ty.{Ty}
 use Rattle.qw_types.specs.declared.value.Ty.TheVariants as ty
@@ -17,7 +17,7 @@ abbrev pub null_word : (not_null : Bool) → (local : ℕ) → Option ℕ
 null_word true x = None
 null_word false x = Some x
 
--- Each column has three locals for its parts, and three for its value; the row's offset is in local 5.
+-- Each column has three locals for its parts, and three for its value; what is left of the rows is told by local 5, and all of them by local 6.
 abbrev pub reader_of : (bases cells index : ℕ) → Used → Reader
 reader_of b c k u = record {
   index = k;
@@ -27,7 +27,8 @@ reader_of b c k u = record {
   values = b;
   octets = b + 1;
   nulls = b + 2;
-  row = 5;
+  left = 5;
+  end = 6;
   cell = record { value = c; length = c + 1; null = null_word u.not_null (c + 2) };
 }
 
@@ -35,17 +36,21 @@ abbrev pub readers_from : (bases cells index : ℕ) → List Used → List Reade
 readers_from b c k [] = []
 readers_from b c k (u ∷ used) = reader_of b c k u ∷ readers_from (b + 3) (c + 3) (k + 1) used
 
--- the first local of so many text literals, the first one of the columns' values, and the first one behind them
+-- The first local of text literals; of numbers and dates, behind those of so many texts; of the columns' values, behind so many locals of
+-- literals; and the first one behind them.
 abbrev pub first_text : List Used → ℕ
 first_text used = 8 + 3 * length used
 
-abbrev pub first_cell : List Used → (texts : ℕ) → ℕ
-first_cell used n = 8 + 3 * length used + 2 * n
+abbrev pub first_word : List Used → (texts : ℕ) → ℕ
+first_word used n = 8 + 3 * length used + 2 * n
 
-abbrev pub first_own : List Used → (texts : ℕ) → ℕ
-first_own used n = 8 + 6 * length used + 2 * n
+abbrev pub first_cell : List Used → (literals : ℕ) → ℕ
+first_cell used n = 8 + 3 * length used + n
 
-abbrev pub readers_of : List Used → (texts : ℕ) → List Reader
+abbrev pub first_own : List Used → (literals : ℕ) → ℕ
+first_own used n = 8 + 6 * length used + n
+
+abbrev pub readers_of : List Used → (literals : ℕ) → List Reader
 readers_of used n = readers_from 8 (first_cell used n) 0 used
 
 -- how the locals of a value are declared
@@ -67,12 +72,10 @@ abbrev pub text_types : (texts : ℕ) → (behind : List ValType) → List ValTy
 text_types zero behind = behind
 text_types (suc n) behind = I32 ∷ I32 ∷ text_types n behind
 
--- the types of a scan's locals behind its argument
-abbrev pub scan_locals : List Used → (texts : ℕ) → (own : List ValType) → List ValType
-scan_locals used n own = I32 ∷ I32 ∷ I32 ∷ I64 ∷ I32 ∷ I32 ∷ I32 ∷ base_types used (text_types n (cell_types used own))
+abbrev pub word_types : (words : ℕ) → (behind : List ValType) → List ValType
+word_types zero behind = behind
+word_types (suc n) behind = I64 ∷ word_types n behind
 
--- the columns of a table, from one on
-abbrev pub all_used : (table column : ℕ) → List Ty → (not_null : List Bool) → List Used
-all_used table k [] b = []
-all_used table k (t ∷ types) [] = []
-all_used table k (t ∷ types) (b ∷ bs) = record { table = table; column = k; ty = t; not_null = b } ∷ all_used table (k + 1) types bs
+-- the types of a scan's locals behind its argument
+abbrev pub scan_locals : List Used → (texts words : ℕ) → (own : List ValType) → List ValType
+scan_locals used n m own = I32 ∷ I32 ∷ I32 ∷ I64 ∷ I32 ∷ I32 ∷ I32 ∷ base_types used (text_types n (word_types m (cell_types used own)))

@@ -1,63 +1,11 @@
 -- The text literals of a specification (ISO/IEC 9075:1992, 5.3), in the order in which they stand in its trees.
-use Rattle.std.specs.Prelude.{◌≡◌, ℕ, ◌+◌, List, [], ◌∷◌, ◌++◌, length, None, IsUtf8}
-use Rattle.std.specs.List.{AllByRecursion, flat_map}
+use Rattle.std.specs.Prelude.{ℕ, ◌+◌, List, [], ◌∷◌, length, None}
 use Rattle.qw_meaning.specs.Select.{Parts}
-use Rattle.qw_meaning.specs.declared.expression.Expr.{Expr}
-use Rattle.qw_meaning.specs.declared.expression.Cond.{Cond}
-use Rattle.qw_meaning.specs.declared.expression.Exprs.{Exprs}
-use Rattle.qw_meaning.specs.declared.expression.Branches.{Branches}
-use Rattle.qw_meaning.specs.declared.expression.Matches.{Matches}
-use Rattle.qw_meaning.specs.declared.expression.Expr.TheVariants.{Null, Number, Date, Text, Column, Arithmetic', Negative', Extract', Case', Match', Coalesce', NullIf'}
-use Rattle.qw_meaning.specs.declared.expression.Cond.TheVariants.{Compare', Between', In', IsNull', And', Or', Not', Is'}
-use Rattle.qw_meaning.specs.declared.expression.Exprs.TheVariants as Exprs
-use Rattle.qw_meaning.specs.declared.expression.Branches.TheVariants as Branches
-use Rattle.qw_meaning.specs.declared.expression.Matches.TheVariants as Matches
 use Rattle.qw_rows.specs.declared.literal.Literal.{Literal}
+use Rattle.qw_compile.specs.Leaves.{leaves_of, texts_among}
 
-abbrev mutual
-  pub texts_in : Expr → List (List ℕ)
-  texts_in Null = []
-  texts_in (Number v s) = []
-  texts_in (Date d) = []
-  texts_in (Text t) = t ∷ []
-  texts_in (Column i ty) = []
-  texts_in (Arithmetic' operator _ a _ b) = texts_in a ++ texts_in b
-  texts_in (Negative' _ a) = texts_in a
-  texts_in (Extract' field _ a) = texts_in a
-  texts_in (Case' _ branches) = texts_of_branches branches
-  texts_in (Match' _ x _ matches) = texts_in x ++ texts_of_matches matches
-  texts_in (Coalesce' _ arguments) = texts_of_all arguments
-  texts_in (NullIf' _ a _ b) = texts_in a ++ texts_in b
-
-  pub texts_within : Cond → List (List ℕ)
-  texts_within (Compare' op _ a _ b) = texts_in a ++ texts_in b
-  texts_within (Between' _ x _ a _ b) = texts_in x ++ (texts_in a ++ texts_in b)
-  texts_within (In' _ x _ values) = texts_in x ++ texts_of_all values
-  texts_within (IsNull' _ a) = texts_in a
-  texts_within (And' _ c _ d) = texts_within c ++ texts_within d
-  texts_within (Or' _ c _ d) = texts_within c ++ texts_within d
-  texts_within (Not' _ c) = texts_within c
-  texts_within (Is' _ c t) = texts_within c
-
-  pub texts_of_all : Exprs → List (List ℕ)
-  texts_of_all (Exprs.Last' _ e) = texts_in e
-  texts_of_all (Exprs.More' _ e _ es) = texts_in e ++ texts_of_all es
-
-  pub texts_of_branches : Branches → List (List ℕ)
-  texts_of_branches (Branches.Else' _ e) = texts_in e
-  texts_of_branches (Branches.When' _ c _ e _ rest) = texts_within c ++ (texts_in e ++ texts_of_branches rest)
-
-  pub texts_of_matches : Matches → List (List ℕ)
-  texts_of_matches (Matches.Last' _ v _ e _ other) = texts_in v ++ (texts_in e ++ texts_in other)
-  texts_of_matches (Matches.When' _ v _ e _ rest) = texts_in v ++ (texts_in e ++ texts_of_matches rest)
-
--- those of a specification
 abbrev pub texts_of : Parts → List (List ℕ)
-texts_of parts = flat_map texts_within parts.conjuncts ++ flat_map texts_in parts.items
-
--- texts, in UTF-8, were added behind others
-abbrev pub Gathers : (old new more : List (List ℕ)) → Type 0
-Gathers old new more = (new ≡ old ++ more) × AllByRecursion IsUtf8 more
+texts_of parts = texts_among (leaves_of parts)
 
 -- The literals of texts whose octets lie one behind another from an offset on, each with two locals, from one on.
 abbrev pub literals_from : (local offset : ℕ) → (texts : List (List ℕ)) → List Literal

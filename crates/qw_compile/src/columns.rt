@@ -1,4 +1,4 @@
-//! The columns of a table as columns of a layout, the locals of a scan, and the kinds of its cells.
+//! The locals of a scan, and the kinds of its cells.
 
 ghost use Rattle.std.specs.Prelude.{◌≡◌, ◌++◌, List, Some, length, map, IfOk, OnOk, IsSome};
 ghost use Rattle.std.specs.List.{All};
@@ -12,32 +12,6 @@ use qw_map::layout::Used;
 use qw_module::instruction::ValType;
 use qw_types::{Kind, NoMemory, Ty};
 use std::alloc::Global;
-
-/// All columns of a table, in their order.
-///
-/// # Errors
-///
-/// [`NoMemory`] where the list does not fit memory.
-pub fn all_columns(
-    alloc: Global,
-    table: usize,
-    types: &[Ty],
-    not_null: &[bool],
-) -> Result<Vec<Used>, NoMemory>
-    requires { length not_null.now ≡ length types.now }
-    ensures { IfOk result (λ used. used.items ≡ readers.all_used table 0 types.now not_null.now) }
-{
-    let mut used = Vec::new(alloc);
-    for (column, ty) in types.iter().enumerate() {
-        used.push(Used {
-            table,
-            column,
-            ty: *ty,
-            not_null: not_null[column],
-        })?;
-    }
-    Ok(used)
-}
 
 /// How the local of a value of a type is declared.
 fn value_type(ty: Ty) -> ValType
@@ -69,6 +43,16 @@ fn push_texts(locals: &mut Vec<ValType>, texts: usize) -> Result<(), NoMemory>
     Ok(())
 }
 
+/// Adds the types of the locals for so many numbers and dates.
+fn push_words(locals: &mut Vec<ValType>, words: usize) -> Result<(), NoMemory>
+    ensures { OnOk result ((rest : List ValType) → locals.new.items ++ rest ≡ locals.old.items ++ readers.word_types words rest) }
+{
+    for _word in 0..words {
+        locals.push(ValType::I64)?;
+    }
+    Ok(())
+}
+
 /// Adds the types of the locals for columns' values.
 fn push_cells(locals: &mut Vec<ValType>, used: &[Used]) -> Result<(), NoMemory>
     ensures { OnOk result ((rest : List ValType) → locals.new.items ++ rest ≡ locals.old.items ++ readers.cell_types used.now rest) }
@@ -79,7 +63,8 @@ fn push_cells(locals: &mut Vec<ValType>, used: &[Used]) -> Result<(), NoMemory>
     Ok(())
 }
 
-/// The types of a scan's locals behind its argument: those of every scan, those for columns and for so many text literals, and its own.
+/// The types of a scan's locals behind its argument: those of every scan, those for columns, for so many text literals and for so many
+/// numbers and dates, and its own.
 ///
 /// # Errors
 ///
@@ -88,9 +73,10 @@ pub fn locals_of(
     alloc: Global,
     used: &[Used],
     texts: usize,
+    words: usize,
     own: &[ValType],
 ) -> Result<Vec<ValType>, NoMemory>
-    ensures { IfOk result (λ locals. locals.items ≡ readers.scan_locals used.now texts own.now) }
+    ensures { IfOk result (λ locals. locals.items ≡ readers.scan_locals used.now texts words own.now) }
 {
     let mut locals = Vec::new(alloc);
     locals.extend_from_slice(&[
@@ -104,6 +90,7 @@ pub fn locals_of(
     ])?;
     push_bases(&mut locals, used)?;
     push_texts(&mut locals, texts)?;
+    push_words(&mut locals, words)?;
     push_cells(&mut locals, used)?;
     locals.extend_from_slice(own)?;
     Ok(locals)

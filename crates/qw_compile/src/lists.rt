@@ -1,47 +1,88 @@
 //! The conjuncts of WHERE and the items of a select list, one after another.
 
-ghost use Rattle.std.specs.Prelude.{◌≡◌, ◌≤◌, ◌+◌, ◌*◌, ◌++◌, length, map, sum_by, OnOk, IfOk};
-ghost use Rattle.std.specs.List.{All};
+ghost use Rattle.std.specs.Prelude.{◌≡◌, ◌≤◌, ◌+◌, ◌*◌, ◌++◌, length, map, sum_by, take, OnOk, IfOk};
+ghost use Rattle.std.specs.List.{All, AllByRecursion};
 ghost use Rattle.qw_meaning.specs.Nodes.{nodes, nodes_of};
 ghost use Rattle.qw_meaning.specs.Tree.{condition_of, expression_of};
 ghost use Rattle.qw_meaning.specs.Typing.{AreTyped, IsTyped};
-ghost use Rattle.qw_low.specs.Steps.{steps_of};
 ghost use Rattle.qw_expr.specs.Bindings.{known_of, IsServed, TakeKnown, TakesKnown};
 ghost use Rattle.qw_expr.specs.Emits.{free_of};
-ghost use Rattle.qw_code.specs.RowCells.{cells_block};
-ghost use Rattle.qw_compile.specs.Emitted.{EmitsTests, EmitsItems, sources_of};
+ghost use Rattle.qw_rows.specs.Reading.{HasNullWord};
+ghost use Rattle.qw_compile.specs.Emitted.{AreOrdered, EmitsConjunct, EmitsTests, EmitsItems};
 
+use crate::leaves::leaves_within;
+use crate::needed::needed_for;
 use crate::nesting::open_test;
 use qw_expr::emitter::Emitter;
 use qw_expr::known::Binding;
 use qw_expr::operand::Operand;
-use qw_expr::tree::{emit_expr, emit_truth};
+use qw_expr::test::emit_test;
+use qw_expr::tree::emit_expr;
 use qw_meaning::expression::{Cond, Expr};
+use qw_rows::read::emit_reads;
+use qw_rows::reader::Reader;
 use qw_types::NoMemory;
 use std::alloc::Global;
 
-/// Adds the blocks of conjuncts in their order: what is added after each is done where it is true, and those before it. As many choices
-/// as there are conjuncts are left open.
+/// Adds the block of a conjunct, and before it the reads of the columns that are new with it, where so many are read already. What is known
+/// are so many literals, and behind them the columns. What is added after it is done where it is true. It tells how many columns are read
+/// then.
+fn emit_conjunct(
+    alloc: Global,
+    emitter: &mut Emitter,
+    conjunct: &Cond,
+    readers: &[Reader],
+    done: usize,
+    literals: usize,
+    known: &[Binding],
+) -> Result<usize, NoMemory>
+    requires typed { AreTyped (condition_of conjunct.now) }
+    requires known { TakeKnown (known_of known.now) (condition_of conjunct.now) }
+    requires served { IsServed (free_of emitter.old) (known_of known.now) }
+    requires words { AllByRecursion (λ r. HasNullWord r.not_null r.cell.null) readers.now }
+    requires ordered { AreOrdered literals readers.now known.now }
+    requires done { done ≤ length readers.now }
+    ensures emits { IfOk result (λ upto. EmitsConjunct (take literals (known_of known.now)) readers.now done upto (condition_of conjunct.now) emitter.old emitter.new) }
+    ensures within { IfOk result (λ upto. upto ≤ length readers.now) }
+    ensures short { IfOk result (λ upto. length emitter.new.block.code.items + 117 * done ≤ length emitter.old.block.code.items + 117 * upto + 304 * nodes_of conjunct.now) }
+{
+    let leaves = leaves_within(alloc, conjunct)?;
+    let upto = needed_for(readers, &leaves, done);
+    emit_reads(&mut emitter.block, &readers[done..upto])?;
+    let test = emit_test(emitter, conjunct, &known[..literals + upto])?;
+    open_test(&mut emitter.block, test)?;
+    Ok(upto)
+}
+
+/// Adds the blocks of conjuncts in their order, each behind the reads of the columns that it is the first to name: what is added after each
+/// is done where it is true, and those before it. As many choices as there are conjuncts are left open. What is known are so many literals,
+/// and behind them the columns. It tells how many columns are read then.
 ///
 /// # Errors
 ///
 /// [`NoMemory`] where memory does not suffice, or there are too many locals.
 pub fn emit_tests(
+    alloc: Global,
     emitter: &mut Emitter,
     conjuncts: &[Cond],
+    readers: &[Reader],
+    literals: usize,
     known: &[Binding],
-) -> Result<(), NoMemory>
+) -> Result<usize, NoMemory>
     requires typed { All (λ c. AreTyped (condition_of c)) conjuncts.now }
     requires known { All (λ c. TakeKnown (known_of known.now) (condition_of c)) conjuncts.now }
     requires served { IsServed (free_of emitter.old) (known_of known.now) }
-    ensures emits { OnOk result (EmitsTests (known_of known.now) (map condition_of conjuncts.now) emitter.old emitter.new) }
-    ensures short { OnOk result (length emitter.new.block.code.items ≤ length emitter.old.block.code.items + 302 * sum_by nodes_of conjuncts.now) }
+    requires words { AllByRecursion (λ r. HasNullWord r.not_null r.cell.null) readers.now }
+    requires ordered { AreOrdered literals readers.now known.now }
+    ensures emits { IfOk result (λ done. EmitsTests (take literals (known_of known.now)) readers.now (map condition_of conjuncts.now) emitter.old emitter.new done) }
+    ensures within { IfOk result (λ done. done ≤ length readers.now) }
+    ensures short { IfOk result (λ done. length emitter.new.block.code.items ≤ length emitter.old.block.code.items + 117 * done + 304 * sum_by nodes_of conjuncts.now) }
 {
+    let mut done = 0;
     for conjunct in conjuncts {
-        let out = emit_truth(emitter, conjunct, known)?;
-        open_test(&mut emitter.block, out.value)?;
+        done = emit_conjunct(alloc, emitter, conjunct, readers, done, literals, known)?;
     }
-    Ok(())
+    Ok(done)
 }
 
 /// Adds the blocks of the items of a select list, from left to right, and tells where their values are.

@@ -1,22 +1,21 @@
 //! Conjuncts one within another: what follows a conjunct is done where it is true.
 
-ghost use Rattle.std.specs.Prelude.{◌≡◌, ◌++◌, OnOk};
+ghost use Rattle.std.specs.Prelude.{◌≡◌, ◌≤◌, ◌+◌, ◌++◌, length, OnOk};
+ghost use Rattle.qw_expr.specs.Tests.{tested};
 ghost use Rattle.qw_compile.specs.Nesting.{closings, opening};
 
+use qw_expr::test::Test;
 use qw_low::block::Block;
-use qw_low::cell::Local;
 use qw_low::step::LowStep;
-use qw_module::instruction::Op;
 use qw_types::NoMemory;
 
-/// Begins what is done where the conjunct before is true, whose truth is in a local.
-pub fn open_test(block: &mut Block, out: Local) -> Result<(), NoMemory>
-    ensures { OnOk result (block.new.code.items ≡ block.old.code.items ++ opening out) }
+/// Begins what is done where the conjunct before is true, as its test says.
+pub fn open_test(block: &mut Block, test: Test) -> Result<(), NoMemory>
+    ensures code { OnOk result (block.new.code.items ≡ block.old.code.items ++ opening (tested test)) }
+    ensures short { OnOk result (length block.new.code.items ≤ length block.old.code.items + 4) }
 {
-    block
-        .code
-        .extend_from_slice(&[LowStep::Op(Op::LocalGet(out)), LowStep::If])?;
-    Ok(())
+    test.push(block)?;
+    block.push(LowStep::If)
 }
 
 /// Ends what is done where so many conjuncts are true; where one isn't nothing is done.

@@ -1,9 +1,10 @@
-//! The columns that a scan reads: the locals for them, and what is known of them and of text literals where expressions are evaluated.
+//! The columns that a scan reads: the locals for them, and what is known of them and of literals where expressions are evaluated.
 
 ghost use Rattle.std.specs.Prelude.{◌≡◌, ◌≤◌, ◌+◌, ◌*◌, ◌++◌, length, map, IfOk, OnOk};
 ghost use Rattle.std.specs.List.{All};
 ghost use Rattle.qw_types.specs.Value.{IsSized};
 ghost use Rattle.qw_expr.specs.Bindings as bindings;
+ghost use Rattle.qw_rows.specs.Constants.{known_constant, literal_of};
 ghost use Rattle.qw_rows.specs.Reading.{known_of};
 ghost use Rattle.qw_rows.specs.Texts.{known_texts};
 ghost use Rattle.qw_compile.specs.Readers as readers;
@@ -12,6 +13,7 @@ use crate::texts::copy_of;
 use qw_expr::known::{Binding, Leaf};
 use qw_low::cell::{Cell, Local};
 use qw_map::layout::Used;
+use qw_rows::constant::{Constant, Word};
 use qw_rows::literal::Literal;
 use qw_rows::reader::Reader;
 use qw_types::{NoMemory, Text};
@@ -20,8 +22,11 @@ use std::alloc::Global;
 /// The first local behind those of every scan.
 const FIRST_BASE: Local = 8;
 
-/// The row's offset: four times its number.
-const ROW: Local = 5;
+/// Four times the number of rows that are left.
+const LEFT: Local = 5;
+
+/// Four times the number of all rows.
+const END: Local = 6;
 
 /// Each column has so many locals for the addresses of its parts, and as many for its value.
 const LOCALS: u32 = 3;
@@ -37,8 +42,8 @@ pub fn first_text(columns: usize) -> Local
     FIRST_BASE + LOCALS * columns as u32
 }
 
-/// The first local of the columns' values, behind those of so many text literals.
-pub fn first_cell(columns: usize, texts: usize) -> Local
+/// The first local of numbers and dates, behind those of so many text literals.
+pub fn first_word(columns: usize, texts: usize) -> Local
     requires columns { columns ≤ 64 }
     requires texts { texts ≤ 100000 }
     ensures { result ≡ 8 + 3 * columns + 2 * texts }
@@ -46,13 +51,40 @@ pub fn first_cell(columns: usize, texts: usize) -> Local
     first_text(columns) + TEXT_LOCALS * texts as u32
 }
 
-/// The first local behind those of so many columns and text literals.
-pub fn first_own(columns: usize, texts: usize) -> Local
-    requires columns { columns ≤ 64 }
+/// How many locals so many texts have, and so many numbers and dates.
+pub fn literal_locals(texts: usize, words: usize) -> usize
     requires texts { texts ≤ 100000 }
-    ensures { result ≡ 8 + 6 * columns + 2 * texts }
+    requires words { words ≤ 100000 }
+    ensures { result ≡ 2 * texts + words }
 {
-    first_cell(columns, texts) + LOCALS * columns as u32
+    TEXT_LOCALS as usize * texts + words
+}
+
+/// How many literals there are, of so many texts and of so many numbers and dates.
+pub fn literals_in(texts: usize, words: usize) -> usize
+    requires texts { texts ≤ 100000 }
+    requires words { words ≤ 100000 }
+    ensures { result ≡ texts + words }
+{
+    texts + words
+}
+
+/// The first local of the columns' values, behind so many locals of literals.
+pub fn first_cell(columns: usize, literals: usize) -> Local
+    requires columns { columns ≤ 64 }
+    requires literals { literals ≤ 300000 }
+    ensures { result ≡ 8 + 3 * columns + literals }
+{
+    first_text(columns) + literals as u32
+}
+
+/// The first local behind those of so many columns, and so many locals of literals.
+pub fn first_own(columns: usize, literals: usize) -> Local
+    requires columns { columns ≤ 64 }
+    requires literals { literals ≤ 300000 }
+    ensures { result ≡ 8 + 6 * columns + literals }
+{
+    first_cell(columns, literals) + LOCALS * columns as u32
 }
 
 /// The reader of the column of an index, with its locals from these on.
@@ -69,7 +101,8 @@ fn reader_of(base: Local, cell: Local, index: u32, used: Used) -> Reader
         values: base,
         octets: base + 1,
         nulls: base + 2,
-        row: ROW,
+        left: LEFT,
+        end: END,
         cell: Cell {
             value: cell,
             length: cell + 1,
@@ -78,17 +111,17 @@ fn reader_of(base: Local, cell: Local, index: u32, used: Used) -> Reader
     }
 }
 
-/// The readers of columns, in their order, where there are so many text literals.
+/// The readers of columns, in their order, where there are so many locals of literals.
 ///
 /// # Errors
 ///
 /// [`NoMemory`] where the list does not fit memory.
-pub fn readers_of(alloc: Global, used: &[Used], texts: usize) -> Result<Vec<Reader>, NoMemory>
+pub fn readers_of(alloc: Global, used: &[Used], literals: usize) -> Result<Vec<Reader>, NoMemory>
     requires columns { length used.now ≤ 64 }
-    requires texts { texts ≤ 100000 }
-    ensures { IfOk result (λ made. made.items ≡ readers.readers_of used.now texts) }
+    requires literals { literals ≤ 300000 }
+    ensures { IfOk result (λ made. made.items ≡ readers.readers_of used.now literals) }
 {
-    let cells = first_cell(used.len(), texts);
+    let cells = first_cell(used.len(), literals);
     let mut made = Vec::new(alloc);
     for (index, column) in used.iter().enumerate() {
         let behind = LOCALS * index as u32;
@@ -130,7 +163,30 @@ fn bind_texts(
     Ok(())
 }
 
-/// What is known where the columns have been read, and where the literals' locals lead to texts.
+/// Adds what is known of numbers and dates, by their locals.
+fn bind_constants(made: &mut Vec<Binding>, constants: &[Constant]) -> Result<(), NoMemory>
+    ensures { OnOk result (bindings.known_of made.new.items ≡ bindings.known_of made.old.items ++ map known_constant constants.now) }
+{
+    for constant in constants {
+        made.push(Binding {
+            leaf: leaf_of(constant.word),
+            operand: constant.operand(),
+        })?;
+    }
+    Ok(())
+}
+
+/// The leaf of a number or a date.
+fn leaf_of(word: Word) -> Leaf
+    ensures { bindings.named result ≡ literal_of word }
+{
+    match word {
+        Word::Number(value, scale) => Leaf::Number(value, scale),
+        Word::Date(day) => Leaf::Date(day),
+    }
+}
+
+/// What is known where the columns have been read, where the literals' locals lead to texts, and the constants' hold numbers and dates.
 ///
 /// # Errors
 ///
@@ -140,13 +196,15 @@ pub fn bindings_of(
     readers: &[Reader],
     literals: &[Literal],
     texts: &[Text],
+    constants: &[Constant],
 ) -> Result<Vec<Binding>, NoMemory>
     requires sized { All (λ r. IsSized r.ty) readers.now }
     requires many { length literals.now ≡ length texts.now }
-    ensures { IfOk result (λ made. bindings.known_of made.items ≡ map known_of readers.now ++ known_texts literals.now texts.now) }
+    ensures { IfOk result (λ made. bindings.known_of made.items ≡ (known_texts literals.now texts.now ++ map known_constant constants.now) ++ map known_of readers.now) }
 {
     let mut made = Vec::new(alloc);
-    bind_columns(&mut made, readers)?;
     bind_texts(alloc, &mut made, literals, texts)?;
+    bind_constants(&mut made, constants)?;
+    bind_columns(&mut made, readers)?;
     Ok(made)
 }

@@ -1,13 +1,14 @@
 //! What is done at a row of the table.
 
-ghost use Rattle.std.specs.Prelude.{◌≡◌, ◌≤◌, ◌+◌, ◌*◌, length, map, sum_by, IfOk, OnOk};
-ghost use Rattle.std.specs.List.{All};
+ghost use Rattle.std.specs.Prelude.{◌≡◌, ◌≤◌, ◌+◌, ◌*◌, length, map, sum_by, take, IfOk, OnOk};
+ghost use Rattle.std.specs.List.{All, AllByRecursion};
 ghost use Rattle.qw_meaning.specs.Nodes.{nodes, nodes_of};
 ghost use Rattle.qw_meaning.specs.Tree.{condition_of, expression_of};
 ghost use Rattle.qw_meaning.specs.Typing.{AreTyped, IsTyped};
 ghost use Rattle.qw_expr.specs.Bindings.{known_of, IsServed, TakeKnown, TakesKnown};
 ghost use Rattle.qw_expr.specs.Emits.{free_of};
-ghost use Rattle.qw_compile.specs.Emitted.{EmitsRow};
+ghost use Rattle.qw_rows.specs.Reading.{HasNullWord};
+ghost use Rattle.qw_compile.specs.Emitted.{AreOrdered, EmitsRow};
 
 use crate::cells::store_cells;
 use crate::lists::{emit_items, emit_tests};
@@ -19,11 +20,14 @@ use qw_expr::operand::Operand;
 use qw_low::block::Block;
 use qw_map::layout::{CELL_OFFSET, CELL_SIZE};
 use qw_meaning::expression::{Cond, Expr};
+use qw_rows::read::emit_reads;
+use qw_rows::reader::Reader;
 use qw_types::NoMemory;
 use std::alloc::Global;
 
-/// Adds the block of a row: its conjuncts, and where all are true its items and the row of the result that they make. It tells where the
-/// values of the items are.
+/// Adds the block of a row: its conjuncts, each behind the reads of the columns that it is the first to name, and where all are true the
+/// reads of the others, its items and the row of the result that they make. What is known are so many literals, and behind them the columns.
+/// It tells where the values of the items are.
 ///
 /// # Errors
 ///
@@ -33,6 +37,8 @@ pub fn emit_row(
     emitter: &mut Emitter,
     conjuncts: &[Cond],
     items: &[Expr],
+    readers: &[Reader],
+    literals: usize,
     known: &[Binding],
 ) -> Result<Vec<Operand>, NoMemory>
     requires few { length items.now ≤ 512 }
@@ -41,10 +47,13 @@ pub fn emit_row(
     requires items_typed { All (λ e. IsTyped (expression_of e)) items.now }
     requires items_known { All (λ e. TakesKnown (known_of known.now) (expression_of e)) items.now }
     requires served { IsServed (free_of emitter.old) (known_of known.now) }
-    ensures emits { IfOk result (λ outs. EmitsRow (known_of known.now) (map condition_of conjuncts.now) (map expression_of items.now) emitter.old emitter.new outs.items) }
-    ensures short { OnOk result (length emitter.new.block.code.items ≤ length emitter.old.block.code.items + (320 * (sum_by nodes_of conjuncts.now + sum_by nodes items.now) + 40)) }
+    requires words { AllByRecursion (λ r. HasNullWord r.not_null r.cell.null) readers.now }
+    requires ordered { AreOrdered literals readers.now known.now }
+    ensures emits { IfOk result (λ outs. EmitsRow (take literals (known_of known.now)) readers.now (map condition_of conjuncts.now) (map expression_of items.now) emitter.old emitter.new outs.items) }
+    ensures short { OnOk result (length emitter.new.block.code.items ≤ length emitter.old.block.code.items + (320 * (sum_by nodes_of conjuncts.now + sum_by nodes items.now) + 117 * length readers.now + 40)) }
 {
-    emit_tests(emitter, conjuncts, known)?;
+    let done = emit_tests(alloc, emitter, conjuncts, readers, literals, known)?;
+    emit_reads(&mut emitter.block, &readers[done..])?;
     let outs = emit_items(alloc, emitter, items, known)?;
     let mut cells = Block::new(alloc);
     store_cells(&mut cells, &outs)?;

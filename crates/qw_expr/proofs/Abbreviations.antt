@@ -1,5 +1,5 @@
 -- What an abbreviation evaluates first: where that raises, it does; it has its units and its columns.
-use Rattle.std.proofs.Common.{◌≡◌, ℕ, ◌+◌, ◌≤◌, List, Err, ◌∙◌, refl, arith}
+use Rattle.std.proofs.Common.{◌≡◌, ℕ, ◌≤◌, List, Err, ◌∙◌, refl, arith}
 use Rattle.qw_types.specs.declared.code.Code.{Code}
 use Rattle.qw_types.specs.declared.value.Val.{Val}
 use Rattle.qw_meaning.specs.declared.query.Comparison.{Comparison}
@@ -7,7 +7,7 @@ use Rattle.qw_meaning.specs.declared.expression.Matches.{Matches}
 use Rattle.qw_meaning.specs.declared.expression.Matches.TheVariants as Matches
 use Rattle.qw_meaning.specs.Columns.{HasColumns, HaveColumns, HoldsIn}
 use Rattle.qw_meaning.specs.Evaluation.{Environment, truth_of, value_of}
-use Rattle.qw_meaning.specs.Expression.{Expression, Condition, Expressions, last, more, Choices, otherwise, when, scale_of, among, between, brought, case, cases, largest_result, choice, comparison, is_null, negation_of, null_if}
+use Rattle.qw_meaning.specs.Expression.{Expression, Condition, Expressions, last, more, Choices, otherwise, when, scale_of, among, between, case, cases, largest_result, choice, comparison, is_null, negation_of, null_if}
 use Rattle.qw_meaning.specs.Tree.{matches_of}
 use Rattle.qw_meaning.specs.Typing.{AreTyped, IsTyped}
 use Rattle.qw_expr.specs.Bindings.{TakeKnown, TakesKnown}

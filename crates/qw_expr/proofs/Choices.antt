@@ -1,5 +1,5 @@
 -- Choices between two results.
-use Rattle.std.proofs.Common.{◌≡◌, ℕ, ◌+◌, ◌*◌, ◌<◌, ◌≤◌, Bool, true, false, IsTrue, max, List, [], ◌∷◌, ◌++◌, length, length-set, length-append, Option, Some, None, Result, Ok, Err, slice_get, slice_set, refl, sym, ap, ◌∙◌, subst, inl, inr, ◌⊎◌, arith}
+use Rattle.std.proofs.Common.{◌≡◌, ℕ, ◌+◌, ◌*◌, ◌<◌, ◌≤◌, Bool, true, false, IsTrue, List, ◌++◌, length, length-set, length-append, Option, Some, None, Result, Ok, Err, slice_get, slice_set, refl, sym, ◌∙◌, subst, inl, inr, ◌⊎◌, arith}
 use Rattle.qw_types.specs.Arithmetic.{◌>>=◌}
 use Rattle.qw_types.specs.declared.code.Code.{Code}
 use Rattle.qw_types.specs.declared.kind.Kind.{Kind}
@@ -10,7 +10,7 @@ use Rattle.qw_types.specs.declared.value.Val.{Val}
 use Rattle.qw_types.specs.declared.value.Val.TheVariants as val
 use Rattle.qw_meaning.specs.Columns.{HasColumns, HoldsIn}
 use Rattle.qw_meaning.specs.Evaluation.{Environment, chosen, same_truth, truth_of, value_of}
-use Rattle.qw_meaning.specs.Expression.{Expression, Condition, choice, scale_of}
+use Rattle.qw_meaning.specs.Expression.{Expression, Condition, choice}
 use Rattle.qw_meaning.specs.Typing.{IsTyped, IsValueOf, agree, joined, kind_of}
 use Rattle.qw_meaning.proofs.TypingLemmas.{typed_value}
 use Rattle.qw_map.proofs.TurnFacts.{slice_get-set_same}
@@ -23,17 +23,17 @@ use Rattle.qw_low.specs.State.{Own, Number, Address, LowState}
 use Rattle.qw_low.specs.Meaning.{Outcome, Completed, Exited, Stopped, Wrong, Unfinished, meaning}
 use Rattle.qw_low.specs.Size.{size}
 use Rattle.qw_low.specs.Promise.{Ends}
-use Rattle.qw_low.specs.Raising.{Kept, Leaves, Raises}
+use Rattle.qw_low.specs.Raising.{Kept}
 use Rattle.qw_low.specs.Held.{SaysNull, SaysValue}
 use Rattle.qw_low.proofs.Results.{Kept-same, Kept-set, Kept-then, Comes, comes_weaker, comes_then, comes_choose}
 use Rattle.qw_expr.specs.declared.choice.Place.{Place}
 use Rattle.qw_expr.specs.declared.operand.Operand.{Operand}
-use Rattle.qw_expr.specs.Cells.{Holds, HoldsValue, HoldsTruth, IsWithin, IsBelow, IsBelowNull, DeclaresNull, DeclaresKind, DeclaresValue, Declares}
-use Rattle.qw_meaning.specs.Units.{units, units_of}
-use Rattle.qw_expr.specs.Computes.{Known, AreHeld, AreBelow, AreDeclared, Computes, Decides}
-use Rattle.qw_expr.specs.Inner.Truths.{i32, unknown_word, junction_null}
-use Rattle.qw_expr.specs.Inner.Choices.{Suits, place_types, place_at, copy_value, copy_block, chosen_at}
-use Rattle.qw_expr.proofs.Nulls.{known_kept, below_more, null_below_more}
+use Rattle.qw_expr.specs.Cells.{Holds, HoldsValue, HoldsTruth, IsWithin, IsBelowNull, DeclaresNull, DeclaresKind, Declares}
+use Rattle.qw_meaning.specs.Units.{units}
+use Rattle.qw_expr.specs.Computes.{Known, AreHeld, AreBelow, Computes, Decides}
+use Rattle.qw_expr.specs.Inner.Truths.{unknown_word, junction_null}
+use Rattle.qw_expr.specs.Inner.Choices.{Suits, place_types, place_at, copy_block, chosen_at}
+use Rattle.qw_expr.proofs.Nulls.{known_kept, below_more}
 use Rattle.qw_expr.proofs.Binary.{if_ok_is, declares_first, declares_rest}
 use Rattle.qw_expr.proofs.Junctions.{true_word}
 use Rattle.qw_expr.proofs.Copies.{IsApart, copied}

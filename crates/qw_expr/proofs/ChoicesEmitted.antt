@@ -1,5 +1,5 @@
 -- Choices that are emitted.
-use Rattle.std.proofs.Common.{◌≡◌, ℕ, ◌+◌, ◌≤◌, Bool, List, [], ◌∷◌, ◌++◌, length, length-append, refl, sym, ap, ◌∙◌, subst, arith}
+use Rattle.std.proofs.Common.{◌≡◌, ◌+◌, ◌≤◌, Bool, List, [], ◌∷◌, ◌++◌, length, length-append, sym, ap, ◌∙◌, subst, arith}
 use Rattle.std.proofs.lemmas.List.{append_assoc}
 use Rattle.qw_meaning.specs.Expression.{Expression, Condition, choice}
 use Rattle.qw_meaning.specs.Typing.{IsTyped, kind_of}
@@ -18,7 +18,6 @@ use Rattle.qw_expr.specs.Computes.{Known, AreBelow, Computes}
 use Rattle.qw_expr.specs.Emits.{Emits, EmitsTruth, free_of}
 use Rattle.qw_expr.specs.Inner.Choices.{Suits, place_types, place_at, copy_block, chosen_at, BeginsChoice, HasFirst}
 use Rattle.qw_expr.proofs.Choices.{choice_computes}
-use Rattle.qw_expr.proofs.Emitted.{free_after}
 use Rattle.qw_expr.proofs.TruthsEmitted.{truth_after}
 
 pub has_first : (known : List Known) (c : Condition) (a : Expression) (text : Bool) (start mid begun cur new : Emitter) (test : Cell) (to : Place) (first : Operand) (c1 : List LowStep) → EmitsTruth known c start mid test → BeginsChoice test.value text mid begun to → Emits known a begun cur first →

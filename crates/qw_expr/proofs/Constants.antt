@@ -1,99 +1,37 @@
--- Literals, what is known, and what stays at every scale.
-use Rattle.std.proofs.Common.{◌≡◌, ℕ, ℤ, pos, negsuc, ◌+◌, List, [], ◌∷◌, ◌++◌, length, FitsSigned, unsigned_abs, Option, Some, None, Result, Ok, Err, false, slice_get, slice_set, refl, sym, ap, ◌∙◌, subst, arith, w32, w64}
-use Rattle.std.proofs.lemmas.Int.{ints}
+-- Fields of dates, what stays at every scale, and the null value.
+use Rattle.std.proofs.Common.{◌≡◌, ℕ, ◌+◌, List, [], ◌∷◌, ◌++◌, length, Option, Some, None, Result, Ok, Err, false, refl, sym, ap, ◌∙◌, subst, arith}
 use Rattle.qw_types.specs.Arithmetic.{◌>>=◌}
-use Rattle.qw_types.specs.Kind.{IsDateNumber}
 use Rattle.qw_types.specs.declared.code.Code.{Code}
 use Rattle.qw_types.specs.declared.kind.Kind.{Kind}
 use Rattle.qw_types.specs.declared.kind.Kind.TheVariants as kind
 use Rattle.qw_types.specs.declared.value.Val.{Val}
 use Rattle.qw_types.specs.declared.value.Val.TheVariants as val
 use Rattle.qw_meaning.specs.declared.expression.Field.{Field}
-use Rattle.qw_meaning.specs.Evaluation.{Environment, raised, value_of}
-use Rattle.qw_meaning.specs.Expression.{Expression, null, number, date, extract, brought, scale_of}
+use Rattle.qw_meaning.specs.Evaluation.{raised, value_of}
+use Rattle.qw_meaning.specs.Expression.{Expression, null, extract, brought, scale_of}
 use Rattle.qw_meaning.specs.Typing.{IsTyped, IsValueOf, at_scale, is_number, kind_of}
 use Rattle.qw_meaning.proofs.TypingLemmas.{typed_value}
 use Rattle.qw_map.proofs.TurnFacts.{slice_get-set_same}
-use Rattle.qw_module.specs.declared.instruction.ValType.{ValType}
 use Rattle.qw_module.specs.declared.instruction.ValType.TheVariants.{I32, I64}
-use Rattle.qw_module.specs.declared.instruction.Const.TheVariants as const
-use Rattle.qw_low.specs.Syntax.{Statement, constant_of, seq, assign}
+use Rattle.qw_low.specs.Syntax.{Statement, seq, assign}
 use Rattle.qw_low.specs.State.{Number, LowState}
 use Rattle.qw_low.specs.Raising.{Kept}
-use Rattle.qw_low.specs.Held.{HoldsNumber}
 use Rattle.qw_low.specs.Steps.{steps_of}
 use Rattle.qw_low.proofs.Appended.{two}
 use Rattle.qw_low.proofs.Results.{Kept-one, Comes, comes_assign}
-use Rattle.qw_wide.proofs.Words.{word, word_below, small, fits_small, word_held}
 use Rattle.qw_expr.specs.declared.emitter.Emitter.{Emitter}
 use Rattle.qw_expr.specs.declared.operand.Operand.{Operand}
-use Rattle.qw_expr.specs.Cells.{Holds, IsBelowNull, DeclaresValue}
+use Rattle.qw_expr.specs.Cells.{Holds}
 use Rattle.qw_expr.specs.Computes.{Known, AreBelow, Computes}
 use Rattle.qw_expr.specs.Emits.{Emits, free_of}
 use Rattle.qw_expr.specs.Inner.Nulls.{unless_null}
 use Rattle.qw_expr.specs.Inner.Fields.{field_block}
 use Rattle.qw_expr.specs.Inner.Operated.{number_at}
 use Rattle.qw_expr.specs.Inner.Truths.{i32, AddsTest}
-use Rattle.qw_expr.specs.Inner.Literals.{AddsWord, AddsField, limit_of}
+use Rattle.qw_expr.specs.Inner.Literals.{AddsField, limit_of}
 use Rattle.qw_expr.proofs.Binary.{if_ok_is, first_declared}
 use Rattle.qw_expr.proofs.Unary.{extract_computes}
 use Rattle.qw_expr.proofs.Emitted.{free_after}
-
--- ---- literals
-module _ (known : List Known) (e : Expression) (next : ℕ) (out : Operand) (z : ℤ) (v : Val) (fit : FitsSigned w64 z) (kind_is : out.kind ≡ kind_of e) (scale_is : out.scale ≡ scale_of e) (value_is : out.cell.value ≡ next) (length_is : out.cell.length ≡ next)
-    (null_is : out.cell.null ≡ None) (means : (env : Environment) → value_of e env ≡ Ok v) (holds : (t : LowState) → HoldsNumber t next z → Holds out v t)
-    (declares : (types : List ValType) → slice_get types next ≡ Some I64 → DeclaresValue types out) where
-  abbrev block : Statement
-  block = assign next (constant_of (const.I64 (word z)))
-
-  pub word_computes : Computes known e next out block (I64 ∷ [])
-  word_computes = record {
-    kind_is = kind_is;
-    scale_is = scale_is;
-    below = (omega (arith, value_is), omega (arith, length_is), subst (λ (n : Option ℕ). IsBelowNull (next + 1) n) (sym null_is) tt);
-    runs = λ pages fuel more row s enough within held has room.
-        subst (λ (r : Result Val Code). Comes pages fuel more (λ w t. Kept next s t × Holds out w t) r block s) (sym (means (record { row = row })))
-        (comes_assign pages fuel more (omega (arith, enough)) (λ w t. Kept next s t × Holds out w t) v next (constant_of (const.I64 (word z))) (Number (word z)) s refl (omega (arith, room)) (
-          Kept-one s next (Number (word z)),
-          holds (record s { locals = slice_set s.locals next (Number (word z)) })
-              (word_held (record s { locals = slice_set s.locals next (Number (word z)) }) next z fit (slice_get-set_same s.locals next (Number (word z)) (omega (arith, room)))),
-        ));
-    typed = λ types declared all. ((I64, first_declared types next I64 all, (word_below z fit, refl)), declares types (first_declared types next I64 all));
-  }
-
-word_emits : (known : List Known) (e : Expression) (old new : Emitter) (out : Operand) (z : ℤ) (n : ℕ) → AddsWord z old new n → Computes known e (free_of old) out (assign (free_of old) (constant_of (const.I64 (word z)))) (I64 ∷ []) → Emits known e old new out
-word_emits known e old new out z n adds computes = record {
-  first_is = adds.first_is;
-  statement = assign (free_of old) (constant_of (const.I64 (word z)));
-  own = I64 ∷ [];
-  code_is = subst (λ k. new.block.code.items ≡ old.block.code.items ++ steps_of (assign k (constant_of (const.I64 (word z))))) adds.local_is adds.code_is;
-  own_is = adds.own_is;
-  computes = computes;
-}
-
-pub number_emits : (known : List Known) (v : ℤ) (scale : ℕ) (old new : Emitter) (n most : ℕ) → IsTyped (number v scale) → most ≡ unsigned_abs v → AddsWord v old new n → Emits known (number v scale) old new (number_at n None scale most)
-number_emits known v scale old new n most typed most_is adds =
-    word_emits known (number v scale) old new (number_at n None scale most) v n adds
-    (word_computes known (number v scale) (free_of old) (number_at n None scale most) v (val.Num v) (fits_small v typed.0) refl refl adds.local_is adds.local_is refl (λ env. refl)
-    (λ t holds. ((subst (λ k. HoldsNumber t k v) (sym adds.local_is) holds, typed.0, tt), omega (arith, most_is)))
-    (λ types is. (subst (λ k. slice_get types k ≡ Some I64) (sym adds.local_is) is, tt)))
-
-pub date_fits : (d : ℤ) → IsDateNumber d → FitsSigned w64 d
-date_fits (pos n) is = small (pos n) (omega (arith, ints, is.1))
-date_fits (negsuc n) is = absurd (omega (arith, ints, is.0))
-
-pub date_small : (d : ℤ) → IsDateNumber d → FitsSigned w32 d
-date_small (pos n) is = omega (arith, ints, is.1)
-date_small (negsuc n) is = absurd (omega (arith, ints, is.0))
-
-pub date_emits : (known : List Known) (d : ℤ) (old new : Emitter) (n : ℕ) → IsTyped (date d) → AddsWord d old new n →
-    Emits known (date d) old new (record { cell = record { value = n; length = n; null = None }; kind = Some kind.Date; scale = 0; most = 0 })
-date_emits known d old new n typed adds =
-    let out : Operand = record { cell = record { value = n; length = n; null = None }; kind = Some kind.Date; scale = 0; most = 0 } in
-    word_emits known (date d) old new out d n adds
-    (word_computes known (date d) (free_of old) out d (val.Date d) (date_fits d typed) refl refl adds.local_is adds.local_is refl (λ env. refl)
-    (λ t holds. ((subst (λ k. HoldsNumber t k d) (sym adds.local_is) holds, tt), tt))
-    (λ types is. (subst (λ k. slice_get types k ≡ Some I64) (sym adds.local_is) is, tt)))
 
 -- ---- fields
 pub field_emits : (known : List Known) (field : Field) (a : Expression) (start old new : Emitter) (operand out : Operand) → IsTyped (extract field a) → AreBelow (free_of start) known → Emits known a start old operand → AddsField field operand old new out →

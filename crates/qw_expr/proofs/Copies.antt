@@ -16,11 +16,10 @@ use Rattle.qw_low.specs.State.{Value, Number, Address, LowState}
 use Rattle.qw_low.specs.Meaning.{value}
 use Rattle.qw_low.specs.Raising.{Kept}
 use Rattle.qw_low.specs.Held.{HoldsNumber, HoldsText, SaysNull, SaysValue}
-use Rattle.qw_low.proofs.Results.{Kept-same, Kept-set, Kept-one, Kept-then, Comes, comes_set, comes_assign, comes_then, comes_weaker, comes_skip}
-use Rattle.qw_expr.specs.declared.choice.Place.{Place}
+use Rattle.qw_low.proofs.Results.{Kept-same, Kept-set, Kept-one, Comes, comes_set, comes_assign, comes_then, comes_skip}
 use Rattle.qw_expr.specs.Cells.{HoldsValue, IsBelow}
 use Rattle.qw_expr.specs.Inner.Truths.{unknown_word}
-use Rattle.qw_expr.specs.Inner.Choices.{Suits, place_types, place_at, copy_value, copy_block}
+use Rattle.qw_expr.specs.Inner.Choices.{Suits, place_types, place_at, copy_block}
 use Rattle.qw_expr.proofs.Nulls.{number_kept, text_kept, sizes}
 
 -- whether a value is null

@@ -17,12 +17,12 @@ use Rattle.qw_module.specs.declared.instruction.ValType.{ValType}
 use Rattle.qw_module.specs.declared.instruction.ValType.TheVariants.{I32, I64}
 use Rattle.qw_low.specs.declared.cell.Cell.{Cell}
 use Rattle.qw_low.specs.Typing as low
-use Rattle.qw_low.specs.Syntax.{Statement, seq, assign}
+use Rattle.qw_low.specs.Syntax.{Statement, seq}
 use Rattle.qw_low.specs.State.{LowState}
 use Rattle.qw_low.specs.Raising.{Kept}
 use Rattle.qw_low.specs.Held.{SaysValue}
 use Rattle.qw_low.proofs.Results.{Kept-then, Comes, comes_weaker, comes_then}
-use Rattle.qw_wide.specs.Numbers.{HasNumber, Compares}
+use Rattle.qw_wide.specs.Numbers.{HasNumber, Tests}
 use Rattle.qw_wide.proofs.OrderRuns.{same_scale}
 use Rattle.qw_wide.proofs.Words.{below_fits}
 use Rattle.qw_expr.specs.declared.operand.Operand.{Operand}
@@ -30,7 +30,7 @@ use Rattle.qw_expr.specs.Cells.{Holds, HoldsTruth, IsBelowNull, DeclaresNull, De
 use Rattle.qw_meaning.specs.Units.{octets_in, octets_of, units_of}
 use Rattle.qw_expr.specs.Computes.{Known, AreHeld, AreBelow, Computes, Decides}
 use Rattle.qw_expr.specs.Inner.Nulls.{join_block, joined_null}
-use Rattle.qw_expr.specs.Inner.Truths.{zero_test, zero_if_null}
+use Rattle.qw_expr.specs.Inner.Truths.{zero_if_null}
 use Rattle.qw_expr.proofs.Nulls.{value_kept, known_kept, below_more}
 use Rattle.qw_expr.proofs.Binary.{NumberOrNull, number_of_typed, if_ok_is, joined_below, first_declared, declares_first, declares_rest, join_typed, operand_declared}
 use Rattle.qw_expr.proofs.Unary.{date_of, no_number, no_text, date_declared}
@@ -54,9 +54,6 @@ second_declared : (types : List ValType) (n : ℕ) (mine : List ValType) → Dec
 second_declared types n mine declares =
     let zeroth : n + 0 ≡ n = omega arith in
     (subst (λ k. slice_get types k ≡ Some I32) zeroth (declares 0 I32 refl), declares 1 I32 refl, declares_rest types n (I32 ∷ I32 ∷ []) mine declares)
-
-pub test_typed : (types : List ValType) (o : Comparison) (n : ℕ) → slice_get types n ≡ Some I64 → low.HasType types (zero_test o n) I32
-test_typed types o n is = (is, (omega arith, refl), refl)
 
 module _ (known : List Known) (next : ℕ) (low_known : AreBelow next known) (o : Comparison) (a b : Expression) (oa ob : Operand) (sa sb : Statement) (owna ownb : List ValType)
     (ca : Computes known a next oa sa owna) (cb : Computes known b (next + length owna) ob sb ownb) where
@@ -125,22 +122,21 @@ module _ (known : List Known) (next : ℕ) (low_known : AreBelow next known) (o 
     }
 
   -- by the order of two numbers
-  module _ (order : ℤ → ℤ → Ordering) (f : Statement) (ma mb : ℕ) (compares : Compares order oa.cell.value ma ob.cell.value mb (m + 2) f)
+  module _ (order : ℤ → ℤ → Ordering) (f : Statement) (ma mb : ℕ) (tests : Tests o order oa.cell.value ma ob.cell.value mb (m + 2) (m + 1) f)
       (numbers : (row : List Val) (x y : Val) (u : LowState) → HaveColumns (HoldsIn row) (comparison o a b) → value_of a (record { row = row }) ≡ Ok x → value_of b (record { row = row }) ≡ Ok y → Holds oa x u → Holds ob y u → (x ≡ val.Null → ⊥) → (y ≡ val.Null → ⊥) →
       (v w : ℤ) × HasNumber oa.cell.value ma v u × HasNumber ob.cell.value mb w u × (compared o x (scale_of a) y (scale_of b) ≡ truth_if (answers o (order v w))))
       (declared_a : (types : List ValType) → DeclaresValue types oa → slice_get types oa.cell.value ≡ Some I64) (declared_b : (types : List ValType) → DeclaresValue types ob → slice_get types ob.cell.value ≡ Some I64) where
-    pub order_decides : Decides known (comparison o a b) next cell (seq sa (seq sb (seq (join_block m oa.cell.null ob.cell.null) (zero_if_null null (m + 1) (seq f (assign (m + 1) (zero_test o (m + 2)))))))) (owna ++ (ownb ++ (I32 ∷ I32 ∷ I64 ∷ [])))
-    order_decides = comparison_decides (seq f (assign (m + 1) (zero_test o (m + 2)))) (I64 ∷ [])
+    pub order_decides : Decides known (comparison o a b) next cell (seq sa (seq sb (seq (join_block m oa.cell.null ob.cell.null) (zero_if_null null (m + 1) f)))) (owna ++ (ownb ++ (I32 ∷ I32 ∷ I64 ∷ [])))
+    order_decides = comparison_decides f (I64 ∷ [])
         (λ pages fuel more row x y u t enough within columns is_x is_y one other nx ny kept says room.
         let found = numbers row x y u columns is_x is_y one other nx ny in
         rw (found.4)
-        (ordered pages fuel more (omega (arith, enough)) u m oa ob (below_more (next + length owna) m oa.cell (omega arith) ca.below) cb.below (omega (arith, room)) o order f ma mb compares found.0 found.1 found.2 found.3 t kept says))
+        (ordered pages fuel more (omega (arith, enough)) u m oa ob (below_more (next + length owna) m oa.cell (omega arith) ca.below) cb.below (omega (arith, room)) o order f ma mb tests found.0 found.1 found.2 found.3 t kept says))
         (λ types da db word declares.
-        let number_is : slice_get types (m + 2) ≡ Some I64 = first_declared types (m + 2) I64 declares in
-        (compares.typed types (declared_a types da) (declared_b types db) number_is, (I32, word, test_typed types o (m + 2) number_is)))
+        tests.typed types (declared_a types da) (declared_b types db) word (first_declared types (m + 2) I64 declares))
 
 -- ---- numbers and dates
-number_in : (known : List Known) (e : Expression) (row : List Val) (x : Val) (o : Operand) (u : LowState) → IsTyped e → IsTrue (is_number (kind_of e)) → HasColumns (HoldsIn row) e → value_of e (record { row = row }) ≡ Ok x → Holds o x u → (x ≡ val.Null → ⊥) →
+pub number_in : (known : List Known) (e : Expression) (row : List Val) (x : Val) (o : Operand) (u : LowState) → IsTyped e → IsTrue (is_number (kind_of e)) → HasColumns (HoldsIn row) e → value_of e (record { row = row }) ≡ Ok x → Holds o x u → (x ≡ val.Null → ⊥) →
     (v : ℤ) × (x ≡ val.Num v) × HasNumber o.cell.value o.most v u
 number_in known e row x o u typed numeric columns is holds other = by_value x (number_of_typed e row x typed numeric columns is) holds other
   where
@@ -150,16 +146,16 @@ number_in known e row x o u typed numeric columns is holds other = by_value x (n
     by_value (val.Date d) is holds other = absurd is
     by_value (val.Text t) is holds other = absurd is
 
-compared_numbers : (o : Comparison) (x y : Val) (sa sb : ℕ) (v w : ℤ) → x ≡ val.Num v → y ≡ val.Num w → compared o x sa y sb ≡ truth_if (answers o (order_of v sa w sb))
+pub compared_numbers : (o : Comparison) (x y : Val) (sa sb : ℕ) (v w : ℤ) → x ≡ val.Num v → y ≡ val.Num w → compared o x sa y sb ≡ truth_if (answers o (order_of v sa w sb))
 compared_numbers o x y sa sb v w is_x is_y = rw (is_x, is_y) refl
 
 pub numbers_decide : (known : List Known) (next : ℕ) → AreBelow next known → (o : Comparison) (a b : Expression) (oa ob : Operand) (sa sb f : Statement) (owna ownb : List ValType) → AreTyped (comparison o a b) → IsTrue (is_number (kind_of a)) → IsTrue (is_number (kind_of b)) →
-    Computes known a next oa sa owna → Computes known b (next + length owna) ob sb ownb → Compares (λ v w. order_of v (scale_of a) w (scale_of b)) oa.cell.value oa.most ob.cell.value ob.most (next + length owna + length ownb + 2) f →
+    Computes known a next oa sa owna → Computes known b (next + length owna) ob sb ownb → Tests o (λ v w. order_of v (scale_of a) w (scale_of b)) oa.cell.value oa.most ob.cell.value ob.most (next + length owna + length ownb + 2) (next + length owna + length ownb + 1) f →
     let m = next + length owna + length ownb in let null = joined_null m oa.cell.null ob.cell.null in
     Decides known (comparison o a b) next (record { value = m + 1; length = m + 1; null = null })
-    (seq sa (seq sb (seq (join_block m oa.cell.null ob.cell.null) (zero_if_null null (m + 1) (seq f (assign (m + 1) (zero_test o (m + 2)))))))) (owna ++ (ownb ++ (I32 ∷ I32 ∷ I64 ∷ [])))
-numbers_decide known next low_known o a b oa ob sa sb f owna ownb typed na nb ca cb compares =
-    order_decides known next low_known o a b oa ob sa sb owna ownb ca cb (λ v w. order_of v (scale_of a) w (scale_of b)) f oa.most ob.most compares
+    (seq sa (seq sb (seq (join_block m oa.cell.null ob.cell.null) (zero_if_null null (m + 1) f)))) (owna ++ (ownb ++ (I32 ∷ I32 ∷ I64 ∷ [])))
+numbers_decide known next low_known o a b oa ob sa sb f owna ownb typed na nb ca cb tests =
+    order_decides known next low_known o a b oa ob sa sb owna ownb ca cb (λ v w. order_of v (scale_of a) w (scale_of b)) f oa.most ob.most tests
     (λ row x y u columns is_x is_y one other nx ny.
     let first = number_in known a row x oa u typed.0.0 na columns.0 is_x one nx in
     let second = number_in known b row y ob u typed.0.1 nb columns.1 is_y other ny in
@@ -167,7 +163,7 @@ numbers_decide known next low_known o a b oa ob sa sb f owna ownb typed na nb ca
     (λ types declared. operand_declared types oa a ca.kind_is na declared) (λ types declared. operand_declared types ob b cb.kind_is nb declared)
 
 -- the greatest date, as a number
-date_in : (e : Expression) (row : List Val) (x : Val) (o : Operand) (u : LowState) → IsTyped e → IsTrue (is_date (kind_of e)) → HasColumns (HoldsIn row) e → value_of e (record { row = row }) ≡ Ok x → Holds o x u → (x ≡ val.Null → ⊥) →
+pub date_in : (e : Expression) (row : List Val) (x : Val) (o : Operand) (u : LowState) → IsTyped e → IsTrue (is_date (kind_of e)) → HasColumns (HoldsIn row) e → value_of e (record { row = row }) ≡ Ok x → Holds o x u → (x ≡ val.Null → ⊥) →
     (v : ℤ) × (x ≡ val.Date v) × HasNumber o.cell.value 99991231 v u
 date_in e row x o u typed dated columns is holds other = by_value x (if_ok_is (IsValueOf (kind_of e)) (value_of e (record { row = row })) x is (typed_value e row typed columns)) holds other
   where
@@ -187,12 +183,12 @@ compared_dates : (o : Comparison) (x y : Val) (sa sb : ℕ) (v w : ℤ) → x �
 compared_dates o x y sa sb v w is_x is_y = rw (is_x, is_y) (ap (λ r. truth_if (answers o r)) (same_scale v w 0))
 
 pub dates_decide : (known : List Known) (next : ℕ) → AreBelow next known → (o : Comparison) (a b : Expression) (oa ob : Operand) (sa sb f : Statement) (owna ownb : List ValType) → AreTyped (comparison o a b) → IsTrue (is_date (kind_of a)) → IsTrue (is_date (kind_of b)) →
-    Computes known a next oa sa owna → Computes known b (next + length owna) ob sb ownb → Compares (λ v w. order_of v 0 w 0) oa.cell.value 99991231 ob.cell.value 99991231 (next + length owna + length ownb + 2) f →
+    Computes known a next oa sa owna → Computes known b (next + length owna) ob sb ownb → Tests o (λ v w. order_of v 0 w 0) oa.cell.value 99991231 ob.cell.value 99991231 (next + length owna + length ownb + 2) (next + length owna + length ownb + 1) f →
     let m = next + length owna + length ownb in let null = joined_null m oa.cell.null ob.cell.null in
     Decides known (comparison o a b) next (record { value = m + 1; length = m + 1; null = null })
-    (seq sa (seq sb (seq (join_block m oa.cell.null ob.cell.null) (zero_if_null null (m + 1) (seq f (assign (m + 1) (zero_test o (m + 2)))))))) (owna ++ (ownb ++ (I32 ∷ I32 ∷ I64 ∷ [])))
-dates_decide known next low_known o a b oa ob sa sb f owna ownb typed da db ca cb compares =
-    order_decides known next low_known o a b oa ob sa sb owna ownb ca cb (λ v w. order_of v 0 w 0) f 99991231 99991231 compares
+    (seq sa (seq sb (seq (join_block m oa.cell.null ob.cell.null) (zero_if_null null (m + 1) f)))) (owna ++ (ownb ++ (I32 ∷ I32 ∷ I64 ∷ [])))
+dates_decide known next low_known o a b oa ob sa sb f owna ownb typed da db ca cb tests =
+    order_decides known next low_known o a b oa ob sa sb owna ownb ca cb (λ v w. order_of v 0 w 0) f 99991231 99991231 tests
     (λ row x y u columns is_x is_y one other nx ny.
     let first = date_in a row x oa u typed.0.0 da columns.0 is_x one nx in
     let second = date_in b row y ob u typed.0.1 db columns.1 is_y other ny in

@@ -12,10 +12,12 @@ mod Emitted
 pub mod Junctions
 pub mod JunctionsDecide
 mod JunctionsEmitted
+pub mod Literals
 mod Lookups
 mod NullTests
 pub mod Nulls
 mod Shared
+mod Tests
 mod TextDecisions
 mod TreeChoices
 mod Trees

@@ -1,8 +1,7 @@
 -- What is known, and what is evaluated once and then known.
-use Rattle.std.proofs.Common.{◌≡◌, ◌⊎◌, ℕ, ◌+◌, ◌<◌, ◌≤◌, List, [], ◌∷◌, ◌++◌, length, length-append, Result, Ok, Err, refl, sym, ap, ◌∙◌, subst, inl, inr, arith}
+use Rattle.std.proofs.Common.{◌≡◌, ℕ, ◌+◌, ◌≤◌, List, [], ◌∷◌, ◌++◌, length, length-append, Result, Ok, Err, refl, sym, ◌∙◌, subst, inl, inr, arith}
 use Rattle.qw_types.specs.Arithmetic.{◌>>=◌}
 use Rattle.qw_types.specs.declared.code.Code.{Code}
-use Rattle.qw_types.specs.declared.truth.Truth.{Truth}
 use Rattle.qw_types.specs.declared.value.Val.{Val}
 use Rattle.qw_meaning.specs.Columns.{HasColumns, HaveColumns, HoldsIn}
 use Rattle.qw_meaning.specs.Evaluation.{Environment, truth_of, value_of}
@@ -18,8 +17,8 @@ use Rattle.qw_low.proofs.Appended.{two}
 use Rattle.qw_low.proofs.Results.{Kept-same, Kept-then, Comes, comes_weaker, comes_then, comes_skip}
 use Rattle.qw_expr.specs.declared.emitter.Emitter.{Emitter}
 use Rattle.qw_expr.specs.declared.operand.Operand.{Operand}
-use Rattle.qw_expr.specs.Bindings.{IsAmong, IsServed}
-use Rattle.qw_expr.specs.Cells.{Holds, HoldsTruth, IsBelow, DeclaresValue, Declares}
+use Rattle.qw_expr.specs.Bindings.{IsAmong}
+use Rattle.qw_expr.specs.Cells.{Holds, HoldsTruth, IsBelow, DeclaresValue}
 use Rattle.qw_meaning.specs.Units.{units, units_of}
 use Rattle.qw_expr.specs.Computes.{Known, AreHeld, AreBelow, AreDeclared, Computes, Decides}
 use Rattle.qw_expr.specs.Emits.{Emits, EmitsTruth, free_of}

@@ -1,6 +1,5 @@
 -- Comparisons of texts.
-use Rattle.std.proofs.Common.{◌≡◌, ℕ, ℤ, pos, int_cmp, ◌+◌, ◌*◌, ◌<◌, ◌≤◌, Bool, not, FitsSigned, List, [], ◌∷◌, ◌++◌, length, Option, Some, None, Ok, slice_get, slice_set, refl, sym, ap, ap₂, ◌∙◌, subst, arith, w64}
-use Rattle.std.proofs.lemmas.Int.{ints}
+use Rattle.std.proofs.Common.{◌≡◌, ℕ, ◌+◌, ◌*◌, ◌≤◌, Bool, FitsSigned, List, ◌∷◌, ◌++◌, length, Option, Some, Ok, slice_get, refl, sym, ap, ap₂, ◌∙◌, subst, arith, w64}
 use Rattle.std.specs.Ordering.{is_eq}
 use Rattle.qw_types.specs.TextOrder.{text_order}
 use Rattle.qw_types.specs.declared.kind.Kind.{Kind}
@@ -10,10 +9,10 @@ use Rattle.qw_types.specs.declared.value.Val.{Val}
 use Rattle.qw_types.specs.declared.value.Val.TheVariants as val
 use Rattle.qw_meaning.specs.declared.query.Comparison.{Comparison}
 use Rattle.qw_meaning.specs.declared.query.Comparison.TheVariants as op
-use Rattle.qw_meaning.specs.Columns.{HasColumns, HaveColumns, HoldsIn}
-use Rattle.qw_meaning.specs.Evaluation.{Environment, answers, compared, truth_if, value_of, truth_of}
+use Rattle.qw_meaning.specs.Columns.{HasColumns, HoldsIn}
+use Rattle.qw_meaning.specs.Evaluation.{answers, compared, truth_if, value_of}
 use Rattle.qw_meaning.specs.Expression.{Expression, comparison, scale_of}
-use Rattle.qw_meaning.specs.Typing.{AreTyped, IsTyped, IsValueOf, are_comparable, kind_of}
+use Rattle.qw_meaning.specs.Typing.{AreTyped, IsTyped, IsValueOf, kind_of}
 use Rattle.qw_meaning.proofs.TypingLemmas.{typed_value}
 use Rattle.qw_map.proofs.TurnFacts.{slice_get-set_same}
 use Rattle.qw_module.specs.declared.instruction.ValType.{ValType}
@@ -28,7 +27,7 @@ use Rattle.qw_low.specs.declared.step.LowStep.{LowStep}
 use Rattle.qw_low.specs.Steps.{steps_of}
 use Rattle.qw_low.specs.Size.{size}
 use Rattle.qw_low.specs.Raising.{Kept}
-use Rattle.qw_low.specs.Held.{HoldsNumber, HoldsText, SaysValue}
+use Rattle.qw_low.specs.Held.{HoldsText, SaysValue}
 use Rattle.qw_low.proofs.Appended.{four}
 use Rattle.qw_low.proofs.Promises.{Ends-weaker}
 use Rattle.qw_low.proofs.Results.{Kept-same, Kept-set, Kept-then, Comes, comes_then, comes_assign}
@@ -37,18 +36,20 @@ use Rattle.qw_wide.proofs.Words.{held_word}
 use Rattle.qw_expr.specs.declared.emitter.Emitter.{Emitter}
 use Rattle.qw_expr.specs.declared.text.TextLocals.{TextLocals}
 use Rattle.qw_expr.specs.declared.operand.Operand.{Operand}
-use Rattle.qw_expr.specs.Cells.{Holds, HoldsTruth, IsBelow, DeclaresKind, DeclaresValue, Declares}
+use Rattle.qw_expr.specs.Cells.{Holds, HoldsTruth, DeclaresKind, DeclaresValue, Declares}
 use Rattle.qw_meaning.specs.Units.{octets_in}
 use Rattle.qw_expr.specs.Computes.{Known, AreBelow, Computes, Decides}
 use Rattle.qw_expr.specs.Emits.{Emits, EmitsTruth, free_of}
 use Rattle.qw_expr.specs.Inner.Nulls.{join_block, joined_null, after_unless}
-use Rattle.qw_expr.specs.Inner.Truths.{zero_test, zero_if_null, before_zero}
+use Rattle.qw_expr.specs.Inner.Truths.{zero_if_null, before_zero}
+use Rattle.qw_wide.specs.Inner.Blocks.{zero_test}
 use Rattle.qw_expr.specs.Inner.Texts.{TestsTexts, TakesTexts, AddsTexts}
 use Rattle.qw_expr.proofs.Nulls.{value_says, text_kept, below_more}
-use Rattle.qw_expr.proofs.Binary.{if_ok_is, first_declared}
+use Rattle.qw_expr.proofs.Binary.{if_ok_is}
 use Rattle.qw_expr.proofs.Junctions.{not_is}
-use Rattle.qw_expr.proofs.Comparisons.{test_is, truth_held, fits_back}
-use Rattle.qw_expr.proofs.Decisions.{comparison_decides, test_typed}
+use Rattle.qw_wide.proofs.Relations.{zero_told, fits_back}
+use Rattle.qw_expr.proofs.Comparisons.{truth_held}
+use Rattle.qw_expr.proofs.Decisions.{comparison_decides}
 use Rattle.qw_expr.proofs.TruthsEmitted.{pair_emits, zero_steps}
 use Rattle.qw_expr.proofs.Unknowns.{null_low}
 
@@ -88,8 +89,8 @@ tests_order operator left right free t out a place compares =
     tests_by operator (SaysOrder out) left right free t a (zero_test operator out) compares
     (λ u v w says.
     let fit : FitsSigned w64 says.0 = fits_back says.1.0 says.0 says.1.2 says.1.3 in
-    rw (held_word u out says.0 says.1) (ap (λ (n : ℕ). Some (Number n)) (test_is operator says.0 (text_order v w) fit says.2)))
-    (λ types declares. test_typed types operator out (subst (λ k. slice_get types k ≡ Some I64) (sym place) (declares 2 I64 refl)))
+    rw (held_word u out says.0 says.1) (ap (λ (n : ℕ). Some (Number n)) (zero_told operator says.0 (text_order v w) fit says.2)))
+    (λ types declares. (subst (λ k. slice_get types k ≡ Some I64) (sym place) (declares 2 I64 refl), (omega arith, refl), refl))
 
 -- ---- two texts
 text_in : (e : Expression) (row : List Val) (x : Val) (o : Operand) (u : LowState) → IsTyped e → kind_of e ≡ Some kind.Text → HasColumns (HoldsIn row) e → value_of e (record { row = row }) ≡ Ok x → Holds o x u → (x ≡ val.Null → ⊥) →

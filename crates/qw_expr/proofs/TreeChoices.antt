@@ -1,17 +1,13 @@
 -- What the functions over trees make of choices.
-use Rattle.std.proofs.Common.{◌≡◌, ℕ, ◌+◌, ◌≤◌, Bool, List, ◌++◌, length, length-append, Err, refl, sym, ap, ◌∙◌, subst, inl, inr, arith}
-use Rattle.qw_types.specs.declared.code.Code.{Code}
-use Rattle.qw_types.specs.declared.value.Val.{Val}
-use Rattle.qw_meaning.specs.Columns.{HasColumns, HoldsIn}
-use Rattle.qw_meaning.specs.Evaluation.{Environment, value_of}
-use Rattle.qw_meaning.specs.Expression.{Expression, Condition, brought, choice, is_null, negation_of, null, scale_of}
+use Rattle.std.proofs.Common.{◌≡◌, ℕ, ◌+◌, ◌≤◌, Bool, List, length, length-append, ap, ◌∙◌, arith}
+use Rattle.qw_meaning.specs.Expression.{Expression, Condition, brought, choice, is_null, negation_of, null}
 use Rattle.qw_meaning.specs.Typing.{IsTyped}
 use Rattle.qw_low.specs.declared.cell.Cell.{Cell}
 use Rattle.qw_expr.specs.declared.choice.Place.{Place}
 use Rattle.qw_expr.specs.declared.emitter.Emitter.{Emitter}
 use Rattle.qw_expr.specs.declared.operand.Operand.{Operand}
 use Rattle.qw_expr.specs.declared.choice.Started.{Started}
-use Rattle.qw_expr.specs.Bindings.{IsAmong, IsServed}
+use Rattle.qw_expr.specs.Bindings.{IsServed}
 use Rattle.qw_expr.specs.Computes.{Known, AreBelow}
 use Rattle.qw_expr.specs.Emits.{Emits, EmitsTruth, free_of}
 use Rattle.qw_expr.specs.Inner.Choices.{place_types, BeginsChoice, HasFirst}

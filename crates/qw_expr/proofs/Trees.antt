@@ -1,5 +1,5 @@
 -- What the functions over trees make of what they called.
-use Rattle.std.proofs.Common.{◌≡◌, ◌⊎◌, ℕ, ◌+◌, ◌≤◌, max, Bool, List, [], ◌∷◌, length, length-append, Err, refl, sym, ap, ◌∙◌, subst, inl, inr, arith}
+use Rattle.std.proofs.Common.{◌≡◌, ℕ, ◌≤◌, List, [], ◌∷◌, length, Err, refl, sym, ap, subst, inl, inr, arith}
 use Rattle.qw_types.specs.declared.code.Code.{Code}
 use Rattle.qw_types.specs.declared.value.Val.{Val}
 use Rattle.qw_meaning.specs.declared.expression.Operator.{Operator}
@@ -8,7 +8,7 @@ use Rattle.qw_meaning.specs.declared.query.Comparison.{Comparison}
 use Rattle.qw_meaning.specs.Columns.{HasColumns, HaveColumns, HoldsIn}
 use Rattle.qw_meaning.specs.Evaluation.{Environment, truth_of, value_of}
 use Rattle.qw_meaning.specs.Expression.{Expression, Condition, null, number, date, text, column, arithmetic, negative, extract, brought, choice, comparison, scale_after, scale_of}
-use Rattle.qw_meaning.specs.Typing.{AreTyped, IsTyped, ScalesAllowed, kind_of}
+use Rattle.qw_meaning.specs.Typing.{IsTyped, ScalesAllowed, kind_of}
 use Rattle.qw_low.specs.declared.cell.Cell.{Cell}
 use Rattle.qw_low.specs.Syntax as low
 use Rattle.qw_expr.specs.declared.emitter.Emitter.{Emitter}
@@ -22,7 +22,7 @@ use Rattle.qw_expr.specs.Inner.Junctions.{Begins}
 use Rattle.qw_expr.specs.Inner.Made.{Includes, Made, MadeTruth, with_operand}
 use Rattle.qw_expr.proofs.Emitted.{free_after}
 use Rattle.qw_expr.proofs.TruthsEmitted.{truth_after}
-use Rattle.qw_expr.proofs.Nulls.{below_more, known_below_more}
+use Rattle.qw_expr.proofs.Nulls.{known_below_more}
 use Rattle.qw_expr.proofs.Shared.{known_emits, shared_emits, shared_decides}
 
 -- ---- scales

@@ -11,13 +11,13 @@ use Rattle.qw_low.specs.declared.step.LowStep.{LowStep}
 use Rattle.qw_low.specs.Syntax.{Statement, seq, assign}
 use Rattle.qw_low.specs.Steps.{steps_of}
 use Rattle.qw_low.proofs.Appended.{two, three, four}
-use Rattle.qw_wide.specs.Numbers.{Compares}
+use Rattle.qw_wide.specs.Numbers.{Tests}
 use Rattle.qw_expr.specs.declared.emitter.Emitter.{Emitter}
 use Rattle.qw_expr.specs.declared.operand.Operand.{Operand}
 use Rattle.qw_expr.specs.Computes.{Known, AreBelow, Computes, Decides}
 use Rattle.qw_expr.specs.Emits.{Emits, EmitsTruth, free_of}
 use Rattle.qw_expr.specs.Inner.Nulls.{join_block, joined_null, after_unless}
-use Rattle.qw_expr.specs.Inner.Truths.{zero_test, zero_if_null, before_zero, is_false, AddsTest}
+use Rattle.qw_expr.specs.Inner.Truths.{zero_if_null, before_zero, is_false, AddsTest}
 use Rattle.qw_expr.specs.Inner.Operated.{AddsComparison}
 use Rattle.qw_expr.proofs.Emitted.{nil, free_after}
 use Rattle.qw_types.specs.declared.truth.Truth.TheVariants.{True, False}
@@ -29,29 +29,26 @@ zero_steps None t body = nil (steps_of body)
 zero_steps (Some n) t body = refl
 
 -- what the code of a comparison does to an emitter
-pub compared_adds : (operator : Comparison) (order : ℤ → ℤ → Ordering) (x mx y my : ℕ) (left right : Option ℕ) (old new : Emitter) (out : Cell) (c2 c3 c4 c5 : List LowStep) (p t n : ℕ) (null : Option ℕ) (f : Statement) → new.first ≡ old.first →
+pub compared_adds : (operator : Comparison) (order : ℤ → ℤ → Ordering) (x mx y my : ℕ) (left right : Option ℕ) (old new : Emitter) (out : Cell) (c2 c3 c4 : List LowStep) (p t n : ℕ) (null : Option ℕ) (f : Statement) → new.first ≡ old.first →
     new.own.items ≡ old.own.items ++ I32 ∷ I32 ∷ I64 ∷ [] → p ≡ free_of old → t ≡ free_of old + 1 → n ≡ free_of old + 2 → null ≡ joined_null p left right → c2 ≡ old.block.code.items ++ steps_of (join_block p left right) →
-    c3 ≡ c2 ++ before_zero null t → c4 ≡ c3 ++ steps_of f → c5 ≡ c4 ++ steps_of (assign t (zero_test operator n)) → new.block.code.items ≡ c5 ++ after_unless null → Compares order x mx y my n f →
+    c3 ≡ c2 ++ before_zero null t → c4 ≡ c3 ++ steps_of f → new.block.code.items ≡ c4 ++ after_unless null → Tests operator order x mx y my n t f →
     out ≡ record { value = t; length = t; null = null } → AddsComparison operator order x mx y my left right old new out
-compared_adds operator order x mx y my left right old new out c2 c3 c4 c5 p t n null f first own p_is t_is n_is null_is code2 code3 code4 code5 code6 compares out_is =
+compared_adds operator order x mx y my left right old new out c2 c3 c4 p t n null f first own p_is t_is n_is null_is code2 code3 code4 code5 tests out_is =
     let m : ℕ = free_of old in
     let J : Option ℕ = joined_null m left right in
     let null_at : null ≡ J = null_is ∙ ap (λ k. joined_null k left right) p_is in
-    let body : Statement = seq f (assign t (zero_test operator n)) in
-    let inner : c5 ≡ c3 ++ steps_of body = two c3 c4 c5 (steps_of f) (steps_of (assign t (zero_test operator n))) code4 code5 in
-    let all : new.block.code.items ≡ old.block.code.items ++ (steps_of (join_block p left right) ++ (before_zero null t ++ (steps_of body ++ after_unless null))) =
-    four old.block.code.items c2 c3 c5 new.block.code.items (steps_of (join_block p left right)) (before_zero null t) (steps_of body) (after_unless null) code2 code3 inner code6 in
-    let whole : new.block.code.items ≡ old.block.code.items ++ steps_of (seq (join_block p left right) (zero_if_null null t body)) =
-    all ∙ ap (λ c. old.block.code.items ++ (steps_of (join_block p left right) ++ c)) (zero_steps null t body) in
-    let at_p = subst (λ k. new.block.code.items ≡ old.block.code.items ++ steps_of (seq (join_block k left right) (zero_if_null null t body))) p_is whole in
-    let at_null = subst (λ (k : Option ℕ). new.block.code.items ≡ old.block.code.items ++ steps_of (seq (join_block m left right) (zero_if_null k t body))) null_at at_p in
-    let at_t = subst (λ k. new.block.code.items ≡ old.block.code.items ++ steps_of (seq (join_block m left right) (zero_if_null J k (seq f (assign k (zero_test operator n)))))) t_is at_null in
+    let all : new.block.code.items ≡ old.block.code.items ++ (steps_of (join_block p left right) ++ (before_zero null t ++ (steps_of f ++ after_unless null))) =
+    four old.block.code.items c2 c3 c4 new.block.code.items (steps_of (join_block p left right)) (before_zero null t) (steps_of f) (after_unless null) code2 code3 code4 code5 in
+    let whole : new.block.code.items ≡ old.block.code.items ++ steps_of (seq (join_block p left right) (zero_if_null null t f)) =
+    all ∙ ap (λ c. old.block.code.items ++ (steps_of (join_block p left right) ++ c)) (zero_steps null t f) in
+    let at_p = subst (λ k. new.block.code.items ≡ old.block.code.items ++ steps_of (seq (join_block k left right) (zero_if_null null t f))) p_is whole in
+    let at_null = subst (λ (k : Option ℕ). new.block.code.items ≡ old.block.code.items ++ steps_of (seq (join_block m left right) (zero_if_null k t f))) null_at at_p in
     record {
       first_is = first;
       own_is = own;
       f = f;
-      code_is = subst (λ k. new.block.code.items ≡ old.block.code.items ++ steps_of (seq (join_block m left right) (zero_if_null J (m + 1) (seq f (assign (m + 1) (zero_test operator k)))))) n_is at_t;
-      compares = subst (λ k. Compares order x mx y my k f) n_is compares;
+      code_is = subst (λ k. new.block.code.items ≡ old.block.code.items ++ steps_of (seq (join_block m left right) (zero_if_null J k f))) t_is at_null;
+      tests = subst (λ k. Tests operator order x mx y my (m + 2) k f) t_is (subst (λ k. Tests operator order x mx y my k t f) n_is tests);
       out_is = out_is ∙ ap (λ k. let c : Cell = record { value = k; length = k; null = null } in c) t_is ∙ ap (λ (k : Option ℕ). let c : Cell = record { value = m + 1; length = m + 1; null = k } in c) null_at;
     }
 
@@ -81,33 +78,33 @@ module _ (known : List Known) (operator : Comparison) (order : ℤ → ℤ → O
   m = free_of start + length ea.own + length eb.own
 
   abbrev tail : ℕ → Statement
-  tail k = seq (join_block k left.cell.null right.cell.null) (zero_if_null (joined_null k left.cell.null right.cell.null) (k + 1) (seq adds.f (assign (k + 1) (zero_test operator (k + 2)))))
+  tail k = seq (join_block k left.cell.null right.cell.null) (zero_if_null (joined_null k left.cell.null right.cell.null) (k + 1) adds.f)
 
   abbrev own : List ValType
   own = ea.own ++ (eb.own ++ (I32 ∷ I32 ∷ I64 ∷ []))
 
-  pub comparison_emits : (Computes known b (free_of start + length ea.own) right eb.statement eb.own → Compares order left.cell.value mx right.cell.value my (m + 2) adds.f →
+  pub comparison_emits : (Computes known b (free_of start + length ea.own) right eb.statement eb.own → Tests operator order left.cell.value mx right.cell.value my (m + 2) (m + 1) adds.f →
       Decides known (comparison operator a b) (free_of start) (record { value = m + 1; length = m + 1; null = joined_null m left.cell.null right.cell.null }) (seq ea.statement (seq eb.statement (tail m))) own) →
       EmitsTruth known (comparison operator a b) start new out
   comparison_emits decides =
       pair_emits known (comparison operator a b) a b start mid old new left right out ea eb tail (I32 ∷ I32 ∷ I64 ∷ []) (λ k. record { value = k + 1; length = k + 1; null = joined_null k left.cell.null right.cell.null }) adds.first_is adds.own_is adds.code_is adds.out_is
-      (λ cb at. decides cb (subst (λ k. Compares order left.cell.value mx right.cell.value my (k + 2) adds.f) at adds.compares))
+      (λ cb at. decides cb (subst (λ k. Tests operator order left.cell.value mx right.cell.value my (k + 2) (k + 1) adds.f) at adds.tests))
 
 pub numbers_emit : (known : List Known) (operator : Comparison) (a b : Expression) (start mid old new : Emitter) (left right : Operand) (out : Cell) → AreTyped (comparison operator a b) → IsTrue (is_number (kind_of a)) → IsTrue (is_number (kind_of b)) →
     AreBelow (free_of start) known → Emits known a start mid left → Emits known b mid old right →
     AddsComparison operator (λ v w. order_of v left.scale w right.scale) left.cell.value left.most right.cell.value right.most left.cell.null right.cell.null old new out → EmitsTruth known (comparison operator a b) start new out
 numbers_emit known operator a b start mid old new left right out typed na nb low ea eb adds =
     comparison_emits known operator (λ v w. order_of v left.scale w right.scale) left.most right.most a b start mid old new left right out ea eb adds
-    (λ cb compares. numbers_decide known (free_of start) low operator a b left right ea.statement eb.statement adds.f ea.own eb.own typed na nb ea.computes cb
-    (subst (λ k. Compares (λ v w. order_of v (scale_of a) w k) left.cell.value left.most right.cell.value right.most (free_of start + length ea.own + length eb.own + 2) adds.f) eb.computes.scale_is
-    (subst (λ k. Compares (λ v w. order_of v k w right.scale) left.cell.value left.most right.cell.value right.most (free_of start + length ea.own + length eb.own + 2) adds.f) ea.computes.scale_is compares)))
+    (λ cb tests. numbers_decide known (free_of start) low operator a b left right ea.statement eb.statement adds.f ea.own eb.own typed na nb ea.computes cb
+    (subst (λ k. Tests operator (λ v w. order_of v (scale_of a) w k) left.cell.value left.most right.cell.value right.most (free_of start + length ea.own + length eb.own + 2) (free_of start + length ea.own + length eb.own + 1) adds.f) eb.computes.scale_is
+    (subst (λ k. Tests operator (λ v w. order_of v k w right.scale) left.cell.value left.most right.cell.value right.most (free_of start + length ea.own + length eb.own + 2) (free_of start + length ea.own + length eb.own + 1) adds.f) ea.computes.scale_is tests)))
 
 pub dates_emit : (known : List Known) (operator : Comparison) (a b : Expression) (start mid old new : Emitter) (left right : Operand) (out : Cell) → AreTyped (comparison operator a b) → IsTrue (is_date (kind_of a)) → IsTrue (is_date (kind_of b)) →
     AreBelow (free_of start) known → Emits known a start mid left → Emits known b mid old right →
     AddsComparison operator (λ v w. order_of v 0 w 0) left.cell.value 99991231 right.cell.value 99991231 left.cell.null right.cell.null old new out → EmitsTruth known (comparison operator a b) start new out
 dates_emit known operator a b start mid old new left right out typed da db low ea eb adds =
     comparison_emits known operator (λ v w. order_of v 0 w 0) 99991231 99991231 a b start mid old new left right out ea eb adds
-    (λ cb compares. dates_decide known (free_of start) low operator a b left right ea.statement eb.statement adds.f ea.own eb.own typed da db ea.computes cb compares)
+    (λ cb tests. dates_decide known (free_of start) low operator a b left right ea.statement eb.statement adds.f ea.own eb.own typed da db ea.computes cb tests)
 
 -- ---- conditions of one condition
 pub truth_after : (known : List Known) (c : Condition) (old new : Emitter) (out : Cell) (h : EmitsTruth known c old new out) → free_of new ≡ free_of old + length h.own

@@ -1,4 +1,4 @@
--- What is known of columns and text literals that are in locals, and which expressions take no others.
+-- What is known of columns and literals that are in locals, and which expressions take no others.
 use Rattle.std.specs.Prelude.{◌≡◌, ◌⊎◌, ℕ, List, [], ◌∷◌}
 use Rattle.std.specs.List.{AllByRecursion}
 use Rattle.qw_meaning.specs.Expression.{Expression, Condition, null, number, date, text, column, arithmetic, negative, extract, brought, choice, comparison, is_null, both, either, negation_of, is, scale_of}
@@ -11,6 +11,8 @@ use Rattle.qw_expr.specs.Computes.{Known, AreBelow}
 
 abbrev pub named : Leaf → Expression
 named (leaf.Column i ty) = column i ty
+named (leaf.Number v s) = number v s
+named (leaf.Date d) = date d
 named (leaf.Text t) = text t
 
 abbrev pub known_of : List Binding → List Known
@@ -25,12 +27,12 @@ IsAmong k (first ∷ known) = (k ≡ first) ⊎ IsAmong k known
 abbrev pub Knows : List Known → Expression → Type 0
 Knows known e = (o : Operand) × IsAmong (record { expression = e; operand = o }) known
 
--- every column and every text literal of an expression is known
+-- every column and every literal of an expression is known, but for NULL
 abbrev mutual
   pub TakesKnown : List Known → Expression → Type 0
   TakesKnown known null = Unit {0}
-  TakesKnown known (number v s) = Unit {0}
-  TakesKnown known (date d) = Unit {0}
+  TakesKnown known (number v s) = Knows known (number v s)
+  TakesKnown known (date d) = Knows known (date d)
   TakesKnown known (text t) = Knows known (text t)
   TakesKnown known (column i ty) = Knows known (column i ty)
   TakesKnown known (arithmetic operator a b) = TakesKnown known a × TakesKnown known b

@@ -7,3 +7,4 @@ pub mod Junctions
 pub mod Choices
 pub mod Texts
 pub mod Made
+pub mod Tests

@@ -1,44 +1,28 @@
-//! Comparisons (ISO/IEC 9075:1992, 8.2) of numbers and of dates. The order of two values is left as a number below, at or above 0.
+//! Comparisons (ISO/IEC 9075:1992, 8.2) of numbers and of dates.
 
 ghost use Rattle.std.specs.Prelude.{◌≡◌, ◌+◌, ◌<◌, ◌≤◌, ◌^◌, ◌++◌, List, IsTrue, IfOk, OnOk, length};
 ghost use Rattle.qw_types.specs.Arithmetic.{order_of};
 ghost use Rattle.qw_meaning.specs.Expression.{Expression, comparison};
 ghost use Rattle.qw_meaning.specs.Typing.{AreTyped, are_comparable, is_date, is_number, kind_of};
-ghost use Rattle.qw_low.specs.Syntax.{assign};
-ghost use Rattle.qw_low.specs.Steps.{steps_of};
 ghost use Rattle.qw_expr.specs.Cells.{IsBelow};
 ghost use Rattle.qw_expr.specs.declared.emitter.Emitter.{Emitter};
 ghost use Rattle.qw_expr.specs.Computes.{Known, AreBelow};
 ghost use Rattle.qw_expr.specs.Emits.{Emits, EmitsTruth, free_of};
 ghost use Rattle.qw_expr.specs.Inner.Operated.{AddsComparison};
-ghost use Rattle.qw_expr.specs.Inner.Truths.{relation_of, zero_test, before_zero};
+ghost use Rattle.qw_expr.specs.Inner.Truths.{before_zero};
 
 use crate::emitter::Emitter;
 use crate::operand::Operand;
 use qw_low::cell::{Cell, Local};
 use qw_low::step::LowStep;
 use qw_meaning::query::Comparison;
-use qw_module::instruction::{Const, Op, Relation, Sign, ValType};
+use qw_module::instruction::{Const, Op, ValType};
 use qw_types::{Kind, NoMemory};
 use qw_wide::arithmetic::Scaled;
 use qw_wide::order::emit_cmp_scaled;
 
 /// The greatest date, as a number.
 const LAST_DATE: u64 = 99_991_231;
-
-/// The test of a comparison.
-fn relation_of(operator: Comparison) -> Relation
-    ensures { result ≡ relation_of operator }
-{
-    match operator {
-        Comparison::Equal => Relation::Eq,
-        Comparison::NotEqual => Relation::Ne,
-        Comparison::Less => Relation::Lt(Sign::Signed),
-        Comparison::LessOrEqual => Relation::Le(Sign::Signed),
-        Comparison::Greater => Relation::Gt(Sign::Signed),
-        Comparison::GreaterOrEqual => Relation::Ge(Sign::Signed),
-    }
-}
 
 impl Operand {
     /// A date as a number.
@@ -72,26 +56,6 @@ impl Emitter {
         Ok(())
     }
 
-    /// Adds the test of a number against 0.
-    pub(crate) fn test_zero(
-        &mut self,
-        operator: Comparison,
-        n: Local,
-        t: Local,
-    ) -> Result<(), NoMemory>
-        ensures code { OnOk result (self.new.block.code.items ≡ self.old.block.code.items ++ steps_of (assign t (zero_test operator n))) }
-        ensures same { OnOk result ((self.new.first ≡ self.old.first) × (self.new.own.items ≡ self.old.own.items)) }
-        ensures short { OnOk result (length self.new.block.code.items ≤ length self.old.block.code.items + 4) }
-    {
-        self.block.code.extend_from_slice(&[
-            LowStep::Op(Op::LocalGet(n)),
-            LowStep::Op(Op::Const(Const::I64(0))),
-            LowStep::Op(Op::Relation(ValType::I64, relation_of(operator))),
-            LowStep::Op(Op::LocalSet(t)),
-        ])?;
-        Ok(())
-    }
-
     /// Adds a comparison of two numbers, which is unknown where one is null.
     fn compared(
         &mut self,
@@ -111,8 +75,7 @@ impl Emitter {
         let n = self.fresh(ValType::I64)?;
         let null = self.join_nulls(p, left_null, right_null)?;
         self.begin_zero(null, t)?;
-        emit_cmp_scaled(&mut self.block, left, right, n)?;
-        self.test_zero(operator, n, t)?;
+        emit_cmp_scaled(&mut self.block, operator, left, right, n, t)?;
         self.end_unless(null)?;
         Ok(Cell {
             value: t,

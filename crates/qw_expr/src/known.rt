@@ -1,7 +1,7 @@
-//! Where the columns and the text literals of expressions are.
+//! Where the columns and the literals of expressions are.
 
 ghost use Rattle.std.specs.Prelude.{◌≡◌, IsTrue, false};
-ghost use Rattle.qw_meaning.specs.Expression.{column, text};
+ghost use Rattle.qw_meaning.specs.Expression.{column, date, number, text};
 ghost use Rattle.qw_expr.specs.declared.known.Leaf.TheVariants as leaf;
 ghost use Rattle.qw_expr.specs.Bindings.{IsAmong, Knows, known_of};
 
@@ -13,11 +13,15 @@ use qw_types::{Text, Ty};
 pub enum Leaf {
     /// A column of the row, counted from 0, and its type.
     Column(usize, Ty),
+    /// A number literal and its scale.
+    Number(i64, u8),
+    /// A date literal, as year * 10000 + month * 100 + day.
+    Date(i32),
     /// A text literal.
     Text(Text),
 }
 
-/// A column or a text literal whose value is in locals.
+/// A column or a literal whose value is in locals.
 #[derive(Debug, Drop)]
 pub struct Binding {
     pub leaf: Leaf,
@@ -32,7 +36,29 @@ impl Leaf {
     {
         match self {
             Leaf::Column(i, t) => *i == index && *t == ty,
-            Leaf::Text(_) => false,
+            Leaf::Number(_, _) | Leaf::Date(_) | Leaf::Text(_) => false,
+        }
+    }
+
+    /// Whether it is this number of this scale.
+    fn is_number(&self, value: i64, scale: u8) -> bool
+        ensures yes { IsTrue result → self.now ≡ leaf.Number value scale }
+        ensures no { result ≡ false → self.now ≡ leaf.Number value scale → ⊥ }
+    {
+        match self {
+            Leaf::Number(v, s) => *v == value && *s == scale,
+            Leaf::Column(_, _) | Leaf::Date(_) | Leaf::Text(_) => false,
+        }
+    }
+
+    /// Whether it is this date.
+    fn is_date(&self, day: i32) -> bool
+        ensures yes { IsTrue result → self.now ≡ leaf.Date day }
+        ensures no { result ≡ false → self.now ≡ leaf.Date day → ⊥ }
+    {
+        match self {
+            Leaf::Date(d) => *d == day,
+            Leaf::Column(_, _) | Leaf::Number(_, _) | Leaf::Text(_) => false,
         }
     }
 
@@ -42,7 +68,7 @@ impl Leaf {
         ensures no { result ≡ false → self.now ≡ leaf.Text text.now → ⊥ }
     {
         match self {
-            Leaf::Column(_, _) => false,
+            Leaf::Column(_, _) | Leaf::Number(_, _) | Leaf::Date(_) => false,
             Leaf::Text(other) => other.as_str() == text.as_str(),
         }
     }
@@ -56,6 +82,36 @@ pub(crate) fn column_of(bindings: &[Binding], index: usize, ty: Ty) -> Operand
     let mut rest = bindings;
     while let Some((first, others)) = rest.split_first() {
         if first.leaf.is_column(index, ty) {
+            return first.operand;
+        }
+        rest = others;
+    }
+    unreachable!()
+}
+
+/// The operand of a number literal.
+pub(crate) fn number_of(bindings: &[Binding], value: i64, scale: u8) -> Operand
+    requires { Knows (known_of bindings.now) (number value scale) }
+    ensures { IsAmong (record { expression = number value scale; operand = result }) (known_of bindings.now) }
+{
+    let mut rest = bindings;
+    while let Some((first, others)) = rest.split_first() {
+        if first.leaf.is_number(value, scale) {
+            return first.operand;
+        }
+        rest = others;
+    }
+    unreachable!()
+}
+
+/// The operand of a date literal.
+pub(crate) fn date_of(bindings: &[Binding], day: i32) -> Operand
+    requires { Knows (known_of bindings.now) (date day) }
+    ensures { IsAmong (record { expression = date day; operand = result }) (known_of bindings.now) }
+{
+    let mut rest = bindings;
+    while let Some((first, others)) = rest.split_first() {
+        if first.leaf.is_date(day) {
             return first.operand;
         }
         rest = others;

@@ -3,7 +3,8 @@
 //! - [`emitter::Emitter`]: what is emitted so far.
 //! - [`operand`]: where the value of an expression is.
 //! - [`tree`]: whole expressions and conditions, one call each.
-//! - [`known`]: columns and text literals that are in locals.
+//! - [`test`]: whole conditions, for choices that ask only whether they are true.
+//! - [`known`]: columns and literals that are in locals.
 //! - [`arithmetic`], [`literal`], [`compare`], [`text`], [`truth`]: what is emitted, an operator at a time.
 //! - [`worked_laws`]: cases with numbers.
 //! - `specs/Cells`: what the locals of a value hold.
@@ -18,6 +19,7 @@ mod junction;
 pub mod known;
 pub mod literal;
 pub mod operand;
+pub mod test;
 pub mod text;
 pub mod tree;
 pub mod truth;

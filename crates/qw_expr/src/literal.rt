@@ -1,16 +1,15 @@
 //! Literals, fields of dates, and numbers at another scale.
 
-ghost use Rattle.std.specs.Prelude.{◌≡◌, ◌<◌, ◌≤◌, ◌++◌, pos, unsigned_abs, List, Some, None, IfOk, OnOk, ◌+◌, length};
-ghost use Rattle.std.specs.Int.{w64, cast_unsigned};
-ghost use Rattle.qw_types.specs.declared.kind.Kind.TheVariants as kind;
-ghost use Rattle.qw_meaning.specs.Expression.{Expression, null, number, date, extract, brought};
+ghost use Rattle.std.specs.Prelude.{◌≡◌, ◌<◌, ◌≤◌, ◌++◌, List, IfOk, OnOk, ◌+◌, length};
+ghost use Rattle.qw_meaning.specs.Expression.{Expression, null, extract, brought};
 ghost use Rattle.qw_meaning.specs.Typing.{IsTyped, is_number};
 ghost use Rattle.qw_low.specs.Steps.{steps_of};
 ghost use Rattle.qw_expr.specs.Computes.{Known, AreBelow};
 ghost use Rattle.qw_expr.specs.Emits.{Emits, free_of};
 ghost use Rattle.qw_expr.specs.declared.emitter.Emitter.{Emitter};
 ghost use Rattle.qw_expr.specs.Inner.Fields.{field_block};
-ghost use Rattle.qw_expr.specs.Inner.Literals.{AddsWord, AddsField};
+ghost use Rattle.qw_expr.specs.Inner.Literals.{AddsField};
+ghost use Rattle.qw_expr.specs.Literals.{number_operand, date_operand};
 
 use crate::emitter::Emitter;
 use crate::operand::Operand;
@@ -25,56 +24,41 @@ const YEAR: u64 = 10_000;
 
 const MONTH: u64 = 100;
 
-impl Emitter {
-    /// Adds a number as a value of 64 bits.
-    fn word(&mut self, value: i64) -> Result<Local, NoMemory>
-        ensures emits { IfOk result (λ n. AddsWord value self.old self.new n) }
-        ensures short { OnOk result (length self.new.block.code.items ≤ length self.old.block.code.items + 2) }
+impl Operand {
+    /// The operand of a number literal whose word a local holds.
+    pub fn of_number(local: Local, value: i64, scale: u8) -> Operand
+        ensures { result ≡ number_operand local value scale }
     {
-        let n = self.fresh(ValType::I64)?;
-        self.block.code.extend_from_slice(&[
-            LowStep::Op(Op::Const(Const::I64(value.cast_unsigned()))),
-            LowStep::Op(Op::LocalSet(n)),
-        ])?;
-        Ok(n)
-    }
-
-    /// Adds a number of a scale.
-    pub fn number(&mut self, value: i64, scale: u8) -> Result<Operand, NoMemory>
-        ensures emits { IfOk result (λ out. (known : List Known) → IsTyped (number value scale) → Emits known (number value scale) self.old self.new out) }
-        ensures short { OnOk result (length self.new.block.code.items ≤ length self.old.block.code.items + 2) }
-    {
-        let n = self.word(value)?;
-        Ok(Operand {
+        Operand {
             cell: Cell {
-                value: n,
-                length: n,
+                value: local,
+                length: local,
                 null: None,
             },
             kind: Some(Kind::Number(scale)),
             scale,
             most: value.unsigned_abs(),
-        })
+        }
     }
 
-    /// Adds a date, as year * 10000 + month * 100 + day.
-    pub fn date(&mut self, day: i32) -> Result<Operand, NoMemory>
-        ensures emits { IfOk result (λ out. (known : List Known) → IsTyped (date day) → Emits known (date day) self.old self.new out) }
-        ensures short { OnOk result (length self.new.block.code.items ≤ length self.old.block.code.items + 2) }
+    /// The operand of a date literal whose word a local holds.
+    pub fn of_date(local: Local) -> Operand
+        ensures { result ≡ date_operand local }
     {
-        let n = self.word(i64::from(day))?;
-        Ok(Operand {
+        Operand {
             cell: Cell {
-                value: n,
-                length: n,
+                value: local,
+                length: local,
                 null: None,
             },
             kind: Some(Kind::Date),
             scale: 0,
             most: 0,
-        })
+        }
     }
+}
 
+impl Emitter {
     /// Adds the null value.
     pub fn null(&mut self) -> Result<Operand, NoMemory>
         ensures emits { IfOk result (λ out. (known : List Known) → Emits known null self.old self.new out) }

@@ -7,6 +7,7 @@ ghost use Rattle.qw_meaning.specs.Typing.{AreTyped, kind_of};
 ghost use Rattle.qw_module.specs.declared.instruction.ValType.TheVariants.{I32};
 ghost use Rattle.qw_low.specs.Syntax.{Statement, assign, is_zero, local};
 ghost use Rattle.qw_low.specs.Steps.{steps_of};
+ghost use Rattle.qw_wide.specs.Inner.Blocks.{zero_test};
 ghost use Rattle.qw_expr.specs.declared.emitter.Emitter.{Emitter};
 ghost use Rattle.qw_expr.specs.Cells.{IsBelow};
 ghost use Rattle.qw_expr.specs.Computes.{Known, AreBelow};
@@ -18,10 +19,11 @@ use crate::operand::Operand;
 use qw_low::cell::{Cell, Local};
 use qw_low::step::LowStep;
 use qw_meaning::query::Comparison;
-use qw_module::instruction::{Op, ValType};
+use qw_module::instruction::{Const, Op, ValType};
 use qw_text::equality::emit_text_eq;
 use qw_text::order::emit_text_order;
 use qw_types::NoMemory;
+use qw_wide::order::relation_of;
 
 /// The locals of a comparison of texts.
 #[derive(Clone, Copy)]
@@ -43,6 +45,21 @@ impl Emitter {
         let _left = self.fresh(ValType::I64)?;
         let _right = self.fresh(ValType::I64)?;
         Ok(TextLocals { null, truth, free })
+    }
+
+    /// Adds the test of a number against 0.
+    fn test_zero(&mut self, operator: Comparison, n: Local, t: Local) -> Result<(), NoMemory>
+        ensures code { OnOk result (self.new.block.code.items ≡ self.old.block.code.items ++ steps_of (assign t (zero_test operator n))) }
+        ensures same { OnOk result ((self.new.first ≡ self.old.first) × (self.new.own.items ≡ self.old.own.items)) }
+        ensures short { OnOk result (length self.new.block.code.items ≤ length self.old.block.code.items + 4) }
+    {
+        self.block.code.extend_from_slice(&[
+            LowStep::Op(Op::LocalGet(n)),
+            LowStep::Op(Op::Const(Const::I64(0))),
+            LowStep::Op(Op::Relation(ValType::I64, relation_of(operator))),
+            LowStep::Op(Op::LocalSet(t)),
+        ])?;
+        Ok(())
     }
 
     /// Adds whether two texts compare so.

@@ -15,7 +15,7 @@ ghost use Rattle.qw_expr.specs.Inner.Made.{Made, MadeTruth, StartsUnlessNull, wi
 
 use crate::choice::Started;
 use crate::emitter::Emitter;
-use crate::known::{Binding, column_of, text_of};
+use crate::known::{Binding, column_of, date_of, number_of, text_of};
 use crate::operand::Operand;
 use qw_low::cell::Cell;
 use qw_meaning::evaluate::scale;
@@ -42,8 +42,8 @@ fn expression(emitter: &mut Emitter, expr: &Expr, known: &[Binding]) -> Result<O
 {
     match expr {
         Expr::Null => emitter.null(),
-        Expr::Number(value, scale) => emitter.number(*value, *scale),
-        Expr::Date(day) => emitter.date(*day),
+        Expr::Number(value, scale) => Ok(number_of(known, *value, *scale)),
+        Expr::Date(day) => Ok(date_of(known, *day)),
         Expr::Text(text) => Ok(text_of(known, text)),
         Expr::Column(index, ty) => Ok(column_of(known, *index, *ty)),
         Expr::Arithmetic(operator, left, right) => {
@@ -318,7 +318,7 @@ impl Form {
     }
 }
 
-/// Adds the block of an expression: every column and every text literal of it is known.
+/// Adds the block of an expression: every column and every literal of it but NULL is known.
 ///
 /// # Errors
 ///
@@ -333,7 +333,7 @@ pub fn emit_expr(emitter: &mut Emitter, expr: &Expr, known: &[Binding]) -> Resul
     expression(emitter, expr, known)
 }
 
-/// Adds the block of a condition: every column and every text literal of it is known.
+/// Adds the block of a condition: every column and every literal of it but NULL is known.
 ///
 /// # Errors
 ///

@@ -1,13 +1,19 @@
 //! Worked cases of the definitions, with numbers: stated as contracts. No function here computes anything.
 
-ghost use Rattle.std.specs.Prelude.{◌≡◌, pos, negsuc, [], ◌∷◌, Some};
-ghost use Rattle.qw_types.specs.declared.truth.Truth.TheVariants.{False, Unknown};
+ghost use Rattle.std.specs.Prelude.{◌≡◌, pos, negsuc, [], ◌∷◌, Some, None};
+ghost use Rattle.qw_types.specs.declared.truth.Truth.TheVariants.{True, False, Unknown};
 ghost use Rattle.qw_types.specs.declared.value.Val.TheVariants.{Null, Num, Date};
 ghost use Rattle.qw_meaning.specs.declared.query.Comparison.TheVariants.{Equal};
 ghost use Rattle.qw_meaning.specs.Expression.{number, text, comparison, negation_of};
+ghost use Rattle.qw_module.specs.declared.instruction.Sign.TheVariants.{Signed};
+ghost use Rattle.qw_module.specs.declared.instruction.Relation.TheVariants.{Lt};
 ghost use Rattle.qw_low.specs.State.{Number};
+ghost use Rattle.qw_low.specs.Meaning.{value};
 ghost use Rattle.qw_low.specs.Worked.{state};
 ghost use Rattle.qw_expr.specs.Cells.{HoldsTruth, HoldsValue};
+ghost use Rattle.qw_expr.specs.Literals.{number_operand};
+ghost use Rattle.qw_expr.specs.Tests.{tested, truth_word};
+ghost use Rattle.qw_expr.specs.declared.test.Test.TheVariants as test;
 ghost use Rattle.qw_meaning.specs.Units.{units_of};
 
 /// -5 is 2^64 - 5 with 0 in the null word, which isn't null; null is 1 in the null word, whatever the value's local holds; a truth of 0 is
@@ -26,4 +32,16 @@ pub fn units_of_comparisons()
     ensures { (units_of (comparison Equal (text (112 ∷ 101 ∷ 110 ∷ [])) (text (109 ∷ []))) (record { row = [] }) ≡ 4)
         × (units_of (negation_of (comparison Equal (text (112 ∷ 101 ∷ 110 ∷ [])) (text (109 ∷ [])))) (record { row = [] }) ≡ 4)
         × (units_of (comparison Equal (number (pos 1) 0) (number (pos 10) 1)) (record { row = [] }) ≡ 0) }
+{}
+
+/// The literal -0.5, of scale 1, whose word is in local 3: its magnitude is 5, and it has no null word.
+pub fn operand_of_a_literal()
+    ensures { ((number_operand 3 (negsuc 4) 1).most ≡ 5) × ((number_operand 3 (negsuc 4) 1).scale ≡ 1) × ((number_operand 3 (negsuc 4) 1).cell.null ≡ None) }
+{}
+
+/// -5 is less than 3 as signed values; a null word of 0 is 0; unknown is no more true than false.
+pub fn tests_of_locals()
+    ensures related { value (record state { locals = Number 18446744073709551611 ∷ Number 3 ∷ [] }) (tested (test.Related (Lt Signed) 0 1)) ≡ Some (Number 1) }
+    ensures zero { value (record state { locals = Number 0 ∷ [] }) (tested (test.Zero 0)) ≡ Some (Number 1) }
+    ensures word { (truth_word True ≡ 1) × (truth_word False ≡ 0) × (truth_word Unknown ≡ 0) }
 {}

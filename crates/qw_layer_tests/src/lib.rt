@@ -7,6 +7,8 @@ mod emitted_modules;
 #[cfg(test)]
 mod exact_comparisons;
 #[cfg(test)]
+mod folded_queries;
+#[cfg(test)]
 mod linear_memory;
 #[cfg(test)]
 mod plain_rows;

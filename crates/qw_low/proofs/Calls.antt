@@ -9,7 +9,7 @@ use Rattle.qw_low.specs.declared.step.LowStep.{LowStep}
 use Rattle.qw_low.specs.declared.step.LowStep.TheVariants as step
 use Rattle.qw_low.specs.declared.body.Opened.{Opened}
 use Rattle.qw_low.specs.declared.body.Opened.TheVariants as opened
-use Rattle.qw_low.specs.Inner.Writing.{Writing, writing, adds, closing, turned, closed, written, all_written, start}
+use Rattle.qw_low.specs.Inner.Writing.{Writing, adds, closing, turned, closed, written, all_written, start}
 
 abbrev CallsFirst : List Instr → Type 0
 CallsFirst sequence = AllByRecursion (CallsBelow 1) sequence
@@ -50,7 +50,7 @@ step-calls (step.Op operator) w h = added w (i.Op operator ∷ []) (tt, tt) h
 step-calls step.If w h = (h.0, tt, (h.1, h.2))
 step-calls step.Else w h = turned-calls w.finished w.current w.waiting h.0 h.1 h.2
 step-calls step.Loop w h = (h.0, tt, (h.1, h.2))
-step-calls step.Again w h = added w (i.Br 1 ∷ []) (tt, tt) h
+step-calls step.Again w h = added w (i.BrIf 0 ∷ []) (tt, tt) h
 step-calls step.End w h = closed-calls w.finished w.current w.waiting h.0 h.1 h.2
 step-calls (step.Raise code) w h = added w _ (tt, (omega arith, tt)) h
 step-calls step.Exit w h = added w (i.Return ∷ []) (tt, tt) h

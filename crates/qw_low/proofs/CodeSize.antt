@@ -1,12 +1,12 @@
 -- The code of a statement has as many instructions as its size says, with those of the functions that it calls, if `raise` has none.
-use Rattle.std.proofs.Common.{◌≡◌, ℕ, ◌+◌, None, refl, ap, ◌∙◌, arith}
+use Rattle.std.proofs.Common.{◌≡◌, ℕ, ◌+◌, ◌*◌, None, refl, ap, ◌∙◌, arith}
 use Rattle.qw_module.specs.declared.instruction.ValType.TheVariants.{I32}
-use Rattle.qw_module.specs.declared.instruction.Binary.TheVariants.{Add}
+use Rattle.qw_module.specs.declared.instruction.Binary.TheVariants.{Add, Sub}
 use Rattle.qw_module.specs.declared.instruction.Op.{Op}
 use Rattle.qw_module.specs.declared.instruction.Op.TheVariants as o
-use Rattle.qw_module.specs.Syntax.{Code, done, op, if_then, if_else, br}
+use Rattle.qw_module.specs.Syntax.{Code, done, op, loop, if_then, if_else, br_if}
 use Rattle.qw_module.specs.Start.{weight_with}
-use Rattle.qw_low.specs.Syntax.{Expression, constant_of, local, unop, binop, divop, is_zero, relop, cvtop, advance, Statement, skip, seq, assign, load, store, conditional, while, request, raise, exit}
+use Rattle.qw_low.specs.Syntax.{Expression, constant_of, local, unop, binop, divop, is_zero, relop, cvtop, advance, retreat, Statement, skip, seq, assign, load, store, conditional, while, request, raise, exit}
 use Rattle.qw_low.specs.Meaning.{cost}
 use Rattle.qw_low.specs.Translation.{expression_code, statement_code, unaligned, on_answer}
 use Rattle.qw_low.specs.Size.{size}
@@ -35,6 +35,7 @@ module _ (called : ℕ → ℕ) (none : called 0 ≡ 0) where
   expression_size (relop t r left right) k = of_two left right (o.Relation t r) (expression_size left) (expression_size right) k
   expression_size (cvtop c e) k = of_one e (o.Convert c) (expression_size e) k
   expression_size (advance a n) k = of_two a n (o.Binary I32 Add) (expression_size a) (expression_size n) k
+  expression_size (retreat a n) k = of_two a n (o.Binary I32 Sub) (expression_size a) (expression_size n) k
 
   pub statement_size : (a : Statement) (k : Code) → weight_with called (statement_code a k) ≡ size a + weight_with called k
   statement_size skip k =
@@ -54,10 +55,10 @@ module _ (called : ℕ → ℕ) (none : called 0 ≡ 0) where
       let sum : cost e + (1 + weight_with called (statement_code a done) + weight_with called (statement_code b done) + weight_with called k) ≡ cost e + 1 + (size a + size b) + weight_with called k = omega (arith, first, second) in
       expression_size e (if_else None (statement_code a done) (statement_code b done) k) ∙ sum
   statement_size (while e a) k =
-      let body : weight_with called (statement_code a (br 1 done)) ≡ size a + 1 = statement_size a (br 1 done) in
-      let inner : weight_with called (expression_code e (if_then None (statement_code a (br 1 done)) done)) ≡ cost e + (1 + weight_with called (statement_code a (br 1 done)) + 0) = expression_size e (if_then None (statement_code a (br 1 done)) done) in
-      let sum : 1 + weight_with called (expression_code e (if_then None (statement_code a (br 1 done)) done)) + weight_with called k ≡ cost e + 3 + size a + weight_with called k = omega (arith, body, inner) in
-      sum
+      let again : weight_with called (expression_code e (br_if 0 done)) ≡ cost e + 1 = expression_size e (br_if 0 done) in
+      let body : weight_with called (statement_code a (expression_code e (br_if 0 done))) ≡ size a + weight_with called (expression_code e (br_if 0 done)) = statement_size a (expression_code e (br_if 0 done)) in
+      let sum : cost e + (1 + (1 + weight_with called (statement_code a (expression_code e (br_if 0 done))) + 0) + weight_with called k) ≡ 2 * cost e + 3 + size a + weight_with called k = omega (arith, again, body) in
+      expression_size e (if_then None (loop None (statement_code a (expression_code e (br_if 0 done))) done) k) ∙ sum
   statement_size (request e x) k =
       let sum : cost e + 1 + (10 + weight_with called k) ≡ cost e + 11 + weight_with called k = omega arith in
       let answer : weight_with called (on_answer x k) ≡ 10 + weight_with called k = omega (arith, none) in

@@ -8,10 +8,10 @@ use Rattle.qw_module.specs.declared.instruction.Load.TheVariants as loads
 use Rattle.qw_module.specs.declared.instruction.Store as instruction
 use Rattle.qw_module.specs.declared.instruction.Store.TheVariants as stores
 use Rattle.qw_module.specs.Numbers.{load_width, store_width}
-use Rattle.qw_module.specs.Syntax.{Code, done, op, br, return}
-use Rattle.qw_module.specs.Typing.{Scope, within, OpTyped, typed-local_get, typed-local_set, typed-local_tee, typed-const, typed-unary, typed-binary, typed-division, typed-eqz, typed-relation, typed-convert, typed-load, typed-store, typed-grow, Typed, typed-done, typed-op, typed-loop, typed-if_then, typed-if_else, typed-br, typed-return, typed-call}
+use Rattle.qw_module.specs.Syntax.{Code, done, op, br_if, return}
+use Rattle.qw_module.specs.Typing.{Scope, within, OpTyped, typed-local_get, typed-local_set, typed-local_tee, typed-const, typed-unary, typed-binary, typed-division, typed-eqz, typed-relation, typed-convert, typed-load, typed-store, typed-grow, Typed, typed-done, typed-op, typed-loop, typed-if_then, typed-if_else, typed-br_if, typed-return, typed-call}
 use Rattle.qw_module.specs.Soundness.{raise_signature}
-use Rattle.qw_low.specs.Syntax.{Expression, constant_of, local, unop, binop, divop, is_zero, relop, cvtop, advance, Statement, skip, seq, assign, load, store, conditional, while, request, raise, exit}
+use Rattle.qw_low.specs.Syntax.{Expression, constant_of, local, unop, binop, divop, is_zero, relop, cvtop, advance, retreat, Statement, skip, seq, assign, load, store, conditional, while, request, raise, exit}
 use Rattle.qw_low.specs.Translation.{expression_code, statement_code, raising}
 use Rattle.qw_low.specs.Typing.{HasType, IsTyped, HostsLow}
 
@@ -50,6 +50,8 @@ expression_typed scope (relop t r left right) type k types after has rest =
 expression_typed scope (cvtop c e) type k types after has rest = expression_typed scope e _ _ types after has.0 (next (typed-convert _ types c) (over scope k _ _ types after has.1 rest))
 expression_typed scope (advance a n) type k types after has rest =
     expression_typed scope a _ _ types after has.0 (expression_typed scope n _ _ _ after has.1 (next (typed-binary _ types _ _) (over scope k _ _ types after has.2 rest)))
+expression_typed scope (retreat a n) type k types after has rest =
+    expression_typed scope a _ _ types after has.0 (expression_typed scope n _ _ _ after has.1 (next (typed-binary _ types _ _) (over scope k _ _ types after has.2 rest)))
 
 hosts-within : (scope : Scope) (types : List ValType) → HostsLow scope → HostsLow (within scope types)
 hosts-within scope types hosts = record { raise_is = hosts.raise_is; memory = hosts.memory; results = hosts.results }
@@ -69,10 +71,11 @@ statement_typed scope (conditional e a b) k hosts is rest =
     expression_typed scope e I32 _ [] [] is.0 (typed-if_else _ None _ _ _ [] _
     (statement_typed (within scope []) a done (hosts-within scope [] hosts) is.1 (typed-done _ _)) (statement_typed (within scope []) b done (hosts-within scope [] hosts) is.2 (typed-done _ _)) rest)
 statement_typed scope (while e a) k hosts is rest =
-    typed-loop _ None _ _ [] _
-    (expression_typed (within scope []) e I32 _ [] [] is.0 (typed-if_then _ _ _ [] _
-    (statement_typed (within (within scope []) []) a (br 1 done) (hosts-within (within scope []) [] (hosts-within scope [] hosts)) is.1 (typed-br _ 1 _ [] [] [] _ refl (typed-done _ _))) (typed-done _ _)))
-    rest
+    expression_typed scope e I32 _ [] [] is.0 (typed-if_then _ _ _ [] _
+    (typed-loop _ None _ _ [] _
+    (statement_typed (within (within scope []) []) a (expression_code e (br_if 0 done)) (hosts-within (within scope []) [] (hosts-within scope [] hosts)) is.1
+    (expression_typed (within (within scope []) []) e I32 _ [] [] is.0 (typed-br_if _ 0 _ [] [] [] refl (typed-done _ _)))) (typed-done _ _))
+    rest)
 statement_typed scope (raise code) k hosts is rest = raising_typed scope code k hosts is rest
 statement_typed scope (request e x) k hosts is rest =
     expression_typed scope e I32 _ [] [] is.0 (next (typed-grow _ _ hosts.memory) (next (typed-local_tee _ _ x I32 is.1) (next (typed-const _ _ _ (omega arith)) (next (typed-relation _ _ _ _)

@@ -45,5 +45,5 @@ module _ (most fuel x : ℕ) where
   turn (suc n) s now = inr (inl (n, now.0), n, omega arith, body_ends n s now)
 
   pub countdown_ends : (n : ℕ) (s : LowState) → slice_get s.locals x ≡ Some (Number n) → x < length s.locals → n < 2 ^ 32 → n < fuel →
-      Ends (n * 10 + 3) (λ (t : LowState). slice_get t.locals x ≡ Some (Number 0)) Never NoCode (meaning most fuel (while (local x) body) s)
+      Ends (n * 9 + 2) (λ (t : LowState). slice_get t.locals x ≡ Some (Number 0)) Never NoCode (meaning most fuel (while (local x) body) s)
   countdown_ends n s is room small more = turns_end 6 Left (λ (t : LowState). slice_get t.locals x ≡ Some (Number 0)) Never NoCode (local x) (meaning most fuel body) turn fuel n s more (is, room, small)

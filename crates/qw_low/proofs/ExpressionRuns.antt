@@ -1,11 +1,11 @@
 -- An expression's code puts what stands for its value on the operands.
-use Rattle.std.proofs.Common.{◌≡◌, ℕ, suc, ◌+◌, ◌*◌, ◌≤◌, true, false, List, ◌∷◌, length, Option, Some, None, option_and_then, refl, sym, ap, ◌∙◌, subst, ⊎_elim, arith}
+use Rattle.std.proofs.Common.{◌≡◌, ℕ, suc, ◌+◌, ◌-◌, ◌*◌, ◌≤◌, true, false, nat_le, List, ◌∷◌, length, Option, Some, None, option_and_then, refl, sym, ap, ◌∙◌, subst, ⊎_elim, arith}
 use Rattle.std.proofs.lemmas.Bool.{cases_Bool, leb-true, false≢true}
 use Rattle.std.proofs.lemmas.Option.{same_Some, none-some}
 use Rattle.qw_linear.specs.Memory.{page, most_pages}
 use Rattle.qw_module.specs.declared.instruction.Op.{Op}
 use Rattle.qw_module.specs.declared.instruction.Op.TheVariants as o
-use Rattle.qw_module.specs.declared.instruction.Binary.TheVariants.{Add}
+use Rattle.qw_module.specs.declared.instruction.Binary.TheVariants.{Add, Sub}
 use Rattle.qw_module.specs.Numbers.{constant, unary, binary, division, truth, relation, converted}
 use Rattle.qw_module.specs.Syntax.{Code, op}
 use Rattle.qw_module.specs.Execution.{Store, Context, Config, State, settled}
@@ -18,9 +18,9 @@ use Rattle.std.proofs.Common.{ne_eqb}
 use Rattle.qw_module.specs.declared.trap.Trap.{Trap}
 use Rattle.qw_module.specs.declared.instruction.ValType.{ValType}
 use Rattle.qw_module.specs.declared.instruction.ValType.TheVariants.{I32, I64}
-use Rattle.qw_low.specs.Syntax.{Expression, constant_of, local, unop, binop, divop, is_zero, relop, cvtop, advance}
+use Rattle.qw_low.specs.Syntax.{Expression, constant_of, local, unop, binop, divop, is_zero, relop, cvtop, advance, retreat}
 use Rattle.qw_low.specs.State.{Part, Value, Number, Address, LowState, size_of, is_within}
-use Rattle.qw_low.specs.Meaning.{of_number, of_numbers, if_defined, zero_test, advanced, value, cost}
+use Rattle.qw_low.specs.Meaning.{of_number, of_numbers, if_defined, zero_test, advanced, retreated, value, cost}
 use Rattle.qw_low.specs.Translation.{expression_code}
 use Rattle.qw_low.specs.Places.{Means, AreMeant, StandsFor}
 use Rattle.qw_low.proofs.ExactSteps.{Comes, counted, goes}
@@ -82,6 +82,18 @@ advanced-is s (Some (Address p off)) None v is = absurd (none-some v is)
 advanced-is s (Some (Number n)) b v is = absurd (none-some v is)
 advanced-is s None b v is = absurd (none-some v is)
 
+-- and of a retreat
+pub retreated-is : (a b : Option Value) (v : Value) → retreated a b ≡ Some v →
+    (p : Part) × (off n : ℕ) × (a ≡ Some (Address p off)) × (b ≡ Some (Number n)) × (n ≤ off) × (v ≡ Address p (off - n))
+retreated-is (Some (Address p off)) (Some (Number n)) v is = ⊎_elim
+    (λ within. (p, off, n, refl, refl, leb-true n off within, sym (same_Some (Address p (off - n)) v (rw within at is))))
+    (λ outside. absurd (none-some v (rw outside at is)))
+    (cases_Bool (nat_le n off))
+retreated-is (Some (Address p off)) (Some (Address q m)) v is = absurd (none-some v is)
+retreated-is (Some (Address p off)) None v is = absurd (none-some v is)
+retreated-is (Some (Number n)) b v is = absurd (none-some v is)
+retreated-is None b v is = absurd (none-some v is)
+
 pub within-is : (size : Option ℕ) (n : ℕ) → is_within size n ≡ true → (m : ℕ) × (size ≡ Some m) × (n ≤ m)
 within-is None n is = absurd (false≢true is)
 within-is (Some m) n is = (m, refl, leb-true n m is)
@@ -97,6 +109,14 @@ moved w s memory stands p off n within x means =
     let same : means.0 ≡ area.0 = same_Some means.0 area.0 (sym means.1 ∙ area.1) in
     let at : x ≡ area.0.start + off = means.3 ∙ ap (λ (a : Area). a.start + off) same in
     (area.0, area.1, omega (arith, size.2, area.2), omega (arith, size.2, area.2, at))
+
+-- An address moved back. It stays behind its part's beginning, so its word doesn't wrap.
+pub moved_back : (w : World) (s : LowState) (memory : List ℕ) → StandsFor w s memory → (p : Part) (off n : ℕ) → n ≤ off →
+    (x : ℕ) → Means w (Address p off) x → Means w (Address p (off - n)) (binary I32 Sub x n)
+moved_back w s memory stands p off n behind x means =
+    let inside : means.0.start + means.0.size ≤ length memory = stands.inside p means.0 means.1 in
+    let room : length memory ≤ most_pages * page = stands.room in
+    (means.0, means.1, omega (arith, means.2), omega (arith, means.2, means.3, behind, inside, room))
 
 -- what is tested for 0, and what its word tells: an address is not 0
 pub tested-is : (w : World) (s : LowState) (memory : List ℕ) → StandsFor w s memory → (t : ValType) (found : Option Value) (v : Value) → zero_test t found ≡ Some v →
@@ -192,3 +212,11 @@ module _ (pages : ℕ) (Q : Moment → Type 0) (store : Store) (contexts : List 
       (λ y is_number. op_goes pages Q store contexts w s xs (o.Binary I32 Add) k (y ∷ x ∷ operands) (binary I32 Add x y ∷ operands) xs n refl
       (onward (binary I32 Add x y) (subst (λ (u : Value). Means w u (binary I32 Add x y)) (sym parts.6)
       (subst (λ (m : ℕ). Means w (Address parts.0 (parts.1 + parts.2)) (binary I32 Add x m)) (sym is_number) (moved w s memory stands parts.0 parts.1 parts.2 parts.5 x means)))))))
+  expression_runs (retreat a e) v is k operands n onward =
+      let parts = retreated-is (value s a) (value s e) v is in
+      counted pages Q w (StandsFor w s) (cost a + (cost e + suc n)) (cost a + cost e + 1 + n) _ (omega arith)
+      (expression_runs a (Address parts.0 parts.1) parts.3 (expression_code e (op (o.Binary I32 Sub) k)) operands (cost e + suc n)
+      (λ x means. expression_runs e (Number parts.2) parts.4 (op (o.Binary I32 Sub) k) (x ∷ operands) (suc n)
+      (λ y is_number. op_goes pages Q store contexts w s xs (o.Binary I32 Sub) k (y ∷ x ∷ operands) (binary I32 Sub x y ∷ operands) xs n refl
+      (onward (binary I32 Sub x y) (subst (λ (u : Value). Means w u (binary I32 Sub x y)) (sym parts.6)
+      (subst (λ (m : ℕ). Means w (Address parts.0 (parts.1 - parts.2)) (binary I32 Sub x m)) (sym is_number) (moved_back w s memory stands parts.0 parts.1 parts.2 parts.5 x means)))))))

@@ -54,16 +54,16 @@ module _ (e : Expression) (body other : LowState → Outcome) (same : (t : LowSt
   turns-more : (fuel : ℕ) (s : LowState) → Finished (turns e body fuel s) → turns e other (suc fuel) s ≡ turns e body fuel s
   turns-more zero s h = absurd h
   turns-more (suc fuel) s h = by_value-same (value s e)
-      (λ n. unless_zero n (counting (cost e + 2) (and_then (body s) (λ t. counting 1 (turns e body fuel t)))) (Completed (cost e + 2) s))
-      (λ n. unless_zero n (counting (cost e + 2) (and_then (other s) (λ t. counting 1 (turns e other (suc fuel) t)))) (Completed (cost e + 2) s)) h
-      (λ n over. unless_zero-same n (counting (cost e + 2) (and_then (body s) (λ t. counting 1 (turns e body fuel t)))) (Completed (cost e + 2) s)
-      (counting (cost e + 2) (and_then (other s) (λ t. counting 1 (turns e other (suc fuel) t)))) (Completed (cost e + 2) s) over
+      (λ n. unless_zero n (counting (cost e + 2) (and_then (body s) (λ t. turns e body fuel t))) (Completed (cost e + 1) s))
+      (λ n. unless_zero n (counting (cost e + 2) (and_then (other s) (λ t. turns e other (suc fuel) t))) (Completed (cost e + 1) s)) h
+      (λ n over. unless_zero-same n (counting (cost e + 2) (and_then (body s) (λ t. turns e body fuel t))) (Completed (cost e + 1) s)
+      (counting (cost e + 2) (and_then (other s) (λ t. turns e other (suc fuel) t))) (Completed (cost e + 1) s) over
       (λ turned.
-      let both : Finished (and_then (body s) (λ t. counting 1 (turns e body fuel t))) = finished-counting (cost e + 2) (and_then (body s) (λ t. counting 1 (turns e body fuel t))) turned in
-      let first : other s ≡ body s = same s (finished-first (body s) (λ t. counting 1 (turns e body fuel t)) both) in
-      ap (λ (out : Outcome). counting (cost e + 2) (and_then out (λ t. counting 1 (turns e other (suc fuel) t)))) first
-      ∙ ap (counting (cost e + 2)) (and_then-same (body s) (λ t. counting 1 (turns e body fuel t)) (λ t. counting 1 (turns e other (suc fuel) t)) both
-      (λ t last. ap (counting 1) (turns-more fuel t (finished-counting 1 (turns e body fuel t) last)))))
+      let both : Finished (and_then (body s) (λ t. turns e body fuel t)) = finished-counting (cost e + 2) (and_then (body s) (λ t. turns e body fuel t)) turned in
+      let first : other s ≡ body s = same s (finished-first (body s) (λ t. turns e body fuel t) both) in
+      ap (λ (out : Outcome). counting (cost e + 2) (and_then out (λ t. turns e other (suc fuel) t))) first
+      ∙ ap (counting (cost e + 2)) (and_then-same (body s) (λ t. turns e body fuel t) (λ t. turns e other (suc fuel) t) both
+      (λ t last. turns-more fuel t last)))
       (λ last. refl))
 
 one_more : (most fuel : ℕ) (a : Statement) (s : LowState) → Finished (meaning most fuel a s) → meaning most (suc fuel) a s ≡ meaning most fuel a s

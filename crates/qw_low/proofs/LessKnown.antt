@@ -1,15 +1,12 @@
 -- Where less is known of memory a statement does the same, as far as it does not go wrong.
-use Rattle.std.proofs.Common.{◌≡◌, ℕ, zero, suc, ◌+◌, ◌*◌, ◌≤◌, ◌==◌, nat_le, nat_lt, ◌&&◌, ◌||◌, if◌then◌else◌, Bool, true, false, ◌∷◌, [], ◌++◌, length, Option, Some, None, slice_get, slice_set, refl, sym, ap, ap₂, ◌∙◌, subst, arith}
+use Rattle.std.proofs.Common.{◌≡◌, ℕ, zero, suc, ◌+◌, ◌*◌, ◌==◌, nat_le, nat_lt, ◌&&◌, ◌||◌, if◌then◌else◌, Bool, true, false, length, Option, Some, None, slice_get, slice_set, refl, sym, ap, ap₂, ◌∙◌, subst}
 use Rattle.std.specs.Option.{option_and_then}
 use Rattle.qw_linear.specs.Memory.{page}
-use Rattle.qw_module.specs.declared.instruction.ValType.{ValType}
-use Rattle.qw_module.specs.declared.instruction.ValType.TheVariants.{I32, I64}
 use Rattle.qw_module.specs.declared.instruction.Load.{Load}
-use Rattle.qw_module.specs.declared.trap.Trap.{Trap}
 use Rattle.qw_module.specs.Numbers.{binary, converted, division, load_width, relation, store_width, unary}
-use Rattle.qw_low.specs.Syntax.{Expression, constant_of, local, unop, binop, divop, is_zero, relop, cvtop, advance, Statement, skip, seq, assign, load, store, conditional, while, request, raise, exit}
+use Rattle.qw_low.specs.Syntax.{Expression, constant_of, local, unop, binop, divop, is_zero, relop, cvtop, advance, retreat, Statement, skip, seq, assign, load, store, conditional, while, request, raise, exit}
 use Rattle.qw_low.specs.State.{Part, Column, Own, Value, Number, Address, Cells, LowState, is_within, loaded_as, same_part, stored_as, with_cell, with_pages, with_part}
-use Rattle.qw_low.specs.Meaning.{value, cost, Outcome, Completed, Exited, Stopped, Wrong, Unfinished, advanced, and_then, by_value, counting, found_at, granted_or_refused, if_defined, meaning, of_number, of_numbers, put_at, raised, requested, turns, unless_zero, with_local, zero_test}
+use Rattle.qw_low.specs.Meaning.{value, cost, Outcome, Completed, Exited, Stopped, Wrong, Unfinished, advanced, and_then, by_value, counting, found_at, if_defined, meaning, of_number, of_numbers, put_at, raised, requested, retreated, turns, unless_zero, with_local, zero_test}
 use Rattle.qw_low.specs.Promise.{Ends}
 
 -- the state, of whose memory these cells are known
@@ -48,6 +45,7 @@ module _ (s : LowState) (d : Cells) where
   value-seen (relop t r a b) = ap₂ (of_numbers (λ x y. Some (relation t r x y))) (value-seen a) (value-seen b)
   value-seen (cvtop c e) = ap (of_number (converted c)) (value-seen e)
   value-seen (advance a n) = ap₂ (advanced (seen d s)) (value-seen a) (value-seen n) ∙ advanced-seen (value s a) (value s n)
+  value-seen (retreat a n) = ap₂ retreated (value-seen a) (value-seen n)
 
 -- ---- outcomes
 matched-counting : (n : ℕ) (out other : Outcome) → Matches out other → Matches (counting n out) (counting n other)
@@ -151,12 +149,12 @@ module _ (e : Expression) (body : LowState → Outcome) (same : (s : LowState) (
   matched-turns zero s d less = tt
   matched-turns (suc fuel) s d less =
       rw (value-seen s d e) (matched-value (value s e)
-      (λ n. unless_zero n (counting (cost e + 2) (and_then (body s) (λ t. counting 1 (turns e body fuel t)))) (Completed (cost e + 2) s))
-      (λ n. unless_zero n (counting (cost e + 2) (and_then (body (seen d s)) (λ t. counting 1 (turns e body fuel t)))) (Completed (cost e + 2) (seen d s)))
-      (λ n. matched-unless n (counting (cost e + 2) (and_then (body s) (λ t. counting 1 (turns e body fuel t)))) (Completed (cost e + 2) s)
-      (counting (cost e + 2) (and_then (body (seen d s)) (λ t. counting 1 (turns e body fuel t)))) (Completed (cost e + 2) (seen d s))
-      (matched-counting (cost e + 2) _ _ (matched-then (body s) (body (seen d s)) (λ t. counting 1 (turns e body fuel t)) (λ t. counting 1 (turns e body fuel t)) (same s d less)
-      (λ t c more. matched-counting 1 (turns e body fuel t) (turns e body fuel (seen c t)) (matched-turns fuel t c more))))
+      (λ n. unless_zero n (counting (cost e + 2) (and_then (body s) (λ t. turns e body fuel t))) (Completed (cost e + 1) s))
+      (λ n. unless_zero n (counting (cost e + 2) (and_then (body (seen d s)) (λ t. turns e body fuel t))) (Completed (cost e + 1) (seen d s)))
+      (λ n. matched-unless n (counting (cost e + 2) (and_then (body s) (λ t. turns e body fuel t))) (Completed (cost e + 1) s)
+      (counting (cost e + 2) (and_then (body (seen d s)) (λ t. turns e body fuel t))) (Completed (cost e + 1) (seen d s))
+      (matched-counting (cost e + 2) _ _ (matched-then (body s) (body (seen d s)) (λ t. turns e body fuel t) (λ t. turns e body fuel t) (same s d less)
+      (λ t c more. matched-turns fuel t c more)))
       (d, less, refl)))
 
 module _ (most fuel : ℕ) where

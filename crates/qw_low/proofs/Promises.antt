@@ -52,25 +52,26 @@ module _ (P X : LowState → Type 0) (R : ℕ → Type 0) where
       set_leads (value s e) (cost e + 1 + m) (meaning most fuel a s) (meaning most fuel b s) (counting (cost e + 1)) leads.0 (Ends-counting (cost e + 1) (cost e + 1) m (meaning most fuel a s) (omega arith) leads.1)
   conditional_ends most fuel m e a b s (inr leads) = rw (leads.0) (Ends-counting (cost e + 1) (cost e + 1) m (meaning most fuel b s) (omega arith) leads.1)
 
--- A loop over units: each turn leaves fewer, until the condition is 0.
+-- A loop over units: each turn leaves fewer, until the condition is 0. Its tests and branches are two instructions more a turn than the
+-- condition and the body.
 module _ (each : ℕ) (I : ℕ → LowState → Type 0) (P X : LowState → Type 0) (R : ℕ → Type 0) (e : Expression) (body : LowState → Outcome)
     (turn : (k : ℕ) (s : LowState) → I k s → ((value s e ≡ Some (Number 0)) × P s) ⊎ (IsSet (value s e) × (j : ℕ) × (j < k) × Ends each (I j) X R (body s))) where
   abbrev bound : ℕ → ℕ
-  bound k = k * (each + cost e + 3) + (cost e + 2)
+  bound k = k * (each + cost e + 2) + (cost e + 1)
 
   -- fewer units, and a turn
-  fewer : (j k : ℕ) → j < k → cost e + 2 + (each + (1 + bound j)) ≤ bound k
+  fewer : (j k : ℕ) → j < k → cost e + 2 + (each + bound j) ≤ bound k
   fewer j k less =
-      let product : suc j * (each + cost e + 3) ≤ k * (each + cost e + 3) = mul-le (suc j) (each + cost e + 3) k (each + cost e + 3) less (omega arith) in
-      omega (arith, product, suc-mul j (each + cost e + 3))
+      let product : suc j * (each + cost e + 2) ≤ k * (each + cost e + 2) = mul-le (suc j) (each + cost e + 2) k (each + cost e + 2) less (omega arith) in
+      omega (arith, product, suc-mul j (each + cost e + 2))
 
   pub turns_end : (fuel k : ℕ) (s : LowState) → k < fuel → I k s → Ends (bound k) P X R (turns e body fuel s)
   turns_end zero k s more now = absurd (omega arith)
   turns_end (suc fuel) k s more now = ⊎_elim
       (λ last. rw (last.0) (omega arith, last.1))
-      (λ one. set_leads P X R (value s e) (bound k) (counting (cost e + 2) (and_then (body s) (λ t. counting 1 (turns e body fuel t)))) (Completed (cost e + 2) s) (λ out. out) one.0
-      (Ends-more P X R (cost e + 2 + (each + (1 + bound one.1))) (bound k) _ (fewer one.1 k one.2)
-      (Ends-counting P X R (cost e + 2) (cost e + 2) (each + (1 + bound one.1)) (and_then (body s) (λ t. counting 1 (turns e body fuel t))) (omega arith)
-      (Ends-then P X R each (1 + bound one.1) (I one.1) (body s) (λ t. counting 1 (turns e body fuel t)) one.3
-      (λ t it. Ends-counting P X R 1 1 (bound one.1) (turns e body fuel t) (omega arith) (turns_end fuel one.1 t (omega (arith, one.2)) it))))))
+      (λ one. set_leads P X R (value s e) (bound k) (counting (cost e + 2) (and_then (body s) (λ t. turns e body fuel t))) (Completed (cost e + 1) s) (λ out. out) one.0
+      (Ends-more P X R (cost e + 2 + (each + bound one.1)) (bound k) _ (fewer one.1 k one.2)
+      (Ends-counting P X R (cost e + 2) (cost e + 2) (each + bound one.1) (and_then (body s) (λ t. turns e body fuel t)) (omega arith)
+      (Ends-then P X R each (bound one.1) (I one.1) (body s) (λ t. turns e body fuel t) one.3
+      (λ t it. turns_end fuel one.1 t (omega (arith, one.2)) it)))))
       (turn k s now)

@@ -11,7 +11,7 @@ use Rattle.qw_module.specs.declared.instruction.ValType.TheVariants.{I32}
 use Rattle.qw_module.specs.declared.instruction.Binary.TheVariants.{Mul}
 use Rattle.qw_module.specs.declared.instruction.Relation.TheVariants.{Eq}
 use Rattle.qw_module.specs.Numbers.{load_width, loaded_value, store_width, truth}
-use Rattle.qw_module.specs.Syntax.{Code, done, op, loop, if_then, if_else, br, return, call}
+use Rattle.qw_module.specs.Syntax.{Code, done, op, loop, if_then, if_else, br_if, return, call}
 use Rattle.qw_module.specs.Execution.{Store, Context, label, State, Returned, Raised, left, Raises, refusal}
 use Rattle.qw_module.specs.Step.{wants, Goes, Asks, Puts}
 use Rattle.qw_map.specs.Areas.{Area, World, IsFine, GoesOn}
@@ -48,11 +48,16 @@ relocated w s locals memory h = record {
 abbrev pub inside : Code → List Context → List Context
 inside k contexts = label k 0 [] k ∷ contexts
 
-abbrev pub the_loop : Expression → Statement → Code → Code
-the_loop e a k = loop None (expression_code e (if_then None (statement_code a (br 1 done)) done)) k
+-- the end of a turn, and a turn: the code of a loop
+abbrev pub again : Expression → Code
+again e = expression_code e (br_if 0 done)
 
+abbrev pub the_loop : Expression → Statement → Code
+the_loop e a = loop None (statement_code a (again e)) done
+
+-- what is inside of a loop, which stands in a choice before what follows
 abbrev pub in_loop : Expression → Statement → Code → List Context → List Context
-in_loop e a k contexts = label (the_loop e a k) 0 [] k ∷ contexts
+in_loop e a k contexts = label (the_loop e a) 0 [] done ∷ inside k contexts
 
 -- what a value tells a choice, and the word that leads the same way
 abbrev pub Tells : Option Value → ℕ → Type 0
@@ -395,40 +400,55 @@ module _ (pages : ℕ) (Q : Moment → Type 0) (module_store : Store) where
   numbered (Some (Number n)) f w M state following runs = runs n refl
   numbered (Some (Address p off)) f w M state following runs = runs 1 refl
 
-  -- a loop
-  module _ (e : Expression) (a : Statement) (means : LowState → Outcome) (runs : StatementRuns a means) where
-    abbrev body : Code
-    body = expression_code e (if_then None (statement_code a (br 1 done)) done)
+  -- A loop, before code that follows. It is tested in two places, and a test leads to a turn or to what follows.
+  module _ (e : Expression) (a : Statement) (means : LowState → Outcome) (runs : StatementRuns a means) (contexts : List Context) (ends : EndsRun contexts) (k : Code) where
+    abbrev following : List ℕ → State
+    following ys = standing module_store k [] ys contexts
 
-    turn : (fuel : ℕ) → StatementRuns (while e a) (turns e means fuel) → (s : LowState) (w : World) (xs : List ℕ) → AreMeant w s.locals xs → (contexts : List Context) → EndsRun contexts → (k : Code) → (n : ℕ) → Tells (value s e) n →
-        RunsTo (unless_zero n (counting (cost e + 2) (and_then (means s) (λ t. counting 1 (turns e means fuel t)))) (Completed (cost e + 2) s)) w (StandsFor w s)
-        (standing module_store (the_loop e a k) [] xs contexts) (λ ys. standing module_store k [] ys contexts)
-    turn fuel later s w xs are contexts ends k zero is = λ j onward.
-        counted pages Q w (StandsFor w s) (suc (cost e + 1 + j)) (cost e + 2 + j) _ (omega arith)
-        (steps_to s w xs are contexts (the_loop e a k) [] (cost e + 1 + j) (standing module_store body [] xs (in_loop e a k contexts)) (λ h. cc) refl
-        (tests s w xs are (in_loop e a k contexts) e (if_then None (statement_code a (br 1 done)) done) zero is j
-        (λ word it. rw it (steps_to s w xs are (in_loop e a k contexts) (if_then None (statement_code a (br 1 done)) done) (zero ∷ []) j (standing module_store k [] xs contexts) (λ h. cc) refl
-        (onward w xs are)))))
-    turn fuel later s w xs are contexts ends k (suc n) is =
-        counting_runs (cost e + 2) (and_then (means s) (λ t. counting 1 (turns e means fuel t))) w w (StandsFor w s) (StandsFor w s) (standing module_store (the_loop e a k) [] xs contexts)
-        (standing module_store (statement_code a (br 1 done)) [] xs (inside done (in_loop e a k contexts))) (λ ys. standing module_store k [] ys contexts)
-        (λ m comes. counted pages Q w (StandsFor w s) (suc (cost e + 1 + m)) (cost e + 2 + m) _ (omega arith)
-        (steps_to s w xs are contexts (the_loop e a k) [] (cost e + 1 + m) (standing module_store body [] xs (in_loop e a k contexts)) (λ h. cc) refl
-        (tests s w xs are (in_loop e a k contexts) e (if_then None (statement_code a (br 1 done)) done) (suc n) is m
-        (λ word it. rw it.1 (steps_to s w xs are (in_loop e a k contexts) (if_then None (statement_code a (br 1 done)) done) (suc it.0 ∷ []) m
-        (standing module_store (statement_code a (br 1 done)) [] xs (inside done (in_loop e a k contexts))) (λ h. cc) refl comes)))))
-        (and_then_runs (means s) (λ t. counting 1 (turns e means fuel t)) w (StandsFor w s) (standing module_store (statement_code a (br 1 done)) [] xs (inside done (in_loop e a k contexts)))
-        (λ ys. standing module_store (br 1 done) [] ys (inside done (in_loop e a k contexts))) (λ ys. standing module_store k [] ys contexts)
-        (runs s w xs are (inside done (in_loop e a k contexts)) ends (br 1 done))
-        (λ t w' ys are'. counting_runs 1 (turns e means fuel t) w' w' (StandsFor w' t) (StandsFor w' t) (standing module_store (br 1 done) [] ys (inside done (in_loop e a k contexts)))
-        (standing module_store (the_loop e a k) [] ys contexts) (λ zs. standing module_store k [] zs contexts)
-        (λ m comes. counted pages Q w' (StandsFor w' t) (suc m) (1 + m) _ (omega arith)
-        (steps_to t w' ys are' (inside done (in_loop e a k contexts)) (br 1 done) [] m (standing module_store (the_loop e a k) [] ys contexts) (λ h. cc) refl comes))
-        (later t w' ys are' contexts ends k)))
+    abbrev turning : List ℕ → State
+    turning ys = standing module_store (the_loop e a) [] ys (inside k contexts)
 
-    turns_run : (fuel : ℕ) → StatementRuns (while e a) (turns e means fuel)
-    turns_run zero s w xs are contexts ends k = tt
-    turns_run (suc fuel) s w xs are contexts ends k = numbered (value s e) _ w (StandsFor w s) _ _ (turn fuel (turns_run fuel) s w xs are contexts ends k)
+    -- code that branches by a word, in its place
+    record Tests (branch : Code) (place : List Context) : Type 0 where
+      is_code : branch ≢ done
+      leaves : (ys : List ℕ) → wants (config module_store branch (zero ∷ []) ys place) ≡ Goes (following ys)
+      turns_on : (ys : List ℕ) (n : ℕ) → wants (config module_store branch (suc n ∷ []) ys place) ≡ Goes (turning ys)
+
+    abbrev LoopRuns : ℕ → Type 0
+    LoopRuns fuel = (branch : Code) (place : List Context) → Tests branch place → (s : LowState) (w : World) (xs : List ℕ) → AreMeant w s.locals xs →
+        RunsTo (turns e means fuel s) w (StandsFor w s) (standing module_store (expression_code e branch) [] xs place) following
+
+    at_entry : Tests (if_then None (the_loop e a) k) contexts
+    at_entry = record { is_code = λ h. cc; leaves = λ ys. refl; turns_on = λ ys n. refl }
+
+    at_end : Tests (br_if 0 done) (in_loop e a k contexts)
+    at_end = record { is_code = λ h. cc; leaves = λ ys. refl; turns_on = λ ys n. refl }
+
+    turn : (fuel : ℕ) → LoopRuns fuel → (branch : Code) (place : List Context) → Tests branch place → (s : LowState) (w : World) (xs : List ℕ) → AreMeant w s.locals xs → (n : ℕ) → Tells (value s e) n →
+        RunsTo (unless_zero n (counting (cost e + 2) (and_then (means s) (λ t. turns e means fuel t))) (Completed (cost e + 1) s)) w (StandsFor w s)
+        (standing module_store (expression_code e branch) [] xs place) following
+    turn fuel later branch place test s w xs are zero is = λ j onward.
+        tests s w xs are place e branch zero is j
+        (λ word it. rw it (steps_to s w xs are place branch (zero ∷ []) j (following xs) test.is_code (test.leaves xs) (onward w xs are)))
+    turn fuel later branch place test s w xs are (suc n) is =
+        counting_runs (cost e + 2) (and_then (means s) (λ t. turns e means fuel t)) w w (StandsFor w s) (StandsFor w s) (standing module_store (expression_code e branch) [] xs place)
+        (standing module_store (statement_code a (again e)) [] xs (in_loop e a k contexts)) following
+        (λ m comes. counted pages Q w (StandsFor w s) (cost e + 1 + suc m) (cost e + 2 + m) _ (omega arith)
+        (tests s w xs are place e branch (suc n) is (suc m)
+        (λ word it. rw it.1 (steps_to s w xs are place branch (suc it.0 ∷ []) (suc m) (turning xs) test.is_code (test.turns_on xs it.0)
+        (steps_to s w xs are (inside k contexts) (the_loop e a) [] m (standing module_store (statement_code a (again e)) [] xs (in_loop e a k contexts)) (λ h. cc) refl comes)))))
+        (and_then_runs (means s) (λ t. turns e means fuel t) w (StandsFor w s) (standing module_store (statement_code a (again e)) [] xs (in_loop e a k contexts))
+        (λ ys. standing module_store (again e) [] ys (in_loop e a k contexts)) following
+        (runs s w xs are (in_loop e a k contexts) ends (again e))
+        (λ t w' ys are'. later (br_if 0 done) (in_loop e a k contexts) at_end t w' ys are'))
+
+    loop_runs : (fuel : ℕ) → LoopRuns fuel
+    loop_runs zero branch place test s w xs are = tt
+    loop_runs (suc fuel) branch place test s w xs are = numbered (value s e) _ w (StandsFor w s) _ _ (turn fuel (loop_runs fuel) branch place test s w xs are)
+
+    turns_run : (fuel : ℕ) (s : LowState) (w : World) (xs : List ℕ) → AreMeant w s.locals xs →
+        RunsTo (turns e means fuel s) w (StandsFor w s) (standing module_store (statement_code (while e a) k) [] xs contexts) following
+    turns_run fuel = loop_runs fuel (if_then None (the_loop e a) k) contexts at_entry
 
   pub statement_runs : HasRaise module_store → (fuel : ℕ) (a : Statement) → StatementRuns a (meaning pages fuel a)
   statement_runs imported fuel skip s w xs are contexts ends k = λ j onward. counted pages Q w (StandsFor w s) j (0 + j) _ (omega arith) (onward w xs are)
@@ -441,7 +461,7 @@ module _ (pages : ℕ) (Q : Moment → Type 0) (module_store : Store) where
   statement_runs imported fuel (store st offset at it) s w xs are contexts ends k = store_runs s w xs are contexts st offset at it k (value s at) (option_and_then (stored_as st) (value s it)) refl refl
   statement_runs imported fuel (conditional e a b) s w xs are contexts ends k = numbered (value s e) _ w (StandsFor w s) _ _
       (chosen e a b (meaning pages fuel a) (meaning pages fuel b) (statement_runs imported fuel a) (statement_runs imported fuel b) s w xs are contexts ends k)
-  statement_runs imported fuel (while e a) s w xs are contexts ends k = turns_run e a (meaning pages fuel a) (statement_runs imported fuel a) fuel s w xs are contexts ends k
+  statement_runs imported fuel (while e a) s w xs are contexts ends k = turns_run e a (meaning pages fuel a) (statement_runs imported fuel a) contexts ends k fuel s w xs are
   statement_runs imported fuel (request e x) s w xs are contexts ends k = request_runs s w xs are contexts imported e x k (value s e) refl
   statement_runs imported fuel (raise code) s w xs are contexts ends k = raise_runs s w xs are contexts imported code k
   statement_runs imported fuel exit s w xs are contexts ends k = exit_runs s w xs are contexts ends k

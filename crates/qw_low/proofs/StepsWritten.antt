@@ -4,14 +4,14 @@ use Rattle.std.specs.List.{AllByRecursion}
 use Rattle.std.proofs.lemmas.Bool.{cases_lt}
 use Rattle.std.proofs.lemmas.List.{append_assoc, append-nil, at_drop_all}
 use Rattle.qw_module.specs.declared.instruction.ValType.TheVariants.{I32}
-use Rattle.qw_module.specs.declared.instruction.Binary.TheVariants.{Add, Mul}
+use Rattle.qw_module.specs.declared.instruction.Binary.TheVariants.{Add, Sub, Mul}
 use Rattle.qw_module.specs.declared.instruction.Relation.TheVariants.{Eq}
 use Rattle.qw_module.specs.declared.instruction.Instr.{Instr}
 use Rattle.qw_module.specs.declared.instruction.Instr.TheVariants as i
 use Rattle.qw_module.specs.declared.instruction.Op.{Op}
 use Rattle.qw_module.specs.declared.instruction.Op.TheVariants as o
 use Rattle.qw_module.specs.declared.instruction.Const.TheVariants as const
-use Rattle.qw_module.specs.Syntax.{Code, done, op, loop, if_then, if_else, br, return, call, nested, named, named_below, sequence_at, NamesBelow, code_of, IsNumbered}
+use Rattle.qw_module.specs.Syntax.{Code, done, op, loop, if_then, if_else, br_if, return, call, nested, named, named_below, sequence_at, NamesBelow, code_of, IsNumbered}
 use Rattle.qw_module.specs.Execution.{refusal}
 use Rattle.qw_module.proofs.Numbered.{named_below-any}
 use Rattle.qw_map.proofs.AreaLemmas.{all-append, all-weaker}
@@ -20,7 +20,7 @@ use Rattle.qw_low.specs.declared.step.LowStep.{LowStep}
 use Rattle.qw_low.specs.declared.step.LowStep.TheVariants as step
 use Rattle.qw_low.specs.declared.body.Opened.{Opened}
 use Rattle.qw_low.specs.declared.body.Opened.TheVariants as opened
-use Rattle.qw_low.specs.Syntax.{Expression, constant_of, local, unop, binop, divop, is_zero, relop, cvtop, advance, Statement, skip, seq, assign, load, store, conditional, while, request, raise, exit}
+use Rattle.qw_low.specs.Syntax.{Expression, constant_of, local, unop, binop, divop, is_zero, relop, cvtop, advance, retreat, Statement, skip, seq, assign, load, store, conditional, while, request, raise, exit}
 use Rattle.qw_low.specs.Translation.{expression_code, statement_code, unaligned, raising, to_octets, on_answer}
 use Rattle.qw_low.specs.Steps.{expression_steps, request_steps, steps_of}
 use Rattle.qw_low.specs.Inner.Writing.{Writing, writing, written, all_written, start, unlabelled, AreLower, Emits}
@@ -183,6 +183,7 @@ expression_writes (is_zero t e) = writes-operator (expression_steps e) (expressi
 expression_writes (relop t r left right) = writes-binary (expression_steps left) (expression_steps right) (expression_code left) (expression_code right) (o.Relation t r) (expression_writes left) (expression_writes right)
 expression_writes (cvtop c e) = writes-operator (expression_steps e) (expression_code e) (o.Convert c) (expression_writes e)
 expression_writes (advance a n) = writes-binary (expression_steps a) (expression_steps n) (expression_code a) (expression_code n) (o.Binary I32 Add) (expression_writes a) (expression_writes n)
+expression_writes (retreat a n) = writes-binary (expression_steps a) (expression_steps n) (expression_code a) (expression_code n) (o.Binary I32 Sub) (expression_writes a) (expression_writes n)
 
 choice_writes : (xs ys : List LowStep) (f g : Code → Code) → Writes xs f → Writes ys g →
     Writes (step.If ∷ (xs ++ (step.Else ∷ (ys ++ step.End ∷ [])))) (if_else None (f done) (g done))
@@ -217,8 +218,8 @@ loop_writes xs f one rest finished current waiting =
       emits-inner finished first.0 current first.1 f (λ n. i.Loop None n) (loop None) (λ names n more. refl) (λ n m h. h) first.3,
     )
 
-again_writes : Writes (step.Again ∷ []) (br 1)
-again_writes rest finished current waiting = (finished, current ++ i.Br 1 ∷ [], refl, emits-one finished current (i.Br 1) (br 1) (λ names more. refl) (λ n. tt))
+again_writes : Writes (step.Again ∷ []) (br_if 0)
+again_writes rest finished current waiting = (finished, current ++ i.BrIf 0 ∷ [], refl, emits-one finished current (i.BrIf 0) (br_if 0) (λ names more. refl) (λ n. tt))
 
 exit_writes : Writes (step.Exit ∷ []) return
 exit_writes rest finished current waiting = (finished, current ++ i.Return ∷ [], refl, emits-one finished current i.Return return (λ names more. refl) (λ n. tt))
@@ -261,13 +262,15 @@ request_writes x =
     (writes-first (o.Binary I32 Mul) set (op (o.LocalSet x)) (writes-op (o.LocalSet x)))))))))
 
 while_writes : (xs ys : List LowStep) (f g : Code → Code) → Writes xs f → Writes ys g →
-    Writes (step.Loop ∷ (xs ++ (step.If ∷ (ys ++ step.Again ∷ step.End ∷ step.End ∷ [])))) (loop None (f (if_then None (g (br 1 done)) done)))
+    Writes (xs ++ (step.If ∷ step.Loop ∷ (ys ++ (xs ++ step.Again ∷ step.End ∷ step.End ∷ [])))) (λ k. f (if_then None (loop None (g (f (br_if 0 done))) done) k))
 while_writes xs ys f g one two =
-    let body : List LowStep = step.If ∷ ((ys ++ step.Again ∷ []) ++ step.End ∷ []) in
-    let same : step.Loop ∷ ((xs ++ body) ++ step.End ∷ []) ≡ step.Loop ∷ (xs ++ (step.If ∷ (ys ++ step.Again ∷ step.End ∷ step.End ∷ []))) = simp append_assoc refl in
-    writes-same _ _ _ same (loop_writes (xs ++ body) (λ k. f (if_then None (g (br 1 done)) k))
-    (writes-then xs body f (if_then None (g (br 1 done))) one
-    (then_writes (ys ++ step.Again ∷ []) (λ k. g (br 1 k)) (writes-then ys (step.Again ∷ []) g (br 1) two again_writes))))
+    let turn : List LowStep = ys ++ (xs ++ step.Again ∷ []) in
+    let looped : List LowStep = step.Loop ∷ (turn ++ step.End ∷ []) in
+    let same : xs ++ (step.If ∷ (looped ++ step.End ∷ [])) ≡ xs ++ (step.If ∷ step.Loop ∷ (ys ++ (xs ++ step.Again ∷ step.End ∷ step.End ∷ []))) = simp append_assoc refl in
+    writes-same _ _ _ same (writes-then xs (step.If ∷ (looped ++ step.End ∷ [])) f (if_then None (loop None (g (f (br_if 0 done))) done)) one
+    (then_writes looped (loop None (g (f (br_if 0 done))))
+    (loop_writes turn (λ k. g (f (br_if 0 k)))
+    (writes-then ys (xs ++ step.Again ∷ []) g (λ k. f (br_if 0 k)) two (writes-then xs (step.Again ∷ []) f (br_if 0) one again_writes)))))
 
 pub statement_writes : (s : Statement) → Writes (steps_of s) (statement_code s)
 statement_writes skip = λ rest finished current waiting. (finished, current, refl, emits-none finished current)

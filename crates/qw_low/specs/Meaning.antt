@@ -1,14 +1,14 @@
 -- What Low means: the value of an expression, and what a statement does to a state, with the exact number of instructions that
 -- it executes. It goes wrong where something is not what it is used as, where an access leaves its part, where a store is in a
 -- column, where a division traps, and where a request would lead past the most pages stated.
-use Rattle.std.specs.Prelude.{ℕ, zero, suc, ◌+◌, ◌==◌, nat_le, nat_lt, ◌&&◌, if◌then◌else◌, length, Option, Some, None, Result, Ok, Err, slice_get, slice_set}
+use Rattle.std.specs.Prelude.{ℕ, zero, suc, ◌+◌, ◌-◌, ◌==◌, nat_le, nat_lt, ◌&&◌, if◌then◌else◌, length, Option, Some, None, Result, Ok, Err, slice_get, slice_set}
 use Rattle.std.specs.Option.{option_and_then}
 use Rattle.qw_module.specs.declared.instruction.ValType.{ValType}
 use Rattle.qw_module.specs.declared.instruction.ValType.TheVariants.{I32, I64}
 use Rattle.qw_module.specs.declared.instruction.Load.{Load}
 use Rattle.qw_module.specs.declared.trap.Trap.{Trap}
 use Rattle.qw_module.specs.Numbers.{constant, unary, binary, division, truth, relation, converted, load_width, store_width}
-use Rattle.qw_low.specs.Syntax.{Expression, constant_of, local, unop, binop, divop, is_zero, relop, cvtop, advance, Statement, skip, seq, assign, load, store, conditional, while, request, raise, exit}
+use Rattle.qw_low.specs.Syntax.{Expression, constant_of, local, unop, binop, divop, is_zero, relop, cvtop, advance, retreat, Statement, skip, seq, assign, load, store, conditional, while, request, raise, exit}
 use Rattle.qw_low.specs.State.{Value, Number, Address, Own, LowState, size_of, is_within, loaded_as, stored_as, with_cell, with_pages}
 
 -- ---- expressions (Core 1.0, 4.4.1)
@@ -39,6 +39,11 @@ abbrev pub advanced : LowState → Option Value → Option Value → Option Valu
 advanced s (Some (Address p offset)) (Some (Number n)) = if is_within (size_of s p) (offset + n) then Some (Address p (offset + n)) else None
 advanced s _ _ = None
 
+-- an address so many octets back, within its part
+abbrev pub retreated : Option Value → Option Value → Option Value
+retreated (Some (Address p offset)) (Some (Number n)) = if nat_le n offset then Some (Address p (offset - n)) else None
+retreated _ _ = None
+
 abbrev pub value : LowState → Expression → Option Value
 value s (constant_of c) = Some (Number (constant c))
 value s (local x) = slice_get s.locals x
@@ -49,6 +54,7 @@ value s (is_zero t e) = zero_test t (value s e)
 value s (relop t r left right) = of_numbers (λ x y. Some (relation t r x y)) (value s left) (value s right)
 value s (cvtop c e) = of_number (converted c) (value s e)
 value s (advance a n) = advanced s (value s a) (value s n)
+value s (retreat a n) = retreated (value s a) (value s n)
 
 -- how many instructions compute it
 abbrev pub cost : Expression → ℕ
@@ -61,6 +67,7 @@ cost (is_zero t e) = cost e + 1
 cost (relop t r left right) = cost left + cost right + 1
 cost (cvtop c e) = cost e + 1
 cost (advance a n) = cost a + cost n + 1
+cost (retreat a n) = cost a + cost n + 1
 
 -- ---- statements
 -- What a statement comes to, after how many instructions: it is completed; it ended the run, by `exit` or by raising a code; it
@@ -116,14 +123,14 @@ abbrev pub unless_zero : ℕ → (other zeroth : Outcome) → Outcome
 unless_zero zero other zeroth = zeroth
 unless_zero (suc n) other zeroth = other
 
--- A loop of at most so many turns: the condition, and unless it is 0 the body and the loop again. Each turn begins the loop anew,
--- tests, and branches back (4.4.5, loop, if and br).
+-- A loop of at most so many turns: the condition, and unless it is 0 the body and the loop again. It is tested before the loop is
+-- entered, and again at the end of each turn, from where the loop is begun anew (4.4.5, if, loop and br_if).
 abbrev pub turns : Expression → (LowState → Outcome) → (fuel : ℕ) → LowState → Outcome
 turns e body zero s = Unfinished
 turns e body (suc fuel) s =
     by_value (value s e) (λ n. unless_zero n
-    (counting (cost e + 2) (and_then (body s) (λ t. counting 1 (turns e body fuel t))))
-    (Completed (cost e + 2) s))
+    (counting (cost e + 2) (and_then (body s) (λ t. turns e body fuel t)))
+    (Completed (cost e + 1) s))
 
 -- an exception's code is raised: 1 or 2 (4.4.7)
 abbrev pub raised : ℕ → LowState → Outcome

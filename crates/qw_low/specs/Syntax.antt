@@ -11,7 +11,8 @@ use Rattle.qw_module.specs.declared.instruction.Conversion.{Conversion}
 use Rattle.qw_module.specs.declared.instruction.Load.{Load}
 use Rattle.qw_module.specs.declared.instruction.Store.{Store}
 
--- `is_zero` is the standard's test (2.4.1, itestop), and may be of an address; `advance` is an address so many octets further on.
+-- `is_zero` is the standard's test (2.4.1, itestop), and may be of an address; `advance` is an address so many octets further on, and
+-- `retreat` one so many octets back.
 pub data Expression : Type 0 where
   constant_of : Const → Expression
   local : ℕ → Expression
@@ -22,6 +23,7 @@ pub data Expression : Type 0 where
   relop : ValType → Relation → Expression → Expression → Expression
   cvtop : Conversion → Expression → Expression
   advance : (address octets : Expression) → Expression
+  retreat : (address octets : Expression) → Expression
 
 -- `conditional` takes its first statement unless the expression is 0. `request` asks for so many pages, and leaves the address
 -- of what is granted in a local; where it is refused, 3 is raised. `exit` ends the run.

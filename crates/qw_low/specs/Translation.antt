@@ -2,14 +2,14 @@
 use Rattle.std.specs.Prelude.{ℕ, None}
 use Rattle.qw_module.specs.declared.instruction.ValType.TheVariants.{I32}
 use Rattle.qw_module.specs.declared.instruction.Const.TheVariants as const
-use Rattle.qw_module.specs.declared.instruction.Binary.TheVariants.{Add, Mul}
+use Rattle.qw_module.specs.declared.instruction.Binary.TheVariants.{Add, Sub, Mul}
 use Rattle.qw_module.specs.declared.instruction.Relation.TheVariants.{Eq}
 use Rattle.qw_module.specs.declared.instruction.MemArg.{MemArg}
 use Rattle.qw_module.specs.declared.instruction.Op.TheVariants as o
-use Rattle.qw_module.specs.Syntax.{Code, done, op, loop, if_then, if_else, br, return, call}
+use Rattle.qw_module.specs.Syntax.{Code, done, op, loop, if_then, if_else, br_if, return, call}
 use Rattle.qw_module.specs.Execution.{refusal}
 use Rattle.qw_linear.specs.Memory.{page}
-use Rattle.qw_low.specs.Syntax.{Expression, constant_of, local, unop, binop, divop, is_zero, relop, cvtop, advance, Statement, skip, seq, assign, load, store, conditional, while, request, raise, exit}
+use Rattle.qw_low.specs.Syntax.{Expression, constant_of, local, unop, binop, divop, is_zero, relop, cvtop, advance, retreat, Statement, skip, seq, assign, load, store, conditional, while, request, raise, exit}
 
 abbrev pub expression_code : Expression → Code → Code
 expression_code (constant_of c) k = op (o.Const c) k
@@ -21,6 +21,7 @@ expression_code (is_zero t e) k = expression_code e (op (o.Eqz t) k)
 expression_code (relop t r left right) k = expression_code left (expression_code right (op (o.Relation t r) k))
 expression_code (cvtop c e) k = expression_code e (op (o.Convert c) k)
 expression_code (advance a n) k = expression_code a (expression_code n (op (o.Binary I32 Add) k))
+expression_code (retreat a n) k = expression_code a (expression_code n (op (o.Binary I32 Sub) k))
 
 -- an offset without a hint of its alignment
 abbrev pub unaligned : ℕ → MemArg
@@ -46,7 +47,7 @@ statement_code (assign x e) k = expression_code e (op (o.LocalSet x) k)
 statement_code (load x l offset a) k = expression_code a (op (o.Load l (unaligned offset)) (op (o.LocalSet x) k))
 statement_code (store st offset a e) k = expression_code a (expression_code e (op (o.Store st (unaligned offset)) k))
 statement_code (conditional e a b) k = expression_code e (if_else None (statement_code a done) (statement_code b done) k)
-statement_code (while e a) k = loop None (expression_code e (if_then None (statement_code a (br 1 done)) done)) k
+statement_code (while e a) k = expression_code e (if_then None (loop None (statement_code a (expression_code e (br_if 0 done))) done) k)
 statement_code (request e x) k = expression_code e (op o.MemoryGrow (on_answer x k))
 statement_code (raise code) k = raising code k
 statement_code exit k = return k

@@ -6,7 +6,7 @@ use Rattle.qw_module.specs.declared.instruction.ValType.TheVariants.{I32}
 use Rattle.qw_module.specs.Numbers.{values_of, constant, type_of_constant, converts_from, converts_to, type_of_load, type_of_store}
 use Rattle.qw_module.specs.Typing.{Scope}
 use Rattle.qw_module.specs.Soundness.{raise_signature}
-use Rattle.qw_low.specs.Syntax.{Expression, constant_of, local, unop, binop, divop, is_zero, relop, cvtop, advance, Statement, skip, seq, assign, load, store, conditional, while, request, raise, exit}
+use Rattle.qw_low.specs.Syntax.{Expression, constant_of, local, unop, binop, divop, is_zero, relop, cvtop, advance, retreat, Statement, skip, seq, assign, load, store, conditional, while, request, raise, exit}
 
 -- over locals of these types an expression has this type
 abbrev pub HasType : List ValType → Expression → ValType → Type 0
@@ -19,6 +19,7 @@ HasType locals (is_zero t e) type = HasType locals e t × (type ≡ I32)
 HasType locals (relop t r left right) type = HasType locals left t × HasType locals right t × (type ≡ I32)
 HasType locals (cvtop c e) type = HasType locals e (converts_from c) × (type ≡ converts_to c)
 HasType locals (advance a n) type = HasType locals a I32 × HasType locals n I32 × (type ≡ I32)
+HasType locals (retreat a n) type = HasType locals a I32 × HasType locals n I32 × (type ≡ I32)
 
 abbrev pub IsTyped : List ValType → Statement → Type 0
 IsTyped locals skip = Unit {0}

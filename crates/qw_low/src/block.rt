@@ -109,15 +109,16 @@ impl Block {
         self.push(LowStep::End)
     }
 
-    /// Adds a loop: `body`, as long as the value of `test` is not 0.
+    /// Adds a loop: `body`, as long as the value of `test` is not 0. The test stands before the loop and at the end of each turn, so that a
+    /// turn has one branch.
     pub fn repeat(&mut self, test: &Block, body: &Block) -> Result<(), NoMemory>
         ensures { OnOk result ((e : Expression) (a : Statement) → test.now.code.items ≡ expression_steps e → body.now.code.items ≡ steps_of a →
             self.new.code.items ≡ self.old.code.items ++ steps_of (while e a)) }
     {
-        self.push(LowStep::Loop)?;
         self.append(test)?;
-        self.push(LowStep::If)?;
+        self.code.extend_from_slice(&[LowStep::If, LowStep::Loop])?;
         self.append(body)?;
+        self.append(test)?;
         self.code
             .extend_from_slice(&[LowStep::Again, LowStep::End, LowStep::End])?;
         Ok(())

@@ -15,11 +15,11 @@ ghost use Rattle.qw_low.specs.Meaning.{meaning};
 ghost use Rattle.qw_low.specs.Promise.{Ends};
 ghost use Rattle.qw_low.specs.Worked.{i32};
 
-/// A countdown from n, which would raise 1 at 0, ends after at most 10 instructions for each turn and 3 more, and raises nothing: by the
+/// A countdown from n, which would raise 1 at 0, ends after at most 9 instructions for each turn and 2 more, and raises nothing: by the
 /// rules for sequences, choices, assignments and loops over units.
 pub fn a_countdown_ends()
     ensures { (most fuel x n : ℕ) (s : LowState) → slice_get s.locals x ≡ Some (Number n) → x < length s.locals → n < 2 ^ 32 → n < fuel →
-        Ends (n * 10 + 3) (λ t. slice_get t.locals x ≡ Some (Number 0)) (λ t. ⊥) (λ code. ⊥)
+        Ends (n * 9 + 2) (λ t. slice_get t.locals x ≡ Some (Number 0)) (λ t. ⊥) (λ code. ⊥)
         (meaning most fuel (while (local x) (seq (conditional (local x) skip (raise 1)) (assign x (binop I32 Sub (local x) (i32 1))))) s) }
 {}
 

@@ -114,7 +114,7 @@ impl Writer {
             LowStep::If => self.open(alloc, Opened::If)?,
             LowStep::Else => self.turn(alloc)?,
             LowStep::Loop => self.open(alloc, Opened::Loop)?,
-            LowStep::Again => self.add(Instr::Br(1))?,
+            LowStep::Again => self.add(Instr::BrIf(0))?,
             LowStep::End => self.end(alloc)?,
             LowStep::Raise(code) => {
                 self.add(Instr::Op(Op::Const(Const::I32(code))))?;

@@ -14,7 +14,7 @@ pub enum LowStep {
     Else,
     /// Begins a loop.
     Loop,
-    /// Within an `If` of a loop: the loop again.
+    /// At the end of a loop: the loop again, unless the operand is 0.
     Again,
     /// Ends an `If` or a `Loop`.
     End,

@@ -11,9 +11,9 @@ ghost use Rattle.qw_module.specs.declared.instruction.Load.TheVariants as loads;
 ghost use Rattle.qw_module.specs.declared.instruction.Store.TheVariants as stores;
 ghost use Rattle.qw_linear.specs.Memory.{number_at, AreOctets};
 ghost use Rattle.qw_module.specs.Execution.{Store};
-ghost use Rattle.qw_module.specs.Syntax.{done, op, loop, if_then, br, return};
+ghost use Rattle.qw_module.specs.Syntax.{done, op, loop, if_then, br_if, return};
 ghost use Rattle.qw_map.specs.Areas.{World};
-ghost use Rattle.qw_low.specs.Syntax.{constant_of, local, binop, divop, is_zero, advance, skip, seq, assign, load, store, conditional, while, request, raise, exit};
+ghost use Rattle.qw_low.specs.Syntax.{constant_of, local, binop, divop, is_zero, advance, retreat, skip, seq, assign, load, store, conditional, while, request, raise, exit};
 ghost use Rattle.qw_low.specs.State.{Column, Own, Value, Number, Address, with_cell, with_pages};
 ghost use Rattle.qw_low.specs.Meaning.{value, Completed, Exited, Stopped, Wrong, Unfinished, meaning};
 ghost use Rattle.qw_low.specs.Translation.{statement_code};
@@ -26,6 +26,11 @@ pub fn values_of_addresses()
     ensures moved { value state (advance (local 1) (i32 8)) ≡ Some (Address (Column 0) 8) }
     ensures at_the_end { value state (advance (local 1) (i32 12)) ≡ Some (Address (Column 0) 12) }
     ensures past_the_end { value state (advance (local 1) (i32 13)) ≡ None }
+    ensures back { value state (retreat (advance (local 1) (i32 8)) (i32 6)) ≡ Some (Address (Column 0) 2) }
+    ensures at_the_start { value state (retreat (advance (local 1) (i32 8)) (i32 8)) ≡ Some (Address (Column 0) 0) }
+    ensures before_the_start { value state (retreat (advance (local 1) (i32 8)) (i32 9)) ≡ None }
+    ensures no_place { value state (retreat (i32 8) (i32 6)) ≡ None }
+    ensures no_distance { value state (retreat (local 1) (local 1)) ≡ None }
     ensures no_address { value state (advance (local 2) (i32 8)) ≡ None }
     ensures no_number { value state (binop I32 Add (local 1) (i32 8)) ≡ None }
     ensures tested { (value state (is_zero I32 (local 1)) ≡ Some (Number 0)) × (value state (is_zero I32 (i32 0)) ≡ Some (Number 1))
@@ -34,10 +39,10 @@ pub fn values_of_addresses()
     ensures missing { value state (local 3) ≡ None }
 {}
 
-/// A countdown from 2 executes 8 instructions a turn and 3 at its end; with two turns allowed it is unfinished.
+/// A countdown from 2 executes 7 instructions a turn and 2 for its last test; with two turns allowed it is unfinished.
 pub fn counts_of_a_loop()
     ensures three_turns { meaning 128 3 (while (local 2) (assign 2 (binop I32 Sub (local 2) (i32 1)))) state
-        ≡ Completed 19 (record state { locals = Address (Own 0) 0 ∷ Address (Column 0) 0 ∷ Number 0 ∷ [] }) }
+        ≡ Completed 16 (record state { locals = Address (Own 0) 0 ∷ Address (Column 0) 0 ∷ Number 0 ∷ [] }) }
     ensures two_turns { meaning 128 2 (while (local 2) (assign 2 (binop I32 Sub (local 2) (i32 1)))) state ≡ Unfinished }
 {}
 
@@ -88,7 +93,7 @@ pub fn requests_at_the_limit()
 /// The code of a loop, in full.
 pub fn code_of_a_loop()
     ensures { statement_code (while (local 0) (seq (assign 1 (i32 5)) exit)) done
-        ≡ loop None (op (o.LocalGet 0) (if_then None (op (o.Const (const.I32 5)) (op (o.LocalSet 1) (return (br 1 done)))) done)) done }
+        ≡ op (o.LocalGet 0) (if_then None (loop None (op (o.Const (const.I32 5)) (op (o.LocalSet 1) (return (op (o.LocalGet 0) (br_if 0 done))))) done) done) }
 {}
 
 /// The words of addresses in a world whose column begins at 64, and whose page at 65,536.

@@ -1,4 +1,6 @@
+pub mod Addresses
 pub mod BasesRuns
+pub mod ConstantRuns
 pub mod Elsewhere
 pub mod LiteralRuns
 pub mod ReadRuns

@@ -22,8 +22,8 @@ use Rattle.qw_rows.specs.declared.literal.Literal.{Literal}
 use Rattle.qw_rows.specs.Texts.{text_operand, known_texts, LieThere, IsTextIn, AreTextsIn, HasPlace, LeadsTo, LeadsToAll}
 use Rattle.qw_rows.specs.Inner.Blocks.{i32}
 use Rattle.qw_rows.specs.Inner.TextBlocks.{literal_block, literals_block}
+use Rattle.qw_rows.proofs.Addresses.{put, advanced_to}
 use Rattle.qw_rows.proofs.BasesRuns.{Never, NoCode}
-use Rattle.qw_rows.proofs.ValueRuns.{put, advanced_to}
 use Rattle.qw_rows.proofs.TextPlaces.{place_held, texts_held, texts_order, text_more, lies_kept, lie_there_kept}
 
 -- ---- one literal

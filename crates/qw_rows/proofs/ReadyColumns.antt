@@ -3,6 +3,7 @@ use Rattle.std.proofs.Common.{◌≡◌, ℕ, zero, suc, ◌+◌, ◌*◌, ◌/�
 use Rattle.std.specs.List.{AllByRecursion}
 use Rattle.std.specs.Option.{option_and_then, option_map}
 use Rattle.std.proofs.lemmas.Bool.{le-leb}
+use Rattle.std.proofs.lemmas.List.{length-map}
 use Rattle.std.proofs.lemmas.Option.{same_Some, slice_get_within, slice_get-map, get_or_from_slice_get}
 use Rattle.qw_types.specs.Value.{IsOfTypeOrNull, text_octets}
 use Rattle.qw_types.specs.declared.value.Ty.{Ty}
@@ -156,3 +157,10 @@ module _ (layout : Layout) (placed : List Placed) (tables : List (List (List Val
   ready_stands_at k row used value found there =
       let one = found-in placed k (let inside = slice_get_within layout.columns k used found in omega (arith, inside, ready.many)) in
       stands_at k row used one.0 value found one.1 there
+
+  pub ready_long : (k : ℕ) (used : Used) → slice_get layout.columns k ≡ Some used → HasOctets sizes (3 * k) (values_size used.ty (length (rows_of tables used.table)))
+  ready_long k used found =
+      let one = found-in placed k (let inside = slice_get_within layout.columns k used found in omega (arith, inside, ready.many)) in
+      let many : one.0.rows ≡ length (rows_of tables used.table) = (ready.columns k used one.0 found one.1).holds.rows_are ∙ length-map (rows_of tables used.table) _ in
+      has_octets (3 * k) (values_size used.ty (length (rows_of tables used.table))) (record { start = one.0.values; size = values_size used.ty one.0.rows })
+      (area-parts layout.columns placed k used one.0 found one.1).values (values_more used.ty (length (rows_of tables used.table)) one.0.rows (omega (arith, many)))

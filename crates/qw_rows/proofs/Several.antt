@@ -5,10 +5,12 @@ use Rattle.std.proofs.lemmas.List.{append_assoc, append-nil, take_all, drop_all}
 use Rattle.qw_types.specs.declared.value.Val.{Val}
 use Rattle.qw_module.specs.declared.instruction.ValType.{ValType}
 use Rattle.qw_module.specs.declared.instruction.ValType.TheVariants.{I32}
+use Rattle.qw_map.specs.Columns.{values_size}
 use Rattle.qw_meaning.specs.Evaluation.{cell_of}
 use Rattle.qw_low.specs.declared.step.LowStep.{LowStep}
 use Rattle.qw_low.specs.Syntax.{Statement}
-use Rattle.qw_low.specs.State.{Own, Address, Cells, LowState}
+use Rattle.qw_low.specs.State.{Own, Address, LowState}
+use Rattle.qw_low.specs.Begin.{KnowsEntry}
 use Rattle.qw_low.specs.Meaning.{meaning}
 use Rattle.qw_low.specs.Typing.{IsTyped}
 use Rattle.qw_low.specs.Size.{size}
@@ -21,10 +23,10 @@ use Rattle.qw_expr.specs.Cells.{IsBelow, IsBelowNull, Holds, DeclaresValue}
 use Rattle.qw_expr.specs.Computes.{AreHeld, AreBelow, AreDeclared}
 use Rattle.qw_expr.proofs.Nulls.{value_kept, below_more}
 use Rattle.qw_rows.specs.declared.reader.Reader.{Reader}
-use Rattle.qw_rows.specs.Reading.{known_of, operand_of, HasNullWord, StandsAt, AreBases, IsCellIn, HasBases, DeclaresBases, AreBasesIn, AreCellsIn, HasEntryOf, IsThere, BeginsAll, ReadsAll}
+use Rattle.qw_rows.specs.Reading.{known_of, operand_of, HasNullWord, HasOctets, StandsAt, AreBases, IsCellIn, HasBases, DeclaresBases, AreBasesIn, AreCellsIn, HasEntryOf, IsThere, BeginsAll, ReadsAll}
 use Rattle.qw_rows.specs.Inner.Blocks.{begin_block, read_block, each_block, begins_block, reads_block}
 use Rattle.qw_rows.proofs.BasesRuns.{Never, NoCode, begin_begins}
-use Rattle.qw_rows.proofs.ReadRuns.{bases_kept, read_reads}
+use Rattle.qw_rows.proofs.ReadRuns.{bases_kept, end_kept, row_kept, read_reads}
 
 -- ---- locals behind one another
 bases_order : (from below : ℕ) (readers : List Reader) → AreBasesIn from below readers → from ≤ below
@@ -73,50 +75,63 @@ known_declared types [] declared = tt
 known_declared types (r ∷ readers) declared = (declared.0, known_declared types readers declared.1)
 
 -- ---- the addresses of parts
-entries_kept : (cells other : Cells) (readers : List Reader) → cells ≡ other → AllByRecursion (HasEntryOf cells) readers → AllByRecursion (HasEntryOf other) readers
-entries_kept cells other readers same entries = subst (λ (c : Cells). AllByRecursion (HasEntryOf c) readers) same entries
+entries_kept : (n next rows : ℕ) (s t : LowState) (readers : List Reader) → n ≤ next → Kept n s t → AllByRecursion (HasEntryOf n rows s) readers → AllByRecursion (HasEntryOf next rows t) readers
+entries_kept n next rows s t [] after kept entries = tt
+entries_kept n next rows s t (r ∷ readers) after kept entries =
+    let one = entries.0 in (
+      record {
+        used = one.used;
+        type_is = one.type_is;
+        null_is = one.null_is;
+        entry = subst (λ (u : LowState). KnowsEntry u.cells r.index one.used rows) (sym kept.others) one.entry;
+        values = subst (λ (u : LowState). HasOctets u.columns (3 * r.index) (values_size r.ty rows)) (sym kept.others) one.values;
+        end = end_kept n next rows r s t after kept one.end;
+      },
+      entries_kept n next rows s t readers after kept entries.1,
+    )
 
-pub begins_end : (pages fuel n : ℕ) (readers : List Reader) (s : LowState) → AllByRecursion (HasEntryOf s.cells) readers → slice_get s.locals 0 ≡ Some (Address (Own 0) 0) → 1 ≤ n →
+pub begins_end : (pages fuel n rows : ℕ) (readers : List Reader) (s : LowState) → AllByRecursion (HasEntryOf n rows s) readers → slice_get s.locals 0 ≡ Some (Address (Own 0) 0) → 1 ≤ n →
     AreBasesIn n (length s.locals) readers →
-    Ends (size (begins_block readers)) (λ t. Kept n s t × AllByRecursion (λ r. HasBases r t) readers) Never NoCode (meaning pages fuel (begins_block readers) s)
-begins_end pages fuel n [] s entries base some are = (omega arith, (Kept-same n s, tt))
-begins_end pages fuel n (r ∷ readers) s entries base some are =
-    let entry = entries.0 in
+    Ends (size (begins_block readers)) (λ t. Kept n s t × AllByRecursion (λ r. HasBases rows r t) readers) Never NoCode (meaning pages fuel (begins_block readers) s)
+begins_end pages fuel n rows [] s entries base some are = (omega arith, (Kept-same n s, tt))
+begins_end pages fuel n rows (r ∷ readers) s entries base some are =
+    let one = entries.0 in
     let next : ℕ = are.0 in
     let rest : Statement = begins_block readers in
     let order : next ≤ length s.locals = bases_order next (length s.locals) readers are.2 in
     let after : n ≤ next = let v = are.1.values in omega (arith, v.0, v.1) in
-    Ends-then (λ t. Kept n s t × AllByRecursion (λ q. HasBases q t) (r ∷ readers)) Never NoCode (size (begin_block r)) (size rest) (λ t. Kept n s t × HasBases r t)
+    Ends-then (λ t. Kept n s t × AllByRecursion (λ q. HasBases rows q t) (r ∷ readers)) Never NoCode (size (begin_block r)) (size rest) (λ t. Kept n s t × HasBases rows r t)
     (meaning pages fuel (begin_block r) s) (meaning pages fuel rest)
-    ((begin_begins r).runs pages fuel n entry.1 entry.0 s entry.2 entry.3 entry.4 base some (bases_more n n next (length s.locals) r (omega arith) order are.1))
+    ((begin_begins r).runs pages fuel n rows one.used s one.type_is one.null_is one.entry one.values base some one.end (bases_more n n next (length s.locals) r (omega arith) order are.1))
     (λ t now.
     let kept = now.0 in
-    let cells_same : s.cells ≡ t.cells = sym (ap (λ (u : LowState). u.cells) kept.others) in
-    Ends-weaker (size rest) (size rest) (λ u. Kept next t u × AllByRecursion (λ q. HasBases q u) readers) (λ u. Kept n s u × AllByRecursion (λ q. HasBases q u) (r ∷ readers)) Never Never NoCode NoCode
+    Ends-weaker (size rest) (size rest) (λ u. Kept next t u × AllByRecursion (λ q. HasBases rows q u) readers) (λ u. Kept n s u × AllByRecursion (λ q. HasBases rows q u) (r ∷ readers)) Never Never NoCode NoCode
     (meaning pages fuel rest t) (omega arith)
-    (λ u post. (Kept-then n next s t u after kept post.0, (bases_kept next r t u (bases_more n 0 next next r (omega arith) (omega arith) are.1) post.0 now.1, post.1))) (λ u x. x) (λ code x. x)
-    (begins_end pages fuel next readers t (entries_kept s.cells t.cells readers cells_same entries.1) (kept.below 0 (omega (arith, some)) ∙ base) (omega (arith, some, after))
+    (λ u post. (Kept-then n next s t u after kept post.0, (bases_kept next rows r t u (bases_more n 0 next next r (omega arith) (omega arith) are.1) post.0 now.1, post.1))) (λ u x. x) (λ code x. x)
+    (begins_end pages fuel next rows readers t (entries_kept n next rows s t readers after kept entries.1) (kept.below 0 (omega (arith, some)) ∙ base) (omega (arith, some, after))
     (subst (λ (k : ℕ). AreBasesIn next k readers) (sym kept.many) are.2)))
 
-begins_typed : (types : List ValType) (readers : List Reader) → slice_get types 0 ≡ Some I32 → AllByRecursion (DeclaresBases types) readers → IsTyped types (begins_block readers)
+begins_typed : (types : List ValType) (readers : List Reader) → slice_get types 0 ≡ Some I32 → AllByRecursion (λ (r : Reader). (slice_get types r.end ≡ Some I32) × DeclaresBases types r) readers →
+    IsTyped types (begins_block readers)
 begins_typed types [] first declared = tt
-begins_typed types (r ∷ readers) first declared = ((begin_begins r).typed types first declared.0, begins_typed types readers first declared.1)
+begins_typed types (r ∷ readers) first declared = ((begin_begins r).typed types first declared.0.0 declared.0.1, begins_typed types readers first declared.1)
 
-begins_short : (readers : List Reader) → size (begins_block readers) ≤ 9 * length readers
+begins_short : (readers : List Reader) → size (begins_block readers) ≤ 13 * length readers
 begins_short [] = omega arith
 begins_short (r ∷ readers) = omega (arith, (begin_begins r).short, begins_short readers)
 
 pub begins_begin : (readers : List Reader) → BeginsAll readers (begins_block readers)
 begins_begin readers = record {
-  runs = λ pages fuel n s entries base some are. begins_end pages fuel n readers s entries base some are;
+  runs = λ pages fuel n rows s entries base some are. begins_end pages fuel n rows readers s entries base some are;
   typed = λ types first declared. begins_typed types readers first declared;
   short = begins_short readers;
 }
 
 -- ---- values
-there_kept : (n next : ℕ) (values : List Val) (s t : LowState) (readers : List Reader) → n ≤ next → Kept n s t → AllByRecursion (IsThere n values s) readers → AllByRecursion (IsThere next values t) readers
-there_kept n next values s t [] after kept there = tt
-there_kept n next values s t (r ∷ readers) after kept there =
+pub there_kept : (n next rows : ℕ) (values : List Val) (s t : LowState) (readers : List Reader) → n ≤ next → Kept n s t → AllByRecursion (IsThere n rows values s) readers →
+    AllByRecursion (IsThere next rows values t) readers
+there_kept n next rows values s t [] after kept there = tt
+there_kept n next rows values s t (r ∷ readers) after kept there =
     let one = there.0 in (
       record {
         row = one.row;
@@ -124,22 +139,21 @@ there_kept n next values s t (r ∷ readers) after kept there =
         value_is = one.value_is;
         stands = subst (λ (u : LowState). StandsAt u.cells u.columns r.index r.ty r.not_null one.row one.v) (sym kept.others) one.stands;
         sized = one.sized;
-        bases = bases_kept n r s t one.bases_below kept one.bases;
-        row_is = kept.below r.row one.row_below ∙ one.row_is;
-        row_below = omega (arith, one.row_below, after);
+        bases = bases_kept n rows r s t one.bases_below kept one.bases;
+        at_row = row_kept n next rows one.row r s t after kept one.at_row;
         bases_below = bases_more 0 0 n next r (omega arith) after one.bases_below;
       },
-      there_kept n next values s t readers after kept there.1,
+      there_kept n next rows values s t readers after kept there.1,
     )
 
 abbrev HaveNullWords : List Reader → Type 0
 HaveNullWords readers = AllByRecursion (λ (r : Reader). HasNullWord r.not_null r.cell.null) readers
 
-pub reads_end : (pages fuel n : ℕ) (values : List Val) (readers : List Reader) (s : LowState) → HaveNullWords readers → AllByRecursion (IsThere n values s) readers →
+pub reads_end : (pages fuel n rows : ℕ) (values : List Val) (readers : List Reader) (s : LowState) → HaveNullWords readers → AllByRecursion (IsThere n rows values s) readers →
     AreCellsIn n (length s.locals) readers →
     Ends (size (reads_block readers)) (λ t. Kept n s t × AreHeld (map known_of readers) values t) Never NoCode (meaning pages fuel (reads_block readers) s)
-reads_end pages fuel n values [] s words there are = (omega arith, (Kept-same n s, tt))
-reads_end pages fuel n values (r ∷ readers) s words there are =
+reads_end pages fuel n rows values [] s words there are = (omega arith, (Kept-same n s, tt))
+reads_end pages fuel n rows values (r ∷ readers) s words there are =
     let one = there.0 in
     let next : ℕ = are.0 in
     let rest : Statement = reads_block readers in
@@ -147,7 +161,7 @@ reads_end pages fuel n values (r ∷ readers) s words there are =
     let after : n ≤ next = let v = are.1.value in omega (arith, v.0, v.1) in
     Ends-then (λ t. Kept n s t × AreHeld (map known_of (r ∷ readers)) values t) Never NoCode (size (read_block r)) (size rest) (λ t. Kept n s t × Holds (operand_of r) one.v t)
     (meaning pages fuel (read_block r) s) (meaning pages fuel rest)
-    ((read_reads r words.0).runs pages fuel n one.row one.v s one.stands one.sized one.bases one.row_is one.row_below one.bases_below (cell_more n next (length s.locals) r order are.1))
+    ((read_reads r words.0).runs pages fuel n rows one.row one.v s one.stands one.sized one.bases one.at_row one.bases_below (cell_more n next (length s.locals) r order are.1))
     (λ t now.
     let kept = now.0 in
     let held = now.1 in
@@ -157,21 +171,21 @@ reads_end pages fuel n values (r ∷ readers) s words there are =
       Kept-then n next s t u after kept post.0,
       ((one.v, ap (λ (v : Option Val). Ok (cell_of v)) one.value_is, (value_kept next t u r.cell one.v post.0 (cell_below n next r are.1) held.0, held.1)), post.1),
     )) (λ u x. x) (λ code x. x)
-    (reads_end pages fuel next values readers t words.1 (there_kept n next values s t readers after kept there.1) (subst (λ (k : ℕ). AreCellsIn next k readers) (sym kept.many) are.2)))
+    (reads_end pages fuel next rows values readers t words.1 (there_kept n next rows values s t readers after kept there.1) (subst (λ (k : ℕ). AreCellsIn next k readers) (sym kept.many) are.2)))
 
 reads_typed : (types : List ValType) (readers : List Reader) → HaveNullWords readers →
-    AllByRecursion (λ (r : Reader). (slice_get types r.row ≡ Some I32) × DeclaresBases types r × DeclaresValue types (operand_of r)) readers → IsTyped types (reads_block readers)
+    AllByRecursion (λ (r : Reader). (slice_get types r.left ≡ Some I32) × (slice_get types r.end ≡ Some I32) × DeclaresBases types r × DeclaresValue types (operand_of r)) readers → IsTyped types (reads_block readers)
 reads_typed types [] words declared = tt
 reads_typed types (r ∷ readers) words declared =
-    let one = declared.0 in ((read_reads r words.0).typed types one.0 one.1 one.2, reads_typed types readers words.1 declared.1)
+    let one = declared.0 in ((read_reads r words.0).typed types one.0 one.1 one.2 one.3, reads_typed types readers words.1 declared.1)
 
-reads_short : (readers : List Reader) → HaveNullWords readers → size (reads_block readers) ≤ 35 * length readers
+reads_short : (readers : List Reader) → HaveNullWords readers → size (reads_block readers) ≤ 39 * length readers
 reads_short [] words = omega arith
 reads_short (r ∷ readers) words = omega (arith, (read_reads r words.0).short, reads_short readers words.1)
 
 pub reads_read : (readers : List Reader) → HaveNullWords readers → ReadsAll readers (reads_block readers)
 reads_read readers words = record {
-  runs = λ pages fuel n values s there are. reads_end pages fuel n values readers s words there are;
+  runs = λ pages fuel n rows values s there are. reads_end pages fuel n rows values readers s words there are;
   typed = λ types declared. reads_typed types readers words declared;
   short = reads_short readers words;
 }

@@ -1,7 +1,6 @@
 -- What the blocks come to that load what stands in the place of a row's value, and its null bit.
-use Rattle.std.proofs.Common.{◌≡◌, ◌≢◌, ℕ, ℤ, ◌+◌, ◌-◌, ◌*◌, ◌/◌, ◌%◌, ◌^◌, ◌<◌, ◌≤◌, Bool, true, false, List, length, Option, Some, None, slice_get, slice_set, length-set, bit_and, refl, sym, ap, ◌∙◌, arith}
+use Rattle.std.proofs.Common.{◌≡◌, ◌≢◌, ℕ, ℤ, ◌+◌, ◌-◌, ◌*◌, ◌/◌, ◌%◌, ◌^◌, ◌<◌, ◌≤◌, Bool, true, false, length, Option, Some, None, slice_get, length-set, bit_and, refl, sym, ap, ◌∙◌, arith}
 use Rattle.std.specs.Int.{w32, cast_signed}
-use Rattle.std.proofs.lemmas.Bool.{le-leb}
 use Rattle.std.proofs.lemmas.Nat.{and_mask}
 use Rattle.qw_types.specs.Value.{IsOfTypeOrNull}
 use Rattle.qw_types.specs.declared.value.Ty.{Ty}
@@ -12,9 +11,9 @@ use Rattle.qw_module.specs.declared.instruction.ValType.TheVariants.{I32, I64}
 use Rattle.qw_module.specs.declared.instruction.Sign.TheVariants.{Signed, Unsigned}
 use Rattle.qw_module.specs.declared.instruction.Binary.TheVariants.{Shr, Sub}
 use Rattle.qw_module.specs.declared.instruction.Load.TheVariants.{Full, From8, I64From32}
-use Rattle.qw_low.specs.Syntax.{local, binop, advance, Statement, seq, assign, load}
-use Rattle.qw_low.specs.State.{Part, Column, Value, Number, Address, LowState, size_of}
-use Rattle.qw_low.specs.Meaning.{value, advanced, meaning}
+use Rattle.qw_low.specs.Syntax.{local, binop, advance, retreat, Statement, seq, assign, load}
+use Rattle.qw_low.specs.State.{Column, Value, Number, Address, LowState}
+use Rattle.qw_low.specs.Meaning.{value, retreated, meaning}
 use Rattle.qw_low.specs.Begin.{KnowsNull, null_flag}
 use Rattle.qw_low.specs.Promise.{Ends}
 use Rattle.qw_low.specs.Raising.{Kept}
@@ -24,20 +23,10 @@ use Rattle.qw_low.proofs.BlockSteps.{load_ends, load_then, assign_then}
 use Rattle.qw_low.proofs.Results.{Kept-same, Kept-set}
 use Rattle.qw_wide.proofs.Words.{word}
 use Rattle.qw_rows.specs.declared.reader.Reader.{Reader}
-use Rattle.qw_rows.specs.Reading.{HasNullWord, HasOctets}
-use Rattle.qw_rows.specs.Inner.Blocks.{i32, word_at, word_block, double_block, text_block, null_bit, null_block}
+use Rattle.qw_rows.specs.Reading.{HasNullWord, HasOctets, IsAtRow}
+use Rattle.qw_rows.specs.Inner.Blocks.{i32, word_at, word_block, double_block, text_block, row_at, null_bit, null_block}
+use Rattle.qw_rows.proofs.Addresses.{put, advanced_to, retreated_to}
 use Rattle.qw_rows.proofs.BasesRuns.{Never, NoCode}
-
--- the state with a local set
-abbrev pub put : LowState → ℕ → Value → LowState
-put t x v = record t { locals = slice_set t.locals x v }
-
--- ---- addresses
--- an address so much further on, within its part
-pub advanced_to : (s : LowState) (p : Part) (o n to count : ℕ) → size_of s p ≡ Some count → o + n ≡ to → to ≤ count → advanced s (Some (Address p o)) (Some (Number n)) ≡ Some (Address p to)
-advanced_to s p o n to count sized is within =
-    let inside : o + n ≤ count = omega (arith, is, within) in
-    rw (sized, le-leb (o + n) count inside) (ap (λ (k : ℕ). Some (Address p k)) is)
 
 -- ---- null bits
 -- whether a null word, where there is one, holds a flag; without one it is 0
@@ -66,14 +55,25 @@ row_bit row =
 bit_of : (octet row : ℕ) → bit_and (octet / 2 ^ (bit_and (4 * row / 2 ^ (2 % 32)) 7 % 32)) 1 ≡ octet / 2 ^ (row % 8) % 2
 bit_of octet row = ap (λ (k : ℕ). bit_and (octet / 2 ^ k) 1) (row_bit row) ∙ and_mask (octet / 2 ^ (row % 8)) 1
 
-module _ (pages fuel n row : ℕ) (r : Reader) (s : LowState) (row_is : slice_get s.locals r.row ≡ Some (Number (4 * row))) (row_below : r.row < n) where
+-- the row, from all rows and those that are left
+pub row_is : (rows row : ℕ) (r : Reader) (t : LowState) → row < rows → 4 * row < 2 ^ 32 → slice_get t.locals r.end ≡ Some (Number (4 * rows)) → slice_get t.locals r.left ≡ Some (Number (4 * (rows - row))) →
+    value t (row_at r) ≡ Some (Number (4 * row))
+row_is rows row r t within small end left =
+    let difference : (4 * rows + 2 ^ 32 - 4 * (rows - row)) % 2 ^ 32 ≡ 4 * row = omega (arith, within, small) in
+    rw (end, left) (ap (λ (k : ℕ). Some (Number k)) difference)
+
+module _ (pages fuel n rows row : ℕ) (r : Reader) (s : LowState) (at_row : IsAtRow n rows row r s) (small : 4 * row < 2 ^ 32) where
   abbrev pub Nulled : Option ℕ → Val → LowState → Type 0
   Nulled null v t = Kept n s t × NullWord t null (null_flag v)
 
+  row_still : (x : ℕ) (v : Value) → n ≤ x → value (put s x v) (row_at r) ≡ Some (Number (4 * row))
+  row_still x v from = row_is rows row r (put s x v) at_row.within small
+      (slice_get-set_other s.locals x r.end v (λ same. omega (arith, same, from, at_row.end.0)) ∙ at_row.end.1)
+      (slice_get-set_other s.locals x r.left v (λ same. omega (arith, same, from, at_row.left.0)) ∙ at_row.left.1)
+
   bit_is : (x octet : ℕ) → n ≤ x → x < length s.locals → value (put s x (Number octet)) (null_bit r x) ≡ Some (Number (octet / 2 ^ (row % 8) % 2))
   bit_is x octet from room =
-      rw (slice_get-set_same s.locals x (Number octet) room, slice_get-set_other s.locals x r.row (Number octet) (λ same. omega (arith, same, from, row_below)) ∙ row_is)
-      (ap (λ (k : ℕ). Some (Number k)) (bit_of octet row))
+      rw (slice_get-set_same s.locals x (Number octet) room, row_still x (Number octet) from) (ap (λ (k : ℕ). Some (Number k)) (bit_of octet row))
 
   pub null_ends : (type : Ty) (b : Bool) (null : Option ℕ) (k : ℕ) (v : Val) → HasNullWord b null → KnowsNull s.cells k row b v → IsOfTypeOrNull type b v →
       (b ≡ false → slice_get s.locals r.nulls ≡ Some (Address (Column (3 * k + 2)) 0)) → (b ≡ false → HasOctets s.columns (3 * k + 2) (row / 8 + 1)) →
@@ -87,9 +87,9 @@ module _ (pages fuel n row : ℕ) (r : Reader) (s : LowState) (row_is : slice_ge
       let place : 4 * row / 2 ^ (5 % 32) ≡ row / 8 = omega arith in
       let t : LowState = put s x (Number knows.0) in
       let low : x < length t.locals = omega (arith, length-set s.locals x (Number knows.0), mine.1) in
-      load_then (Nulled (Some x) v) Never NoCode pages fuel s 10 (assign x (null_bit r x)) x (From8 I32 Unsigned) 0 (advance (local r.nulls) (binop I32 (Shr Unsigned) (local r.row) (i32 5)))
+      load_then (Nulled (Some x) v) Never NoCode pages fuel s 12 (assign x (null_bit r x)) x (From8 I32 Unsigned) 0 (advance (local r.nulls) (binop I32 (Shr Unsigned) (row_at r) (i32 5)))
       (Column (3 * k + 2)) (row / 8) (row / 8) (Number knows.0) (Number knows.0)
-      (rw (base refl, row_is) (advanced_to s (Column (3 * k + 2)) 0 (4 * row / 2 ^ (5 % 32)) (row / 8) in_part.0 in_part.1 (omega arith) (omega (arith, in_part.2))))
+      (rw (base refl, row_is rows row r s at_row.within small at_row.end.1 at_row.left.1) (advanced_to s (Column (3 * k + 2)) 0 (4 * row / 2 ^ (5 % 32)) (row / 8) in_part.0 in_part.1 (omega arith) (omega (arith, in_part.2))))
       (omega arith) knows.1 refl mine.1
       (assign_ends (Nulled (Some x) v) Never NoCode pages fuel x (null_bit r x) (Number (knows.0 / 2 ^ (row % 8) % 2)) t (bit_is x knows.0 mine.0 mine.1) low (
         Kept-set n s t x (Number (knows.0 / 2 ^ (row % 8) % 2)) (Kept-set n s s x (Number knows.0) (Kept-same n s) mine.0) mine.0,
@@ -97,31 +97,32 @@ module _ (pages fuel n row : ℕ) (r : Reader) (s : LowState) (row_is : slice_ge
       ))
 
 -- ---- numbers and texts
-module _ (P : LowState → Type 0) (pages fuel row part : ℕ) (r : Reader) (s : LowState) (base : slice_get s.locals r.values ≡ Some (Address (Column part) 0))
-    (row_is : slice_get s.locals r.row ≡ Some (Number (4 * row))) (room : r.cell.value < length s.locals) where
-  word_place : (t : LowState) (count : ℕ) → t.columns ≡ s.columns → slice_get s.columns part ≡ Some count → 4 * row ≤ count → slice_get t.locals r.values ≡ Some (Address (Column part) 0) →
-      slice_get t.locals r.row ≡ Some (Number (4 * row)) → value t (word_at r) ≡ Some (Address (Column part) (4 * row))
-  word_place t count same sized within at is = rw (at, is) (advanced_to t (Column part) 0 (4 * row) (4 * row) count (ap (λ (c : List ℕ). slice_get c part) same ∙ sized) (omega arith) within)
+module _ (P : LowState → Type 0) (pages fuel rows row part : ℕ) (r : Reader) (s : LowState) (within : row < rows)
+    (left : slice_get s.locals r.left ≡ Some (Number (4 * (rows - row)))) (room : r.cell.value < length s.locals) where
+  word_place : (t : LowState) → slice_get t.locals r.values ≡ Some (Address (Column part) (4 * rows)) → slice_get t.locals r.left ≡ Some (Number (4 * (rows - row))) →
+      value t (word_at r) ≡ Some (Address (Column part) (4 * row))
+  word_place t at is = rw (at, is) (retreated_to (Column part) (4 * rows) (4 * (rows - row)) (4 * row) (omega (arith, within)))
 
-  pub word_ends : (x : ℕ) (z : ℤ) → HasOctets s.columns part (4 * (row + 1)) → s.cells (Column part) (4 * row) 4 ≡ Some (Number x) → cast_signed w32 x ≡ z → P (put s r.cell.value (Number (word z))) →
-      Ends 5 P Never NoCode (meaning pages fuel (word_block r) s)
-  word_ends x z large there is post =
+  pub word_ends : (x : ℕ) (z : ℤ) → slice_get s.locals r.values ≡ Some (Address (Column part) (4 * rows)) → s.cells (Column part) (4 * row) 4 ≡ Some (Number x) → cast_signed w32 x ≡ z →
+      P (put s r.cell.value (Number (word z))) → Ends 5 P Never NoCode (meaning pages fuel (word_block r) s)
+  word_ends x z base there is post =
       load_ends P Never NoCode pages fuel s r.cell.value (I64From32 Signed) 0 (word_at r) (Column part) (4 * row) (4 * row) (Number x) (Number (word z))
-      (word_place s large.0 refl large.1 (omega (arith, large.2)) base row_is) (omega arith) there (ap (λ (y : ℤ). Some (Number (word y))) is) room post
+      (word_place s base left) (omega arith) there (ap (λ (y : ℤ). Some (Number (word y))) is) room post
 
-  pub double_ends : (x : ℕ) → HasOctets s.columns part (8 * (row + 1)) → s.cells (Column part) (8 * row) 8 ≡ Some (Number x) → P (put s r.cell.value (Number x)) →
+  pub double_ends : (x : ℕ) → slice_get s.locals r.values ≡ Some (Address (Column part) (8 * rows)) → s.cells (Column part) (8 * row) 8 ≡ Some (Number x) → P (put s r.cell.value (Number x)) →
       Ends 7 P Never NoCode (meaning pages fuel (double_block r) s)
-  double_ends x large there post =
-      let first : value s (word_at r) ≡ Some (Address (Column part) (4 * row)) = word_place s large.0 refl large.1 (omega (arith, large.2)) base row_is in
-      load_ends P Never NoCode pages fuel s r.cell.value (Full I64) 0 (advance (word_at r) (local r.row)) (Column part) (8 * row) (8 * row) (Number x) (Number x)
-      (ap (λ (a : Option Value). advanced s a (slice_get s.locals r.row)) first ∙ ap (λ (a : Option Value). advanced s (Some (Address (Column part) (4 * row))) a) row_is
-      ∙ advanced_to s (Column part) (4 * row) (4 * row) (8 * row) large.0 large.1 (omega arith) (omega (arith, large.2)))
+  double_ends x base there post =
+      let half : ℕ = 8 * row + 4 * (rows - row) in
+      let first : value s (word_at r) ≡ Some (Address (Column part) half) = rw (base, left) (retreated_to (Column part) (8 * rows) (4 * (rows - row)) half (omega (arith, within))) in
+      load_ends P Never NoCode pages fuel s r.cell.value (Full I64) 0 (retreat (word_at r) (local r.left)) (Column part) (8 * row) (8 * row) (Number x) (Number x)
+      (ap (λ (a : Option Value). retreated a (slice_get s.locals r.left)) first ∙ ap (λ (a : Option Value). retreated (Some (Address (Column part) half)) a) left
+      ∙ retreated_to (Column part) half (4 * (rows - row)) (8 * row) (omega arith))
       (omega arith) there refl room post
 
   -- a text of so many octets, which begins at an offset of the column's octets
-  module _ (q from long : ℕ) (large : HasOctets s.columns part (4 * (row + 1) + 4)) (first : s.cells (Column part) (4 * row) 4 ≡ Some (Number from))
+  module _ (q from long : ℕ) (base : slice_get s.locals r.values ≡ Some (Address (Column part) (4 * rows))) (first : s.cells (Column part) (4 * row) 4 ≡ Some (Number from))
       (next : s.cells (Column part) (4 * (row + 1)) 4 ≡ Some (Number (from + long))) (inside : HasOctets s.columns q (from + long)) (octets : slice_get s.locals r.octets ≡ Some (Address (Column q) 0))
-      (other_values : r.values ≢ r.cell.value) (other_row : r.row ≢ r.cell.value) (other_octets : r.octets ≢ r.cell.value) (octets_apart : r.octets ≢ r.cell.length) (apart : r.cell.length ≢ r.cell.value)
+      (other_values : r.values ≢ r.cell.value) (other_left : r.left ≢ r.cell.value) (other_octets : r.octets ≢ r.cell.value) (octets_apart : r.octets ≢ r.cell.length) (apart : r.cell.length ≢ r.cell.value)
       (room_long : r.cell.length < length s.locals) where
     abbrev begun : LowState
     begun = put s r.cell.value (Number from)
@@ -168,10 +169,10 @@ module _ (P : LowState → Type 0) (pages fuel row part : ℕ) (r : Reader) (s :
         let end : Statement = seq (load r.cell.length (Full I32) 4 (word_at r)) measure in
         let difference : (from + long + 2 ^ 32 - from) % 2 ^ 32 ≡ long = let below = inside.3 in omega (arith, below, inside.2) in
         load_then P Never NoCode pages fuel s 13 end r.cell.value (Full I32) 0 (word_at r) (Column part) (4 * row) (4 * row) (Number from) (Number from)
-        (word_place s large.0 refl large.1 (omega (arith, large.2)) base row_is) (omega arith) first refl room
+        (word_place s base left) (omega arith) first refl room
         (load_then P Never NoCode pages fuel begun 8 measure r.cell.length (Full I32) 4 (word_at r) (Column part) (4 * row) (4 * (row + 1)) (Number (from + long)) (Number (from + long))
-        (word_place begun large.0 refl large.1 (omega (arith, large.2)) (slice_get-set_other s.locals r.cell.value r.values (Number from) other_values ∙ base)
-        (slice_get-set_other s.locals r.cell.value r.row (Number from) other_row ∙ row_is)) (omega arith) next refl (omega (arith, many_begun, room_long))
+        (word_place begun (slice_get-set_other s.locals r.cell.value r.values (Number from) other_values ∙ base)
+        (slice_get-set_other s.locals r.cell.value r.left (Number from) other_left ∙ left)) (omega arith) next refl (omega (arith, many_begun, room_long))
         (assign_then P Never NoCode pages fuel ended 4 address r.cell.length (binop I32 Sub (local r.cell.length) (local r.cell.value)) (Number long)
         (rw (long_is, from_is) (ap (λ (k : ℕ). Some (Number k)) difference)) (omega (arith, many_ended, room_long))
         (assign_ends P Never NoCode pages fuel r.cell.value (advance (local r.octets) (local r.cell.value)) (Address (Column q) from) measured

@@ -1,3 +1,4 @@
+pub mod Constants
 pub mod Inner
 pub mod Reading
 pub mod Texts

@@ -72,6 +72,13 @@ pub record StandsAt (cells : Cells) (columns : List ℕ) (k : ℕ) (type : Ty) (
       HasOctets columns (3 * k + 1) (from + length (octets_of v))
   pub words : (x : ℕ) → cells (Column (3 * k)) (8 * row) 8 ≡ Some (Number x) → x < 2 ^ 64
 
+-- the offset of a row's value in the part; of a text it is that of where it begins
+abbrev pub place_of : Ty → (row : ℕ) → ℕ
+place_of ty.Integer row = 4 * row
+place_of (ty.Decimal precision scale) row = 8 * row
+place_of ty.Date row = 4 * row
+place_of (ty.Varchar limit) row = 4 * row
+
 -- ---- locals
 
 -- the locals for the addresses of a column's parts, of those that it has, are from one on, below another, and apart
@@ -87,13 +94,23 @@ pub record IsCellIn (from below : ℕ) (r : Reader) : Type 0 where
   pub text : is_text r.ty ≡ true → (from ≤ r.cell.length) × (r.cell.length ≢ r.cell.value)
   pub null : (x : ℕ) → r.cell.null ≡ Some x → (from ≤ x) × (x < below) × (x ≢ r.cell.value) × (is_text r.ty ≡ true → x ≢ r.cell.length)
 
--- they hold the addresses
-pub record HasBases (r : Reader) (s : LowState) : Type 0 where
-  pub values : slice_get s.locals r.values ≡ Some (Address (Column (3 * r.index)) 0)
+-- They hold the addresses: of the values, the one where that of one more row than there are would stand.
+pub record HasBases (rows : ℕ) (r : Reader) (s : LowState) : Type 0 where
+  pub values : slice_get s.locals r.values ≡ Some (Address (Column (3 * r.index)) (place_of r.ty rows))
   pub octets : is_text r.ty ≡ true → slice_get s.locals r.octets ≡ Some (Address (Column (3 * r.index + 1)) 0)
   pub nulls : r.not_null ≡ false → slice_get s.locals r.nulls ≡ Some (Address (Column (3 * r.index + 2)) 0)
 
--- they are declared as i32
+-- a local below `n` says how many rows there are: it holds four times their number
+abbrev pub HasEnd : (n rows : ℕ) → Reader → LowState → Type 0
+HasEnd n rows r s = (r.end < n) × (slice_get s.locals r.end ≡ Some (Number (4 * rows)))
+
+-- and another one which of them is read: how many are left with it
+pub record IsAtRow (n rows row : ℕ) (r : Reader) (s : LowState) : Type 0 where
+  pub within : row < rows
+  pub end : HasEnd n rows r s
+  pub left : (r.left < n) × (slice_get s.locals r.left ≡ Some (Number (4 * (rows - row))))
+
+-- the locals for the addresses are declared as i32
 pub record DeclaresBases (types : List ValType) (r : Reader) : Type 0 where
   pub values : slice_get types r.values ≡ Some I32
   pub octets : is_text r.ty ≡ true → slice_get types r.octets ≡ Some I32
@@ -101,23 +118,24 @@ pub record DeclaresBases (types : List ValType) (r : Reader) : Type 0 where
 
 -- ---- what the blocks promise
 
--- A block that begins where the first local holds the first page's address, whose descriptor has the column's entry. It leaves the
--- addresses of the column's parts in their locals, and changes nothing else.
+-- A block that begins where the first local holds the first page's address, whose descriptor has the column's entry, and a local below `n`
+-- says how many rows there are, of which each has a place among the values. It leaves the addresses of the column's parts in their locals,
+-- and changes nothing else.
 pub record Begins (r : Reader) (a : Statement) : Type 0 where
   pub runs : (pages fuel n rows : ℕ) (used : Used) (s : LowState) → used.ty ≡ r.ty → used.not_null ≡ r.not_null → KnowsEntry s.cells r.index used rows →
-      slice_get s.locals 0 ≡ Some (Address (Own 0) 0) → 1 ≤ n → AreBases n (length s.locals) r →
-      Ends (size a) (λ t. Kept n s t × HasBases r t) (λ t. ⊥) (λ code. ⊥) (meaning pages fuel a s)
-  pub typed : (types : List ValType) → slice_get types 0 ≡ Some I32 → DeclaresBases types r → IsTyped types a
-  pub short : size a ≤ 9
+      HasOctets s.columns (3 * r.index) (values_size r.ty rows) → slice_get s.locals 0 ≡ Some (Address (Own 0) 0) → 1 ≤ n → HasEnd n rows r s → AreBases n (length s.locals) r →
+      Ends (size a) (λ t. Kept n s t × HasBases rows r t) (λ t. ⊥) (λ code. ⊥) (meaning pages fuel a s)
+  pub typed : (types : List ValType) → slice_get types 0 ≡ Some I32 → slice_get types r.end ≡ Some I32 → DeclaresBases types r → IsTyped types a
+  pub short : size a ≤ 13
 
--- A block that begins where these addresses, and four times the row, are in locals below `n`. It leaves the row's value of the column in
--- the locals of the cell, which are from `n` on, and changes nothing else.
+-- A block that begins where these addresses are in locals below `n`, and locals below `n` say which row is read. It leaves the row's value of
+-- the column in the locals of the cell, which are from `n` on, and changes nothing else.
 pub record Reads (r : Reader) (a : Statement) : Type 0 where
-  pub runs : (pages fuel n row : ℕ) (v : Val) (s : LowState) → StandsAt s.cells s.columns r.index r.ty r.not_null row v → IsSized r.ty → HasBases r s →
-      slice_get s.locals r.row ≡ Some (Number (4 * row)) → r.row < n → AreBases 0 n r → IsCellIn n (length s.locals) r →
+  pub runs : (pages fuel n rows row : ℕ) (v : Val) (s : LowState) → StandsAt s.cells s.columns r.index r.ty r.not_null row v → IsSized r.ty → HasBases rows r s →
+      IsAtRow n rows row r s → AreBases 0 n r → IsCellIn n (length s.locals) r →
       Ends (size a) (λ t. Kept n s t × Holds (operand_of r) v t) (λ t. ⊥) (λ code. ⊥) (meaning pages fuel a s)
-  pub typed : (types : List ValType) → slice_get types r.row ≡ Some I32 → DeclaresBases types r → DeclaresValue types (operand_of r) → IsTyped types a
-  pub short : size a ≤ 35
+  pub typed : (types : List ValType) → slice_get types r.left ≡ Some I32 → slice_get types r.end ≡ Some I32 → DeclaresBases types r → DeclaresValue types (operand_of r) → IsTyped types a
+  pub short : size a ≤ 39
 
 -- ---- the same of several columns
 
@@ -131,33 +149,37 @@ abbrev pub AreCellsIn : (from below : ℕ) → List Reader → Type 0
 AreCellsIn from below [] = from ≤ below
 AreCellsIn from below (r ∷ readers) = (next : ℕ) × IsCellIn from next r × AreCellsIn next below readers
 
--- the descriptor has the column's entry
-abbrev pub HasEntryOf : Cells → Reader → Type 0
-HasEntryOf cells r = (used : Used) × (rows : ℕ) × (used.ty ≡ r.ty) × (used.not_null ≡ r.not_null) × KnowsEntry cells r.index used rows
+-- the descriptor has the column's entry, of so many rows, of which each has a place among its values; a local below `n` says how many
+pub record HasEntryOf (n rows : ℕ) (s : LowState) (r : Reader) : Type 0 where
+  pub used : Used
+  pub type_is : used.ty ≡ r.ty
+  pub null_is : used.not_null ≡ r.not_null
+  pub entry : KnowsEntry s.cells r.index used rows
+  pub values : HasOctets s.columns (3 * r.index) (values_size r.ty rows)
+  pub end : HasEnd n rows r s
 
--- At the row that a local below `n` says, the column has the value that the query's row has, and the addresses of its parts are in
+-- At the row that locals below `n` say, the column has the value that the query's row has, and the addresses of its parts are in
 -- locals below `n`.
-pub record IsThere (n : ℕ) (values : List Val) (s : LowState) (r : Reader) : Type 0 where
+pub record IsThere (n rows : ℕ) (values : List Val) (s : LowState) (r : Reader) : Type 0 where
   pub row : ℕ
   pub v : Val
   pub value_is : slice_get values r.column ≡ Some v
   pub stands : StandsAt s.cells s.columns r.index r.ty r.not_null row v
   pub sized : IsSized r.ty
-  pub bases : HasBases r s
-  pub row_is : slice_get s.locals r.row ≡ Some (Number (4 * row))
-  pub row_below : r.row < n
+  pub bases : HasBases rows r s
+  pub at_row : IsAtRow n rows row r s
   pub bases_below : AreBases 0 n r
 
 pub record BeginsAll (readers : List Reader) (a : Statement) : Type 0 where
-  pub runs : (pages fuel n : ℕ) (s : LowState) → AllByRecursion (HasEntryOf s.cells) readers → slice_get s.locals 0 ≡ Some (Address (Own 0) 0) → 1 ≤ n →
+  pub runs : (pages fuel n rows : ℕ) (s : LowState) → AllByRecursion (HasEntryOf n rows s) readers → slice_get s.locals 0 ≡ Some (Address (Own 0) 0) → 1 ≤ n →
       AreBasesIn n (length s.locals) readers →
-      Ends (size a) (λ t. Kept n s t × AllByRecursion (λ r. HasBases r t) readers) (λ t. ⊥) (λ code. ⊥) (meaning pages fuel a s)
-  pub typed : (types : List ValType) → slice_get types 0 ≡ Some I32 → AllByRecursion (DeclaresBases types) readers → IsTyped types a
-  pub short : size a ≤ 9 * length readers
+      Ends (size a) (λ t. Kept n s t × AllByRecursion (λ r. HasBases rows r t) readers) (λ t. ⊥) (λ code. ⊥) (meaning pages fuel a s)
+  pub typed : (types : List ValType) → slice_get types 0 ≡ Some I32 → AllByRecursion (λ (r : Reader). (slice_get types r.end ≡ Some I32) × DeclaresBases types r) readers → IsTyped types a
+  pub short : size a ≤ 13 * length readers
 
 -- a row's values of the columns are held, as what expressions may know
 pub record ReadsAll (readers : List Reader) (a : Statement) : Type 0 where
-  pub runs : (pages fuel n : ℕ) (values : List Val) (s : LowState) → AllByRecursion (IsThere n values s) readers → AreCellsIn n (length s.locals) readers →
+  pub runs : (pages fuel n rows : ℕ) (values : List Val) (s : LowState) → AllByRecursion (IsThere n rows values s) readers → AreCellsIn n (length s.locals) readers →
       Ends (size a) (λ t. Kept n s t × AreHeld (map known_of readers) values t) (λ t. ⊥) (λ code. ⊥) (meaning pages fuel a s)
-  pub typed : (types : List ValType) → AllByRecursion (λ (r : Reader). (slice_get types r.row ≡ Some I32) × DeclaresBases types r × DeclaresValue types (operand_of r)) readers → IsTyped types a
-  pub short : size a ≤ 35 * length readers
+  pub typed : (types : List ValType) → AllByRecursion (λ (r : Reader). (slice_get types r.left ≡ Some I32) × (slice_get types r.end ≡ Some I32) × DeclaresBases types r × DeclaresValue types (operand_of r)) readers → IsTyped types a
+  pub short : size a ≤ 39 * length readers

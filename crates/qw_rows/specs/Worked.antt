@@ -14,7 +14,8 @@ reader type = record {
   values = 8;
   octets = 9;
   nulls = 10;
-  row = 5;
+  left = 5;
+  end = 6;
   cell = record { value = 11; length = 11; null = None };
 }
 

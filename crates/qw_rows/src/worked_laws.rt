@@ -4,7 +4,7 @@ ghost use Rattle.std.specs.Prelude.{◌≡◌, ◌≢◌, ℕ, Bool, true, false
 ghost use Rattle.qw_types.specs.declared.kind.Kind.TheVariants as kind;
 ghost use Rattle.qw_types.specs.declared.value.Ty.TheVariants as ty;
 ghost use Rattle.qw_types.specs.declared.value.Val.TheVariants as val;
-ghost use Rattle.qw_rows.specs.Reading.{operand_of, StandsAt};
+ghost use Rattle.qw_rows.specs.Reading.{operand_of, place_of, StandsAt};
 ghost use Rattle.qw_rows.specs.Texts.{text_operand, AreFrom, LieThere};
 ghost use Rattle.qw_rows.specs.Worked.{reader, sizes, dates, prices, names, literal, one_page};
 
@@ -12,6 +12,15 @@ ghost use Rattle.qw_rows.specs.Worked.{reader, sizes, dates, prices, names, lite
 pub fn operands_of_columns()
     ensures decimal { ((operand_of (reader (ty.Decimal 5 2))).most ≡ 99999) × ((operand_of (reader (ty.Decimal 5 2))).kind ≡ Some (kind.Number 2)) × ((operand_of (reader (ty.Decimal 5 2))).scale ≡ 2) }
     ensures integer { ((operand_of (reader ty.Integer)).most ≡ 2147483648) × ((operand_of (reader ty.Integer)).scale ≡ 0) }
+{}
+
+/// Of nine rows, a DECIMAL's values end 72 octets behind their begin, an INTEGER's and a DATE's 36; so do the offsets of texts, of which one
+/// more stands there.
+pub fn places_of_values()
+    ensures decimal { place_of (ty.Decimal 5 2) 9 ≡ 72 }
+    ensures integer { place_of ty.Integer 9 ≡ 36 }
+    ensures date { place_of ty.Date 9 ≡ 36 }
+    ensures text { place_of (ty.Varchar 2) 9 ≡ 36 }
 {}
 
 /// Of the layout's column 1, row 9 is null where bit 1 of the second octet of its null bits is 1, and the column has octets for ten rows.

@@ -8,7 +8,7 @@ use std::alloc::Global;
 use std::test::Fail;
 
 // How many instructions a run over (4), (1), (7) takes, as docs/THEOREMS.md counts them by hand.
-const STEPS: u64 = 143;
+const STEPS: u64 = 115;
 
 // A bench over (4), (1), (7) whose instance may run so many instructions, before its first turn.
 fn limited(alloc: Global, steps: u64) -> Result<Bench, Fail>
@@ -41,14 +41,14 @@ fn turned(bench: &mut Bench, quantum: u64) -> u64
 }
 
 #[test]
-fn a_run_of_143_instructions_needs_a_limit_of_143(rt: HostRuntime) -> Result<(), Fail> {
+fn a_run_of_115_instructions_needs_a_limit_of_115(rt: HostRuntime) -> Result<(), Fail> {
     let alloc = rt.alloc();
     let mut enough = limited(alloc, STEPS)?;
     enough.run_all(10_000);
-    assert_eq!(rt; end_of(&enough), (Some(Ended::Done), 143));
+    assert_eq!(rt; end_of(&enough), (Some(Ended::Done), 115));
     let mut short = limited(alloc, STEPS - 1)?;
     short.run_all(10_000);
-    assert_eq!(rt; end_of(&short), (Some(Ended::Steps { limit: 142 }), 142));
+    assert_eq!(rt; end_of(&short), (Some(Ended::Steps { limit: 114 }), 114));
     Ok(())
 }
 
@@ -56,10 +56,10 @@ fn a_run_of_143_instructions_needs_a_limit_of_143(rt: HostRuntime) -> Result<(),
 fn a_turn_ends_at_its_quantum(rt: HostRuntime) -> Result<(), Fail> {
     let alloc = rt.alloc();
     let mut bench = limited(alloc, STEPS)?;
-    assert_eq!(rt; turned(&mut bench, 142), 142);
-    assert_eq!(rt; end_of(&bench), (None, 142));
+    assert_eq!(rt; turned(&mut bench, 114), 114);
+    assert_eq!(rt; end_of(&bench), (None, 114));
     assert_eq!(rt; turned(&mut bench, 10_000), 1);
-    assert_eq!(rt; end_of(&bench), (Some(Ended::Done), 143));
+    assert_eq!(rt; end_of(&bench), (Some(Ended::Done), 115));
     assert_eq!(rt; turned(&mut bench, 10_000), 0);
     Ok(())
 }

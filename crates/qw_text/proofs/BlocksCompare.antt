@@ -15,8 +15,8 @@ module _ (left right : Cell) (n : ℕ) (low_a : left.value < n) (low_ca : left.l
   pub equality_compares : Compares (SaysSame n) left right n (equality_block left.value left.length right.value right.length n)
   equality_compares = record {
     runs = λ pages fuel more s v w units enough held_left held_right room.
-        let bound : 4 + (length v * 24 + 17) ≤ 44 * more = omega (arith, units) in
-        Ends-more (λ t. Kept n s t × SaysSame n v w t) Never NoCode (4 + (length v * 24 + 17)) (44 * more) (meaning pages fuel (equality_block left.value left.length right.value right.length n) s) bound
+        let bound : 4 + (length v * 23 + 16) ≤ 47 * more = omega (arith, units) in
+        Ends-more (λ t. Kept n s t × SaysSame n v w t) Never NoCode (4 + (length v * 23 + 16)) (47 * more) (meaning pages fuel (equality_block left.value left.length right.value right.length n) s) bound
         (equality_ends pages fuel s left.value left.length right.value right.length n v w held_left held_right low_a low_ca low_b low_cb room (omega (arith, units, enough)));
     typed = λ types is_left is_right own.
         let first : n + 0 ≡ n = omega arith in
@@ -28,8 +28,8 @@ module _ (left right : Cell) (n : ℕ) (low_a : left.value < n) (low_ca : left.l
   pub order_compares : Compares (SaysOrder (n + 2)) left right n (order_block left.value left.length right.value right.length n)
   order_compares = record {
     runs = λ pages fuel more s v w units enough held_left held_right room.
-        let bound : 36 + length v * 24 ≤ 59 * more = omega (arith, units) in
-        Ends-more (λ t. Kept n s t × SaysOrder (n + 2) v w t) Never NoCode (36 + length v * 24) (59 * more) (meaning pages fuel (order_block left.value left.length right.value right.length n) s) bound
+        let bound : 35 + length v * 23 ≤ 62 * more = omega (arith, units) in
+        Ends-more (λ t. Kept n s t × SaysOrder (n + 2) v w t) Never NoCode (35 + length v * 23) (62 * more) (meaning pages fuel (order_block left.value left.length right.value right.length n) s) bound
         (order_ends pages fuel s left.value left.length right.value right.length n v w held_left held_right low_a low_ca low_b low_cb room (omega (arith, units, enough)));
     typed = λ types is_left is_right own.
         let first : n + 0 ≡ n = omega arith in

@@ -37,12 +37,12 @@ module _ (pages fuel : ℕ) (s : LowState) (a ca b cb n : ℕ) (v w : List ℕ) 
       (let after = owns_limit n s t now.limit now.index (Number now.p) (Number now.q) now.owns room (Number (truth (is_eq (text_order v w)))) in (after.kept, after.limit_is))
 
   same_length : length v ≡ length w → length v < fuel →
-      Ends (2 + (6 + (length v * 24 + 5) + 4)) Told Never NoCode (meaning pages fuel (seq (assign n (local ca)) (seq (walk_block a b n) (assign n (are_same n)))) s)
+      Ends (2 + (6 + (length v * 23 + 4) + 4)) Told Never NoCode (meaning pages fuel (seq (assign n (local ca)) (seq (walk_block a b n) (assign n (are_same n)))) s)
   same_length long more =
       let any : OwnsSome n s s = owns_some n s s (Kept-same n s) room in
       let t : LowState = put s n (Number (length v)) in
-      assign_then Told Never NoCode pages fuel s (6 + (length v * 24 + 5) + 4) (seq (walk_block a b n) (assign n (are_same n))) n (local ca) (Number (length v)) left.is_long (omega (arith, room))
-      (Ends-then Told Never NoCode (6 + (length v * 24 + 5)) 4 (Walked n s v w (length v)) (meaning pages fuel (walk_block a b n) t) (meaning pages fuel (assign n (are_same n)))
+      assign_then Told Never NoCode pages fuel s (6 + (length v * 23 + 4) + 4) (seq (walk_block a b n) (assign n (are_same n))) n (local ca) (Number (length v)) left.is_long (omega (arith, room))
+      (Ends-then Told Never NoCode (6 + (length v * 23 + 4)) 4 (Walked n s v w (length v)) (meaning pages fuel (walk_block a b n) t) (meaning pages fuel (assign n (are_same n)))
       (walk_ends pages fuel s a ca b cb n v w left right low_a low_ca low_b low_cb room (length v) (omega arith) (omega (arith, long)) any.index any.left any.right t
       (owns_limit n s s any.limit any.index any.left any.right any.owns room (Number (length v))) more)
       (λ u now. told_ends u long now))
@@ -53,17 +53,17 @@ module _ (pages fuel : ℕ) (s : LowState) (a ca b cb n : ℕ) (v w : List ℕ) 
       let after = owns_limit n s s any.limit any.index any.left any.right any.owns room (Number 0) in
       assign_ends Told Never NoCode pages fuel n (i32 0) (Number 0) s refl (omega (arith, room)) (after.kept, rw (lengths_tell v w apart) after.limit_is)
 
-  pub equality_ends : length v < fuel → Ends (4 + (length v * 24 + 17)) Told Never NoCode (meaning pages fuel (equality_block a ca b cb n) s)
+  pub equality_ends : length v < fuel → Ends (4 + (length v * 23 + 16)) Told Never NoCode (meaning pages fuel (equality_block a ca b cb n) s)
   equality_ends more =
-      conditional_ends Told Never NoCode pages fuel (length v * 24 + 17) (relop I32 Eq (local ca) (local cb)) (seq (assign n (local ca)) (seq (walk_block a b n) (assign n (are_same n)))) (assign n (i32 0)) s
+      conditional_ends Told Never NoCode pages fuel (length v * 23 + 16) (relop I32 Eq (local ca) (local cb)) (seq (assign n (local ca)) (seq (walk_block a b n) (assign n (are_same n)))) (assign n (i32 0)) s
       (⊎_elim
       (λ (long : length v ≡ length w). inl (
         inl (0, rw (left.is_long, right.is_long, eq-eqb (length v) (length w) long) refl),
-        Ends-more Told Never NoCode (2 + (6 + (length v * 24 + 5) + 4)) (length v * 24 + 17) _ (omega arith) (same_length long more),
+        Ends-more Told Never NoCode (2 + (6 + (length v * 23 + 4) + 4)) (length v * 23 + 16) _ (omega arith) (same_length long more),
       ))
       (λ apart. inr (
         rw (left.is_long, right.is_long, ne_eqb (length v) (length w) apart) refl,
-        Ends-more Told Never NoCode 2 (length v * 24 + 17) _ (omega arith) (other_length apart),
+        Ends-more Told Never NoCode 2 (length v * 23 + 16) _ (omega arith) (other_length apart),
       ))
       (cases_eq (length v) (length w)))
 

@@ -98,19 +98,19 @@ module _ (pages fuel : ℕ) (s : LowState) (a ca b cb n : ℕ) (v w : List ℕ) 
 
   -- over the octets of the shorter text
   walked_ends : (m : ℕ) → m ≤ length v → m ≤ length w → m < fuel → text_order (drop m v) (drop m w) ≡ nat_cmp (length v) (length w) →
-      Ends (6 + (m * 24 + 5) + 19) Told Never NoCode (meaning pages fuel (seq (walk_block a b n) (seq (lengths_block ca cb n) (sign_block n))) (put s n (Number m)))
+      Ends (6 + (m * 23 + 4) + 19) Told Never NoCode (meaning pages fuel (seq (walk_block a b n) (seq (lengths_block ca cb n) (sign_block n))) (put s n (Number m)))
   walked_ends m in_v in_w more last =
       let any : OwnsSome n s s = owns_some n s s (Kept-same n s) room in
-      Ends-then Told Never NoCode (6 + (m * 24 + 5)) 19 (Walked n s v w m) (meaning pages fuel (walk_block a b n) (put s n (Number m))) (meaning pages fuel (seq (lengths_block ca cb n) (sign_block n)))
+      Ends-then Told Never NoCode (6 + (m * 23 + 4)) 19 (Walked n s v w m) (meaning pages fuel (walk_block a b n) (put s n (Number m))) (meaning pages fuel (seq (lengths_block ca cb n) (sign_block n)))
       (walk_ends pages fuel s a ca b cb n v w left right low_a low_ca low_b low_cb room m in_v in_w any.index any.left any.right (put s n (Number m))
       (owns_limit n s s any.limit any.index any.left any.right any.owns room (Number m)) more)
       (λ t now. Ends-then Told Never NoCode 10 9 (Ranked n s v w) (meaning pages fuel (lengths_block ca cb n) t) (meaning pages fuel (sign_block n)) (lengths_ends m t last now) sign_ends)
 
   ordered_ends : (m : ℕ) → m ≤ length v → m ≤ length w → m < fuel → text_order (drop m v) (drop m w) ≡ nat_cmp (length v) (length w) →
-      Ends 6 (λ t. t ≡ put s n (Number m)) Never NoCode (meaning pages fuel (shorter_block ca cb n) s) → Ends (6 + (6 + (m * 24 + 5) + 19)) Told Never NoCode (meaning pages fuel (order_block a ca b cb n) s)
+      Ends 6 (λ t. t ≡ put s n (Number m)) Never NoCode (meaning pages fuel (shorter_block ca cb n) s) → Ends (6 + (6 + (m * 23 + 4) + 19)) Told Never NoCode (meaning pages fuel (order_block a ca b cb n) s)
   ordered_ends m in_v in_w more last shorter =
-      Ends-then Told Never NoCode 6 (6 + (m * 24 + 5) + 19) (λ t. t ≡ put s n (Number m)) (meaning pages fuel (shorter_block ca cb n) s) (meaning pages fuel (seq (walk_block a b n) (seq (lengths_block ca cb n) (sign_block n)))) shorter
-      (λ t is. subst (λ (u : LowState). Ends (6 + (m * 24 + 5) + 19) Told Never NoCode (meaning pages fuel (seq (walk_block a b n) (seq (lengths_block ca cb n) (sign_block n))) u)) (sym is) (walked_ends m in_v in_w more last))
+      Ends-then Told Never NoCode 6 (6 + (m * 23 + 4) + 19) (λ t. t ≡ put s n (Number m)) (meaning pages fuel (shorter_block ca cb n) s) (meaning pages fuel (seq (walk_block a b n) (seq (lengths_block ca cb n) (sign_block n)))) shorter
+      (λ t is. subst (λ (u : LowState). Ends (6 + (m * 23 + 4) + 19) Told Never NoCode (meaning pages fuel (seq (walk_block a b n) (seq (lengths_block ca cb n) (sign_block n))) u)) (sym is) (walked_ends m in_v in_w more last))
 
   -- the lesser length
   left_shorter : length v < length w → Ends 6 (λ t. t ≡ put s n (Number (length v))) Never NoCode (meaning pages fuel (shorter_block ca cb n) s)
@@ -129,13 +129,13 @@ module _ (pages fuel : ℕ) (s : LowState) (a ca b cb n : ℕ) (v w : List ℕ) 
         assign_ends (λ t. t ≡ put s n (Number (length w))) Never NoCode pages fuel n (local cb) (Number (length w)) s right.is_long (omega (arith, room)) refl,
       ))
 
-  pub order_ends : length v < fuel → Ends (36 + length v * 24) Told Never NoCode (meaning pages fuel (order_block a ca b cb n) s)
+  pub order_ends : length v < fuel → Ends (35 + length v * 23) Told Never NoCode (meaning pages fuel (order_block a ca b cb n) s)
   order_ends more = ⊎_elim
       (λ (less : length v < length w).
-      Ends-more Told Never NoCode (6 + (6 + (length v * 24 + 5) + 19)) (36 + length v * 24) (meaning pages fuel (order_block a ca b cb n) s) (omega arith)
+      Ends-more Told Never NoCode (6 + (6 + (length v * 23 + 4) + 19)) (35 + length v * 23) (meaning pages fuel (order_block a ca b cb n) s) (omega arith)
       (ordered_ends (length v) (omega arith) (omega (arith, less)) more (left_ends v w (omega (arith, less))) (left_shorter less)))
       (λ (less : length w ≤ length v).
-      Ends-more Told Never NoCode (6 + (6 + (length w * 24 + 5) + 19)) (36 + length v * 24) (meaning pages fuel (order_block a ca b cb n) s) (omega (arith, less))
+      Ends-more Told Never NoCode (6 + (6 + (length w * 23 + 4) + 19)) (35 + length v * 23) (meaning pages fuel (order_block a ca b cb n) s) (omega (arith, less))
       (ordered_ends (length w) less (omega arith) (omega (arith, more, less)) (right_ends v w less) (right_shorter less)))
       (cases_lt (length v) (length w))
 

@@ -157,9 +157,9 @@ module _ (pages fuel : ℕ) (s : LowState) (a ca b cb n : ℕ) (v w : List ℕ) 
         order = refl;
       })))
 
-  pub walk_ends : (index x y : Value) (t : LowState) → Owns n s t (Number m) index x y → m < fuel → Ends (6 + (m * 24 + 5)) (Walked n s v w m) Never NoCode (meaning pages fuel (walk_block a b n) t)
+  pub walk_ends : (index x y : Value) (t : LowState) → Owns n s t (Number m) index x y → m < fuel → Ends (6 + (m * 23 + 4)) (Walked n s v w m) Never NoCode (meaning pages fuel (walk_block a b n) t)
   walk_ends index x y t owns more =
-      Ends-then (Walked n s v w m) Never NoCode 6 (m * 24 + 5) (Going n s v w m m) (meaning pages fuel (start_block n) t) (meaning pages fuel (while (is_left n) (turn_block a b n)))
+      Ends-then (Walked n s v w m) Never NoCode 6 (m * 23 + 4) (Going n s v w m m) (meaning pages fuel (start_block n) t) (meaning pages fuel (while (is_left n) (turn_block a b n)))
       (start_ends index x y t owns)
       (λ u now. turns_end 18 State (Walked n s v w m) Never NoCode (is_left n) (meaning pages fuel (turn_block a b n)) turn fuel m u more (inl now))
 

@@ -31,7 +31,7 @@ pub record Compares (says : (left right : List ℕ) → LowState → Type 0) (le
       Ends (size a * more) (λ t. Kept free s t × says v w t) (λ t. ⊥) (λ code. ⊥) (meaning pages fuel a s)
   pub typed : (types : List ValType) → DeclaresText types left → DeclaresText types right →
       ((i : ℕ) (t : ValType) → slice_get own_types i ≡ Some t → slice_get types (free + i) ≡ Some t) → IsTyped types a
-  pub short : size a ≤ 60
+  pub short : size a ≤ 62
 
 -- a local has 1 where two texts are the same, and 0 where they are not
 abbrev pub SaysSame : (out : ℕ) → (left right : List ℕ) → LowState → Type 0

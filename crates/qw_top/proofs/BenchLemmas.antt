@@ -1,8 +1,8 @@
 -- That queries over the schema can be compiled and begun over the tables' rows, and that turns run them to their ends.
 use Rattle.std.proofs.Common.{◌≡◌, ℕ, zero, suc, ◌≤◌, List, [], ◌∷◌, Option, Some, None, refl, sym, subst, length, ap, ◌∙◌, arith, map}
-use Rattle.std.specs.Prelude.{◌+◌, ◌++◌, IsSome, replicate, slice_get}
+use Rattle.std.specs.Prelude.{◌+◌, ◌++◌, Bool, IsSome, replicate, slice_get}
 use Rattle.std.specs.List.{AllByRecursion, AllZip}
-use Rattle.std.proofs.lemmas.Option.{none-some}
+use Rattle.std.proofs.lemmas.Option.{none-some, same_Some}
 use Rattle.qw_types.specs.Contents.{Contents, column_type}
 use Rattle.qw_types.specs.declared.schema.Column.{Column}
 use Rattle.qw_types.specs.declared.schema.ColumnType.{ColumnType}
@@ -12,7 +12,8 @@ use Rattle.qw_types.specs.declared.value.Ty.TheVariants.{Integer}
 use Rattle.qw_meaning.specs.Simple.{HasIntegers}
 use Rattle.qw_meaning.specs.Statement.{Statement}
 use Rattle.qw_map.specs.Turns.{Act, EachInstance, turns}
-use Rattle.qw_compile.specs.Readers.{all_used}
+use Rattle.qw_map.specs.declared.layout.Used.{Used}
+use Rattle.qw_compile.specs.Named.{IsOfTable}
 use Rattle.qw_bench.specs.Bench.{AreRounds, AreServing, IsColumnIn, IsStart, Program}
 use Rattle.qw_bench.specs.Standing.{Standing, AreLimits, AreTasksOf}
 use Rattle.qw_bench.specs.declared.bench.Limits.{Limits}
@@ -42,27 +43,22 @@ contents_at (first ∷ schema) (one ∷ tables) zero table are found =
     let same : first ≡ table = cc in (one, refl, are.0 ∙ ap (λ (t : Table). map column_type t.columns) same)
 contents_at (first ∷ schema) (one ∷ tables) (suc n) table are found = contents_at schema tables n table are.1 found
 
--- all columns of a table, from one on, where its rows have them
-columns_from : (tables : List Contents) (n : ℕ) (one : Contents) → slice_get tables n ≡ Some one → (k : ℕ) (columns : List Column) →
-    ((j : ℕ) (column : ColumnType) → slice_get (map column_type columns) j ≡ Some column → slice_get one.columns (k + j) ≡ Some column) →
-    AllByRecursion (IsColumnIn tables) (all_used n k (map (λ (c : Column). c.ty) columns) (map (λ (c : Column). c.not_null) columns))
-columns_from tables n one there k [] has = tt
-columns_from tables n one there k (c ∷ columns) has =
-    let first : slice_get one.columns (k + 0) ≡ Some (column_type c) = has 0 (column_type c) refl in
-    let at : k + 0 ≡ k = omega arith in (
-      (one, column_type c, there, subst (λ (m : ℕ). slice_get one.columns m ≡ Some (column_type c)) at first, refl, refl),
-      columns_from tables n one there (k + 1) columns
-          (λ j column is. let next : k + suc j ≡ k + 1 + j = omega arith in subst (λ (m : ℕ). slice_get one.columns m ≡ Some column) next (has (suc j) column is)),
-    )
+-- the column of a type and of a NOT NULL at a place
+column_there : (columns : List Column) (k : ℕ) (t : Ty) (b : Bool) → slice_get (map (λ (c : Column). c.ty) columns) k ≡ Some t → slice_get (map (λ (c : Column). c.not_null) columns) k ≡ Some b →
+    (c : ColumnType) × (slice_get (map column_type columns) k ≡ Some c) × (c.ty ≡ t) × (c.not_null ≡ b)
+column_there [] k t b types nulls = absurd cc
+column_there (c ∷ columns) zero t b types nulls = (column_type c, refl, same_Some c.ty t types, same_Some c.not_null b nulls)
+column_there (c ∷ columns) (suc k) t b types nulls = column_there columns k t b types nulls
 
-pub all_columns : (schema : List Table) (tables : List Contents) (n : ℕ) (table : Table) → AreContentsOf schema tables → slice_get schema n ≡ Some table →
-    AllByRecursion (IsColumnIn tables) (all_used n 0 (map (λ (c : Column). c.ty) table.columns) (map (λ (c : Column). c.not_null) table.columns))
-all_columns schema tables n table are found =
+pub columns_in : (schema : List Table) (tables : List Contents) (n : ℕ) (table : Table) → AreContentsOf schema tables → slice_get schema n ≡ Some table → (used : List Used) →
+    AllByRecursion (IsOfTable n (map (λ (c : Column). c.ty) table.columns) (map (λ (c : Column). c.not_null) table.columns)) used → AllByRecursion (IsColumnIn tables) used
+columns_in schema tables n table are found [] all = tt
+columns_in schema tables n table are found (u ∷ used) all =
     let one = contents_at schema tables n table are found in
-    columns_from tables n one.0 one.1 0 table.columns
-    (λ j column is.
-    let at : j ≡ 0 + j = omega arith in
-    subst (λ (m : ℕ). slice_get one.0.columns m ≡ Some column) at (subst (λ (cs : List ColumnType). slice_get cs j ≡ Some column) (sym one.2) is))
+    let c = column_there table.columns u.column u.ty u.not_null all.0.type_is all.0.not_null_is in (
+      (one.0, c.0, ap (λ (m : ℕ). slice_get tables m) all.0.table_is ∙ one.1, ap (λ (cs : List ColumnType). slice_get cs u.column) one.2 ∙ c.1, c.2, c.3),
+      columns_in schema tables n table are found used all.1,
+    )
 
 -- ---- as many rows as tables
 

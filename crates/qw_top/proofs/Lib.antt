@@ -10,6 +10,7 @@ mod QueryLemmas
 mod ReportLemmas
 mod RunLemmas
 mod SettleLemmas
+mod ShortLemmas
 mod StopLemmas
 mod StoppedLemmas
 mod WholeFileLemmas

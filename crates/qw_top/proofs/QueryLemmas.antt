@@ -24,12 +24,14 @@ use Rattle.qw_script.specs.Script.{AreAccepted, IsAccepted, ReadsScript, nodes_c
 use Rattle.qw_typer.specs.Faults.{Fault, fault_where, faults, first_token, item_faults, or_own}
 use Rattle.qw_typer.specs.Meanings.{AreMeant}
 use Rattle.qw_typer.specs.Meant.{Scope, meant}
+use Rattle.qw_typer.specs.Sizes.{AreSmall, IsSmall}
 use Rattle.qw_typer.specs.Typed.{HasFewItems, IsWithin, Means, columns_from, conjuncts, conjuncts_of, item_names, items_meant, list_faults, result_names, scope_of, selected_faults}
 use Rattle.qw_typer.specs.declared.fault.FaultKind.{FaultKind}
 use Rattle.qw_typer.specs.declared.query.TypedSelect.{TypedSelect}
 use Rattle.qw_sink.specs.declared.sink.Head.{Head}
 use Rattle.qw_top.specs.Top.{AreAsked, Asked, AsksFor, IsAsked, IsHeader}
 use Rattle.qw_top.specs.Inner.Queries.{IsOver, asked_of, columns_of, head_of, heads_of}
+use Rattle.qw_top.proofs.ShortLemmas.{is_short}
 
 -- ---- sizes of the queries of a script
 
@@ -126,20 +128,26 @@ abbrev first_types : List Entry → List Ty
 first_types [] = []
 first_types (entry ∷ entries) = entry.types
 
-is_over : (schema : List Table) (s : Select) (t : TypedSelect) → Means schema s (specification_of t.select) t.names.items → IsOver schema t
-is_over schema s t means =
+is_over : (schema : List Table) (s : Select) (t : TypedSelect) → Means schema s (specification_of t.select) t.names.items → IsSmall t.select → IsOver schema t
+is_over schema s t means small =
     let place : t.select.table ≡ means.place = ap first_table means.entries_are in
     record {
       table = means.table;
       there = rw place means.table_is;
       types_are = ap first_types means.entries_are;
+      short = is_short t.select small;
     }
 
-pub all_over : (schema : List Table) (script : List Select) (typed : List TypedSelect) → AreMeant schema script typed → AllByRecursion (IsOver schema) typed
-all_over schema [] [] all = tt
-all_over schema [] (t ∷ typed) all = absurd all
-all_over schema (s ∷ script) [] all = absurd all
-all_over schema (s ∷ script) (t ∷ typed) all = (is_over schema s t all.0, all_over schema script typed all.1)
+each_over : (schema : List Table) (tokens : List (List Lexeme)) (script : List Select) (typed : List TypedSelect) → AreAccepted tokens script → AreMeant schema script typed → AreSmall script typed → AllByRecursion (IsOver schema) typed
+each_over schema tokens [] [] accepted all small = tt
+each_over schema tokens [] (t ∷ typed) accepted all small = absurd all
+each_over schema tokens (s ∷ script) [] accepted all small = absurd all
+each_over schema [] (s ∷ script) (t ∷ typed) accepted all small = absurd accepted
+each_over schema (ts ∷ tokens) (s ∷ script) (t ∷ typed) accepted all small =
+    (is_over schema s t all.0 (small.0 ts accepted.0), each_over schema tokens script typed accepted.1 all.1 small.1)
+
+pub all_over : (schema : List Table) (text : List ℕ) (script : List Select) (typed : List TypedSelect) → ReadsScript text script → AreMeant schema script typed → AreSmall script typed → AllByRecursion (IsOver schema) typed
+all_over schema text script typed reads all small = each_over schema _ script typed reads.accepted all small
 
 -- ---- its header
 

@@ -1,4 +1,5 @@
 -- What restates code for proofs. No public clause rests on it.
 pub mod Literals
 pub mod Queries
+pub mod Sizes
 pub mod Typing

@@ -4,4 +4,5 @@ pub mod Inner
 pub mod Literal
 pub mod Meanings
 pub mod Meant
+pub mod Sizes
 pub mod Typed

@@ -1,11 +1,12 @@
 //! One more branch, argument or value before others.
 #![tactic(auto, unfolding(crate::specs::Inner::Typing::Refuses))]
 
-ghost use Rattle.std.specs.Prelude.{◌≡◌, Ok};
+ghost use Rattle.std.specs.Prelude.{◌≡◌, ℕ, ◌+◌, IfOk, Ok};
 ghost use Rattle.qw_meaning.specs.declared.query.Comparison.TheVariants.{Equal};
 ghost use Rattle.qw_meaning.specs.Expression.{Expression, coalesced, comparison, last, more};
 ghost use Rattle.qw_meaning.specs.Expression as meaning;
 ghost use Rattle.qw_meaning.specs.Tree.{choices_of, condition_of, expression_of, expressions_of, matches_of};
+ghost use Rattle.qw_typer.specs.Inner.Sizes.{Fits, FitsAll, FitsBranches, FitsCondition, FitsMatches};
 ghost use Rattle.qw_typer.specs.Inner.Typing.{AreTold, GivesArguments, GivesChoices, GivesMatches, GivesValues, IsTold, all_comparable};
 
 use crate::kinds::{agree, are_comparable, joined};
@@ -17,7 +18,8 @@ use std::alloc::Global;
 /// The last argument of COALESCE.
 pub(crate) fn argument<'a>(alloc: Global, x: Typed) -> Result<Results<Exprs>, Refusal<'a>>
     requires { IsTold x }
-    ensures { GivesArguments result (Ok (last (expression_of x.tree))) }
+    ensures gives { GivesArguments result (Ok (last (expression_of x.tree))) }
+    ensures fits { (n k : ℕ) → Fits x.tree n k → IfOk result (λ made. FitsAll made.tree (1 + n) k) }
 {
     Ok(Results {
         kind: x.kind,
@@ -34,7 +36,8 @@ pub(crate) fn arguments_more<'a>(
 ) -> Result<Results<Exprs>, Refusal<'a>>
     requires first { IsTold x }
     requires others { AreTold others.kind others.agree (coalesced (expressions_of others.tree)) }
-    ensures { GivesArguments result (Ok (more (expression_of x.tree) (expressions_of others.tree))) }
+    ensures gives { GivesArguments result (Ok (more (expression_of x.tree) (expressions_of others.tree))) }
+    ensures fits { (n k m j : ℕ) → Fits x.tree n k → FitsAll others.tree m j → IfOk result (λ made. FitsAll made.tree (1 + (n + m)) (k + j)) }
 {
     Ok(Results {
         kind: joined(x.kind, others.kind),
@@ -47,7 +50,8 @@ pub(crate) fn arguments_more<'a>(
 pub(crate) fn value<'a>(alloc: Global, operand: &Typed, x: Typed) -> Result<Values, Refusal<'a>>
     requires operand { IsTold operand.now }
     requires value { IsTold x }
-    ensures { GivesValues (expression_of operand.now.tree) result (Ok (last (expression_of x.tree))) }
+    ensures gives { GivesValues (expression_of operand.now.tree) result (Ok (last (expression_of x.tree))) }
+    ensures fits { (n k : ℕ) → Fits x.tree n k → IfOk result (λ made. FitsAll made.tree (1 + n) k) }
 {
     Ok(Values {
         comparable: are_comparable(operand.kind, x.kind),
@@ -65,7 +69,8 @@ pub(crate) fn values_more<'a>(
     requires operand { IsTold operand.now }
     requires value { IsTold x }
     requires others { others.comparable ≡ all_comparable (expression_of operand.now.tree) (expressions_of others.tree) }
-    ensures { GivesValues (expression_of operand.now.tree) result (Ok (more (expression_of x.tree) (expressions_of others.tree))) }
+    ensures gives { GivesValues (expression_of operand.now.tree) result (Ok (more (expression_of x.tree) (expressions_of others.tree))) }
+    ensures fits { (n k m j : ℕ) → Fits x.tree n k → FitsAll others.tree m j → IfOk result (λ made. FitsAll made.tree (1 + (n + m)) (k + j)) }
 {
     Ok(Values {
         comparable: are_comparable(operand.kind, x.kind) && others.comparable,
@@ -76,7 +81,8 @@ pub(crate) fn values_more<'a>(
 /// The result of ELSE.
 pub(crate) fn otherwise<'a>(alloc: Global, x: Typed) -> Result<Results<Branches>, Refusal<'a>>
     requires { IsTold x }
-    ensures { GivesChoices result (Ok (meaning.otherwise (expression_of x.tree))) }
+    ensures gives { GivesChoices result (Ok (meaning.otherwise (expression_of x.tree))) }
+    ensures fits { (n k : ℕ) → Fits x.tree n k → IfOk result (λ made. FitsBranches made.tree (1 + n) k) }
 {
     Ok(Results {
         kind: x.kind,
@@ -94,7 +100,8 @@ pub(crate) fn when<'a>(
 ) -> Result<Results<Branches>, Refusal<'a>>
     requires first { IsTold x }
     requires others { AreTold others.kind others.agree (choices_of others.tree) }
-    ensures { GivesChoices result (Ok (meaning.when (condition_of test) (expression_of x.tree) (choices_of others.tree))) }
+    ensures gives { GivesChoices result (Ok (meaning.when (condition_of test) (expression_of x.tree) (choices_of others.tree))) }
+    ensures fits { (n k m j p i : ℕ) → FitsCondition test n k → Fits x.tree m j → FitsBranches others.tree p i → IfOk result (λ made. FitsBranches made.tree (1 + (n + (m + p))) (k + (j + i))) }
 {
     let kind = joined(x.kind, others.kind);
     let agree = agree(x.kind, others.kind) && others.agree;
@@ -116,7 +123,8 @@ pub(crate) fn last_match<'a>(
 ) -> Result<Results<Matches>, Refusal<'a>>
     requires first { IsTold x }
     requires other { IsTold other }
-    ensures { (e : Expression) → GivesMatches e result (Ok (meaning.when (comparison Equal e (expression_of wanted.tree)) (expression_of x.tree) (meaning.otherwise (expression_of other.tree)))) }
+    ensures gives { (e : Expression) → GivesMatches e result (Ok (meaning.when (comparison Equal e (expression_of wanted.tree)) (expression_of x.tree) (meaning.otherwise (expression_of other.tree)))) }
+    ensures fits { (n k m j p i : ℕ) → Fits wanted.tree n k → Fits x.tree m j → Fits other.tree p i → IfOk result (λ made. FitsMatches made.tree (1 + (n + (m + (1 + p)))) (k + (j + i))) }
 {
     let kind = joined(x.kind, other.kind);
     let agree = agree(x.kind, other.kind);
@@ -139,7 +147,8 @@ pub(crate) fn match_more<'a>(
 ) -> Result<Results<Matches>, Refusal<'a>>
     requires first { IsTold x }
     requires others { AreTold others.kind others.agree (matches_of others.tree (expression_of operand.now.tree)) }
-    ensures { GivesMatches (expression_of operand.now.tree) result (Ok (meaning.when (comparison Equal (expression_of operand.now.tree) (expression_of wanted.tree)) (expression_of x.tree) (matches_of others.tree (expression_of operand.now.tree)))) }
+    ensures gives { GivesMatches (expression_of operand.now.tree) result (Ok (meaning.when (comparison Equal (expression_of operand.now.tree) (expression_of wanted.tree)) (expression_of x.tree) (matches_of others.tree (expression_of operand.now.tree)))) }
+    ensures fits { (n k m j p i : ℕ) → Fits wanted.tree n k → Fits x.tree m j → FitsMatches others.tree p i → IfOk result (λ made. FitsMatches made.tree (1 + (n + (m + p))) (k + (j + i))) }
 {
     let kind = joined(x.kind, others.kind);
     let agree = agree(x.kind, others.kind) && others.agree;

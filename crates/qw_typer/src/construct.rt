@@ -1,12 +1,13 @@
 //! One construct over typed operands: whether their kinds go with it, and its tree.
 #![tactic(auto, using(crate::proofs::CaseLemmas::told_case), unfolding(crate::specs::Inner::Typing::Refuses))]
 
-ghost use Rattle.std.specs.Prelude.{◌≡◌, MatchResult};
+ghost use Rattle.std.specs.Prelude.{◌≡◌, ℕ, ◌+◌, IfOk, MatchResult};
 ghost use Rattle.qw_ast.specs.SyntaxTree as syntax;
 ghost use Rattle.qw_meaning.specs.Expression.{coalesced};
 ghost use Rattle.qw_meaning.specs.Tree.{choices_of, condition_of, expression_of, expressions_of, matches_of};
 ghost use Rattle.qw_meaning.specs.Typing.{kind_of};
 ghost use Rattle.qw_typer.specs.Faults.{first_of_all, first_of_branches, first_token};
+ghost use Rattle.qw_typer.specs.Inner.Sizes.{Fits, FitsAll, FitsBranches, FitsCondition, FitsMatches};
 ghost use Rattle.qw_typer.specs.Inner.Typing.{AreTold, Gives, GivesCondition, IsTold, all_comparable, among_outcome, arithmetic_outcome, between_outcome, case_outcome, comparison_outcome, field_outcome, null_if_outcome, sign_outcome};
 ghost use Rattle.qw_typer.specs.Meant.{with_not};
 ghost use Rattle.qw_typer.specs.declared.refusal.Refusal.TheVariants.{NoMemory};
@@ -33,7 +34,8 @@ pub(crate) fn signed<'a>(
     at: &Expr<'a>,
 ) -> Result<Typed, Refusal<'a>>
     requires told { IsTold operand }
-    ensures { Gives result (sign_outcome (first_token (syntax.expression_of at.now)) sign (expression_of operand.tree)) }
+    ensures gives { Gives result (sign_outcome (first_token (syntax.expression_of at.now)) sign (expression_of operand.tree)) }
+    ensures fits { (n k : ℕ) → Fits operand.tree n k → IfOk result (λ made. Fits made.tree (1 + n) k) }
 {
     if !is_number(operand.kind) {
         return Err(Refusal::Fault(FaultKind::Clash, first_token(at)));
@@ -57,7 +59,8 @@ pub(crate) fn arithmetic<'a>(
 ) -> Result<Typed, Refusal<'a>>
     requires left { IsTold left }
     requires right { IsTold right }
-    ensures { Gives result (arithmetic_outcome (first_token (syntax.expression_of at.now)) operator (expression_of left.tree) (expression_of right.tree)) }
+    ensures gives { Gives result (arithmetic_outcome (first_token (syntax.expression_of at.now)) operator (expression_of left.tree) (expression_of right.tree)) }
+    ensures fits { (n k m j : ℕ) → Fits left.tree n k → Fits right.tree m j → IfOk result (λ made. Fits made.tree (1 + (n + m)) (k + j)) }
 {
     if !is_number(left.kind) || !is_number(right.kind) {
         return Err(Refusal::Fault(FaultKind::Clash, first_token(at)));
@@ -95,7 +98,8 @@ pub(crate) fn extracted<'a>(
     at: &Expr<'a>,
 ) -> Result<Typed, Refusal<'a>>
     requires told { IsTold operand }
-    ensures { Gives result (field_outcome (first_token (syntax.expression_of at.now)) field (expression_of operand.tree)) }
+    ensures gives { Gives result (field_outcome (first_token (syntax.expression_of at.now)) field (expression_of operand.tree)) }
+    ensures fits { (n k : ℕ) → Fits operand.tree n k → IfOk result (λ made. Fits made.tree (1 + n) k) }
 {
     if !is_date(operand.kind) {
         return Err(Refusal::Fault(FaultKind::Clash, first_token(at)));
@@ -113,7 +117,8 @@ pub(crate) fn searched_case<'a>(
     at: &Branches<'a>,
 ) -> Result<Typed, Refusal<'a>>
     requires told { AreTold results.kind results.agree (choices_of results.tree) }
-    ensures { Gives result (case_outcome (first_of_branches (syntax.branching_of at.now)) (choices_of results.tree)) }
+    ensures gives { Gives result (case_outcome (first_of_branches (syntax.branching_of at.now)) (choices_of results.tree)) }
+    ensures fits { (n k : ℕ) → FitsBranches results.tree n k → IfOk result (λ made. Fits made.tree (1 + n) k) }
 {
     if !results.agree || results.kind.is_none() {
         return Err(Refusal::Fault(FaultKind::Clash, first_of_branches(at)));
@@ -132,7 +137,8 @@ pub(crate) fn simple_case<'a>(
     at: &Expr<'a>,
 ) -> Result<Typed, Refusal<'a>>
     requires told { AreTold results.kind results.agree (matches_of results.tree (expression_of operand.tree)) }
-    ensures { Gives result (case_outcome (first_token (syntax.expression_of at.now)) (matches_of results.tree (expression_of operand.tree))) }
+    ensures gives { Gives result (case_outcome (first_token (syntax.expression_of at.now)) (matches_of results.tree (expression_of operand.tree))) }
+    ensures fits { (n k m j : ℕ) → Fits operand.tree n k → FitsMatches results.tree m j → IfOk result (λ made. Fits made.tree (1 + (n + m)) (k + j)) }
 {
     if !results.agree || results.kind.is_none() {
         return Err(Refusal::Fault(FaultKind::Clash, first_token(at)));
@@ -150,7 +156,8 @@ pub(crate) fn coalesced<'a>(
     at: &Exprs<'a>,
 ) -> Result<Typed, Refusal<'a>>
     requires told { AreTold results.kind results.agree (coalesced (expressions_of results.tree)) }
-    ensures { Gives result (case_outcome (first_of_all (syntax.expressions_of at.now)) (coalesced (expressions_of results.tree))) }
+    ensures gives { Gives result (case_outcome (first_of_all (syntax.expressions_of at.now)) (coalesced (expressions_of results.tree))) }
+    ensures fits { (n k : ℕ) → FitsAll results.tree n k → IfOk result (λ made. Fits made.tree (1 + n) k) }
 {
     if !results.agree || results.kind.is_none() {
         return Err(Refusal::Fault(FaultKind::Clash, first_of_all(at)));
@@ -170,7 +177,8 @@ pub(crate) fn null_if<'a>(
 ) -> Result<Typed, Refusal<'a>>
     requires left { IsTold left }
     requires right { IsTold right }
-    ensures { Gives result (null_if_outcome (first_token (syntax.expression_of at.now)) (expression_of left.tree) (expression_of right.tree)) }
+    ensures gives { Gives result (null_if_outcome (first_token (syntax.expression_of at.now)) (expression_of left.tree) (expression_of right.tree)) }
+    ensures fits { (n k m j : ℕ) → Fits left.tree n k → Fits right.tree m j → IfOk result (λ made. Fits made.tree (1 + (n + m)) (k + j)) }
 {
     if !are_comparable(left.kind, right.kind) {
         return Err(Refusal::Fault(FaultKind::Clash, first_token(at)));
@@ -191,7 +199,8 @@ pub(crate) fn compared<'a>(
 ) -> Result<meaning::Cond, Refusal<'a>>
     requires left { IsTold left }
     requires right { IsTold right }
-    ensures { GivesCondition result (comparison_outcome (first_token (syntax.expression_of at.now)) comparison (expression_of left.tree) (expression_of right.tree)) }
+    ensures gives { GivesCondition result (comparison_outcome (first_token (syntax.expression_of at.now)) comparison (expression_of left.tree) (expression_of right.tree)) }
+    ensures fits { (n k m j : ℕ) → Fits left.tree n k → Fits right.tree m j → IfOk result (λ made. FitsCondition made (1 + (n + m)) (k + j)) }
 {
     if !are_comparable(left.kind, right.kind) {
         return Err(Refusal::Fault(FaultKind::Clash, first_token(at)));
@@ -215,7 +224,8 @@ pub(crate) fn between<'a>(
     requires operand { IsTold operand }
     requires least { IsTold least }
     requires greatest { IsTold greatest }
-    ensures { GivesCondition result (between_outcome (first_token (syntax.expression_of at.now)) negated (expression_of operand.tree) (expression_of least.tree) (expression_of greatest.tree)) }
+    ensures gives { GivesCondition result (between_outcome (first_token (syntax.expression_of at.now)) negated (expression_of operand.tree) (expression_of least.tree) (expression_of greatest.tree)) }
+    ensures fits { (n k m j p i : ℕ) → Fits operand.tree n k → Fits least.tree m j → Fits greatest.tree p i → IfOk result (λ made. FitsCondition made (2 + (n + (m + p))) (k + (j + i))) }
 {
     if !are_comparable(operand.kind, least.kind) || !are_comparable(operand.kind, greatest.kind) {
         return Err(Refusal::Fault(FaultKind::Clash, first_token(at)));
@@ -240,7 +250,8 @@ pub(crate) fn among<'a>(
     at: &Expr<'a>,
 ) -> Result<meaning::Cond, Refusal<'a>>
     requires comparable { comparable ≡ all_comparable (expression_of operand.tree) (expressions_of values) }
-    ensures { GivesCondition result (among_outcome (first_token (syntax.expression_of at.now)) negated (expression_of operand.tree) (expressions_of values)) }
+    ensures gives { GivesCondition result (among_outcome (first_token (syntax.expression_of at.now)) negated (expression_of operand.tree) (expressions_of values)) }
+    ensures fits { (n k m j : ℕ) → Fits operand.tree n k → FitsAll values m j → IfOk result (λ made. FitsCondition made (2 + (n + m)) (k + j)) }
 {
     if !comparable {
         return Err(Refusal::Fault(FaultKind::Clash, first_token(at)));
@@ -256,7 +267,8 @@ pub(crate) fn with_not<'a>(
     negated: bool,
     cond: meaning::Cond,
 ) -> Result<meaning::Cond, Refusal<'a>>
-    ensures { MatchResult result (λ made. condition_of made ≡ with_not negated (condition_of cond)) (λ refusal. refusal ≡ NoMemory) }
+    ensures gives { MatchResult result (λ made. condition_of made ≡ with_not negated (condition_of cond)) (λ refusal. refusal ≡ NoMemory) }
+    ensures fits { (n k : ℕ) → FitsCondition cond n k → IfOk result (λ made. FitsCondition made (1 + n) k) }
 {
     if negated {
         Ok(meaning::Cond::Not(boxed(alloc, cond)?))

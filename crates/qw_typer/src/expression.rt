@@ -1,10 +1,12 @@
 //! Typed expressions and conditions (ISO/IEC 9075:1992, 6.9 to 6.12, 8.2 to 8.6, 8.12): operands from left to right, and the first
 //! fault that is met.
 
-ghost use Rattle.std.specs.Prelude.{◌≡◌, MatchResult, Ok};
+ghost use Rattle.std.specs.Prelude.{◌≡◌, IfOk, MatchResult, Ok};
 ghost use Rattle.qw_ast.specs.SyntaxTree as syntax;
 ghost use Rattle.qw_meaning.specs.Expression.{coalesced};
 ghost use Rattle.qw_meaning.specs.Tree.{condition_of, expression_of};
+ghost use Rattle.qw_script.specs.Script.{octets, octets_all, octets_branches, octets_condition};
+ghost use Rattle.qw_typer.specs.Inner.Sizes.{Fits, FitsAll, FitsBranches, FitsCondition, FitsMatches, nodes, nodes_all, nodes_branches, nodes_condition};
 ghost use Rattle.qw_typer.specs.Inner.Typing.{Gives, GivesArguments, GivesChoices, GivesCondition, GivesMatches, GivesValues, IsTold, entry, spelled, typed, typed_all, typed_choices, typed_branches, typed_condition};
 
 use crate::branch::{
@@ -32,7 +34,8 @@ pub(crate) fn expression<'a>(
     scope: &Scope<'_>,
     expr: &Expr<'a>,
 ) -> Result<Typed, Refusal<'a>>
-    ensures { Gives result (typed (entry scope.now) (syntax.expression_of expr.now)) }
+    ensures gives { Gives result (typed (entry scope.now) (syntax.expression_of expr.now)) }
+    ensures fits { IfOk result (λ made. Fits made.tree (nodes (syntax.expression_of expr.now)) (octets (syntax.expression_of expr.now))) }
 {
     match expr {
         Expr::Null => Ok(Typed {
@@ -85,7 +88,8 @@ pub(crate) fn condition<'a>(
     scope: &Scope<'_>,
     cond: &Cond<'a>,
 ) -> Result<meaning::Cond, Refusal<'a>>
-    ensures { GivesCondition result (typed_condition (entry scope.now) (syntax.condition_of cond.now)) }
+    ensures gives { GivesCondition result (typed_condition (entry scope.now) (syntax.condition_of cond.now)) }
+    ensures fits { IfOk result (λ made. FitsCondition made (nodes_condition (syntax.condition_of cond.now)) (octets_condition (syntax.condition_of cond.now))) }
 {
     match cond {
         Cond::Compare(comparison, left, right) => {
@@ -140,7 +144,8 @@ fn arguments<'a>(
     scope: &Scope<'_>,
     exprs: &Exprs<'a>,
 ) -> Result<Results<meaning::Exprs>, Refusal<'a>>
-    ensures { GivesArguments result (typed_all (entry scope.now) (syntax.expressions_of exprs.now)) }
+    ensures gives { GivesArguments result (typed_all (entry scope.now) (syntax.expressions_of exprs.now)) }
+    ensures fits { IfOk result (λ made. FitsAll made.tree (nodes_all (syntax.expressions_of exprs.now)) (octets_all (syntax.expressions_of exprs.now))) }
 {
     match exprs {
         Exprs::Last(expr) => {
@@ -165,7 +170,8 @@ fn values<'a>(
     exprs: &Exprs<'a>,
 ) -> Result<Values, Refusal<'a>>
     requires { IsTold operand.now }
-    ensures { GivesValues (expression_of operand.now.tree) result (typed_all (entry scope.now) (syntax.expressions_of exprs.now)) }
+    ensures gives { GivesValues (expression_of operand.now.tree) result (typed_all (entry scope.now) (syntax.expressions_of exprs.now)) }
+    ensures fits { IfOk result (λ made. FitsAll made.tree (nodes_all (syntax.expressions_of exprs.now)) (octets_all (syntax.expressions_of exprs.now))) }
 {
     match exprs {
         Exprs::Last(expr) => {
@@ -188,7 +194,8 @@ fn choices<'a>(
     scope: &Scope<'_>,
     branches: &Branches<'a>,
 ) -> Result<Results<meaning::Branches>, Refusal<'a>>
-    ensures { GivesChoices result (typed_choices (entry scope.now) (syntax.branching_of branches.now)) }
+    ensures gives { GivesChoices result (typed_choices (entry scope.now) (syntax.branching_of branches.now)) }
+    ensures fits { IfOk result (λ made. FitsBranches made.tree (nodes_branches (syntax.branching_of branches.now)) (octets_branches (syntax.branching_of branches.now))) }
 {
     match branches {
         Branches::Else(result) => {
@@ -220,7 +227,8 @@ fn matches<'a>(
     branches: &Branches<'a>,
 ) -> Result<Results<meaning::Matches>, Refusal<'a>>
     requires { IsTold operand.now }
-    ensures { GivesMatches (expression_of operand.now.tree) result (typed_branches (entry scope.now) (spelled token.entry) (expression_of operand.now.tree) (syntax.branching_of branches.now)) }
+    ensures gives { GivesMatches (expression_of operand.now.tree) result (typed_branches (entry scope.now) (spelled token.entry) (expression_of operand.now.tree) (syntax.branching_of branches.now)) }
+    ensures fits { IfOk result (λ made. FitsMatches made.tree (nodes_branches (syntax.branching_of branches.now)) (octets_branches (syntax.branching_of branches.now))) }
 {
     match branches {
         Branches::Else(_) => Err(Refusal::Fault(FaultKind::Clash, token)),

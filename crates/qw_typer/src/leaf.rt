@@ -1,9 +1,11 @@
 //! Literals and columns.
 #![tactic(auto, unfolding(crate::specs::Inner::Typing::Refuses))]
 
-ghost use Rattle.std.specs.Prelude.{◌≡◌, map, None};
+ghost use Rattle.std.specs.Prelude.{◌≡◌, IfOk, length, map, None};
 ghost use Rattle.qw_ast.specs.Syntax.{column, date, number, text};
 ghost use Rattle.qw_ast.specs.SyntaxTree.{days_of, octets_of};
+ghost use Rattle.qw_typer.specs.Literal.{string_value};
+ghost use Rattle.qw_typer.specs.Inner.Sizes.{Fits};
 ghost use Rattle.qw_typer.specs.Inner.Typing.{Gives, entry, typed};
 ghost use Rattle.qw_typer.specs.Meant.{Scope as Entry};
 
@@ -21,7 +23,8 @@ use std::alloc::Global;
 
 /// A number.
 pub(crate) fn number<'a>(alloc: Global, octets: &'a [u8]) -> Result<Typed, Refusal<'a>>
-    ensures { (scope : Entry) → Gives result (typed scope (number octets.now)) }
+    ensures gives { (scope : Entry) → Gives result (typed scope (number octets.now)) }
+    ensures fits { IfOk result (λ made. Fits made.tree 1 0) }
 {
     let found = number_of(alloc, octets).map_err(|_| Refusal::NoMemory)?;
     match found {
@@ -35,7 +38,8 @@ pub(crate) fn number<'a>(alloc: Global, octets: &'a [u8]) -> Result<Typed, Refus
 
 /// A character string.
 pub(crate) fn text<'a>(alloc: Global, octets: &'a [u8]) -> Result<Typed, Refusal<'a>>
-    ensures { (scope : Entry) → Gives result (typed scope (text octets.now)) }
+    ensures gives { (scope : Entry) → Gives result (typed scope (text octets.now)) }
+    ensures fits { IfOk result (λ made. Fits made.tree 1 (length (string_value octets.now))) }
 {
     let value = value_text(alloc, octets).map_err(|_| Refusal::NoMemory)?;
     Ok(Typed {
@@ -51,7 +55,8 @@ pub(crate) fn column<'a>(
     qualifier: Option<&'a [u8]>,
     name: &'a [u8],
 ) -> Result<Typed, Refusal<'a>>
-    ensures { Gives result (typed (entry scope.now) (column (octets_of qualifier.entry) name.now)) }
+    ensures gives { Gives result (typed (entry scope.now) (column (octets_of qualifier.entry) name.now)) }
+    ensures fits { IfOk result (λ made. Fits made.tree 1 0) }
 {
     let known = is_known(alloc, scope, qualifier).map_err(|_| Refusal::NoMemory)?;
     match qualifier {
@@ -65,7 +70,8 @@ pub(crate) fn column<'a>(
 
 /// A column behind no qualifier, or behind one that is known.
 fn known_column<'a>(alloc: Global, scope: &Scope<'_>, name: &'a [u8]) -> Result<Typed, Refusal<'a>>
-    ensures { Gives result (typed (entry scope.now) (column None name.now)) }
+    ensures gives { Gives result (typed (entry scope.now) (column None name.now)) }
+    ensures fits { IfOk result (λ made. Fits made.tree 1 0) }
 {
     let found = column_named(alloc, scope.columns, name).map_err(|_| Refusal::NoMemory)?;
     match found {
@@ -83,7 +89,8 @@ pub(crate) fn date<'a>(
     string: &'a [u8],
     intervals: &[Interval<'a>],
 ) -> Result<Typed, Refusal<'a>>
-    ensures { (scope : Entry) → Gives result (typed scope (date string.now (map days_of intervals.now))) }
+    ensures gives { (scope : Entry) → Gives result (typed scope (date string.now (map days_of intervals.now))) }
+    ensures fits { IfOk result (λ made. Fits made.tree 1 0) }
 {
     let found = date_of(alloc, string, intervals).map_err(|_| Refusal::NoMemory)?;
     match found {

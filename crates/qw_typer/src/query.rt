@@ -1,11 +1,12 @@
 //! A query over the tables of a schema (ISO/IEC 9075:1992, 7.4, 7.6, 7.9): its specification, and the names of its result columns.
 
-ghost use Rattle.std.specs.Prelude.{◌≡◌, ◌++◌, MatchResult, IfOk, Ok, map, option_map};
+ghost use Rattle.std.specs.Prelude.{◌≡◌, ◌≤◌, ◌++◌, MatchResult, IfOk, Ok, length, map, option_map};
 ghost use Rattle.qw_types.specs.declared.schema.Column.{Column};
 ghost use Rattle.qw_types.specs.Schema.{AreColumns};
 ghost use Rattle.qw_ast.specs.SyntaxTree.{select_of};
 ghost use Rattle.qw_meaning.specs.Select.{specification_of};
 ghost use Rattle.qw_typer.specs.Inner.Queries.{IsOneOf, IsOver, MeansOver, over_faults};
+ghost use Rattle.qw_typer.specs.Inner.Sizes.{FitsQuery};
 ghost use Rattle.qw_typer.specs.Inner.Typing.{entry};
 ghost use Rattle.qw_typer.specs.Typed.{IsWithin, Means, entry_name, filter_faults, query_faults, selected_faults};
 
@@ -44,8 +45,9 @@ pub(crate) fn query<'a>(
     statement: &Statement<'a>,
 ) -> Result<TypedSelect, Refusal<'a>>
     requires { IsWithin (select_of statement.now) }
-    ensures { MatchResult result (λ made. Means schema.now (select_of statement.now) (specification_of made.select) made.names.items)
+    ensures means { MatchResult result (λ made. Means schema.now (select_of statement.now) (specification_of made.select) made.names.items)
         (λ refusal. IsOneOf refusal (query_faults schema.now (select_of statement.now))) }
+    ensures fits { IfOk result (λ made. FitsQuery made.select.conjuncts made.select.items (select_of statement.now)) }
 {
     let tables = schema.as_slice();
     let name = name_text(alloc, statement.table).map_err(|_| Refusal::NoMemory)?;
@@ -64,8 +66,9 @@ fn over_table<'a>(
     statement: &Statement<'a>,
 ) -> Result<TypedSelect, Refusal<'a>>
     requires { IsWithin (select_of statement.now) }
-    ensures { MatchResult result (λ made. MeansOver place table.now (select_of statement.now) (specification_of made.select) made.names.items)
+    ensures means { MatchResult result (λ made. MeansOver place table.now (select_of statement.now) (specification_of made.select) made.names.items)
         (λ refusal. IsOneOf refusal (over_faults table.now (select_of statement.now))) }
+    ensures fits { IfOk result (λ made. FitsQuery made.select.conjuncts made.select.items (select_of statement.now)) }
 {
     let name = entry_text(alloc, statement).map_err(|_| Refusal::NoMemory)?;
     let columns = table.columns.as_slice();
@@ -93,8 +96,9 @@ fn over_columns<'a>(
     scope: &Scope<'_>,
     statement: &Statement<'a>,
 ) -> Result<Over, Refusal<'a>>
-    ensures { MatchResult result (λ over. IsOver (entry scope.now) (select_of statement.now) over)
+    ensures means { MatchResult result (λ over. IsOver (entry scope.now) (select_of statement.now) over)
         (λ refusal. IsOneOf refusal (selected_faults (entry scope.now) (select_of statement.now).selected ++ filter_faults (entry scope.now) (select_of statement.now))) }
+    ensures fits { length scope.now.columns.now ≤ 64 → IfOk result (λ over. FitsQuery over.conjuncts.items over.items.items (select_of statement.now)) }
 {
     let items = list(alloc, scope, &statement.list)?;
     let conjuncts = filter(alloc, scope, &statement.condition)?;

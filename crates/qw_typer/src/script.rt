@@ -6,6 +6,7 @@ ghost use Rattle.qw_ast.specs.SyntaxTree.{select_of, selects_of};
 ghost use Rattle.qw_typer.specs.Inner.Queries.{IsFaultOf};
 ghost use Rattle.qw_typer.specs.Inner.Typing.{spelled};
 ghost use Rattle.qw_typer.specs.Meanings.{AreMeant};
+ghost use Rattle.qw_typer.specs.Sizes.{AreSmall};
 ghost use Rattle.qw_typer.specs.Typed.{HasFirstFault, IsWithin, query_faults};
 ghost use Rattle.qw_typer.specs.declared.fault.TypeFault.TheVariants as type_fault;
 
@@ -30,6 +31,7 @@ pub fn type_script(
 ) -> Result<Vec<TypedSelect>, TypeFault>
     requires sizes { AllByRecursion IsWithin (selects_of script.now) }
     ensures meanings { IfOk result (λ made. AreMeant schema.now (selects_of script.now) made.items) }
+    ensures small { IfOk result (λ made. AreSmall (selects_of script.now) made.items) }
     ensures first_fault { IfErr result (λ fault. (fault ≡ type_fault.NoMemory) ⊎ HasFirstFault schema.now 1 (selects_of script.now) fault) }
 {
     let mut made = Vec::new(alloc);

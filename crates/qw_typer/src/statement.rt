@@ -1,12 +1,14 @@
 //! A query over a schema's tables (ISO/IEC 9075:1992, 7.4, 7.6, 7.9).
 
-ghost use Rattle.std.specs.Prelude.{◌≡◌, ◌+◌, ℕ, MatchResult, IfOk, Ok, map, option_map, position};
+ghost use Rattle.std.specs.Prelude.{◌≡◌, ◌≤◌, ◌+◌, ℕ, MatchResult, IfOk, Ok, length, map, option_map, position};
 ghost use Rattle.std.specs.Str.{bytes_eq};
 ghost use Rattle.qw_ast.specs.Grammar.{name_of};
 ghost use Rattle.qw_ast.specs.SyntaxTree as syntax;
 ghost use Rattle.qw_types.specs.declared.schema.Column.{Column};
 ghost use Rattle.qw_types.specs.declared.schema.Table.{Table};
 ghost use Rattle.qw_meaning.specs.Tree.{condition_of, expression_of};
+ghost use Rattle.qw_script.specs.Script.{items_of, octets, octets_condition, over_filter, over_items};
+ghost use Rattle.qw_typer.specs.Inner.Sizes.{Fits, FitsItems, FitsTests, nodes, nodes_condition, selected_nodes};
 ghost use Rattle.qw_typer.specs.Inner.Typing.{Refuses, entry, typed_conjuncts, typed_filter, typed_item, typed_items, typed_list};
 ghost use Rattle.qw_typer.specs.Typed.{columns_from, item_name, item_names, place_of, result_names};
 
@@ -41,8 +43,9 @@ pub(crate) fn list<'a>(
     scope: &Scope<'_>,
     list: &SelectList<'a>,
 ) -> Result<Vec<meaning::Expr>, Refusal<'a>>
-    ensures { MatchResult result (λ made. typed_list (entry scope.now) (syntax.selected_of list.now) ≡ Ok (map expression_of made.items))
+    ensures gives { MatchResult result (λ made. typed_list (entry scope.now) (syntax.selected_of list.now) ≡ Ok (map expression_of made.items))
         (λ refusal. Refuses refusal (typed_list (entry scope.now) (syntax.selected_of list.now))) }
+    ensures fits { length scope.now.columns.now ≤ 64 → IfOk result (λ made. FitsItems made.items (selected_nodes (syntax.selected_of list.now)) (over_items octets (items_of (syntax.selected_of list.now)))) }
 {
     match list {
         SelectList::All => Ok(all_columns(alloc, scope.columns).map_err(|_| Refusal::NoMemory)?),
@@ -53,7 +56,8 @@ pub(crate) fn list<'a>(
 /// All columns in order.
 #[tactic(auto, using(crate::proofs::StepLemmas::columns_step), unfolding(crate::specs::Inner::Typing::Refuses))]
 fn all_columns(alloc: Global, columns: &[Column]) -> Result<Vec<meaning::Expr>, NoMemory>
-    ensures { IfOk result (λ made. map expression_of made.items ≡ columns_from 0 columns.now) }
+    ensures gives { IfOk result (λ made. map expression_of made.items ≡ columns_from 0 columns.now) }
+    ensures fits { IfOk result (λ made. FitsItems made.items (length columns.now) 0) }
 {
     let mut made = Vec::new(alloc);
     let mut rest = columns;
@@ -71,8 +75,9 @@ fn items_of<'a>(
     scope: &Scope<'_>,
     items: &[Item<'a>],
 ) -> Result<Vec<meaning::Expr>, Refusal<'a>>
-    ensures { MatchResult result (λ made. typed_items (entry scope.now) (map syntax.item_of items.now) ≡ Ok (map expression_of made.items))
+    ensures gives { MatchResult result (λ made. typed_items (entry scope.now) (map syntax.item_of items.now) ≡ Ok (map expression_of made.items))
         (λ refusal. Refuses refusal (typed_items (entry scope.now) (map syntax.item_of items.now))) }
+    ensures fits { IfOk result (λ made. FitsItems made.items (over_items nodes (map syntax.item_of items.now)) (over_items octets (map syntax.item_of items.now))) }
 {
     let mut made = Vec::new(alloc);
     let mut rest = items;
@@ -91,8 +96,9 @@ fn item_of<'a>(
     scope: &Scope<'_>,
     expr: &Expr<'a>,
 ) -> Result<meaning::Expr, Refusal<'a>>
-    ensures { MatchResult result (λ made. typed_item (entry scope.now) (syntax.expression_of expr.now) ≡ Ok (expression_of made))
+    ensures gives { MatchResult result (λ made. typed_item (entry scope.now) (syntax.expression_of expr.now) ≡ Ok (expression_of made))
         (λ refusal. Refuses refusal (typed_item (entry scope.now) (syntax.expression_of expr.now))) }
+    ensures fits { IfOk result (λ made. Fits made (nodes (syntax.expression_of expr.now)) (octets (syntax.expression_of expr.now))) }
 {
     let x = expression(alloc, scope, expr)?;
     if x.kind.is_none() {
@@ -107,8 +113,9 @@ pub(crate) fn filter<'a>(
     scope: &Scope<'_>,
     filter: &Option<Cond<'a>>,
 ) -> Result<Vec<meaning::Cond>, Refusal<'a>>
-    ensures { MatchResult result (λ made. typed_filter (entry scope.now) (option_map syntax.condition_of filter.now) ≡ Ok (map condition_of made.items))
+    ensures gives { MatchResult result (λ made. typed_filter (entry scope.now) (option_map syntax.condition_of filter.now) ≡ Ok (map condition_of made.items))
         (λ refusal. Refuses refusal (typed_filter (entry scope.now) (option_map syntax.condition_of filter.now))) }
+    ensures fits { IfOk result (λ made. FitsTests made.items (over_filter nodes_condition (option_map syntax.condition_of filter.now)) (over_filter octets_condition (option_map syntax.condition_of filter.now))) }
 {
     match filter {
         Some(cond) => conjuncts(alloc, scope, cond),
@@ -123,8 +130,9 @@ fn conjuncts<'a>(
     scope: &Scope<'_>,
     cond: &Cond<'a>,
 ) -> Result<Vec<meaning::Cond>, Refusal<'a>>
-    ensures { MatchResult result (λ made. typed_conjuncts (entry scope.now) (syntax.condition_of cond.now) ≡ Ok (map condition_of made.items))
+    ensures gives { MatchResult result (λ made. typed_conjuncts (entry scope.now) (syntax.condition_of cond.now) ≡ Ok (map condition_of made.items))
         (λ refusal. Refuses refusal (typed_conjuncts (entry scope.now) (syntax.condition_of cond.now))) }
+    ensures fits { IfOk result (λ made. FitsTests made.items (nodes_condition (syntax.condition_of cond.now)) (octets_condition (syntax.condition_of cond.now))) }
 {
     match cond {
         Cond::And(left, right) => {

@@ -1,5 +1,6 @@
 -- How many steps the blocks have.
-use Rattle.std.proofs.Common.{◌≡◌, ℕ, zero, suc, ◌+◌, ◌-◌, ◌*◌, ◌/◌, ◌^◌, ◌≤◌, ◌==◌, max, nat_lt, if◌then◌else◌, Bool, true, false, List, ◌++◌, length, length-append, Result, Ok, Err, IfOk, OnOk, refl, ap, arith}
+use Rattle.std.proofs.Common.{◌≡◌, ℕ, zero, suc, ◌+◌, ◌-◌, ◌*◌, ◌/◌, ◌^◌, ◌≤◌, ◌==◌, max, nat_lt, if◌then◌else◌, Bool, true, false, List, ◌++◌, length, length-append, refl, arith}
+use Rattle.qw_meaning.specs.declared.query.Comparison.{Comparison}
 use Rattle.qw_module.specs.declared.instruction.ValType.TheVariants.{I64}
 use Rattle.qw_module.specs.declared.instruction.Sign.TheVariants.{Signed}
 use Rattle.qw_module.specs.declared.instruction.Binary.{Binary}
@@ -8,9 +9,10 @@ use Rattle.qw_module.specs.declared.instruction.Division.TheVariants.{Div}
 use Rattle.qw_low.specs.declared.step.LowStep.{LowStep}
 use Rattle.qw_low.proofs.Lengths.{added-most}
 use Rattle.qw_low.specs.Steps.{steps_of}
-use Rattle.qw_low.specs.Syntax.{Statement, seq, assign, binop, divop, local}
+use Rattle.qw_low.specs.Syntax.{Statement, seq, assign, binop, divop, local, relop}
 use Rattle.qw_wide.specs.declared.arithmetic.Scaled.{Scaled}
-use Rattle.qw_wide.specs.Inner.Blocks.{i64, capped, is_past, Products, Quotients, Sums, bring_block, brought_in, check_if, difference_block, left_brought, order_block, product_block, quotient_block, range_check, right_brought, checked_product, sum_block}
+use Rattle.qw_wide.specs.Inner.Blocks.{i64, capped, is_past, Products, Quotients, Sums, bring_block, brought_in, check_if, comparison_block, less_block, more_block, product_block, quotient_block, range_check, checked_product, sum_block}
+use Rattle.qw_wide.specs.Relations.{relation_of}
 
 check-long : (c : Bool) (limit x : ℕ) → length (steps_of (check_if c limit x)) ≤ 9
 check-long true limit x = let same : length (steps_of (range_check limit x)) ≡ 9 = refl in omega (arith, same)
@@ -44,13 +46,22 @@ quotient-long c k n x y =
     let all = length-append (steps_of (bring_block c k n x)) (steps_of (assign n (divop I64 (Div Signed) (local (brought_in k n x)) (local y)))) in
     omega (arith, brought, all)
 
-pub order-long : (sa sb n x y : ℕ) → length (steps_of (order_block sa sb n x y)) ≤ 20
-order-long sa sb n x y = by_tests (sa == sb) (nat_lt sa sb)
+less-long : (o : Comparison) (divides : Bool) (k n t x y : ℕ) → length (steps_of (less_block o divides k n t x y)) ≤ 24
+less-long o true k n t x y = omega arith
+less-long o false k n t x y = omega arith
+
+more-long : (o : Comparison) (divides : Bool) (k n t x y : ℕ) → length (steps_of (more_block o divides k n t x y)) ≤ 24
+more-long o true k n t x y = omega arith
+more-long o false k n t x y = omega arith
+
+pub comparison-long : (o : Comparison) (sa mx sb my n t x y : ℕ) → length (steps_of (comparison_block o sa mx sb my n t x y)) ≤ 24
+comparison-long o sa mx sb my n t x y = by_tests (sa == sb) (nat_lt sa sb)
   where
-    by_tests : (same below : Bool) → length (steps_of (if same then difference_block n x y else (if below then left_brought (sb - sa) n x y else right_brought (sa - sb) n x y))) ≤ 20
+    by_tests : (same below : Bool) → length (steps_of (if same then assign t (relop I64 (relation_of o) (local x) (local y)) else (if below then less_block o (is_past (mx * 10 ^ (sb - sa))) (sb - sa) n t x y
+        else more_block o (is_past (my * 10 ^ (sa - sb))) (sa - sb) n t x y))) ≤ 24
     by_tests true below = omega arith
-    by_tests false true = let many : length (steps_of (left_brought (sb - sa) n x y)) ≤ 20 = omega arith in many
-    by_tests false false = let many : length (steps_of (right_brought (sa - sb) n x y)) ≤ 20 = omega arith in many
+    by_tests false true = less-long o (is_past (mx * 10 ^ (sb - sa))) (sb - sa) n t x y
+    by_tests false false = more-long o (is_past (my * 10 ^ (sa - sb))) (sa - sb) n t x y
 
 -- what the functions tell of the code
 pub sum-most : (operator : Binary) (left right : Scaled) (n : ℕ) (out : Scaled) (old new : List LowStep) → Sums operator left right n out old new → length new ≤ length old + 60

@@ -4,4 +4,5 @@ pub mod Lengths
 pub mod Operations
 pub mod OrderRuns
 pub mod Orders
+pub mod Relations
 pub mod Words

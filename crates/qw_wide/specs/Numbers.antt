@@ -1,13 +1,15 @@
 -- What blocks on numbers promise (ISO/IEC 9075:1992, 6.12 and 8.2).
-use Rattle.std.specs.Prelude.{◌≡◌, ℕ, ◌+◌, ◌<◌, ◌≤◌, ℤ, pos, unsigned_abs, IsTrue, List, length, Some, Result, slice_get}
-use Rattle.std.specs.Ordering.{int_cmp}
+use Rattle.std.specs.Prelude.{◌≡◌, ℕ, ◌+◌, ◌<◌, ◌≤◌, ℤ, unsigned_abs, IsTrue, List, length, Some, Result, slice_get}
 use Rattle.std.specs.declared.cmp.Ordering.{Ordering}
 use Rattle.qw_types.specs.declared.code.Code.{Code}
 use Rattle.qw_types.specs.Arithmetic.{fits}
+use Rattle.qw_meaning.specs.declared.query.Comparison.{Comparison}
+use Rattle.qw_meaning.specs.Evaluation.{answers}
 use Rattle.qw_module.specs.declared.instruction.ValType.{ValType}
-use Rattle.qw_module.specs.declared.instruction.ValType.TheVariants.{I64}
+use Rattle.qw_module.specs.declared.instruction.ValType.TheVariants.{I32, I64}
+use Rattle.qw_module.specs.Numbers.{truth}
 use Rattle.qw_low.specs.Syntax.{Statement}
-use Rattle.qw_low.specs.State.{LowState}
+use Rattle.qw_low.specs.State.{Number, LowState}
 use Rattle.qw_low.specs.Meaning.{meaning}
 use Rattle.qw_low.specs.Typing.{IsTyped}
 use Rattle.qw_low.specs.Size.{size}
@@ -35,8 +37,9 @@ pub record Converts (operation : ℤ → Result ℤ Code) (x most_x free out mos
       Ends (size a) (Leaves (λ r t. Kept free s t × HasNumber out most r t) (operation v)) (λ t. ⊥) (Raises (operation v)) (meaning pages fuel a s)
   pub typed : (types : List ValType) → slice_get types x ≡ Some I64 → slice_get types free ≡ Some I64 → IsTyped types a × (slice_get types out ≡ Some I64)
 
--- A block that leaves a number in `free` which is below, at or above 0 as one number is below, at or above another.
-pub record Compares (order : ℤ → ℤ → Ordering) (x most_x y most_y free : ℕ) (a : Statement) : Type 0 where
+-- A block that leaves 1 in `out` where a comparison of two numbers is true, as their order tells, and else 0. What it has of its own
+-- begins at `free`.
+pub record Tests (operator : Comparison) (order : ℤ → ℤ → Ordering) (x most_x y most_y free out : ℕ) (a : Statement) : Type 0 where
   pub runs : (pages fuel : ℕ) (s : LowState) (v w : ℤ) → HasNumber x most_x v s → HasNumber y most_y w s → free < length s.locals →
-      Ends (size a) (λ t. Kept free s t × (z : ℤ) × HoldsNumber t free z × (int_cmp z (pos 0) ≡ order v w)) (λ t. ⊥) (λ code. ⊥) (meaning pages fuel a s)
-  pub typed : (types : List ValType) → slice_get types x ≡ Some I64 → slice_get types y ≡ Some I64 → slice_get types free ≡ Some I64 → IsTyped types a
+      Ends (size a) (λ t. Kept out s t × (slice_get t.locals out ≡ Some (Number (truth (answers operator (order v w)))))) (λ t. ⊥) (λ code. ⊥) (meaning pages fuel a s)
+  pub typed : (types : List ValType) → slice_get types x ≡ Some I64 → slice_get types y ≡ Some I64 → slice_get types out ≡ Some I32 → slice_get types free ≡ Some I64 → IsTyped types a

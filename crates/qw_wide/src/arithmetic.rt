@@ -39,7 +39,7 @@ pub fn ten_to(exponent: u8) -> u64
 }
 
 /// Whether a magnitude is past 18 digits.
-fn is_past(magnitude: u128) -> bool
+pub(crate) fn is_past(magnitude: u128) -> bool
     ensures { result ≡ is_past magnitude }
 {
     magnitude > u128::from(GREATEST)

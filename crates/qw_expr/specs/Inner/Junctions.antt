@@ -1,5 +1,5 @@
 -- Mirrors `src/junction.rt`: what AND and OR add to an emitter.
-use Rattle.std.specs.Prelude.{◌≡◌, ℕ, ◌+◌, ◌++◌, [], ◌∷◌}
+use Rattle.std.specs.Prelude.{◌≡◌, ◌+◌, ◌++◌, [], ◌∷◌}
 use Rattle.qw_module.specs.declared.instruction.ValType.TheVariants.{I32}
 use Rattle.qw_module.specs.declared.instruction.Binary.TheVariants.{And, Or}
 use Rattle.qw_low.specs.declared.cell.Cell.{Cell}

@@ -1,11 +1,8 @@
--- Mirrors `src/literal.rt`: what literals and fields of dates add to an emitter.
-use Rattle.std.specs.Prelude.{◌≡◌, ℕ, ℤ, ◌++◌, [], ◌∷◌}
-use Rattle.std.specs.Int.{w64, cast_unsigned}
+-- Mirrors `src/literal.rt`: what fields of dates add to an emitter.
+use Rattle.std.specs.Prelude.{◌≡◌, ℕ, ◌++◌, [], ◌∷◌}
 use Rattle.qw_module.specs.declared.instruction.ValType.TheVariants.{I64}
-use Rattle.qw_module.specs.declared.instruction.Const.TheVariants as const
 use Rattle.qw_meaning.specs.declared.expression.Field.{Field}
 use Rattle.qw_meaning.specs.declared.expression.Field.TheVariants.{Year, Month, Day}
-use Rattle.qw_low.specs.Syntax.{constant_of, assign}
 use Rattle.qw_low.specs.Steps.{steps_of}
 use Rattle.qw_expr.specs.declared.emitter.Emitter.{Emitter}
 use Rattle.qw_expr.specs.declared.operand.Operand.{Operand}
@@ -13,12 +10,6 @@ use Rattle.qw_expr.specs.Emits.{free_of}
 use Rattle.qw_expr.specs.Inner.Nulls.{unless_null}
 use Rattle.qw_expr.specs.Inner.Fields.{field_block}
 use Rattle.qw_expr.specs.Inner.Operated.{number_at}
-
-pub record AddsWord (value : ℤ) (old new : Emitter) (n : ℕ) : Type 0 where
-  pub first_is : new.first ≡ old.first
-  pub own_is : new.own.items ≡ old.own.items ++ I64 ∷ []
-  pub local_is : n ≡ free_of old
-  pub code_is : new.block.code.items ≡ old.block.code.items ++ steps_of (assign n (constant_of (const.I64 (cast_unsigned w64 value))))
 
 abbrev pub limit_of : Field → ℕ
 limit_of Year = 9999

@@ -10,14 +10,14 @@ use Rattle.qw_low.specs.declared.cell.Cell.{Cell}
 use Rattle.qw_low.specs.declared.step.LowStep.{LowStep}
 use Rattle.std.specs.declared.cmp.Ordering.{Ordering}
 use Rattle.qw_meaning.specs.declared.query.Comparison.{Comparison}
-use Rattle.qw_low.specs.Syntax.{Statement, seq, assign}
+use Rattle.qw_low.specs.Syntax.{Statement, seq}
 use Rattle.qw_low.specs.Steps.{steps_of}
 use Rattle.qw_wide.specs.declared.arithmetic.Scaled.{Scaled}
-use Rattle.qw_wide.specs.Numbers.{Operates, Converts, Compares}
+use Rattle.qw_wide.specs.Numbers.{Operates, Converts, Tests}
 use Rattle.qw_expr.specs.declared.emitter.Emitter.{Emitter}
 use Rattle.qw_expr.specs.declared.operand.Operand.{Operand}
 use Rattle.qw_expr.specs.Emits.{free_of}
-use Rattle.qw_expr.specs.Inner.Truths.{zero_test, zero_if_null}
+use Rattle.qw_expr.specs.Inner.Truths.{zero_if_null}
 use Rattle.qw_expr.specs.Inner.Nulls.{join_block, joined_null, before_unless, after_unless}
 
 -- the operand of a number
@@ -55,12 +55,12 @@ pub record AddsOperation (operation : ℤ → Result ℤ Code) (scale : ℕ) (op
   pub code_is : new.block.code.items ≡ old.block.code.items ++ code
   pub converted : Converted operation scale (free_of old) operand out code made
 
--- what a comparison adds to an emitter: the order of two numbers is left in the third local, and tested in the second
+-- what a comparison adds to an emitter: the truth of two numbers in the second local, by a block whose own local is the third
 pub record AddsComparison (operator : Comparison) (order : ℤ → ℤ → Ordering) (x mx y my : ℕ) (left right : Option ℕ) (old new : Emitter) (out : Cell) : Type 0 where
   pub first_is : new.first ≡ old.first
   pub own_is : new.own.items ≡ old.own.items ++ I32 ∷ I32 ∷ I64 ∷ []
   pub f : Statement
   pub code_is : new.block.code.items ≡ old.block.code.items ++ steps_of
-      (seq (join_block (free_of old) left right) (zero_if_null (joined_null (free_of old) left right) (free_of old + 1) (seq f (assign (free_of old + 1) (zero_test operator (free_of old + 2))))))
-  pub compares : Compares order x mx y my (free_of old + 2) f
+      (seq (join_block (free_of old) left right) (zero_if_null (joined_null (free_of old) left right) (free_of old + 1) f))
+  pub tests : Tests operator order x mx y my (free_of old + 2) (free_of old + 1) f
   pub out_is : out ≡ record { value = free_of old + 1; length = free_of old + 1; null = joined_null (free_of old) left right }

@@ -4,33 +4,16 @@ use Rattle.qw_module.specs.declared.instruction.Op.TheVariants as o
 use Rattle.qw_low.specs.declared.cell.Cell.{Cell}
 use Rattle.qw_low.specs.declared.step.LowStep.{LowStep}
 use Rattle.qw_low.specs.declared.step.LowStep.TheVariants as step
-use Rattle.qw_module.specs.declared.instruction.ValType.TheVariants.{I32, I64}
-use Rattle.qw_module.specs.declared.instruction.Sign.TheVariants.{Signed}
+use Rattle.qw_module.specs.declared.instruction.ValType.TheVariants.{I32}
 use Rattle.qw_module.specs.declared.instruction.Const.TheVariants as const
 use Rattle.qw_module.specs.declared.instruction.Binary.TheVariants.{And, Or}
-use Rattle.qw_module.specs.declared.instruction.Relation.{Relation}
-use Rattle.qw_module.specs.declared.instruction.Relation.TheVariants.{Eq, Ne, Lt, Gt, Le, Ge}
-use Rattle.qw_meaning.specs.declared.query.Comparison.{Comparison}
-use Rattle.qw_meaning.specs.declared.query.Comparison.TheVariants.{Equal, NotEqual, Less, LessOrEqual, Greater, GreaterOrEqual}
 use Rattle.qw_low.specs.Steps.{steps_of}
 use Rattle.qw_expr.specs.declared.emitter.Emitter.{Emitter}
 use Rattle.qw_expr.specs.Emits.{free_of}
-use Rattle.qw_low.specs.Syntax.{Expression, constant_of, local, binop, is_zero, relop, Statement, seq, assign, conditional}
+use Rattle.qw_low.specs.Syntax.{Expression, constant_of, local, binop, is_zero, Statement, seq, assign, conditional}
 
 abbrev pub i32 : ℕ → Expression
 i32 n = constant_of (const.I32 n)
-
-abbrev pub relation_of : Comparison → Relation
-relation_of Equal = Eq
-relation_of NotEqual = Ne
-relation_of Less = Lt Signed
-relation_of LessOrEqual = Le Signed
-relation_of Greater = Gt Signed
-relation_of GreaterOrEqual = Ge Signed
-
--- whether a number is below, at or above 0
-abbrev pub zero_test : Comparison → (n : ℕ) → Expression
-zero_test op n = relop I64 (relation_of op) (local n) (constant_of (const.I64 0))
 
 -- 0 where a value is null, and else what a block gives
 abbrev pub zero_if_null : Option ℕ → (t : ℕ) → Statement → Statement

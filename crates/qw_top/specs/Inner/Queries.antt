@@ -14,6 +14,7 @@ use Rattle.qw_script.specs.Script.{IsScriptRefused}
 use Rattle.qw_script.specs.declared.fault.ParseFault.TheVariants as parsing
 use Rattle.qw_typer.specs.declared.fault.TypeFault.TheVariants as typing
 use Rattle.qw_typer.specs.declared.query.TypedSelect.{TypedSelect}
+use Rattle.qw_compile.specs.Limits.{IsShort}
 use Rattle.qw_bench.specs.Bench.{IsColumnIn, Program}
 use Rattle.qw_sink.specs.declared.sink.Head.{Head}
 use Rattle.qw_top.specs.Causes.{queries_mistyped, queries_refused}
@@ -43,11 +44,12 @@ asked_of query = record { specification = specification_of query.select; header 
 abbrev pub columns_of : List Table → ℕ → List Column
 columns_of schema table = option_map_or (λ (t : Table). t.columns) (slice_get schema table) []
 
--- Its table is one of the schema's, whose columns have the types that it says.
+-- Its table is one of the schema's, whose columns have the types that it says; and it isn't too long to be compiled.
 pub record IsOver (schema : List Table) (query : TypedSelect) : Type 0 where
   pub table : Table
   pub there : slice_get schema query.select.table ≡ Some table
   pub types_are : query.select.types ≡ map (λ (c : Column). c.ty) table.columns
+  pub short : IsShort query.select
 
 -- a text is refused for a fault, or memory was wanted
 abbrev pub Refuses : List Table → (text : List ℕ) → QueriesFault → Type 0

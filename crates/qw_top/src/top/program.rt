@@ -12,12 +12,14 @@ ghost use Rattle.qw_top.specs.Inner.Stages.{AreContentsOf};
 use super::header::columns_of;
 use qw_bench::bench::Job;
 use qw_compile::compile::{CompileFault, Compiled, compile};
+use qw_fold::fold::fold;
 use qw_typer::query::TypedSelect;
 use qw_types::{Column, NoMemory, Schema};
 use qw_valid::valid::{ValidFault, validate};
 use std::alloc::Global;
 
-/// The module of a query over a schema, with its layout, whose columns are those of the query's table.
+/// The module of a query over a schema, with its layout, whose columns are those of the query's table. The query is folded first, and one
+/// that a script takes is never too long to be compiled.
 ///
 /// # Errors
 ///
@@ -29,11 +31,11 @@ pub fn compiled(alloc: Global, schema: &Schema, query: &TypedSelect) -> Result<C
 {
     let columns = columns_of(schema, query.select.table());
     let not_null = not_null_of(alloc, columns)?;
-    match compile(alloc, &query.select, &not_null) {
+    let folded = fold(alloc, &query.select)?;
+    match compile(alloc, &folded, &not_null) {
         Ok(compiled) => Ok(compiled),
         Err(CompileFault::NoMemory) => Err(NoMemory),
-        // `compile` is never too long for at most 4,000 nodes; that those of a script's query are so few is said by no clause.
-        Err(CompileFault::TooLong) => Err(NoMemory),
+        Err(CompileFault::TooLong) => unreachable!(),
     }
 }
 

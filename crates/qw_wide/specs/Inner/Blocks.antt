@@ -1,6 +1,7 @@
--- Mirrors `src/arithmetic.rt`: the statements whose steps its functions add. `x` and `y` are the operands' locals, and `n` the first
+-- Mirrors `src/arithmetic.rt` and `src/order.rt`: the statements whose steps its functions add. `x` and `y` are the operands' locals, and `n` the first
 -- free one.
 use Rattle.std.specs.Prelude.{◌≡◌, ℕ, zero, suc, ◌+◌, ◌-◌, ◌*◌, ◌/◌, ◌^◌, ◌==◌, min, max, nat_lt, Bool, if◌then◌else◌, List, ◌++◌}
+use Rattle.qw_meaning.specs.declared.query.Comparison.{Comparison}
 use Rattle.qw_module.specs.declared.instruction.ValType.TheVariants.{I64}
 use Rattle.qw_module.specs.declared.instruction.Sign.TheVariants.{Signed, Unsigned}
 use Rattle.qw_module.specs.declared.instruction.Const.TheVariants as const
@@ -11,6 +12,7 @@ use Rattle.qw_module.specs.declared.instruction.Relation.TheVariants.{Lt, Gt}
 use Rattle.qw_low.specs.declared.step.LowStep.{LowStep}
 use Rattle.qw_low.specs.Steps.{steps_of}
 use Rattle.qw_wide.specs.declared.arithmetic.Scaled.{Scaled}
+use Rattle.qw_wide.specs.Relations.{relation_of}
 use Rattle.qw_low.specs.Syntax.{Expression, constant_of, local, binop, divop, is_zero, relop, Statement, skip, seq, assign, conditional, raise}
 
 abbrev pub i64 : ℕ → Expression
@@ -90,13 +92,35 @@ right_brought k n x y =
     seq (assign n (binop I64 Sub (divop I64 (Div Signed) (local x) (i64 (10 ^ k))) (local y)))
     (conditional (is_zero I64 (local n)) (assign n (divop I64 (Rem Signed) (local x) (i64 (10 ^ k)))) skip)
 
--- at one scale the difference tells the order
-abbrev pub difference_block : (n x y : ℕ) → Statement
-difference_block n x y = assign n (binop I64 Sub (local x) (local y))
+-- whether a number is below, at or above 0, as a comparison asks
+abbrev pub zero_test : Comparison → (n : ℕ) → Expression
+zero_test operator n = relop I64 (relation_of operator) (local n) (i64 0)
 
-abbrev pub order_block : (sa sb n x y : ℕ) → Statement
-order_block sa sb n x y =
-    if sa == sb then difference_block n x y else (if nat_lt sa sb then left_brought (sb - sa) n x y else right_brought (sa - sb) n x y)
+-- a number times 10^k
+abbrev pub times_power : (k x : ℕ) → Expression
+times_power k x = binop I64 Mul (local x) (i64 (10 ^ k))
+
+-- An operand whose scale is k below the other's is brought to it if its magnitude shows that it stays in range.
+abbrev pub less_block : Comparison → (divides : Bool) → (k n t x y : ℕ) → Statement
+less_block operator divides k n t x y =
+    if divides
+    then seq (left_brought k n x y) (assign t (zero_test operator n))
+    else assign t (relop I64 (relation_of operator) (times_power k x) (local y))
+
+abbrev pub more_block : Comparison → (divides : Bool) → (k n t x y : ℕ) → Statement
+more_block operator divides k n t x y =
+    if divides
+    then seq (right_brought k n x y) (assign t (zero_test operator n))
+    else assign t (relop I64 (relation_of operator) (local x) (times_power k y))
+
+-- at one scale a relation of the two
+abbrev pub comparison_block : Comparison → (sa mx sb my n t x y : ℕ) → Statement
+comparison_block operator sa mx sb my n t x y =
+    if sa == sb
+    then assign t (relop I64 (relation_of operator) (local x) (local y))
+    else (if nat_lt sa sb
+    then less_block operator (is_past (mx * 10 ^ (sb - sa))) (sb - sa) n t x y
+    else more_block operator (is_past (my * 10 ^ (sa - sb))) (sa - sb) n t x y)
 
 -- what the steps of a sum or a difference leave of a code, and the number that they make
 pub record Sums (operator : Binary) (left right : Scaled) (n : ℕ) (out : Scaled) (old new : List LowStep) : Type 0 where

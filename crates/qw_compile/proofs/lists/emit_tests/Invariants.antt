@@ -6,6 +6,8 @@ use Rattle.qw_compile.specs.Emitted.{EmitsTests}
 use Rattle.qw_compile.proofs.lists.emit_tests.Given as goal
 
 abbrev pub invariant-loop-conjunct : goal.invariant-loop-conjunct
-invariant-loop-conjunct l =
-    EmitsTests (known_of l.known) (map condition_of (take l.conjunct-index l.conjuncts)) l.initial.emitter l.emitter
-    × (length l.emitter.block.code.items ≤ length l.initial.emitter.block.code.items + 302 * sum_by nodes_of (take l.conjunct-index l.conjuncts))
+invariant-loop-conjunct l = record {
+  emits : EmitsTests (take l.literals (known_of l.known)) l.readers (map condition_of (take l.conjunct-index l.conjuncts)) l.initial.emitter l.emitter l.done;
+  within : l.done ≤ length l.readers;
+  short : length l.emitter.block.code.items ≤ length l.initial.emitter.block.code.items + 117 * l.done + 304 * sum_by nodes_of (take l.conjunct-index l.conjuncts);
+}

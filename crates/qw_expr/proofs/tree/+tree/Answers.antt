@@ -1,21 +1,20 @@
-use Rattle.std.proofs.Common.{rules, ◌≤◌, List, IfOk, sym, subst, inr, w32, w64}
+use Rattle.std.proofs.Common.{rules, ◌≤◌, IfOk, sym, subst, inr, w32, w64}
 use Rattle.qw_meaning.specs.declared.expression.Expr.{the_lemmas}
 use Rattle.qw_meaning.specs.declared.query.Comparison.TheVariants.{Equal, GreaterOrEqual, LessOrEqual}
-use Rattle.qw_meaning.specs.Expression.{among, arithmetic, between, both, brought, case, cases, coalesced, column, comparison, date, either, extract, is, is_null, largest_result, negation_of, negative, null, null_if, number, text}
+use Rattle.qw_meaning.specs.Expression.{among, arithmetic, between, both, brought, case, cases, coalesced, column, comparison, date, either, extract, is, is_null, largest_result, negation_of, negative, null, null_if, number}
 use Rattle.qw_meaning.specs.Tree.{choices_of, condition_of, expression_of, expressions_of, matches_of}
 use Rattle.qw_meaning.specs.Typing.{IsTyped, kind_of}
 use Rattle.std.proofs.lemmas.Int.{to_z-of_z}
 use Rattle.qw_wide.proofs.Words.{fits_small}
 use Rattle.qw_low.proofs.Appended.{if_ok}
-use Rattle.qw_expr.specs.Bindings.{IsServed, TakesKnown, known_of}
-use Rattle.qw_expr.specs.Computes.{Known}
-use Rattle.qw_expr.specs.Emits.{Emits, free_of}
+use Rattle.qw_expr.specs.Bindings.{IsAmong, IsServed, Knows, TakesKnown, known_of}
+use Rattle.qw_expr.specs.Emits.{free_of}
 use Rattle.qw_expr.specs.Inner.Choices.{Suits}
 use Rattle.qw_expr.specs.Inner.Made.{Made, with_operand}
 use Rattle.qw_expr.proofs.Abbreviations.{among_first, among_known, among_typed, matched_known, matched_typed, between_first, cases_at, compared_first, matched_before, null_if_before}
 use Rattle.qw_expr.proofs.Choices.{results_suit}
 use Rattle.qw_expr.proofs.Comparable.{comparable_kinds}
-use Rattle.qw_expr.proofs.Constants.{date_small}
+use Rattle.qw_expr.proofs.Literals.{date_small}
 use Rattle.qw_expr.proofs.Nulls.{below_more}
 use Rattle.qw_expr.proofs.TreeChoices.{begun_served, choice_made, coalesced_made, first_made, made_more, null_where_made}
 use Rattle.qw_expr.proofs.Trees.{begun_at, compared_made, includes_same, junction_made, leaf_made, made_of, one_made, rest_served, scale_low, served_more, shared_made, shared_truth_made, tested_made, turned_made, two_made, with_served}
@@ -630,6 +629,18 @@ expression-returns-in_ok-t-in-NullIf-clause-emits t c =
     (λ out does. shared_made (known_of c.args.known.now) e (null_if e r) c.args.emitter.now valued c.null_where.new.self c.in_ok-x-in-NullIf.x out typed c.requires.served made
     (null_where_made (known_of c.args.known.now) test e c.in_ok-x-in-NullIf.x out valued c.against.new.emitter c.null_where.new.self c.in_ok-t-in-NullIf.t typed served_x mt (λ more low ec here. does more test e valued typed suits low ec here)) before.raises before.weighs before.columns) c.null_where.ensures.emits)
 
+pub expression-number_of-requires : goal.expression-number_of-requires
+expression-number_of-requires t c =
+    let typed = rw c.in-Number.is at c.requires.typed in
+    let takes = rw c.in-Number.is at c.requires.known in
+    subst (λ z. Knows (known_of c.args.known.now) (number z c.in-Number.scale)) (sym (to_z-of_z w64 c.in-Number.value (fits_small c.in-Number.value typed.0))) takes
+
+pub expression-date_of-requires : goal.expression-date_of-requires
+expression-date_of-requires t c =
+    let typed = rw c.in-Date.is at c.requires.typed in
+    let takes = rw c.in-Date.is at c.requires.known in
+    subst (λ z. Knows (known_of c.args.known.now) (date z)) (sym (to_z-of_z w32 c.in-Date.day (date_small c.in-Date.day typed))) takes
+
 pub expression-returns-in-Number-clause-emits : goal.expression-returns-in-Number-clause-emits
 expression-returns-in-Number-clause-emits t c =
     let v = c.in-Number.value in
@@ -637,8 +648,8 @@ expression-returns-in-Number-clause-emits t c =
     let typed = rw c.in-Number.is at c.requires.typed in
     let same = to_z-of_z w64 v (fits_small v typed.0) in
     rw c.in-Number.is
-    (if_ok _ _ c.number.result (λ out does. made_of (known_of c.args.known.now) (number v s) c.args.emitter.now c.number.new.self out typed c.requires.served (λ more all low. does more typed))
-    (subst (λ z. IfOk c.number.result (λ out. (more : List Known) → IsTyped (number z s) → Emits more (number z s) c.args.emitter.now c.number.new.self out)) same c.number.ensures.emits))
+    (leaf_made (known_of c.args.known.now) (number v s) c.args.emitter.now c.number_of.result typed c.requires.served
+    (subst (λ z. IsAmong (record { expression = number z s; operand = c.number_of.result }) (known_of c.args.known.now)) same c.number_of.ensures))
 
 pub expression-returns-in-Date-clause-emits : goal.expression-returns-in-Date-clause-emits
 expression-returns-in-Date-clause-emits t c =
@@ -646,8 +657,8 @@ expression-returns-in-Date-clause-emits t c =
     let typed = rw c.in-Date.is at c.requires.typed in
     let same = to_z-of_z w32 d (date_small d typed) in
     rw c.in-Date.is
-    (if_ok _ _ c.date.result (λ out does. made_of (known_of c.args.known.now) (date d) c.args.emitter.now c.date.new.self out typed c.requires.served (λ more all low. does more typed))
-    (subst (λ z. IfOk c.date.result (λ out. (more : List Known) → IsTyped (date z) → Emits more (date z) c.args.emitter.now c.date.new.self out)) same c.date.ensures.emits))
+    (leaf_made (known_of c.args.known.now) (date d) c.args.emitter.now c.date_of.result typed c.requires.served
+    (subst (λ z. IsAmong (record { expression = date z; operand = c.date_of.result }) (known_of c.args.known.now)) same c.date_of.ensures))
 
 pub expression-returns-in-Text-clause-emits : goal.expression-returns-in-Text-clause-emits
 expression-returns-in-Text-clause-emits t c =

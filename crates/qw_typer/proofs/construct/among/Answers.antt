@@ -6,14 +6,14 @@ use Rattle.qw_typer.specs.Inner.Typing.{Refuses, spelled}
 use Rattle.qw_typer.proofs.AmongLemmas.{among_err, among_given}
 use Rattle.qw_typer.proofs.construct.among.Goals as goal
 
-pub returns-then-not-comparable : goal.returns-then-not-comparable
+pub returns-then-not-comparable-clause-gives : goal.returns-then-not-comparable-clause-gives
 unfolding Refuses
-returns-then-not-comparable c =
+returns-then-not-comparable-clause-gives c =
     among_err (first_token (syntax.expression_of c.args.at.now)) (spelled c.first_token.result) c.args.negated c.args.comparable (expression_of c.args.operand.tree) (expressions_of c.args.values)
     c.if-not-comparable.true c.requires.comparable c.first_token.ensures
 
-pub returns : goal.returns
-returns c =
+pub returns-clause-gives : goal.returns-clause-gives
+returns-clause-gives c =
     among_given (first_token (syntax.expression_of c.args.at.now)) c.args.negated c.args.comparable (expression_of c.args.operand.tree) (expression_of c.in_ok-operand.operand.value)
     (expressions_of c.args.values) (expressions_of c.in_ok-values.values.value) c.with_not.result c.if-not-comparable.false c.requires.comparable
-    (ap expression_of c.in_ok-operand.ensures.same) (ap expressions_of c.in_ok-values.ensures.same) c.with_not.ensures
+    (ap expression_of c.in_ok-operand.ensures.same) (ap expressions_of c.in_ok-values.ensures.same) c.with_not.ensures.gives

@@ -8,4 +8,4 @@ pub new-requires : goal.new-requires
 new-requires c =
     let name : c.in_ok-name.name ≡ entry_name (select_of c.args.statement.now) = search rules in
     over_specified c.args.place c.args.table.now (select_of c.args.statement.now) c.in_ok-over.over c.in_ok-name.name c.as_slice-columns.result.now
-    (rw c.as_slice-columns.ensures.same c.as_slice-columns.ensures.limits) c.requires name c.as_slice-columns.ensures.same c.in_ok-over.ensures
+    (rw c.as_slice-columns.ensures.same c.as_slice-columns.ensures.limits) c.requires name c.as_slice-columns.ensures.same c.in_ok-over.ensures.means

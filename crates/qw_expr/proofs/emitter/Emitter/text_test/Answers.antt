@@ -5,7 +5,7 @@ use Rattle.qw_low.specs.Syntax.{assign, is_zero, local, seq}
 use Rattle.qw_low.specs.Steps.{steps_of}
 use Rattle.qw_low.proofs.Appended.{two}
 use Rattle.qw_expr.specs.Inner.Texts.{TestsTexts}
-use Rattle.qw_expr.specs.Inner.Truths.{zero_test}
+use Rattle.qw_wide.specs.Inner.Blocks.{zero_test}
 use Rattle.qw_expr.proofs.TextDecisions.{tests_same, tests_other, tests_order}
 use Rattle.qw_expr.proofs.emitter.Emitter.text_test.Goals as goal
 

@@ -10,7 +10,8 @@ returns-in-Ok-type_script-clause-asks c =
     asks_for c.args.schema.now c.args.text.now (selects_of c.in-Ok.script) c.in-Ok-type_script.queries.items c.in-Ok.ensures.script c.in-Ok-type_script.ensures.meanings
 
 pub returns-in-Ok-type_script-clause-over : goal.returns-in-Ok-type_script-clause-over
-returns-in-Ok-type_script-clause-over c = all_over c.args.schema.now (selects_of c.in-Ok.script) c.in-Ok-type_script.queries.items c.in-Ok-type_script.ensures.meanings
+returns-in-Ok-type_script-clause-over c =
+    all_over c.args.schema.now c.args.text.now (selects_of c.in-Ok.script) c.in-Ok-type_script.queries.items c.in-Ok.ensures.script c.in-Ok-type_script.ensures.meanings c.in-Ok-type_script.ensures.small
 
 pub returns-in-Ok-type_script-clause-some : goal.returns-in-Ok-type_script-clause-some
 returns-in-Ok-type_script-clause-some c =

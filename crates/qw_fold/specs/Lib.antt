@@ -1,0 +1,4 @@
+pub mod Folded
+pub mod Inner
+pub mod Same
+pub mod Texts

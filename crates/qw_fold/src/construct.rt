@@ -1,0 +1,229 @@
+//! Trees from their parts, each in a box of its own.
+
+ghost use Rattle.std.specs.Prelude.{◌≡◌, ◌+◌, ◌++◌, ℕ, IfOk};
+ghost use Rattle.qw_meaning.specs.declared.query.Comparison.TheVariants.{Equal};
+ghost use Rattle.qw_meaning.specs.Expression.{Expression, among, arithmetic, between, both, case, coalesced, comparison, either, extract, is, is_null, largest_result, last, more, negation_of, negative, null_if, otherwise, scale_of, when};
+ghost use Rattle.qw_meaning.specs.Nodes.{nodes, nodes_of, nodes_of_all, nodes_of_branches, nodes_of_matches};
+ghost use Rattle.qw_meaning.specs.Tree.{choices_of, condition_of, expression_of, expressions_of, matches_of};
+ghost use Rattle.qw_fold.specs.Folded.{AllFolded, AreAtOneScale, AreFolded, AreOperands, BranchesFolded, IsAtScale, IsFolded, IsLeft, IsNoDate, IsNoNumber, MatchesFolded};
+ghost use Rattle.qw_fold.specs.Texts.{texts_in, texts_of_all, texts_of_branches, texts_of_matches, texts_within};
+ghost use Rattle.qw_fold.specs.Inner.Made.{AllBuilt, AreBuilt, ChoicesBuilt, IsBuilt, MatchesBuilt};
+
+use qw_meaning::expression::{Branches, Cond, Expr, Exprs, Field, Matches, Operator};
+use qw_meaning::query::Comparison;
+use qw_types::{NoMemory, Truth};
+use std::alloc::Global;
+
+/// `left operator right`.
+pub(crate) fn arithmetic_tree(
+    alloc: Global,
+    operator: Operator,
+    left: Expr,
+    right: Expr,
+) -> Result<Expr, NoMemory>
+    ensures built { IfOk result (λ made. IsBuilt (arithmetic operator (expression_of left) (expression_of right)) (1 + nodes left + nodes right) (texts_in left ++ texts_in right) made) }
+    ensures folded { IfOk result (λ made. IsFolded left × IsFolded right → IsLeft operator left right × AreOperands operator left right → IsFolded made) }
+{
+    Ok(Expr::Arithmetic(operator, Box::new(alloc, left)?, Box::new(alloc, right)?))
+}
+
+/// `- operand`.
+pub(crate) fn negative_tree(alloc: Global, operand: Expr) -> Result<Expr, NoMemory>
+    ensures built { IfOk result (λ made. IsBuilt (negative (expression_of operand)) (1 + nodes operand) (texts_in operand) made) }
+    ensures folded { IfOk result (λ made. IsFolded operand → IsNoNumber operand → IsFolded made) }
+{
+    Ok(Expr::Negative(Box::new(alloc, operand)?))
+}
+
+/// `EXTRACT(field FROM operand)`.
+pub(crate) fn extract_tree(alloc: Global, field: Field, operand: Expr) -> Result<Expr, NoMemory>
+    ensures built { IfOk result (λ made. IsBuilt (extract field (expression_of operand)) (1 + nodes operand) (texts_in operand) made) }
+    ensures folded { IfOk result (λ made. IsFolded operand → IsNoDate operand → IsFolded made) }
+{
+    Ok(Expr::Extract(field, Box::new(alloc, operand)?))
+}
+
+/// `CASE branches END`.
+pub(crate) fn case_tree(alloc: Global, branches: Branches) -> Result<Expr, NoMemory>
+    ensures built { IfOk result (λ made. IsBuilt (case (choices_of branches)) (1 + nodes_of_branches branches) (texts_of_branches branches) made) }
+    ensures folded { IfOk result (λ made. BranchesFolded (largest_result (choices_of branches)) branches → IsFolded made) }
+{
+    Ok(Expr::Case(Box::new(alloc, branches)?))
+}
+
+/// `CASE operand matches END`.
+pub(crate) fn match_tree(alloc: Global, operand: Expr, matches: Matches) -> Result<Expr, NoMemory>
+    ensures built { IfOk result (λ made. IsBuilt (case (matches_of matches (expression_of operand))) (1 + nodes operand + nodes_of_matches matches) (texts_in operand ++ texts_of_matches matches) made) }
+    ensures folded { IfOk result (λ made. IsFolded operand → MatchesFolded (scale_of (expression_of operand)) (largest_result (matches_of matches (expression_of operand))) matches → IsFolded made) }
+{
+    Ok(Expr::Match(Box::new(alloc, operand)?, Box::new(alloc, matches)?))
+}
+
+/// `COALESCE(arguments)`.
+pub(crate) fn coalesce_tree(alloc: Global, arguments: Exprs) -> Result<Expr, NoMemory>
+    ensures built { IfOk result (λ made. IsBuilt (case (coalesced (expressions_of arguments))) (1 + nodes_of_all arguments) (texts_of_all arguments) made) }
+    ensures folded { IfOk result (λ made. AllFolded (largest_result (coalesced (expressions_of arguments))) arguments → IsFolded made) }
+{
+    Ok(Expr::Coalesce(Box::new(alloc, arguments)?))
+}
+
+/// `NULLIF(left, right)`.
+pub(crate) fn null_if_tree(alloc: Global, left: Expr, right: Expr) -> Result<Expr, NoMemory>
+    ensures built { IfOk result (λ made. IsBuilt (null_if (expression_of left) (expression_of right)) (1 + nodes left + nodes right) (texts_in left ++ texts_in right) made) }
+    ensures folded { IfOk result (λ made. IsFolded left × IsFolded right → IsAtScale (scale_of (expression_of left)) right → IsFolded made) }
+{
+    Ok(Expr::NullIf(Box::new(alloc, left)?, Box::new(alloc, right)?))
+}
+
+/// `left op right`.
+pub(crate) fn compare_tree(
+    alloc: Global,
+    op: Comparison,
+    left: Expr,
+    right: Expr,
+) -> Result<Cond, NoMemory>
+    ensures built { IfOk result (λ made. AreBuilt (comparison op (expression_of left) (expression_of right)) (1 + nodes left + nodes right) (texts_in left ++ texts_in right) made) }
+    ensures folded { IfOk result (λ made. IsFolded left × IsFolded right → AreAtOneScale left right → AreFolded made) }
+{
+    Ok(Cond::Compare(op, Box::new(alloc, left)?, Box::new(alloc, right)?))
+}
+
+/// `operand BETWEEN least AND greatest`.
+pub(crate) fn between_tree(
+    alloc: Global,
+    operand: Expr,
+    least: Expr,
+    greatest: Expr,
+) -> Result<Cond, NoMemory>
+    ensures built { IfOk result (λ made. AreBuilt (between (expression_of operand) (expression_of least) (expression_of greatest)) (1 + nodes operand + nodes least + nodes greatest) (texts_in operand ++ (texts_in least ++ texts_in greatest)) made) }
+    ensures folded { IfOk result (λ made. IsFolded operand → IsFolded least × IsAtScale (scale_of (expression_of operand)) least → IsFolded greatest × IsAtScale (scale_of (expression_of operand)) greatest → AreFolded made) }
+{
+    Ok(Cond::Between(
+        Box::new(alloc, operand)?,
+        Box::new(alloc, least)?,
+        Box::new(alloc, greatest)?,
+    ))
+}
+
+/// `operand IN (values)`.
+pub(crate) fn in_tree(alloc: Global, operand: Expr, values: Exprs) -> Result<Cond, NoMemory>
+    ensures built { IfOk result (λ made. AreBuilt (among (expression_of operand) (expressions_of values)) (1 + nodes operand + nodes_of_all values) (texts_in operand ++ texts_of_all values) made) }
+    ensures folded { IfOk result (λ made. IsFolded operand → AllFolded (scale_of (expression_of operand)) values → AreFolded made) }
+{
+    Ok(Cond::In(Box::new(alloc, operand)?, Box::new(alloc, values)?))
+}
+
+/// `operand IS NULL`.
+pub(crate) fn is_null_tree(alloc: Global, operand: Expr) -> Result<Cond, NoMemory>
+    ensures built { IfOk result (λ made. AreBuilt (is_null (expression_of operand)) (1 + nodes operand) (texts_in operand) made) }
+    ensures folded { IfOk result (λ made. IsFolded operand → AreFolded made) }
+{
+    Ok(Cond::IsNull(Box::new(alloc, operand)?))
+}
+
+/// `left AND right`.
+pub(crate) fn and_tree(alloc: Global, left: Cond, right: Cond) -> Result<Cond, NoMemory>
+    ensures built { IfOk result (λ made. AreBuilt (both (condition_of left) (condition_of right)) (1 + nodes_of left + nodes_of right) (texts_within left ++ texts_within right) made) }
+    ensures folded { IfOk result (λ made. AreFolded left → AreFolded right → AreFolded made) }
+{
+    Ok(Cond::And(Box::new(alloc, left)?, Box::new(alloc, right)?))
+}
+
+/// `left OR right`.
+pub(crate) fn or_tree(alloc: Global, left: Cond, right: Cond) -> Result<Cond, NoMemory>
+    ensures built { IfOk result (λ made. AreBuilt (either (condition_of left) (condition_of right)) (1 + nodes_of left + nodes_of right) (texts_within left ++ texts_within right) made) }
+    ensures folded { IfOk result (λ made. AreFolded left → AreFolded right → AreFolded made) }
+{
+    Ok(Cond::Or(Box::new(alloc, left)?, Box::new(alloc, right)?))
+}
+
+/// `NOT operand`.
+pub(crate) fn not_tree(alloc: Global, operand: Cond) -> Result<Cond, NoMemory>
+    ensures built { IfOk result (λ made. AreBuilt (negation_of (condition_of operand)) (1 + nodes_of operand) (texts_within operand) made) }
+    ensures folded { IfOk result (λ made. AreFolded operand → AreFolded made) }
+{
+    Ok(Cond::Not(Box::new(alloc, operand)?))
+}
+
+/// `operand IS truth`.
+pub(crate) fn is_tree(alloc: Global, operand: Cond, truth: Truth) -> Result<Cond, NoMemory>
+    ensures built { IfOk result (λ made. AreBuilt (is (condition_of operand) truth) (1 + nodes_of operand) (texts_within operand) made) }
+    ensures folded { IfOk result (λ made. AreFolded operand → AreFolded made) }
+{
+    Ok(Cond::Is(Box::new(alloc, operand)?, truth))
+}
+
+/// One expression alone.
+pub(crate) fn last_tree(alloc: Global, expr: Expr) -> Result<Exprs, NoMemory>
+    ensures built { IfOk result (λ made. AllBuilt (last (expression_of expr)) (1 + nodes expr) (texts_in expr) made) }
+    ensures folded { IfOk result (λ made. (s : ℕ) → IsFolded expr × IsAtScale s expr → AllFolded s made) }
+{
+    Ok(Exprs::Last(Box::new(alloc, expr)?))
+}
+
+/// An expression before others.
+pub(crate) fn more_tree(alloc: Global, expr: Expr, rest: Exprs) -> Result<Exprs, NoMemory>
+    ensures built { IfOk result (λ made. AllBuilt (more (expression_of expr) (expressions_of rest)) (1 + nodes expr + nodes_of_all rest) (texts_in expr ++ texts_of_all rest) made) }
+    ensures folded { IfOk result (λ made. (s : ℕ) → IsFolded expr × IsAtScale s expr → AllFolded s rest → AllFolded s made) }
+{
+    Ok(Exprs::More(Box::new(alloc, expr)?, Box::new(alloc, rest)?))
+}
+
+/// `ELSE other`.
+pub(crate) fn else_tree(alloc: Global, other: Expr) -> Result<Branches, NoMemory>
+    ensures built { IfOk result (λ made. ChoicesBuilt (otherwise (expression_of other)) (1 + nodes other) (texts_in other) made) }
+    ensures folded { IfOk result (λ made. (s : ℕ) → IsFolded other × IsAtScale s other → BranchesFolded s made) }
+{
+    Ok(Branches::Else(Box::new(alloc, other)?))
+}
+
+/// `WHEN test THEN value` before other branches.
+pub(crate) fn when_tree(
+    alloc: Global,
+    test: Cond,
+    value: Expr,
+    rest: Branches,
+) -> Result<Branches, NoMemory>
+    ensures built { IfOk result (λ made. ChoicesBuilt (when (condition_of test) (expression_of value) (choices_of rest)) (1 + nodes_of test + nodes value + nodes_of_branches rest) (texts_within test ++ (texts_in value ++ texts_of_branches rest)) made) }
+    ensures folded { IfOk result (λ made. (s : ℕ) → AreFolded test → IsFolded value × IsAtScale s value → BranchesFolded s rest → BranchesFolded s made) }
+{
+    Ok(Branches::When(
+        Box::new(alloc, test)?,
+        Box::new(alloc, value)?,
+        Box::new(alloc, rest)?,
+    ))
+}
+
+/// `WHEN wanted THEN value ELSE other`.
+pub(crate) fn last_match_tree(
+    alloc: Global,
+    wanted: Expr,
+    value: Expr,
+    other: Expr,
+) -> Result<Matches, NoMemory>
+    ensures built { IfOk result (λ made. MatchesBuilt (λ (x : Expression). when (comparison Equal x (expression_of wanted)) (expression_of value) (otherwise (expression_of other))) (1 + nodes wanted + nodes value + nodes other) (texts_in wanted ++ (texts_in value ++ texts_in other)) made) }
+    ensures folded { IfOk result (λ made. (x s : ℕ) → IsFolded wanted × IsAtScale x wanted → IsFolded value × IsAtScale s value → IsFolded other × IsAtScale s other → MatchesFolded x s made) }
+{
+    Ok(Matches::Last(
+        Box::new(alloc, wanted)?,
+        Box::new(alloc, value)?,
+        Box::new(alloc, other)?,
+    ))
+}
+
+/// `WHEN wanted THEN value` before other branches.
+pub(crate) fn more_match_tree(
+    alloc: Global,
+    wanted: Expr,
+    value: Expr,
+    rest: Matches,
+) -> Result<Matches, NoMemory>
+    ensures built { IfOk result (λ made. MatchesBuilt (λ (x : Expression). when (comparison Equal x (expression_of wanted)) (expression_of value) (matches_of rest x)) (1 + nodes wanted + nodes value + nodes_of_matches rest) (texts_in wanted ++ (texts_in value ++ texts_of_matches rest)) made) }
+    ensures folded { IfOk result (λ made. (x s : ℕ) → IsFolded wanted × IsAtScale x wanted → IsFolded value × IsAtScale s value → MatchesFolded x s rest → MatchesFolded x s made) }
+{
+    Ok(Matches::When(
+        Box::new(alloc, wanted)?,
+        Box::new(alloc, value)?,
+        Box::new(alloc, rest)?,
+    ))
+}

@@ -1,0 +1,147 @@
+-- Trees of at most so many nodes and octets of text literals, put together; and the queries of a script.
+use Rattle.std.proofs.Common.{◌≡◌, ℕ, ◌+◌, ◌-◌, ◌≤◌, ◌<◌, List, [], ◌∷◌, ◌++◌, map, length, take, drop, sum_by, refl, ap, ◌∙◌, arith}
+use Rattle.std.specs.Prelude.{IfOk, Result}
+use Rattle.std.proofs.lemmas.List.Sums.{sum_by_push}
+use Rattle.qw_types.specs.Octets.{single_quote}
+use Rattle.qw_token.specs.Token.{Lexeme}
+use Rattle.qw_meaning.specs.declared.expression.Expr.{Expr}
+use Rattle.qw_meaning.specs.declared.expression.Cond.{Cond}
+use Rattle.qw_meaning.specs.declared.expression.Exprs.{Exprs}
+use Rattle.qw_meaning.specs.declared.expression.Branches.{Branches}
+use Rattle.qw_meaning.specs.declared.expression.Matches.{Matches}
+use Rattle.qw_meaning.specs.Nodes as typed
+use Rattle.qw_ast.specs.SyntaxTree as syntax
+use Rattle.qw_ast.specs.SyntaxTree.{select_of}
+use Rattle.qw_ast.specs.declared.script.Item.{Item}
+use Rattle.qw_ast.specs.declared.script.Statement.{Statement}
+use Rattle.qw_ast.specs.Syntax.{Select}
+use Rattle.qw_script.specs.Script as script
+use Rattle.qw_script.specs.Script.{IsAccepted, items_of, octets, octets_condition, over_filter, over_items}
+use Rattle.qw_typer.specs.declared.query.TypedSelect.{TypedSelect}
+use Rattle.qw_typer.specs.declared.refusal.Refusal.{Refusal}
+use Rattle.qw_typer.specs.declared.tree.Results.{Results}
+use Rattle.qw_typer.specs.declared.tree.Typed.{Typed}
+use Rattle.qw_typer.specs.declared.tree.Values.{Values}
+use Rattle.qw_typer.specs.Literal.{string_value, undoubled}
+use Rattle.qw_typer.specs.Sizes.{AreSmall, IsSmall, text_octets, text_octets_of}
+use Rattle.qw_typer.specs.Inner.Sizes.{Fits, FitsAll, FitsBranches, FitsCondition, FitsItems, FitsMatches, FitsQuery, FitsTests, nodes, nodes_condition, selected_nodes}
+use Rattle.qw_typer.proofs.ScriptSizes.{few_of_query}
+use Rattle.qw_typer.proofs.StepLemmas.{push_more}
+
+-- ---- the value of a character string is the script's
+
+same_undoubled : (bs : List ℕ) → undoubled single_quote bs ≡ script.undoubled bs
+same_undoubled [] = refl
+same_undoubled (b ∷ []) = refl
+same_undoubled (b ∷ c ∷ bs) = rw (same_undoubled bs, same_undoubled (c ∷ bs)) refl
+
+pub same_value : (octets' : List ℕ) → string_value octets' ≡ script.string_value octets'
+same_value octets' = same_undoubled (take (length octets' - 2) (drop 1 octets'))
+
+-- ---- what fits so many fits as many
+pub fits_same : (r : Result Typed Refusal) (n k n' k' : ℕ) → IfOk r (λ made. Fits made.tree n k) → n ≡ n' → k ≡ k' → IfOk r (λ made. Fits made.tree n' k')
+fits_same r n k n' k' fits one two = rw (← one, ← two) fits
+
+pub condition_fits_same : (r : Result Cond Refusal) (n k n' k' : ℕ) → IfOk r (λ made. FitsCondition made n k) → n ≡ n' → k ≡ k' → IfOk r (λ made. FitsCondition made n' k')
+condition_fits_same r n k n' k' fits one two = rw (← one, ← two) fits
+
+pub arguments_fit_same : (r : Result (Results Exprs) Refusal) (n k n' k' : ℕ) → IfOk r (λ made. FitsAll made.tree n k) → n ≡ n' → k ≡ k' → IfOk r (λ made. FitsAll made.tree n' k')
+arguments_fit_same r n k n' k' fits one two = rw (← one, ← two) fits
+
+pub values_fit_same : (r : Result Values Refusal) (n k n' k' : ℕ) → IfOk r (λ made. FitsAll made.tree n k) → n ≡ n' → k ≡ k' → IfOk r (λ made. FitsAll made.tree n' k')
+values_fit_same r n k n' k' fits one two = rw (← one, ← two) fits
+
+pub branches_fit_same : (r : Result (Results Branches) Refusal) (n k n' k' : ℕ) → IfOk r (λ made. FitsBranches made.tree n k) → n ≡ n' → k ≡ k' → IfOk r (λ made. FitsBranches made.tree n' k')
+branches_fit_same r n k n' k' fits one two = rw (← one, ← two) fits
+
+pub matches_fit_same : (r : Result (Results Matches) Refusal) (n k n' k' : ℕ) → IfOk r (λ made. FitsMatches made.tree n k) → n ≡ n' → k ≡ k' → IfOk r (λ made. FitsMatches made.tree n' k')
+matches_fit_same r n k n' k' fits one two = rw (← one, ← two) fits
+
+-- ---- items, one after another
+
+-- with so many nodes and octets still to come, the items stay within all of these
+pub record FitsWith (made : List Expr) (n k all_nodes all_octets : ℕ) : Type 0 where
+  pub nodes_left : sum_by typed.nodes made + n ≤ all_nodes
+  pub octets_left : sum_by text_octets made + k ≤ all_octets
+
+pub fits_first : (n k : ℕ) → FitsWith [] n k n k
+fits_first n k = record { nodes_left = omega arith; octets_left = omega arith }
+
+pub fits_more : (made made' : List Expr) (e : Expr) (n k m j all_nodes all_octets : ℕ) → made' ≡ made ++ e ∷ [] → Fits e n k → FitsWith made (n + m) (k + j) all_nodes all_octets → FitsWith made' m j all_nodes all_octets
+fits_more made made' e n k m j all_nodes all_octets more one before =
+    let nodes_more : sum_by typed.nodes made' ≡ sum_by typed.nodes made + typed.nodes e = ap (λ (es : List Expr). sum_by typed.nodes es) more ∙ sum_by_push typed.nodes made e in
+    let octets_more : sum_by text_octets made' ≡ sum_by text_octets made + text_octets e = ap (λ (es : List Expr). sum_by text_octets es) more ∙ sum_by_push text_octets made e in
+    let nodes_fit = one.nodes_fit in
+    let octets_fit = one.octets_fit in
+    let nodes_left = before.nodes_left in
+    let octets_left = before.octets_left in
+    record { nodes_left = omega (arith, nodes_more, nodes_fit, nodes_left); octets_left = omega (arith, octets_more, octets_fit, octets_left) }
+
+pub fits_last : (made : List Expr) (all_nodes all_octets : ℕ) → FitsWith made 0 0 all_nodes all_octets → FitsItems made all_nodes all_octets
+fits_last made all_nodes all_octets all = let n = all.nodes_left in let k = all.octets_left in record { nodes_fit = omega (arith, n); octets_fit = omega (arith, k) }
+
+-- items of a select list
+pub items_fit : (made made' : List Expr) (e : Expr) (rest rest' : List Item) (item : Item) (all_nodes all_octets : ℕ) → made' ≡ made ++ e ∷ [] → rest ≡ item ∷ rest'
+    → Fits e (nodes (syntax.expression_of item.expression)) (octets (syntax.expression_of item.expression))
+    → FitsWith made (over_items nodes (map syntax.item_of rest)) (over_items octets (map syntax.item_of rest)) all_nodes all_octets
+    → FitsWith made' (over_items nodes (map syntax.item_of rest')) (over_items octets (map syntax.item_of rest')) all_nodes all_octets
+items_fit made made' e rest rest' item all_nodes all_octets more first one before =
+    fits_more made made' e (nodes (syntax.expression_of item.expression)) (octets (syntax.expression_of item.expression)) (over_items nodes (map syntax.item_of rest')) (over_items octets (map syntax.item_of rest'))
+    all_nodes all_octets more one (rw first at before)
+
+-- ---- conjuncts
+
+pub tests_fit : (made made' : List Cond) (c : Cond) (n k m j : ℕ) → made' ≡ made ++ c ∷ [] → FitsTests made n k → FitsCondition c m j → FitsTests made' (1 + (n + m)) (k + j)
+tests_fit made made' c n k m j more before one =
+    let nodes_more : sum_by typed.nodes_of made' ≡ sum_by typed.nodes_of made + typed.nodes_of c = ap (λ (cs : List Cond). sum_by typed.nodes_of cs) more ∙ sum_by_push typed.nodes_of made c in
+    let octets_more : sum_by text_octets_of made' ≡ sum_by text_octets_of made + text_octets_of c = ap (λ (cs : List Cond). sum_by text_octets_of cs) more ∙ sum_by_push text_octets_of made c in
+    let nodes_fit = one.nodes_fit in
+    let octets_fit = one.octets_fit in
+    let nodes_before = before.nodes_fit in
+    let octets_before = before.octets_fit in
+    record { nodes_fit = omega (arith, nodes_more, nodes_fit, nodes_before); octets_fit = omega (arith, octets_more, octets_fit, octets_before) }
+
+pub test_fits : (made made' : List Cond) (c : Cond) (n k : ℕ) → made ≡ [] → made' ≡ made ++ c ∷ [] → FitsCondition c n k → FitsTests made' n k
+test_fits made made' c n k none more one =
+    let only : made' ≡ c ∷ [] = rw none at more in
+    let nodes_fit = one.nodes_fit in
+    let octets_fit = one.octets_fit in
+    rw only (record { nodes_fit = omega (arith, nodes_fit); octets_fit = omega (arith, octets_fit) })
+
+-- ---- queries
+
+pub query_fits : (conjuncts : List Cond) (items : List Expr) (s : Select) → FitsItems items (selected_nodes s.selected) (over_items octets (items_of s.selected))
+    → FitsTests conjuncts (over_filter nodes_condition s.filter) (over_filter octets_condition s.filter) → FitsQuery conjuncts items s
+query_fits conjuncts items s listed tested =
+    let n = listed.nodes_fit in
+    let k = listed.octets_fit in
+    let m = tested.nodes_fit in
+    let j = tested.octets_fit in
+    record { nodes_fit = omega (arith, n, m); octets_fit = omega (arith, k, j) }
+
+-- one that a script takes is typed small
+pub is_small : (s : Select) (t : TypedSelect) (tokens : List Lexeme) → FitsQuery t.select.conjuncts t.select.items s → IsAccepted tokens s → IsSmall t.select
+is_small s t tokens fits accepted =
+    let most = few_of_query tokens s accepted.query in
+    let few_nodes = accepted.few_nodes in
+    let few_octets = accepted.few_octets in
+    let n = fits.nodes_fit in
+    let k = fits.octets_fit in
+    record { few_nodes = omega (arith, most, few_nodes, n); few_octets = omega (arith, few_octets, k) }
+
+-- ---- a script, query by query
+
+pub small_kept : (all : List Select) (rest others : List Statement) (s : Statement) (made made' : List TypedSelect) (t : TypedSelect) → rest ≡ s ∷ others → made' ≡ made ++ t ∷ []
+    → FitsQuery t.select.conjuncts t.select.items (select_of s) → ((ts : List TypedSelect) → AreSmall (map select_of rest) ts → AreSmall all (made ++ ts))
+    → (ts : List TypedSelect) → AreSmall (map select_of others) ts → AreSmall all (made' ++ ts)
+small_kept all rest others s made made' t first more fits h ts small =
+    let next = (rw first at h) (t ∷ ts) (λ tokens accepted. is_small (select_of s) t tokens fits accepted, small) in
+    rw (more, push_more made t ts) next
+
+none_more : {A : Type 0} (xs : List A) → xs ++ [] ≡ xs
+none_more [] = refl
+none_more (x ∷ xs) = ap (λ ys. x ∷ ys) (none_more xs)
+
+pub small_end : (all : List Select) (rest : List Statement) (made : List TypedSelect) → length rest < 1 → ((ts : List TypedSelect) → AreSmall (map select_of rest) ts → AreSmall all (made ++ ts)) → AreSmall all made
+small_end all [] made none h = rw (none_more made) at (h [] tt)
+small_end all (s ∷ others) made none h = absurd (omega arith)

@@ -1,0 +1,93 @@
+-- Mirrors src/expression.rt, construct.rt, branch.rt and statement.rt: how many nodes they make of a query's trees, at most.
+use Rattle.std.specs.Prelude.{ℕ, ◌+◌, ◌≤◌, List, sum_by}
+use Rattle.qw_meaning.specs.declared.expression.Expr.{Expr}
+use Rattle.qw_meaning.specs.declared.expression.Cond.{Cond}
+use Rattle.qw_meaning.specs.declared.expression.Exprs.{Exprs}
+use Rattle.qw_meaning.specs.declared.expression.Branches.{Branches}
+use Rattle.qw_meaning.specs.declared.expression.Matches.{Matches}
+use Rattle.qw_meaning.specs.Nodes as typed
+use Rattle.qw_ast.specs.Syntax.{Expression, null, number, text, date, column, signed, arithmetic, extract, searched_case, simple_case, coalesce, null_if, Condition, comparison, between, among, is_null, both, either, negation_of, is, bracketed, Clause, condition, expression, Expressions, last, further, Branching, otherwise, when, Selected, all_columns, items, Select}
+use Rattle.qw_script.specs.Script.{over_filter, over_items, query_octets}
+use Rattle.qw_typer.specs.Sizes.{text_octets, text_octets_of, text_octets_of_all, text_octets_of_branches, text_octets_of_matches}
+
+-- NULL is a node, and so is each argument of a list, each WHEN and ELSE, and a NOT in a predicate.
+abbrev mutual
+  pub nodes : Expression → ℕ
+  nodes null = 1
+  nodes (number digits) = 1
+  nodes (text octets) = 1
+  nodes (date octets intervals) = 1
+  nodes (column qualifier name) = 1
+  nodes (signed sign a) = 1 + nodes a
+  nodes (arithmetic operator a b) = 1 + (nodes a + nodes b)
+  nodes (extract field a) = 1 + nodes a
+  nodes (searched_case branches) = 1 + nodes_branches branches
+  nodes (simple_case x branches) = 1 + (nodes x + nodes_branches branches)
+  nodes (coalesce es) = 1 + nodes_all es
+  nodes (null_if a b) = 1 + (nodes a + nodes b)
+
+  pub nodes_condition : Condition → ℕ
+  nodes_condition (comparison op a b) = 1 + (nodes a + nodes b)
+  nodes_condition (between negated x a b) = 2 + (nodes x + (nodes a + nodes b))
+  nodes_condition (among negated x es) = 2 + (nodes x + nodes_all es)
+  nodes_condition (is_null negated a) = 2 + nodes a
+  nodes_condition (both c d) = 1 + (nodes_condition c + nodes_condition d)
+  nodes_condition (either c d) = 1 + (nodes_condition c + nodes_condition d)
+  nodes_condition (negation_of c) = 1 + nodes_condition c
+  nodes_condition (is negated c truth) = 2 + nodes_condition c
+  nodes_condition (bracketed c) = nodes_condition c
+
+  pub nodes_clause : Clause → ℕ
+  nodes_clause (condition c) = nodes_condition c
+  nodes_clause (expression e) = nodes e
+
+  pub nodes_all : Expressions → ℕ
+  nodes_all (last e) = 1 + nodes e
+  nodes_all (further e es) = 1 + (nodes e + nodes_all es)
+
+  pub nodes_branches : Branching → ℕ
+  nodes_branches (otherwise e) = 1 + nodes e
+  nodes_branches (when c e rest) = 1 + (nodes_clause c + (nodes e + nodes_branches rest))
+
+-- `*` is at most 64 columns
+abbrev pub selected_nodes : Selected → ℕ
+selected_nodes all_columns = 64
+selected_nodes (items list) = over_items nodes list
+
+abbrev pub query_nodes : Select → ℕ
+query_nodes s = selected_nodes s.selected + over_filter nodes_condition s.filter
+
+-- ---- typed trees that have at most so many nodes, and so many octets in their text literals
+
+pub record Fits (tree : Expr) (n k : ℕ) : Type 0 where
+  pub nodes_fit : typed.nodes tree ≤ n
+  pub octets_fit : text_octets tree ≤ k
+
+pub record FitsCondition (tree : Cond) (n k : ℕ) : Type 0 where
+  pub nodes_fit : typed.nodes_of tree ≤ n
+  pub octets_fit : text_octets_of tree ≤ k
+
+pub record FitsAll (tree : Exprs) (n k : ℕ) : Type 0 where
+  pub nodes_fit : typed.nodes_of_all tree ≤ n
+  pub octets_fit : text_octets_of_all tree ≤ k
+
+pub record FitsBranches (tree : Branches) (n k : ℕ) : Type 0 where
+  pub nodes_fit : typed.nodes_of_branches tree ≤ n
+  pub octets_fit : text_octets_of_branches tree ≤ k
+
+pub record FitsMatches (tree : Matches) (n k : ℕ) : Type 0 where
+  pub nodes_fit : typed.nodes_of_matches tree ≤ n
+  pub octets_fit : text_octets_of_matches tree ≤ k
+
+pub record FitsTests (trees : List Cond) (n k : ℕ) : Type 0 where
+  pub nodes_fit : sum_by typed.nodes_of trees ≤ n
+  pub octets_fit : sum_by text_octets_of trees ≤ k
+
+pub record FitsItems (trees : List Expr) (n k : ℕ) : Type 0 where
+  pub nodes_fit : sum_by typed.nodes trees ≤ n
+  pub octets_fit : sum_by text_octets trees ≤ k
+
+-- as many as the query has
+pub record FitsQuery (conjuncts : List Cond) (items : List Expr) (s : Select) : Type 0 where
+  pub nodes_fit : sum_by typed.nodes_of conjuncts + sum_by typed.nodes items ≤ query_nodes s
+  pub octets_fit : sum_by text_octets_of conjuncts + sum_by text_octets items ≤ query_octets s

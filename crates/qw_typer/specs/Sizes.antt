@@ -1,0 +1,76 @@
+-- How large the typed trees of a query are: their nodes (Nodes), and the octets of their text literals (ISO/IEC 9075:1992, 5.3).
+use Rattle.std.specs.Prelude.{ℕ, ◌+◌, ◌≤◌, List, [], ◌∷◌, length, sum_by}
+use Rattle.qw_token.specs.Token.{Lexeme}
+use Rattle.qw_meaning.specs.declared.expression.Expr.{Expr}
+use Rattle.qw_meaning.specs.declared.expression.Cond.{Cond}
+use Rattle.qw_meaning.specs.declared.expression.Exprs.{Exprs}
+use Rattle.qw_meaning.specs.declared.expression.Branches.{Branches}
+use Rattle.qw_meaning.specs.declared.expression.Matches.{Matches}
+use Rattle.qw_meaning.specs.declared.expression.Expr.TheVariants.{Null, Number, Date, Text, Column, Arithmetic', Negative', Extract', Case', Match', Coalesce', NullIf'}
+use Rattle.qw_meaning.specs.declared.expression.Cond.TheVariants.{Compare', Between', In', IsNull', And', Or', Not', Is'}
+use Rattle.qw_meaning.specs.declared.expression.Exprs.TheVariants as Exprs
+use Rattle.qw_meaning.specs.declared.expression.Branches.TheVariants as Branches
+use Rattle.qw_meaning.specs.declared.expression.Matches.TheVariants as Matches
+use Rattle.qw_meaning.specs.Nodes.{nodes, nodes_of}
+use Rattle.qw_meaning.specs.Select.{Parts}
+use Rattle.qw_ast.specs.Syntax.{Select}
+use Rattle.qw_script.specs.Script.{IsAccepted}
+use Rattle.qw_typer.specs.declared.query.TypedSelect.{TypedSelect}
+
+-- the octets of the text literals of a typed tree
+abbrev mutual
+  pub text_octets : Expr → ℕ
+  text_octets Null = 0
+  text_octets (Number v s) = 0
+  text_octets (Date d) = 0
+  text_octets (Text t) = length t
+  text_octets (Column i ty) = 0
+  text_octets (Arithmetic' operator _ a _ b) = text_octets a + text_octets b
+  text_octets (Negative' _ a) = text_octets a
+  text_octets (Extract' field _ a) = text_octets a
+  text_octets (Case' _ branches) = text_octets_of_branches branches
+  text_octets (Match' _ x _ matches) = text_octets x + text_octets_of_matches matches
+  text_octets (Coalesce' _ arguments) = text_octets_of_all arguments
+  text_octets (NullIf' _ a _ b) = text_octets a + text_octets b
+
+  pub text_octets_of : Cond → ℕ
+  text_octets_of (Compare' op _ a _ b) = text_octets a + text_octets b
+  text_octets_of (Between' _ x _ a _ b) = text_octets x + (text_octets a + text_octets b)
+  text_octets_of (In' _ x _ values) = text_octets x + text_octets_of_all values
+  text_octets_of (IsNull' _ a) = text_octets a
+  text_octets_of (And' _ c _ d) = text_octets_of c + text_octets_of d
+  text_octets_of (Or' _ c _ d) = text_octets_of c + text_octets_of d
+  text_octets_of (Not' _ c) = text_octets_of c
+  text_octets_of (Is' _ c t) = text_octets_of c
+
+  pub text_octets_of_all : Exprs → ℕ
+  text_octets_of_all (Exprs.Last' _ e) = text_octets e
+  text_octets_of_all (Exprs.More' _ e _ es) = text_octets e + text_octets_of_all es
+
+  pub text_octets_of_branches : Branches → ℕ
+  text_octets_of_branches (Branches.Else' _ e) = text_octets e
+  text_octets_of_branches (Branches.When' _ c _ e _ rest) = text_octets_of c + (text_octets e + text_octets_of_branches rest)
+
+  pub text_octets_of_matches : Matches → ℕ
+  text_octets_of_matches (Matches.Last' _ v _ e _ other) = text_octets v + (text_octets e + text_octets other)
+  text_octets_of_matches (Matches.When' _ v _ e _ rest) = text_octets v + (text_octets e + text_octets_of_matches rest)
+
+-- the nodes of a query's typed trees
+abbrev pub all_nodes : Parts → ℕ
+all_nodes parts = sum_by nodes_of parts.conjuncts + sum_by nodes parts.items
+
+-- and the octets of their text literals
+abbrev pub all_octets : Parts → ℕ
+all_octets parts = sum_by text_octets_of parts.conjuncts + sum_by text_octets parts.items
+
+-- a query that is typed small
+pub record IsSmall (parts : Parts) : Type 0 where
+  pub few_nodes : all_nodes parts ≤ 4000
+  pub few_octets : all_octets parts ≤ 16384
+
+-- each query that a script takes, whose limits are fewer (Script), is typed small
+abbrev pub AreSmall : List Select → List TypedSelect → Type 0
+AreSmall [] [] = Unit {0}
+AreSmall [] (t ∷ ts) = ⊥
+AreSmall (s ∷ others) [] = ⊥
+AreSmall (s ∷ others) (t ∷ ts) = ((tokens : List Lexeme) → IsAccepted tokens s → IsSmall t.select) × AreSmall others ts
