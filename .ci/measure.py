@@ -80,7 +80,9 @@ def measure(counts, queries):
         for count in counts:
             folder = f"{room}/{count}"
             os.mkdir(folder)
-            written(f"{folder}/item.csv", "ID,PRICE,SOLD,LABEL\n" + "".join(record() for _ in range(count)))
+            with open(f"{folder}/item.csv", "w") as file:
+                file.write("ID,PRICE,SOLD,LABEL\n")
+                file.writelines(record() for _ in range(count))
             tried |= {(name, count): command for name, command in commands(room, folder, queries).items()}
         least, reports = {}, {}
         for _ in range(5):
