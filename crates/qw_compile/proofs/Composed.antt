@@ -49,7 +49,7 @@ use Rattle.qw_expr.specs.Computes.{Known, AreBelow, AreHeld, AreDeclared}
 use Rattle.qw_expr.proofs.Nulls.{known_below_more, known_kept}
 use Rattle.qw_rows.specs.Reading.{known_of, IsThere, StandsAt, HasBases, HasOctets, BeginsAll}
 use Rattle.qw_rows.specs.declared.reader.Reader.{Reader}
-use Rattle.qw_rows.specs.Texts.{HasPlace, LeadsToAll, AreTextsIn, LieThere, known_texts}
+use Rattle.qw_rows.specs.Texts.{HasPlace, LeadsToAll, LieThere, known_texts}
 use Rattle.qw_rows.specs.Constants.{IsSet, IsSmall, SetsAll, known_constant}
 use Rattle.qw_rows.specs.declared.constant.Constant.{Constant}
 use Rattle.qw_rows.specs.declared.constant.Word.{Word}
@@ -76,7 +76,7 @@ use Rattle.qw_compile.specs.Texts.{literals_from}
 use Rattle.qw_compile.proofs.Promised.{held_more, StandsIn, HeldIn, IsTestAt, IsItemAt, shown, all_moved, kinds_moved, AreOwn, tests_promised, items_promised, all_use, items_high, items_kinds, headed, AreHigh, after_append}
 use Rattle.qw_compile.proofs.LeafLemmas.{all_back, all_front}
 use Rattle.qw_compile.proofs.Parts.{all_map_take, bases_there, joined_map, done_below, part_all, part_cells, read_at, read_last, read_past, take_all}
-use Rattle.qw_compile.proofs.ReadersLaid.{literals_below, readers_many, served, known_all, known_literals, literal_count, texts_up, words_up, words_small, words_in_locals, words_declared, behind_words, bases_in, cells_in, IsEntered, entries_of, at_all, AtEach, Standing, are_there, behind_bases, behind_texts, behind_cells, cells_declared, literals_declared, texts_from, texts_in_locals}
+use Rattle.qw_compile.proofs.ReadersLaid.{literals_below, readers_many, served, known_all, known_literals, literal_count, texts_up, words_up, words_small, words_in_locals, words_declared, behind_words, bases_in, IsEntered, entries_of, at_all, AtEach, Standing, are_there, behind_bases, behind_texts, behind_cells, cells_declared, literals_declared, texts_from, texts_in_locals}
 use Rattle.qw_compile.proofs.TextCells.{text_read}
 use Rattle.qw_compile.proofs.TextLiterals.{HasTexts, HasUtf8, IsUtf8Value, stored_utf8}
 

@@ -1,9 +1,9 @@
 -- What a conjunct takes is known where its columns are read.
-use Rattle.std.proofs.Common.{◌≡◌, ◌⊎◌, ℕ, zero, suc, ◌+◌, ◌<◌, ◌≤◌, ◌==◌, ◌||◌, inl, inr, Bool, true, false, Some, List, [], ◌∷◌, ◌++◌, length, map, take, get_or, slice_get, refl, sym, ap, ◌∙◌, subst, arith}
+use Rattle.std.proofs.Common.{◌≡◌, ◌⊎◌, ℕ, zero, suc, ◌+◌, ◌<◌, ◌≤◌, ◌||◌, inl, inr, Bool, true, false, Some, List, [], ◌∷◌, ◌++◌, length, map, take, get_or, slice_get, refl, sym, ap, ◌∙◌, subst, arith}
 use Rattle.std.specs.List.{AllByRecursion, list_any}
 use Rattle.std.proofs.lemmas.Option.{get_or_from_slice_get, same_Some, slice_get_within}
 use Rattle.qw_types.specs.declared.value.Ty.{Ty}
-use Rattle.qw_meaning.specs.Expression.{Expression, column, scale_of}
+use Rattle.qw_meaning.specs.Expression.{column, scale_of}
 use Rattle.qw_meaning.specs.Tree.{condition_of}
 use Rattle.qw_meaning.specs.Typing.{kind_of}
 use Rattle.qw_meaning.specs.declared.expression.Cond.{Cond}

@@ -1,10 +1,10 @@
 -- Columns that are read in parts: which those of a part are, where their locals are, and what is known where so many are read.
-use Rattle.std.proofs.Common.{◌≡◌, ℕ, zero, suc, ◌+◌, ◌-◌, ◌*◌, ◌<◌, ◌≤◌, Some, List, [], ◌∷◌, ◌++◌, length, map, take, drop, slice_get, refl, sym, ap, ap₂, ◌∙◌, subst, arith}
+use Rattle.std.proofs.Common.{◌≡◌, ℕ, zero, suc, ◌+◌, ◌-◌, ◌*◌, ◌<◌, ◌≤◌, List, [], ◌∷◌, ◌++◌, length, map, take, drop, slice_get, refl, sym, ap, ◌∙◌, subst, arith}
 use Rattle.std.specs.List.{AllByRecursion}
 use Rattle.qw_map.specs.declared.layout.Used.{Used}
 use Rattle.qw_low.specs.State.{LowState}
 use Rattle.qw_low.specs.Syntax.{Statement}
-use Rattle.qw_expr.specs.Computes.{Known, AreBelow}
+use Rattle.qw_expr.specs.Computes.{AreBelow}
 use Rattle.qw_rows.specs.Reading.{AreCellsIn, HasBases, known_of}
 use Rattle.qw_rows.specs.declared.reader.Reader.{Reader}
 use Rattle.qw_rows.proofs.Several.{known_below}

@@ -1,6 +1,5 @@
 -- Which columns are read where leaves are evaluated.
 use Rattle.std.specs.Prelude.{◌≡◌, ◌<◌, ℕ, ◌==◌, Bool, false, Some, List, slice_get}
-use Rattle.qw_types.specs.declared.value.Ty.{Ty}
 use Rattle.qw_expr.specs.declared.known.Leaf.{Leaf}
 use Rattle.qw_expr.specs.declared.known.Leaf.TheVariants as leaf
 use Rattle.qw_rows.specs.declared.reader.Reader.{Reader}

@@ -1,15 +1,14 @@
 -- What the blocks come to that put the numbers and the dates of a query into locals.
-use Rattle.std.proofs.Common.{◌≡◌, ℕ, ℤ, ◌+◌, ◌*◌, ◌^◌, ◌<◌, ◌≤◌, FitsSigned, List, [], ◌∷◌, length, map, Some, slice_get, slice_set, refl, sym, ◌∙◌, subst, arith, w64}
+use Rattle.std.proofs.Common.{◌≡◌, ℕ, ◌+◌, ◌*◌, ◌<◌, ◌≤◌, FitsSigned, List, [], ◌∷◌, length, map, Some, slice_get, slice_set, refl, sym, ◌∙◌, subst, arith, w64}
 use Rattle.std.specs.Int.{cast_unsigned}
 use Rattle.std.specs.List.{AllByRecursion}
 use Rattle.qw_types.specs.declared.value.Val.{Val}
 use Rattle.qw_module.specs.declared.instruction.ValType.{ValType}
 use Rattle.qw_module.specs.declared.instruction.ValType.TheVariants.{I64}
 use Rattle.qw_module.specs.declared.instruction.Const.TheVariants as const
-use Rattle.qw_meaning.specs.Evaluation.{value_of}
 use Rattle.qw_meaning.specs.Expression.{scale_of}
 use Rattle.qw_meaning.specs.Typing.{kind_of}
-use Rattle.qw_low.specs.Syntax.{Statement, assign, constant_of}
+use Rattle.qw_low.specs.Syntax.{Statement, constant_of}
 use Rattle.qw_low.specs.State.{Number, LowState}
 use Rattle.qw_low.specs.Meaning.{meaning}
 use Rattle.qw_low.specs.Typing.{IsTyped}

@@ -1,5 +1,5 @@
 -- What blocks promise that put the numbers and the dates of a query into locals (ISO/IEC 9075:1992, 5.3, numeric and date literals).
-use Rattle.std.specs.Prelude.{◌≡◌, ◌≢◌, ℕ, ℤ, ◌+◌, ◌*◌, ◌<◌, ◌≤◌, IsTrue, List, [], ◌∷◌, length, map, slice_get}
+use Rattle.std.specs.Prelude.{ℕ, ℤ, ◌+◌, ◌*◌, ◌<◌, ◌≤◌, IsTrue, List, [], ◌∷◌, length, map}
 use Rattle.std.specs.List.{AllByRecursion}
 use Rattle.qw_types.specs.Arithmetic.{fits}
 use Rattle.qw_types.specs.Kind.{IsDateNumber}

@@ -1,17 +1,10 @@
-use Rattle.std.proofs.Common.{◌+◌, ◌*◌, ◌++◌, List, length, map, take, drop, refl, sym, ap, ◌∙◌, subst, arith}
+use Rattle.std.proofs.Common.{◌+◌, List, take, refl, sym, ◌∙◌, subst}
 use Rattle.std.specs.List.{AllByRecursion}
 use Rattle.qw_meaning.specs.Nodes.{nodes_of}
 use Rattle.qw_meaning.specs.Tree.{condition_of}
-use Rattle.qw_low.specs.declared.step.LowStep.{LowStep}
-use Rattle.qw_low.specs.Steps.{steps_of}
-use Rattle.qw_expr.specs.declared.emitter.Emitter.{Emitter}
-use Rattle.qw_expr.specs.declared.known.Leaf.{Leaf}
 use Rattle.qw_expr.specs.Bindings.{known_of, IsServed, TakeKnown}
 use Rattle.qw_expr.specs.Computes.{Known}
 use Rattle.qw_expr.specs.Emits.{free_of}
-use Rattle.qw_rows.specs.Reading as reading
-use Rattle.qw_compile.specs.Emitted.{ReadsPart, known_after}
-use Rattle.qw_compile.specs.Leaves.{leaves_within}
 use Rattle.qw_compile.specs.Needed.{IsWithin}
 use Rattle.qw_compile.proofs.Conjuncts.{conjunct_known, known_front, served_after}
 use Rattle.qw_compile.proofs.Listed.{conjunct_emits}

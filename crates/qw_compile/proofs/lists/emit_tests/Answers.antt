@@ -1,4 +1,4 @@
-use Rattle.std.proofs.Common.{◌+◌, length, map, take, arith}
+use Rattle.std.proofs.Common.{length, map, take, arith}
 use Rattle.qw_meaning.specs.Tree.{condition_of}
 use Rattle.qw_expr.specs.Bindings.{known_of}
 use Rattle.qw_expr.specs.Emits.{free_of}

@@ -1,4 +1,4 @@
-use Rattle.std.proofs.Common.{◌≡◌, ◌≤◌, ◌<◌, ◌+◌, ℕ, Some, true, length, sym, subst, slice_get, arith}
+use Rattle.std.proofs.Common.{◌≡◌, ◌<◌, ◌+◌, ℕ, Some, true, sym, subst, slice_get, arith}
 use Rattle.std.specs.List.{list_any}
 use Rattle.qw_rows.specs.declared.reader.Reader.{Reader}
 use Rattle.qw_compile.specs.Needed.{names}
