@@ -1,13 +1,13 @@
 //! Tables, files and benches that several tests use.
 
 ghost use Rattle.std.specs.Prelude.{◌≡◌, IfOk, IsTrue, true};
-ghost use Rattle.std.specs.List.{AllByRecursion, AllZip};
+ghost use Rattle.std.specs.List.{AllByRecursion};
 ghost use Rattle.qw_types.specs.declared.value.Ty.TheVariants.{Integer};
 ghost use Rattle.qw_bench.specs.Standing.{AreLimits};
-ghost use Rattle.qw_top.specs.Inner.Queries.{IsJobOf, IsOver};
+ghost use Rattle.qw_top.specs.Inner.Queries.{IsOver};
 ghost use Rattle.qw_top.specs.Inner.Stages.{AreContentsOf};
 
-use qw_bench::bench::{Bench, BenchFault, Job, Limits, MAX_JOBS};
+use qw_bench::bench::{Bench, BenchFault, Limits, MAX_JOBS};
 use qw_csv::Loaded;
 use qw_csv::loading::load;
 use qw_io::{MemoryShelf, MemorySink, NamedFile};
@@ -19,7 +19,7 @@ use qw_top::top::queries::queries_of;
 use qw_top::top::qwasm;
 use qw_typer::query::TypedSelect;
 use qw_types::schema::MAX_TABLES;
-use qw_types::{Column, Columns, NoMemory, Schema, Table, Text, Ty};
+use qw_types::{Column, Columns, Schema, Table, Text, Ty};
 use std::alloc::{AllocError, Global};
 use std::test::Fail;
 
@@ -176,7 +176,10 @@ fn bench_of_queries(
     requires over { AllByRecursion (IsOver schema.now) queries.now }
     requires tables { AreContentsOf schema.now tables.now }
 {
-    let jobs = jobs_of(alloc, schema, queries)?;
+    let mut jobs = Vec::new(alloc);
+    for query in queries {
+        jobs.push(job_of(alloc, schema, query)?)?;
+    }
     if tables.len() > MAX_TABLES || jobs.len() > MAX_JOBS || jobs.len() != limits.len() {
         return Err("too many, or not a limit for each".into());
     }
@@ -199,17 +202,6 @@ fn is_limit(one: Limits) -> bool
     ensures { IsTrue result → AreLimits one }
 {
     1 <= one.pages && one.pages <= MAX_PAGES && 1 <= one.steps
-}
-
-fn jobs_of(alloc: Global, schema: &Schema, queries: &[TypedSelect]) -> Result<Vec<Job>, NoMemory>
-    requires { AllByRecursion (IsOver schema.now) queries.now }
-    ensures { IfOk result (λ jobs. AllZip (IsJobOf schema.now) queries.now jobs.items) }
-{
-    let mut jobs = Vec::new(alloc);
-    for query in queries {
-        jobs.push(job_of(alloc, schema, query)?)?;
-    }
-    Ok(jobs)
 }
 
 /// How a run over the files of a shelf ends, and the bench that it leaves.
