@@ -1,10 +1,8 @@
 // The octets of tables, of the first pages of instances and of what a run writes there, as docs/FORMATS.md says.
 
-use crate::tables::{WORDS, shelf, words};
+use crate::tables::{left, shelf};
 use qw_bench::bench::Bench;
-use qw_io::MemorySink;
 use qw_linear::linear::Linear;
-use qw_top::top::qwasm;
 use std::alloc::Global;
 use std::test::Fail;
 
@@ -117,21 +115,9 @@ fn differs(memory: &Linear, octets: &[(u64, [u8; 8])]) -> Option<u64> {
 }
 
 // The bench that a run over these files leaves.
-fn left(alloc: Global, schema: &[u8], table: &[u8], query: &[u8]) -> Result<Bench, Fail> {
-    let mut files = shelf(alloc, schema, table, query)?;
-    let mut out = MemorySink::new(alloc, 4_096, Vec::new(alloc));
-    let mut notes = MemorySink::new(alloc, 1, Vec::new(alloc));
-    let words = words(alloc, &WORDS)?;
-    let mut kept = None;
-    qwasm(
-        alloc,
-        words.as_slice(),
-        &mut files,
-        &mut out,
-        &mut notes,
-        &mut kept,
-    );
-    Ok(kept.ok_or("no bench")?)
+fn bench_left(alloc: Global, schema: &[u8], table: &[u8], query: &[u8]) -> Result<Bench, Fail> {
+    let (_, bench) = left(alloc, &mut shelf(alloc, schema, table, query)?)?;
+    Ok(bench)
 }
 
 #[test]
@@ -142,7 +128,7 @@ fn octets_of_two_columns(rt: HostRuntime) -> Result<(), Fail> {
         (b"A,B\n4,-1\n1,256\n", &TWO_ROWS),
     ];
     for (table, octets) in cases {
-        let bench = left(alloc, TWO_COLUMNS, table, NONE_OF_BOTH)?;
+        let bench = bench_left(alloc, TWO_COLUMNS, table, NONE_OF_BOTH)?;
         assert_eq!(rt; bench.memory().size(), 2);
         assert_eq!(rt; differs(bench.memory(), octets), None);
     }
@@ -157,7 +143,7 @@ fn octets_after_runs(rt: HostRuntime) -> Result<(), Fail> {
         (b"SELECT B FROM T WHERE B > 5", &NO_ROWS),
     ];
     for (query, octets) in cases {
-        let bench = left(alloc, THREE_COLUMNS, TWO_ROWS_OF_THREE, query)?;
+        let bench = bench_left(alloc, THREE_COLUMNS, TWO_ROWS_OF_THREE, query)?;
         assert_eq!(rt; differs(bench.memory(), octets), None);
     }
     Ok(())

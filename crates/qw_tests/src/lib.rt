@@ -5,7 +5,11 @@
 #[cfg(test)]
 mod command_lines;
 #[cfg(test)]
+mod expressions;
+#[cfg(test)]
 mod first_pages;
+#[cfg(test)]
+mod many_statements;
 #[cfg(test)]
 mod noted_lines;
 #[cfg(test)]

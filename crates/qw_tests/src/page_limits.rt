@@ -1,11 +1,8 @@
 // Instances at their limit of pages: what fits the first page, and the row after that; and limits that reach, with the pages of
 // the columns, those of a memory, and pass them.
 
-ghost use Rattle.std.specs.Prelude.{◌≤◌};
-
 use crate::tables::{bench_of, bench_or_fault, file_of, narrow, sevens, wide};
 use qw_bench::bench::{Bench, BenchFault, Ended, Limits};
-use qw_linear::linear::MAX_PAGES;
 use qw_sink::results::received;
 use std::alloc::Global;
 use std::test::Fail;
@@ -52,9 +49,7 @@ fn a_page_has_room_for_2727_rows_of_one_cell(rt: HostRuntime) -> Result<(), Fail
 }
 
 // Why there is no bench whose instance may hold so many pages over so many rows of 7, if there is none.
-fn fault_of(alloc: Global, rows: usize, pages: u32) -> Result<Option<BenchFault>, Fail>
-    requires { (1 ≤ pages) × (pages ≤ MAX_PAGES) }
-{
+fn fault_of(alloc: Global, rows: usize, pages: u32) -> Result<Option<BenchFault>, Fail> {
     let table = sevens(alloc, rows)?;
     let limits = Limits {
         pages,

@@ -1,6 +1,6 @@
 // Compiled statements beside the plain program, whatever turns they are given, and the octets that a run leaves.
 
-use crate::tables::{asking, bench_of, narrow};
+use crate::tables::{bench_of, narrow};
 use qw_bench::bench::{Bench, DEFAULT_LIMITS, Ended};
 use qw_meaning::plain::plain_rows;
 use qw_meaning::query::{Comparison, Query};
@@ -71,19 +71,6 @@ fn stored_bench(alloc: Global) -> Result<Bench, Fail> {
     bench_of(alloc, narrow(alloc)?, file.as_bytes(), DEFAULT_LIMITS)
 }
 
-// Gives turns of 1 to 100 instructions until the end, and answers the generator's state then.
-fn turn_to_the_end(bench: &mut Bench, random: u32) -> u32 {
-    let mut state = random;
-    for _ in 0..1_000 {
-        if bench.len() == 0 || bench.ended(0).is_some() {
-            return state;
-        }
-        state = next_random(state);
-        bench.turn(0, u64::from(1 + (state >> 16) % 100));
-    }
-    state
-}
-
 fn numbers_of(alloc: Global, rows: &[Row]) -> Result<Vec<i64>, NoMemory> {
     let mut numbers = Vec::new(alloc);
     for row in rows {
@@ -121,21 +108,6 @@ fn run_of(alloc: Global, bench: &Bench) -> Result<Option<(u64, Vec<i64>)>, NoMem
 }
 
 #[test]
-fn turns_change_no_result(rt: HostRuntime) -> Result<(), Fail> {
-    let alloc = rt.alloc();
-    let plain = plain_numbers(alloc, &asking(alloc, Comparison::Greater, 5)?, &STORED)?;
-    let mut random = 1;
-    for _ in 0..1_000 {
-        let mut bench = stored_bench(alloc)?;
-        random = turn_to_the_end(&mut bench, random);
-        let (steps, numbers) = run_of(alloc, &bench)?.ok_or("not done")?;
-        assert_eq!(rt; steps, STEPS);
-        assert_eq!(rt; numbers.as_slice(), plain.as_slice());
-    }
-    Ok(())
-}
-
-#[test]
 fn a_run_leaves_these_octets(rt: HostRuntime) -> Result<(), Fail> {
     let alloc = rt.alloc();
     let mut bench = stored_bench(alloc)?;
@@ -150,3 +122,4 @@ fn a_run_leaves_these_octets(rt: HostRuntime) -> Result<(), Fail> {
 }
 
 mod columns;
+mod orders;

@@ -11,9 +11,7 @@ use std::test::Fail;
 const STEPS: u64 = 115;
 
 // A bench over (4), (1), (7) whose instance may run so many instructions, before its first turn.
-fn limited(alloc: Global, steps: u64) -> Result<Bench, Fail>
-    requires { 1 ≤ steps }
-{
+fn limited(alloc: Global, steps: u64) -> Result<Bench, Fail> {
     bench_of(
         alloc,
         narrow(alloc)?,

@@ -30,7 +30,10 @@ fn rows_of_a_first_and_a_second_page(rt: HostRuntime) -> Result<(), Fail> {
     Ok(())
 }
 
-// The most rows that the limit of pages has room for, and one more.
+// An exception at the first row, and all rows of 7.
+const RAISES_AND_KEEPS_ALL: &[u8] = b"SELECT 1 / (A - 7) FROM T; SELECT A FROM T WHERE A > 5";
+
+// The most rows that the limit of pages has room for, and one more: that ends a run as the limit met, whatever else was raised.
 #[test]
 fn rows_of_all_pages(rt: HostRuntime) -> Result<(), Fail> {
     let alloc = rt.alloc();
@@ -41,17 +44,20 @@ fn rows_of_all_pages(rt: HostRuntime) -> Result<(), Fail> {
     report.extend_from_slice(table.as_slice())?;
     assert_eq!(rt; out.bytes(), report.as_slice());
     let table = sevens(alloc, 349_438)?;
-    let (status, out, kept) = report_of(alloc, SCHEMA, table.as_slice(), QUERY)?;
+    let (status, out, kept) = report_of(alloc, SCHEMA, table.as_slice(), RAISES_AND_KEEPS_ALL)?;
     assert_eq!(rt; status, Status::PageLimitMet);
-    assert_eq!(rt; out.bytes(), b"QUERY 1 PAGES 128 1 128\n".as_slice());
+    assert_eq!(rt;
+        out.bytes(),
+        b"QUERY 1 SQLSTATE 22012\nQUERY 2 PAGES 128 1 128\n".as_slice()
+    );
     let bench = kept.ok_or("no bench")?;
-    assert_eq!(rt; bench.len(), 1);
+    assert_eq!(rt; bench.len(), 2);
     let limit = Ended::Pages {
         held: 128,
         asked: 1,
         limit: 128,
     };
-    assert_eq!(rt; bench.ended(0), Some(limit));
+    assert_eq!(rt; bench.ended(1), Some(limit));
     Ok(())
 }
 

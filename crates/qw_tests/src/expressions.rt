@@ -1,0 +1,128 @@
+// Queries with each form of expression and condition, over a table at the edges of each type: what the program leaves of them is what
+// the plain program answers.
+
+pub mod compared;
+mod forms;
+mod scales;
+
+use compared::{Seen, Stored, first_difference};
+use forms::{COMPARISONS, DATES_AND_TEXTS, NUMBERS, TRUTHS};
+use std::alloc::{AllocError, Global};
+use std::test::Fail;
+
+const SCHEMA: &[u8] =
+    b"CREATE TABLE T (K INTEGER NOT NULL, I INTEGER, J INTEGER, P DECIMAL(9,2), D DATE, E DATE, L VARCHAR(9), M VARCHAR(9) NOT NULL)";
+
+// Nulls in each column that may have them, the least and the greatest values, empty texts, texts that others begin with, texts of
+// characters of one to four octets, and values that are the same in two columns.
+const TABLE: &str = "K,I,J,P,D,E,L,M
+1,,,,,,,\"\"
+2,2147483647,-2147483648,9999999.99,9999-12-31,0001-01-01,\u{10FFFF}\u{10FFFF}\u{10FFFF}\u{10FFFF}\u{10FFFF}\u{10FFFF}\u{10FFFF}\u{10FFFF}\u{10FFFF},\"\"
+3,-2147483648,2147483647,-9999999.99,0001-01-01,9999-12-31,a,ab
+4,0,0,0.00,2000-02-29,2000-02-29,ab,a
+5,1,-1,0.01,2000-03-01,2000-02-28,ab,ab
+6,-1,1,-0.01,1999-12-31,,abc,ab
+7,7,2,7.00,1900-02-28,1900-03-01,\"a,b\",\"a \"\"b\"\"\"
+8,,3,,1582-10-10,1582-10-15,\u{E9},z
+9,5,,2.50,,2020-02-29,,\u{E9}
+10,-7,2,-7.05,2020-12-31,2021-01-01,Z,z
+11,10,-3,0.50,2020-01-31,2020-01-31,\u{FFFF},\u{10000}
+12,-10,10,10.00,2020-06-15,1999-06-15,pen,pens
+";
+
+const ROWS: u32 = 12;
+
+// What stands before a form and behind it in a query of all rows, where the form is an expression.
+const OF_EXPRESSIONS: [(&str, &str); 2] = [
+    ("SELECT K, ", " FROM T;"),
+    ("SELECT K FROM T WHERE (", ") IS NOT NULL;"),
+];
+
+// The same where it is a condition.
+const OF_CONDITIONS: [(&str, &str); 4] = [
+    ("SELECT K FROM T WHERE ", ";"),
+    ("SELECT K FROM T WHERE NOT (", ");"),
+    ("SELECT K FROM T WHERE (", ") IS UNKNOWN;"),
+    ("SELECT K, CASE WHEN ", " THEN 'yes' ELSE 'no' END FROM T;"),
+];
+
+// The queries of forms, each between two texts.
+fn script_of(
+    alloc: Global,
+    forms: &[&str],
+    before: &str,
+    after: &str,
+) -> Result<String, AllocError> {
+    let mut script = String::new(alloc);
+    for form in forms {
+        script.push_str(before)?;
+        script.push_str(form)?;
+        script.push_str(after)?;
+    }
+    Ok(script)
+}
+
+// The queries of forms at the row of this number alone, where an exception of another row hides nothing.
+fn script_at(
+    alloc: Global,
+    forms: &[&str],
+    row: u32,
+    before: &str,
+    after: &str,
+) -> Result<String, AllocError> {
+    let before = format!(in alloc; "SELECT {before}")?;
+    let after = format!(in alloc; "{after} FROM T WHERE K = {row};")?;
+    script_of(alloc, forms, before.as_str(), after.as_str())
+}
+
+#[test]
+fn expressions(rt: HostRuntime) -> Result<(), Fail> {
+    let alloc = rt.alloc();
+    let stored = Stored::new(alloc, SCHEMA, TABLE.as_bytes())?;
+    let mut seen = Seen {
+        queries: 0,
+        raised: 0,
+    };
+    let all: [&[&str]; 2] = [&NUMBERS, &DATES_AND_TEXTS];
+    for forms in all {
+        for (before, after) in OF_EXPRESSIONS {
+            let script = script_of(alloc, forms, before, after)?;
+            let other = first_difference(alloc, &stored, script.as_bytes(), &mut seen)?;
+            assert_eq!(rt; other, None, "{script}");
+        }
+        for row in 1..=ROWS {
+            let script = script_at(alloc, forms, row, "", "")?;
+            let other = first_difference(alloc, &stored, script.as_bytes(), &mut seen)?;
+            assert_eq!(rt; other, None, "{script}");
+        }
+    }
+    assert_eq!(rt; seen.queries, 14 * 92);
+    assert!(rt; 0 < seen.raised && seen.raised < seen.queries);
+    Ok(())
+}
+
+#[test]
+fn conditions(rt: HostRuntime) -> Result<(), Fail> {
+    let alloc = rt.alloc();
+    let stored = Stored::new(alloc, SCHEMA, TABLE.as_bytes())?;
+    let mut seen = Seen {
+        queries: 0,
+        raised: 0,
+    };
+    let all: [&[&str]; 2] = [&COMPARISONS, &TRUTHS];
+    for forms in all {
+        for (before, after) in OF_CONDITIONS {
+            let script = script_of(alloc, forms, before, after)?;
+            let other = first_difference(alloc, &stored, script.as_bytes(), &mut seen)?;
+            assert_eq!(rt; other, None, "{script}");
+        }
+        for row in 1..=ROWS {
+            let script = script_at(alloc, forms, row, "CASE WHEN ", " THEN 1 ELSE 0 END")?;
+            let other = first_difference(alloc, &stored, script.as_bytes(), &mut seen)?;
+            assert_eq!(rt; other, None, "{script}");
+        }
+    }
+    assert_eq!(rt; seen.queries, 16 * 101);
+    assert!(rt; 0 < seen.raised && seen.raised < seen.queries);
+    Ok(())
+}

@@ -1,0 +1,221 @@
+//! Scripts over one table: what the program leaves of each query, compared with the plain program's answer.
+
+ghost use Rattle.std.specs.Prelude.{◌≡◌, ◌<◌, IsTrue, length, map};
+ghost use Rattle.std.specs.List.{AllByRecursion};
+ghost use Rattle.qw_types.specs.Kind.{IsOfKind, IsRowOf, type_kind};
+ghost use Rattle.qw_meaning.specs.Flow.{rows_of};
+
+use crate::tables::{left, shelf};
+use qw_bench::bench::{Bench, Ended};
+use qw_csv::loading::load;
+use qw_csv::{Cell, Loaded};
+use qw_meaning::Select;
+use qw_meaning::outcome::{Answer, plain_outcome};
+use qw_parse::parse::schema_of;
+use qw_sink::results::received;
+use qw_top::top::queries::queries_of;
+use qw_types::{Code, Kind, NoMemory, Row, Schema, Text, Ty, Val};
+use std::alloc::Global;
+use std::test::Fail;
+
+/// A table T: what declares it, its file, and the rows that this stands for.
+#[derive(Drop)]
+pub struct Stored {
+    declared: Vec<u8>,
+    file: Vec<u8>,
+    schema: Schema,
+    tables: Vec<Vec<Row>>,
+}
+
+impl Stored {
+    /// The table of a file.
+    pub fn new(alloc: Global, declared: &[u8], file: &[u8]) -> Result<Self, Fail> {
+        let schema = schema_of(alloc, declared)?;
+        let mut tables = Vec::new(alloc);
+        for table in schema.as_slice() {
+            tables.push(rows_in(alloc, &load(alloc, table, file)?)?)?;
+        }
+        Ok(Stored {
+            declared: Vec::from_slice(alloc, declared)?,
+            file: Vec::from_slice(alloc, file)?,
+            schema,
+            tables,
+        })
+    }
+}
+
+fn rows_in(alloc: Global, loaded: &Loaded) -> Result<Vec<Row>, Fail> {
+    let mut rows = Vec::new(alloc);
+    for row in 0..loaded.len() {
+        rows.push(row_in(alloc, loaded, row)?)?;
+    }
+    Ok(rows)
+}
+
+fn row_in(alloc: Global, loaded: &Loaded, row: usize) -> Result<Row, Fail>
+    requires { row < length loaded.now.rows }
+{
+    let mut values = Vec::new(alloc);
+    for column in 0..loaded.width() {
+        values.push(val_of(alloc, loaded.cell(row, column))?)?;
+    }
+    Ok(Row::new(values))
+}
+
+fn val_of(alloc: Global, cell: Cell<'_>) -> Result<Val, Fail> {
+    Ok(match cell {
+        Cell::Null => Val::Null,
+        Cell::Num(number) => Val::Num(number),
+        Cell::Date(day) => Val::Date(day),
+        Cell::Text(octets) => {
+            let text = std::str::from_utf8(octets)?;
+            Val::Text(Text::new(String::from_str(alloc, text)?))
+        }
+    })
+}
+
+/// How many queries were compared, and how many of them raise an exception.
+#[derive(Clone, Copy, Debug, PartialEq, Eq)]
+pub struct Seen {
+    pub queries: u64,
+    pub raised: u64,
+}
+
+impl Seen {
+    fn note(&mut self, answer: &Answer) {
+        self.queries = self.queries.wrapping_add(1);
+        if matches!(answer, Answer::Raises(_)) {
+            self.raised = self.raised.wrapping_add(1);
+        }
+    }
+}
+
+/// The number of the first query of a script, from 0 on, that the program ends otherwise than the plain program.
+pub fn first_difference(
+    alloc: Global,
+    stored: &Stored,
+    script: &[u8],
+    seen: &mut Seen,
+) -> Result<Option<usize>, Fail> {
+    let queries = queries_of(alloc, &stored.schema, script)?;
+    let mut files = shelf(
+        alloc,
+        stored.declared.as_slice(),
+        stored.file.as_slice(),
+        script,
+    )?;
+    let (_, bench) = left(alloc, &mut files)?;
+    if bench.len() != queries.len() {
+        return Err("other queries".into());
+    }
+    for (k, query) in queries.iter().enumerate() {
+        let answer = plain_answer(alloc, &query.select, stored.tables.as_slice())?;
+        if !ends_so(alloc, &answer, &bench, k)? {
+            return Ok(Some(k));
+        }
+        seen.note(&answer);
+    }
+    Ok(None)
+}
+
+// Whether the instance of a number ended as an answer says: with its rows in their order, or with one of its exceptions.
+fn ends_so(alloc: Global, answer: &Answer, bench: &Bench, k: usize) -> Result<bool, NoMemory> {
+    if bench.len() <= k {
+        return Ok(false);
+    }
+    match bench.ended(k) {
+        Some(Ended::Done) => Ok(gives(answer, received(alloc, bench, k)?.as_slice())),
+        Some(Ended::Raised(code)) => Ok(raises(answer, code)),
+        _ => Ok(false),
+    }
+}
+
+fn gives(answer: &Answer, rows: &[Row]) -> bool {
+    match answer {
+        Answer::Rows(expected) => same_rows(expected.as_slice(), rows),
+        Answer::Raises(_) => false,
+    }
+}
+
+fn raises(answer: &Answer, code: Code) -> bool {
+    match answer {
+        Answer::Rows(_) => false,
+        Answer::Raises(codes) => codes.iter().any(|raised| *raised == code),
+    }
+}
+
+/// Whether these are the same rows in the same order.
+pub fn same_rows(rows: &[Row], others: &[Row]) -> bool {
+    rows.len() == others.len()
+        && rows
+            .iter()
+            .zip(others)
+            .all(|(row, other)| same_values(row.values(), other.values()))
+}
+
+fn same_values(values: &[Val], others: &[Val]) -> bool {
+    values.len() == others.len()
+        && values
+            .iter()
+            .zip(others)
+            .all(|(value, other)| is_same(value, other))
+}
+
+fn is_same(value: &Val, other: &Val) -> bool {
+    match (value, other) {
+        (Val::Null, Val::Null) => true,
+        (Val::Num(number), Val::Num(another)) => *number == *another,
+        (Val::Date(day), Val::Date(another)) => *day == *another,
+        (Val::Text(text), Val::Text(another)) => text.as_str() == another.as_str(),
+        _ => false,
+    }
+}
+
+// What the plain program answers over the tables. Their rows are tested for being of their kinds, as it asks.
+fn plain_answer(alloc: Global, select: &Select, tables: &[Vec<Row>]) -> Result<Answer, Fail> {
+    if !are_rows_of(select.types(), rows_at(tables, select.table())) {
+        return Err("rows of other kinds".into());
+    }
+    Ok(plain_outcome(alloc, select, tables)?)
+}
+
+fn rows_at(tables: &[Vec<Row>], table: usize) -> &[Row]
+    ensures { result.now ≡ rows_of (map (λ t. t.items) tables.now) table }
+{
+    match tables.get(table) {
+        None => &[],
+        Some(rows) => rows.as_slice(),
+    }
+}
+
+fn are_rows_of(types: &[Ty], rows: &[Row]) -> bool
+    ensures { IsTrue result → AllByRecursion (IsRowOf (map type_kind types.now)) rows.now }
+{
+    match rows {
+        [] => true,
+        [row, others @ ..] => is_row_of(types, row.values()) && are_rows_of(types, others),
+    }
+}
+
+fn is_row_of(types: &[Ty], values: &[Val]) -> bool
+    ensures { IsTrue result → IsRowOf (map type_kind types.now) values.now }
+{
+    match (types, values) {
+        ([], []) => true,
+        ([ty, types @ ..], [value, values @ ..]) => {
+            is_of_kind(Kind::of_type(*ty), value) && is_row_of(types, values)
+        }
+        _ => false,
+    }
+}
+
+fn is_of_kind(kind: Kind, value: &Val) -> bool
+    ensures { IsTrue result → IsOfKind kind value.now }
+{
+    match (kind, value) {
+        (_, Val::Null) | (Kind::Text, Val::Text(_)) => true,
+        (Kind::Number(_), Val::Num(number)) => number.unsigned_abs() < 1_000_000_000_000_000_000,
+        (Kind::Date, Val::Date(day)) => 10_101 <= *day && *day <= 99_991_231,
+        _ => false,
+    }
+}

@@ -1,0 +1,178 @@
+// Three instances of unlike statements over one memory, in 300 orders of turns: each comes to the rows, the end and the count of
+// instructions that it comes to alone.
+
+ghost use Rattle.std.specs.Prelude.{◌≤◌};
+
+use super::next_random;
+use crate::expressions::compared::same_rows;
+use crate::tables::bench_over;
+use qw_bench::bench::{Bench, DEFAULT_LIMITS, Ended};
+use qw_parse::parse::schema_of;
+use qw_sink::results::received;
+use qw_types::{Code, NoMemory, Row, Schema};
+use std::alloc::{AllocError, Global};
+use std::test::Fail;
+
+const SCHEMA: &[u8] = b"CREATE TABLE T (K INTEGER NOT NULL, P DECIMAL(9,2), D DATE, L VARCHAR(5))";
+
+const ROWS: u32 = 130;
+
+// All rows, 63 of which fit a page; an exception at the last row, behind 129 rows that were kept; and texts and nulls.
+const STATEMENTS: [&[u8]; 3] = [
+    b"SELECT K, P, D, L, K, P, D, L, K, P, D, L, K, P, D, L, K, P, D, L, K, P, D, L, K, P, D, L, K, P, D, L, \
+      K, P, D, L, K, P, D, L, K, P, D, L, K, P, D, L, K, P, D, L, K, P, D, L, K, P, D, L, K, P, D, L FROM T",
+    b"SELECT P / (130 - K) FROM T",
+    b"SELECT L, COALESCE(L, 'none'), P, D FROM T WHERE L < 'abc' OR P IS NULL OR D > DATE '2005-01-01'",
+];
+
+// Null where the number of a row is one of every three, five and six.
+fn file(alloc: Global) -> Result<String, AllocError> {
+    let mut text = String::from_str(alloc, "K,P,D,L\n")?;
+    for row in 1..=ROWS {
+        let digit = row % 10;
+        let price = if row % 3 == 0 { "" } else { "0.75" };
+        let label = match row % 6 {
+            0 => "",
+            1 => "a",
+            2 => "ab",
+            3 => "abc",
+            4 => "abcd",
+            _ => "abcde",
+        };
+        text.push_str(format!(in alloc; "{row},{price},")?.as_str())?;
+        if row % 5 != 0 {
+            text.push_str(format!(in alloc; "200{digit}-02-1{digit}")?.as_str())?;
+        }
+        text.push_str(format!(in alloc; ",{label}\n")?.as_str())?;
+    }
+    Ok(text)
+}
+
+// What an instance came to: its end, how many instructions it ran, how many pages it holds, and its rows.
+#[derive(Drop)]
+struct Came {
+    ended: Option<Ended>,
+    steps: u64,
+    pages: u32,
+    rows: Vec<Row>,
+}
+
+fn came_to(alloc: Global, bench: &Bench, k: usize) -> Result<Came, Fail> {
+    if bench.len() <= k {
+        return Err("no instance".into());
+    }
+    Ok(Came {
+        ended: bench.ended(k),
+        steps: bench.steps(k),
+        pages: bench.pages(k),
+        rows: rows_of(alloc, bench, k)?,
+    })
+}
+
+// The rows of an instance that is done, and none of another.
+fn rows_of(alloc: Global, bench: &Bench, k: usize) -> Result<Vec<Row>, NoMemory> {
+    if bench.len() <= k {
+        return Ok(Vec::new(alloc));
+    }
+    match bench.ended(k) {
+        Some(Ended::Done) => received(alloc, bench, k),
+        _ => Ok(Vec::new(alloc)),
+    }
+}
+
+fn is_same(came: &Came, other: &Came) -> bool {
+    came.ended == other.ended
+        && came.steps == other.steps
+        && came.pages == other.pages
+        && same_rows(came.rows.as_slice(), other.rows.as_slice())
+}
+
+// What each statement comes to alone.
+fn alone(alloc: Global, schema: &Schema, file: &[u8]) -> Result<Vec<Came>, Fail> {
+    let mut all = Vec::new(alloc);
+    for statement in STATEMENTS {
+        let mut bench = bench_over(alloc, schema, file, statement, &[DEFAULT_LIMITS])??;
+        bench.run_all(u64::MAX);
+        all.push(came_to(alloc, &bench, 0)?)?;
+    }
+    Ok(all)
+}
+
+// A bench of the three statements, before its first turn.
+fn together(alloc: Global, schema: &Schema, file: &[u8]) -> Result<Bench, Fail> {
+    let mut script = Vec::new(alloc);
+    for statement in STATEMENTS {
+        script.extend_from_slice(statement)?;
+        script.push(b';')?;
+    }
+    let limits = [DEFAULT_LIMITS; 3];
+    Ok(bench_over(alloc, schema, file, script.as_slice(), &limits)??)
+}
+
+fn runs(bench: &Bench) -> bool {
+    for k in 0..bench.len() {
+        if bench.ended(k).is_none() {
+            return true;
+        }
+    }
+    false
+}
+
+// How many instructions a turn may run: one to three, up to 100, or up to 2,000.
+fn quantum_of(random: u32) -> u64
+    ensures { 1 ≤ result }
+{
+    let number = u64::from(random >> 8);
+    match random >> 30 {
+        0 => 1 + number % 3,
+        1 => 1 + number % 100,
+        _ => 1 + number % 2_000,
+    }
+}
+
+// Gives turns to one of the instances and another until all have ended, and answers the generator's state then.
+fn turn_to_the_end(bench: &mut Bench, random: u32) -> u32 {
+    let mut state = random;
+    for _ in 0..100_000 {
+        if !runs(bench) {
+            return state;
+        }
+        state = next_random(state);
+        let k = (state >> 16) as usize % 3;
+        state = next_random(state);
+        if k < bench.len() {
+            bench.turn(k, quantum_of(state));
+        }
+    }
+    state
+}
+
+#[test]
+fn turns_change_nothing(rt: HostRuntime) -> Result<(), Fail> {
+    let alloc = rt.alloc();
+    let schema = schema_of(alloc, SCHEMA)?;
+    let file = file(alloc)?;
+    let file = file.as_bytes();
+    let alone = alone(alloc, &schema, file)?;
+    let ends = [
+        (Some(Ended::Done), 3, 130),
+        (Some(Ended::Raised(Code::DivZero)), 1, 0),
+        (Some(Ended::Done), 1, 103),
+    ];
+    for (came, end) in alone.iter().zip(ends) {
+        assert_eq!(rt; (came.ended, came.pages, came.rows.len()), end);
+    }
+    let mut random = 1;
+    for order in 0..300 {
+        let mut bench = together(alloc, &schema, file)?;
+        random = turn_to_the_end(&mut bench, random);
+        assert_eq!(rt; bench.len(), 3);
+        for (k, came) in alone.iter().enumerate() {
+            assert!(rt;
+                is_same(&came_to(alloc, &bench, k)?, came),
+                "instance {k} in order {order}"
+            );
+        }
+    }
+    Ok(())
+}
