@@ -1,11 +1,10 @@
 -- What the text of a script asks for is one, and of a text that is refused the fault is one, or in one statement.
-use Rattle.std.proofs.Common.{◌≡◌, ℕ, suc, List, [], ◌∷◌, Some, inl, inr, refl, sym, subst, length, ap, ◌∙◌, arith, map}
-use Rattle.std.specs.Prelude.{Contains, Option}
+use Rattle.std.proofs.Common.{◌≡◌, ℕ, suc, List, [], ◌∷◌, Some, inr, refl, sym, subst, length, ap, ◌∙◌, arith, map}
+use Rattle.std.specs.Prelude.{Contains}
 use Rattle.std.proofs.lemmas.Option.{same_Some}
 use Rattle.qw_types.specs.declared.kind.Kind.{Kind}
 use Rattle.qw_types.specs.declared.schema.Table.{Table}
 use Rattle.qw_meaning.specs.Select.{Specification}
-use Rattle.qw_meaning.specs.Typing.{kind_of}
 use Rattle.qw_ast.specs.Syntax.{Select}
 use Rattle.qw_script.proofs.ScriptLemmas.{script_one}
 use Rattle.qw_typer.specs.Faults.{Fault}
@@ -15,7 +14,7 @@ use Rattle.qw_typer.specs.declared.fault.TypeFault.{TypeFault}
 use Rattle.qw_typer.specs.declared.fault.TypeFault.TheVariants as typing
 use Rattle.qw_typer.proofs.LawLemmas.{one_meaning}
 use Rattle.qw_sink.specs.declared.sink.Head.{Head}
-use Rattle.qw_top.specs.Causes.{AreMistyped, AreOne, Cause, queries_mistyped}
+use Rattle.qw_top.specs.Causes.{AreOne, Cause, queries_mistyped}
 use Rattle.qw_top.specs.Top.{AreAsked, Asked, AsksFor, IsAsked, IsHeader, IsMistyped}
 
 -- ---- what a script asks for

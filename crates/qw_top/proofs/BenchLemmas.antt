@@ -1,6 +1,6 @@
 -- That queries over the schema can be compiled and begun over the tables' rows, and that turns run them to their ends.
-use Rattle.std.proofs.Common.{◌≡◌, ℕ, zero, suc, ◌≤◌, List, [], ◌∷◌, Option, Some, None, refl, sym, subst, length, ap, ◌∙◌, arith, map}
-use Rattle.std.specs.Prelude.{◌+◌, ◌++◌, Bool, IsSome, replicate, slice_get}
+use Rattle.std.proofs.Common.{◌≡◌, ℕ, zero, suc, ◌≤◌, List, [], ◌∷◌, Some, refl, subst, length, ap, ◌∙◌, arith, map}
+use Rattle.std.specs.Prelude.{◌++◌, Bool, IsSome, replicate, slice_get}
 use Rattle.std.specs.List.{AllByRecursion, AllZip}
 use Rattle.std.proofs.lemmas.Option.{none-some, same_Some}
 use Rattle.qw_types.specs.Contents.{Contents, column_type}
@@ -8,9 +8,6 @@ use Rattle.qw_types.specs.declared.schema.Column.{Column}
 use Rattle.qw_types.specs.declared.schema.ColumnType.{ColumnType}
 use Rattle.qw_types.specs.declared.schema.Table.{Table}
 use Rattle.qw_types.specs.declared.value.Ty.{Ty}
-use Rattle.qw_types.specs.declared.value.Ty.TheVariants.{Integer}
-use Rattle.qw_meaning.specs.Simple.{HasIntegers}
-use Rattle.qw_meaning.specs.Statement.{Statement}
 use Rattle.qw_map.specs.Turns.{Act, EachInstance, turns}
 use Rattle.qw_map.specs.declared.layout.Used.{Used}
 use Rattle.qw_compile.specs.Named.{IsOfTable}

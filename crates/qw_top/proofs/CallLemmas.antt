@@ -1,25 +1,20 @@
 -- A call, by the reading of its words.
-use Rattle.std.proofs.Common.{◌≡◌, ◌⊎◌, ℕ, ◌<◌, ◌-◌, List, [], ◌∷◌, Option, Some, None, Err, length, slice_get, inl, inr, refl, sym, subst, ap, ◌∙◌, arith}
+use Rattle.std.proofs.Common.{◌≡◌, ◌⊎◌, ℕ, ◌<◌, ◌-◌, List, Option, Some, None, Err, length, inl, inr, refl, sym, subst, ap, ◌∙◌, arith}
 use Rattle.std.specs.String.{string_bytes}
-use Rattle.qw_types.specs.Contents.{Contents}
 use Rattle.qw_types.specs.declared.schema.Table.{Table}
-use Rattle.qw_bench.specs.Bench.{rows_in_tables}
-use Rattle.qw_bench.specs.Standing.{Standing}
 use Rattle.qw_bench.specs.declared.bench.Limits.{Limits}
 use Rattle.qw_check.specs.Check.{HasFault, SpellsValid}
 use Rattle.qw_check.specs.declared.check.CheckFault.{CheckFault}
 use Rattle.qw_check.specs.declared.check.CheckFault.TheVariants as check_faults
 use Rattle.qw_words.specs.Read.{Answers}
-use Rattle.qw_words.specs.Words.{Command, run, compile, check, Reading, command, no_command, no_number, Names, TextNames}
+use Rattle.qw_words.specs.Words.{run, compile, check, Reading, command, no_command, no_number, Names, TextNames}
 use Rattle.qw_words.specs.declared.command.WordsFault.{WordsFault}
 use Rattle.qw_words.specs.declared.command.WordsFault.TheVariants as words_faults
-use Rattle.qw_top.specs.Call.{CheckSettles, CompileSettles, ExplainsBy, HasScript, HasStatement, IsEndOfWords, IsValidFile, LeavesBy, NamesBy, NotesBy, SettlesBy, TextExplains, TookText}
+use Rattle.qw_top.specs.Call.{CheckSettles, CompileSettles, ExplainsBy, HasScript, HasStatement, IsEndOfWords, IsValidFile, LeavesBy, NamesBy, NotesBy, SettlesBy, TookText}
 use Rattle.qw_top.specs.Causes.{AreOne, Cause, line_of_cause, status_of_cause, words_refused, statement_out_of_range, schema_too_long, schema_refused, queries_too_long, queries_refused, queries_mistyped, no_statement, module_too_long, module_refused}
-use Rattle.qw_top.specs.Delivered.{CommandNotes}
 use Rattle.qw_top.specs.Limits.{default_limits, quantum, most_module_octets}
 use Rattle.qw_top.specs.Notes.{want_of_memory_line}
-use Rattle.qw_top.specs.Output.{TookFront, with_text}
-use Rattle.qw_top.specs.Top.{Asked, Files, FilesSettle, HasQueries, HaveRoom, IsFault, IsFile, IsRefusal, IsReported, IsTooLong, QueriesAre, RunExplains, SchemaIs}
+use Rattle.qw_top.specs.Top.{Asked, Files, FilesSettle, IsFault, IsRefusal, IsReported, QueriesAre, RunExplains, SchemaIs}
 use Rattle.qw_top.specs.declared.status.Status.{Status}
 use Rattle.qw_top.specs.declared.status.Status.TheVariants.{Done, WordsRefused, SchemaRefused, TableFileRefused, QueriesRefused, ReadFailed, WriteFailed, Raised, PageLimitMet, NoMemory, StepLimitMet, TotalPages}
 use Rattle.std.proofs.lemmas.Option.{slice_get_within}
@@ -27,7 +22,7 @@ use Rattle.qw_top.specs.Inner.Inputs.{IsNoSchema, IsNoScript}
 use Rattle.qw_top.specs.Inner.Noted.{NotesLine, NotesWords}
 use Rattle.qw_top.proofs.ContentLemmas.{IsFile-short, IsFile-unique, IsNoSchema-unique, IsNoScript-one, QueriesAre-refused, QueriesAre-unique, SchemaIs-refused, SchemaIs-unique}
 use Rattle.qw_top.proofs.CommandLemmas.{text_cause, text_done}
-use Rattle.qw_top.proofs.SettleLemmas.{asked_settles_none, cause_is_refusal, fault_explains, kind_of_end, one_settled, one_status, refusal_settled, reported_asks, settled_explains}
+use Rattle.qw_top.proofs.SettleLemmas.{asked_settles_none, fault_explains, kind_of_end, one_settled, one_status, refusal_settled, reported_asks, settled_explains}
 use Rattle.qw_top.proofs.StoppedLemmas.{cause_noted, cut_short, want_noted}
 
 -- ---- a run

@@ -6,16 +6,15 @@ use Rattle.qw_check.specs.Check.{HasFault}
 use Rattle.qw_check.specs.declared.check.CheckFault.{CheckFault}
 use Rattle.qw_check.specs.declared.check.CheckFault.TheVariants as check_faults
 use Rattle.qw_words.specs.Words.{TextNames}
-use Rattle.qw_top.specs.Call.{CheckSettles, CompileSettles, CompileWrites, HasScript, IsScriptFile, LeavesText, SpellsCompiled, TextExplains, TookFrontOf}
+use Rattle.qw_top.specs.Call.{CheckSettles, CompileSettles, CompileWrites, HasScript, IsScriptFile, LeavesText, SpellsCompiled, TextExplains}
 use Rattle.qw_top.specs.Causes.{Cause, module_refused, module_too_long, no_statement, status_of_cause}
 use Rattle.qw_top.specs.Limits.{most_module_octets}
 use Rattle.qw_top.specs.declared.stop.Stop.{Stop}
 use Rattle.qw_top.specs.declared.stop.Stop.TheVariants.{NoMemory as NoMemoryLeft}
 use Rattle.qw_top.specs.Inner.Inputs.{IsNoSchema, IsNoScript}
 use Rattle.qw_top.specs.Inner.Stop.{StopsAs, StopsBy, StopsFor}
-use Rattle.qw_top.specs.Delivered.{CommandNotes, IsLine}
+use Rattle.qw_top.specs.Delivered.{CommandNotes}
 use Rattle.qw_top.specs.Notes.{want_of_memory_line}
-use Rattle.qw_top.specs.Output.{TookFront, with_text}
 use Rattle.qw_top.specs.Top.{Asked, Files, IsFault, IsFile, IsRefusal, IsReported, IsTooLong, QueriesAre, SchemaIs}
 use Rattle.qw_top.specs.declared.status.Status.{Status}
 use Rattle.qw_top.specs.declared.status.Status.TheVariants.{Done, WordsRefused, SchemaRefused, TableFileRefused, QueriesRefused, ReadFailed, WriteFailed, Raised, PageLimitMet, NoMemory, StepLimitMet, TotalPages}

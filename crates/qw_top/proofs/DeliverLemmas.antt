@@ -1,16 +1,13 @@
 -- What a run leaves and notes where it has a report.
-use Rattle.std.proofs.Common.{◌≡◌, ◌⊎◌, ℕ, zero, ◌<◌, List, [], Option, Some, None, Result, Ok, Err, inl, inr, refl, sym, subst, length, ap, ◌∙◌, arith}
-use Rattle.std.specs.Prelude.{Bool, true, false, if◌then◌else◌, IfErr, IfSome, IsSome, OnErr, OnOk}
+use Rattle.std.proofs.Common.{◌≡◌, ◌⊎◌, ℕ, ◌<◌, List, Option, Some, Result, Ok, Err, inl, inr, refl, sym, subst, length, ap, ◌∙◌}
+use Rattle.std.specs.Prelude.{Bool, true, false, if◌then◌else◌, IfErr, IsSome, OnErr, OnOk}
 use Rattle.std.specs.List.{list_any}
-use Rattle.std.specs.String.{string_bytes}
-use Rattle.std.proofs.lemmas.List.{append-nil, length-map, take_all}
 use Rattle.qw_io.specs.Faults.{IsCounted}
 use Rattle.qw_io.specs.declared.fault.IoFault.{IoFault}
 use Rattle.qw_io.specs.declared.fault.IoFault.TheVariants.{Failed, NoMemory as NoMemoryToWrite}
 use Rattle.qw_map.specs.Turns.{End}
 use Rattle.qw_bench.specs.Bench.{end_in}
 use Rattle.qw_bench.specs.Standing.{Standing}
-use Rattle.qw_sink.specs.declared.sink.Head.{Head}
 use Rattle.qw_top.specs.Delivered.{CommandNotes, LeavesBench, Reports, RunLeaves, ShowsEnds, ends_below, is_exception, is_pages, is_steps, status_of_ends}
 use Rattle.qw_top.specs.Limits.{default_limits, quantum}
 use Rattle.qw_top.specs.Notes.{want_of_memory_line}

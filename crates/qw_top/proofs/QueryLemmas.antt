@@ -1,9 +1,9 @@
 -- The queries that a script asks for: how many they are, that each is over a table of the schema, and its header.
-use Rattle.std.proofs.Common.{◌≡◌, ◌⊎◌, ℕ, zero, suc, ◌+◌, ◌<◌, ◌≤◌, Bool, true, false, List, [], ◌∷◌, ◌++◌, Option, Some, None, inl, inr, refl, sym, subst, length, ap, ◌∙◌, arith, map, take, get_or}
-use Rattle.std.specs.Prelude.{IfSome, if◌then◌else◌, not, slice_get, unwrap_or}
+use Rattle.std.proofs.Common.{◌≡◌, ℕ, zero, suc, ◌+◌, ◌<◌, ◌≤◌, Bool, true, false, List, [], ◌∷◌, ◌++◌, Option, Some, None, refl, sym, subst, length, ap, ◌∙◌, arith, map, take, get_or}
+use Rattle.std.specs.Prelude.{IfSome, not, slice_get, unwrap_or}
 use Rattle.std.specs.List.{AllByRecursion}
 use Rattle.std.specs.Option.{option_map_or}
-use Rattle.std.proofs.lemmas.List.{append-nil, length-append, length-map}
+use Rattle.std.proofs.lemmas.List.{length-append, length-map}
 use Rattle.qw_types.specs.Value.{IsSized}
 use Rattle.qw_types.specs.declared.kind.Kind.{Kind}
 use Rattle.qw_types.specs.declared.kind.Kind.TheVariants as kind
@@ -16,7 +16,6 @@ use Rattle.qw_meaning.specs.Tree.{expression_of}
 use Rattle.qw_meaning.specs.Typing.{IsTyped, has_kind, kind_of}
 use Rattle.qw_meaning.specs.declared.expression.Expr.{Expr}
 use Rattle.qw_token.specs.Token.{Lexeme}
-use Rattle.qw_ast.specs.Grammar.{name_of}
 use Rattle.qw_ast.specs.ScriptGrammar as grammar
 use Rattle.qw_ast.specs.ScriptGrammar.{IsSelectOf}
 use Rattle.qw_ast.specs.Syntax.{Clause, Condition, comparison, between, among, is_null, both, either, negation_of, is, bracketed, SelectItem, Selected, all_columns, items, Select}
@@ -25,11 +24,11 @@ use Rattle.qw_typer.specs.Faults.{Fault, fault_where, faults, first_token, item_
 use Rattle.qw_typer.specs.Meanings.{AreMeant}
 use Rattle.qw_typer.specs.Meant.{Scope, meant}
 use Rattle.qw_typer.specs.Sizes.{AreSmall, IsSmall}
-use Rattle.qw_typer.specs.Typed.{HasFewItems, IsWithin, Means, columns_from, conjuncts, conjuncts_of, item_names, items_meant, list_faults, result_names, scope_of, selected_faults}
+use Rattle.qw_typer.specs.Typed.{HasFewItems, IsWithin, Means, columns_from, conjuncts_of, item_names, items_meant, list_faults, result_names, scope_of, selected_faults}
 use Rattle.qw_typer.specs.declared.fault.FaultKind.{FaultKind}
 use Rattle.qw_typer.specs.declared.query.TypedSelect.{TypedSelect}
 use Rattle.qw_sink.specs.declared.sink.Head.{Head}
-use Rattle.qw_top.specs.Top.{AreAsked, Asked, AsksFor, IsAsked, IsHeader}
+use Rattle.qw_top.specs.Top.{AreAsked, AsksFor, IsHeader}
 use Rattle.qw_top.specs.Inner.Queries.{IsOver, asked_of, columns_of, head_of, heads_of}
 use Rattle.qw_top.proofs.ShortLemmas.{is_short}
 

@@ -13,7 +13,7 @@ use Rattle.qw_map.specs.Layout.{Layout}
 use Rattle.qw_emit.specs.Compiled.{IsCompiled}
 use Rattle.qw_bench.specs.Standing.{Standing}
 use Rattle.qw_bench.specs.declared.bench.Limits.{Limits}
-use Rattle.qw_words.specs.Words.{Command, run, compile, check, Reading, command, no_command, no_number, TextNames, reading}
+use Rattle.qw_words.specs.Words.{run, compile, check, Reading, command, no_command, no_number, TextNames, reading}
 use Rattle.qw_top.specs.Causes.{Cause, words_refused, statement_out_of_range, schema_too_long, schema_refused, queries_too_long, queries_refused, queries_mistyped, no_statement, module_too_long, module_refused, status_of_cause}
 use Rattle.qw_top.specs.Delivered.{CommandNotes, LeavesBench, LeavesNothing, RunLeaves}
 use Rattle.qw_top.specs.Limits.{most_module_octets, most_text_octets}

@@ -2,7 +2,7 @@ use Rattle.std.proofs.Common.{map}
 use Rattle.std.proofs.lemmas.Result.{err_from_is_err_and}
 use Rattle.qw_words.specs.Read.{names_of}
 use Rattle.qw_top.specs.Inner.Queries.{asked_of}
-use Rattle.qw_top.proofs.BenchLemmas.{accepted_contents, accepted_few, accepted_run, accepted_stops}
+use Rattle.qw_top.proofs.BenchLemmas.{accepted_contents, accepted_few, accepted_stops}
 use Rattle.qw_top.proofs.top.run.run.Goals as goal
 
 pub finished-requires-clause-few : goal.finished-requires-clause-few
