@@ -10,10 +10,6 @@
 
 pub mod decode;
 pub mod encode;
-#[cfg(test)]
-mod encode_tests;
 pub mod laws;
 mod read;
-#[cfg(test)]
-mod tests;
 mod write;

@@ -16,6 +16,3 @@ pub use column_map::ColumnMap;
 pub use columns::{PlaceFault, place};
 pub use reading::value_at;
 pub use room::pages_needed;
-
-#[cfg(test)]
-mod tests;

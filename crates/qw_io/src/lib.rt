@@ -29,6 +29,3 @@ pub use plain_sink::PlainSink;
 pub use shelf::Shelf;
 pub use sink::Sink;
 pub use std_sink::StdSink;
-
-#[cfg(test)]
-mod tests;

@@ -1,30 +1,54 @@
+ghost use Rattle.std.specs.Prelude.{◌≡◌, negsuc, [], ◌∷◌, IfOk};
+ghost use Rattle.qw_types.specs.declared.value.Ty.TheVariants as type;
+ghost use Rattle.qw_meaning.specs.declared.query.Comparison.TheVariants.{NotEqual};
+ghost use Rattle.qw_meaning.specs.Expression.{column, comparison, number};
+ghost use Rattle.qw_meaning.specs.Tree.{condition_of};
+
 use qw_compile::compile::compile;
 use qw_meaning::expression::{Cond, Expr};
 use qw_meaning::query::Comparison;
 use qw_meaning::select::Select;
-use qw_types::Ty;
+use qw_types::{NoMemory, Ty};
+use std::alloc::Global;
 use std::test::Fail;
 
-// No clause refuses a body that always wants memory, or says that the module would be too long: this test does.
-#[test]
-fn a_module_is_made(rt: HostRuntime) -> Result<(), Fail> {
-    let alloc = rt.alloc();
-    let types = vec![in alloc; Ty::Integer, Ty::Integer, Ty::Integer]?;
+/// The second column <> -5.
+fn conjunct(alloc: Global) -> Result<Cond, NoMemory>
+    ensures { IfOk result (λ made. condition_of made ≡ comparison NotEqual (column 1 type.Integer) (number (negsuc 4) 0)) }
+{
     let tested = Box::new(alloc, Expr::Column(1, Ty::Integer))?;
     let literal = Box::new(alloc, Expr::Number(-5, 0))?;
-    let conjuncts = vec![in alloc; Cond::Compare(Comparison::NotEqual, tested, literal)]?;
+    Ok(Cond::Compare(Comparison::NotEqual, tested, literal))
+}
+
+/// Of three columns the third, the first and the third again, where the second is not -5.
+fn selection(alloc: Global) -> Result<Select, NoMemory>
+    ensures { IfOk result (λ select. select.types ≡ type.Integer ∷ type.Integer ∷ type.Integer ∷ []) }
+{
+    let types = vec![in alloc; Ty::Integer, Ty::Integer, Ty::Integer]?;
+    let conjuncts = vec![in alloc; conjunct(alloc)?]?;
     let items = vec![in alloc;
         Expr::Column(2, Ty::Integer),
         Expr::Column(0, Ty::Integer),
         Expr::Column(2, Ty::Integer),
     ]?;
-    let select = Select::new(5, types, conjuncts, items);
-    let compiled = compile(alloc, &select, &[true, false, true])?;
-    assert_eq!(rt; compiled.module.imports.len(), 2);
-    assert_eq!(rt; compiled.module.functions.len(), 1);
-    assert_eq!(rt; compiled.module.exports.len(), 1);
-    assert_eq!(rt; compiled.layout.columns().len(), 3);
-    assert_eq!(rt; compiled.layout.literals().len(), 0);
-    assert_eq!(rt; compiled.layout.cells().len(), 3);
+    Ok(Select::new(5, types, conjuncts, items))
+}
+
+// No clause refuses a body that always wants memory, or says that the module would be too long: this test does.
+#[test]
+fn a_module_is_made(rt: HostRuntime) -> Result<(), Fail> {
+    let select = selection(rt.alloc())?;
+    let compiled = compile(rt.alloc(), &select, &[true, false, true])?;
+    let (module, layout) = (&compiled.module, &compiled.layout);
+    let parts = [
+        module.imports.len(),
+        module.functions.len(),
+        module.exports.len(),
+        layout.columns().len(),
+        layout.literals().len(),
+        layout.cells().len(),
+    ];
+    assert_eq!(rt; parts, [2, 1, 1, 3, 0, 3]);
     Ok(())
 }

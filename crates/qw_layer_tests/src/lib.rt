@@ -3,6 +3,10 @@
 #![tactic(auto)]
 
 #[cfg(test)]
+mod assertions;
+#[cfg(test)]
+mod columns;
+#[cfg(test)]
 mod emitted_modules;
 #[cfg(test)]
 mod exact_comparisons;
@@ -14,6 +18,8 @@ mod linear_memory;
 mod plain_rows;
 #[cfg(test)]
 mod scripts;
+#[cfg(test)]
+mod sources_and_sinks;
 #[cfg(test)]
 mod texts;
 #[cfg(test)]

@@ -2,10 +2,13 @@
 
 mod shown;
 
-use crate::texts::repeated;
+use crate::assertions::assert_octets;
+use crate::texts::joined;
 use qw_script::fault::{Count, ParseFault};
 use qw_script::script::script_of;
 use shown::shown;
+use std::alloc::Global;
+use std::process::Abort;
 use std::test::Fail;
 
 // Scripts of one statement, and what it says.
@@ -254,279 +257,383 @@ const NO_SELECTS: [&str; 52] = [
     "SELECT SUM(a) FROM t",
 ];
 
-/// The fault of the text.
-fn fault_of(rt: &HostRuntime, text: &str) -> Option<ParseFault> {
-    script_of(rt.alloc(), text.as_bytes()).err()
+const NO_QUERY: Option<ParseFault> = Some(ParseFault::NotGrammar { statement: 1 });
+
+const TOO_DEEP: Option<ParseFault> = Some(ParseFault::TooDeep { statement: 1 });
+
+const TOO_MANY_STATEMENTS: Option<ParseFault> = Some(ParseFault::TooMany {
+    statement: 1,
+    what: Count::Statements,
+    limit: 64,
+});
+
+const TOO_MANY_ITEMS: Option<ParseFault> = Some(ParseFault::TooMany {
+    statement: 1,
+    what: Count::SelectItems,
+    limit: 64,
+});
+
+const TOO_MANY_NODES: Option<ParseFault> = Some(ParseFault::TooMany {
+    statement: 1,
+    what: Count::Nodes,
+    limit: 1000,
+});
+
+const TOO_MANY_OCTETS: Option<ParseFault> = Some(ParseFault::TooMany {
+    statement: 1,
+    what: Count::LiteralOctets,
+    limit: 16_384,
+});
+
+/// The parts of a text, each with how often it stands there, and why the text is no script, if it is none.
+type Case = (&'static [(&'static str, usize)], Option<ParseFault>);
+
+const STATEMENTS: [Case; 4] = [
+    (&[("SELECT a FROM t;", 64)], None),
+    (&[("SELECT a FROM t;", 65)], TOO_MANY_STATEMENTS),
+    (&[(";", 65)], TOO_MANY_STATEMENTS),
+    (&[(";", 64)], NO_QUERY),
+];
+
+const ITEMS: [Case; 2] = [
+    (&[("SELECT ", 1), ("a, ", 63), ("a FROM t", 1)], None),
+    (
+        &[("SELECT ", 1), ("a, ", 64), ("a FROM t", 1)],
+        TOO_MANY_ITEMS,
+    ),
+];
+
+const NODES: [Case; 9] = [
+    // A sign, 500 literals and 499 operators; 501 literals and 500 operators.
+    (&[("SELECT -1", 1), ("+1", 499), (" FROM t", 1)], None),
+    (
+        &[("SELECT 1", 1), ("+1", 500), (" FROM t", 1)],
+        TOO_MANY_NODES,
+    ),
+    // A sign and a literal, 249 tests of three nodes, one of two, and an AND between each two; and a literal more.
+    (
+        &[
+            ("SELECT -1 FROM t WHERE ", 1),
+            ("a = 1 AND ", 249),
+            ("\"b\" IS NULL", 1),
+        ],
+        None,
+    ),
+    (
+        &[
+            ("SELECT -1, 1 FROM t WHERE ", 1),
+            ("a = 1 AND ", 249),
+            ("\"b\" IS NULL", 1),
+        ],
+        TOO_MANY_NODES,
+    ),
+    // Brackets are no nodes, nor is NULL as a result; a date with its intervals is one.
+    (&[("SELECT -1", 1), ("+(1)", 499), (" FROM t", 1)], None),
+    (
+        &[
+            ("SELECT a, DATE 'd' - INTERVAL '1' DAY", 1),
+            ("*1", 499),
+            (" FROM t", 1),
+        ],
+        None,
+    ),
+    (
+        &[
+            ("SELECT DATE 'd' - INTERVAL '1' DAY", 1),
+            ("*1", 499),
+            (" FROM t WHERE 1 IS NULL", 1),
+        ],
+        TOO_MANY_NODES,
+    ),
+    // 989 + 1 + 4 + 4 + 3, one more than are taken.
+    (
+        &[
+            ("SELECT COALESCE(1", 1),
+            (",1", 987),
+            (
+                ") FROM t WHERE CASE WHEN a = 1 THEN NULL END NOT IN (1, 2, 3, 4, NULLIF(a, b))",
+                1,
+            ),
+        ],
+        TOO_MANY_NODES,
+    ),
+    (
+        &[
+            ("SELECT COALESCE(1", 1),
+            (",1", 986),
+            (
+                ") FROM t WHERE CASE WHEN a = 1 THEN NULL END NOT IN (1, 2, 3, 4, NULLIF(a, b))",
+                1,
+            ),
+        ],
+        None,
+    ),
+];
+
+const CHAINS: [Case; 4] = [
+    (
+        &[("SELECT 1", 1), ("+1", 20_000), (" FROM t", 1)],
+        TOO_MANY_NODES,
+    ),
+    (
+        &[("SELECT 1 FROM t WHERE a = 1", 1), (" AND a = 1", 20_000)],
+        TOO_MANY_NODES,
+    ),
+    (
+        &[
+            ("SELECT 1 FROM t WHERE a IN (1", 1),
+            (",1", 20_000),
+            (")", 1),
+        ],
+        TOO_MANY_NODES,
+    ),
+    (
+        &[
+            ("SELECT CASE a", 1),
+            (" WHEN 1 THEN 2", 20_000),
+            (" END FROM t", 1),
+        ],
+        TOO_MANY_NODES,
+    ),
+];
+
+const LITERAL_OCTETS: [Case; 6] = [
+    (&[("SELECT '", 1), ("x", 16_384), ("' FROM t", 1)], None),
+    (
+        &[("SELECT '", 1), ("x", 16_385), ("' FROM t", 1)],
+        TOO_MANY_OCTETS,
+    ),
+    // Two quotes are one octet.
+    (&[("SELECT '", 1), ("''", 16_384), ("' FROM t", 1)], None),
+    // Over two strings, one of them in the condition.
+    (
+        &[
+            ("SELECT '", 1),
+            ("x", 16_383),
+            ("' FROM t WHERE a = '''' OR b = ''", 1),
+        ],
+        None,
+    ),
+    (
+        &[
+            ("SELECT '", 1),
+            ("x", 16_383),
+            ("' FROM t WHERE a = '''' OR b = '-'", 1),
+        ],
+        TOO_MANY_OCTETS,
+    ),
+    // Those of dates don't count, nor those of delimited names.
+    (
+        &[
+            (
+                "SELECT \"xx\" FROM t WHERE DATE 'xx' + INTERVAL 'yy' DAY = '",
+                1,
+            ),
+            ("x", 16_384),
+            ("'", 1),
+        ],
+        None,
+    ),
+];
+
+const LEVELS: [Case; 4] = [
+    (
+        &[
+            ("SELECT ", 1),
+            ("(", 32),
+            ("a", 1),
+            (")", 32),
+            (" FROM t WHERE ", 1),
+            ("(", 32),
+            ("a = 1", 1),
+            (")", 32),
+        ],
+        None,
+    ),
+    (
+        &[
+            ("SELECT (", 1),
+            ("(", 32),
+            ("a", 1),
+            (")", 32),
+            (") FROM t", 1),
+        ],
+        TOO_DEEP,
+    ),
+    (
+        &[
+            ("SELECT ", 1),
+            ("CASE WHEN a = 1 THEN ", 32),
+            ("1", 1),
+            (" END", 32),
+            (" FROM t", 1),
+        ],
+        None,
+    ),
+    (
+        &[
+            ("SELECT (", 1),
+            ("CASE WHEN a = 1 THEN ", 32),
+            ("1", 1),
+            (" END", 32),
+            (") FROM t", 1),
+        ],
+        TOO_DEEP,
+    ),
+];
+
+const FIRST_FAULTS: [Case; 10] = [
+    // A fault of a later kind in an earlier statement comes first.
+    (
+        &[("SELECT '", 1), ("x", 16_385), ("' FROM t; ", 1), ("(", 33)],
+        TOO_MANY_OCTETS,
+    ),
+    (
+        &[("SELECT ", 1), ("1 + ", 500), ("1 FROM t; SELECT", 1)],
+        TOO_MANY_NODES,
+    ),
+    (&[("SELECT; ", 1), ("(", 33)], NO_QUERY),
+    // One of an earlier kind in the first statement does so anyhow.
+    (&[("(", 33), ("; SELECT", 1)], TOO_DEEP),
+    (
+        &[
+            ("SELECT a FROM t; SELECT ", 1),
+            ("a, ", 64),
+            ("a FROM t; ", 1),
+            ("(", 33),
+        ],
+        Some(ParseFault::TooMany {
+            statement: 2,
+            what: Count::SelectItems,
+            limit: 64,
+        }),
+    ),
+    (
+        &[("SELECT a FROM t; SELECT b FROM t;; ", 1), ("(", 33)],
+        Some(ParseFault::NotGrammar { statement: 3 }),
+    ),
+    // What concerns all statements comes before them.
+    (
+        &[("(", 33), ("; SELECT ?", 1)],
+        Some(ParseFault::NotToken { at: 42 }),
+    ),
+    (&[("(", 33), (";", 65)], TOO_MANY_STATEMENTS),
+    // In one statement: items, nodes, octets.
+    (
+        &[
+            ("SELECT ", 1),
+            ("a, ", 64),
+            ("1", 1),
+            (" + 1", 500),
+            (" FROM t", 1),
+        ],
+        TOO_MANY_ITEMS,
+    ),
+    (
+        &[
+            ("SELECT '", 1),
+            ("x", 16_385),
+            ("'", 1),
+            (" + 1", 500),
+            (" FROM t", 1),
+        ],
+        TOO_MANY_NODES,
+    ),
+];
+
+/// The statements of a script, with a line feed between each two.
+fn lines(alloc: Global, text: &str) -> Result<Vec<u8>, Fail> {
+    let script = script_of(alloc, text.as_bytes())?;
+    let mut lines = Vec::new(alloc);
+    for statement in &script.statements {
+        if !lines.is_empty() {
+            lines.push(b'\n')?;
+        }
+        lines.extend_from_slice(&shown(alloc, statement)?)?;
+    }
+    Ok(lines)
 }
 
-/// The text between the two, so many times.
-fn between(
-    rt: &HostRuntime,
-    before: &str,
-    text: &str,
-    count: usize,
-    after: &str,
-) -> Result<String, Fail> {
-    let middle = repeated(rt, text, count)?;
-    Ok(format!(in rt.alloc(); "{before}{middle}{after}")?)
+/// Asserts what the statements of a script say.
+fn assert_lines(rt: &impl Abort, alloc: Global, text: &str, expected: &str) -> Result<(), Fail> {
+    assert_octets(rt, &lines(alloc, text)?, expected.as_bytes());
+    Ok(())
 }
 
-/// More than the limit of something in a statement.
-fn too_many(statement: usize, what: Count, limit: usize) -> Option<ParseFault> {
-    Some(ParseFault::TooMany {
-        statement,
-        what,
-        limit,
-    })
+/// Asserts why a text is no script, or that it is one.
+fn assert_fault(rt: &impl Abort, alloc: Global, text: &[u8], expected: Option<ParseFault>) {
+    assert_eq!(rt; script_of(alloc, text).err(), expected, "{text:?}");
+}
+
+/// Asserts of each case why its text is no script, or that it is one.
+fn assert_faults(rt: &impl Abort, alloc: Global, cases: &[Case]) -> Result<(), Fail> {
+    for &(parts, expected) in cases {
+        let text = joined(alloc, parts)?;
+        assert_fault(rt, alloc, text.as_bytes(), expected);
+    }
+    Ok(())
 }
 
 #[test]
 fn selects(rt: HostRuntime) -> Result<(), Fail> {
-    for (text, expected) in SELECTS {
-        let script = script_of(rt.alloc(), text.as_bytes())?;
-        assert_eq!(rt; script.statements.len(), 1, "{text}");
-        for statement in &script.statements {
-            let line = shown(rt.alloc(), statement)?;
-            assert_eq!(rt; line.as_slice(), expected.as_bytes(), "{text}");
-        }
+    for &(text, expected) in &SELECTS {
+        assert_lines(&rt, rt.alloc(), text, expected)?;
     }
     Ok(())
 }
 
 #[test]
-fn no_selects(rt: HostRuntime) -> Result<(), Fail> {
-    for text in NO_SELECTS {
-        let expected = Some(ParseFault::NotGrammar { statement: 1 });
-        assert_eq!(rt; fault_of(&rt, text), expected, "{text}");
+fn no_selects(rt: HostRuntime) {
+    for &text in &NO_SELECTS {
+        assert_fault(&rt, rt.alloc(), text.as_bytes(), NO_QUERY);
     }
-    Ok(())
 }
 
 #[test]
 fn statements_in_order(rt: HostRuntime) -> Result<(), Fail> {
-    let text = b"SELECT a FROM t; SELECT * FROM u WHERE a = 1;\nSELECT 'x;' FROM v -- ;\n";
-    let script = script_of(rt.alloc(), text)?;
-    let lines = ["a FROM t", "* FROM u WHERE a = 1", "'x;' FROM v"];
-    assert_eq!(rt; script.statements.len(), lines.len());
-    for (statement, expected) in script.statements.iter().zip(&lines) {
-        let line = shown(rt.alloc(), statement)?;
-        assert_eq!(rt; line.as_slice(), expected.as_bytes());
-    }
-    Ok(())
+    let text = "SELECT a FROM t; SELECT * FROM u WHERE a = 1;\nSELECT 'x;' FROM v -- ;\n";
+    let expected = "a FROM t\n* FROM u WHERE a = 1\n'x;' FROM v";
+    assert_lines(&rt, rt.alloc(), text, expected)
 }
 
 #[test]
 fn numbers_of_statements(rt: HostRuntime) -> Result<(), Fail> {
-    let most = repeated(&rt, "SELECT a FROM t;", 64)?;
+    assert_faults(&rt, rt.alloc(), &STATEMENTS)?;
+    let most = joined(rt.alloc(), &[("SELECT a FROM t;", 64)])?;
     let script = script_of(rt.alloc(), most.as_bytes())?;
     assert_eq!(rt; script.statements.len(), 64);
-    let more = repeated(&rt, "SELECT a FROM t;", 65)?;
-    let expected = too_many(1, Count::Statements, 64);
-    assert_eq!(rt; fault_of(&rt, &more), expected);
-    assert_eq!(rt; fault_of(&rt, &repeated(&rt, ";", 65)?), expected);
-    let empty = Some(ParseFault::NotGrammar { statement: 1 });
-    assert_eq!(rt; fault_of(&rt, &repeated(&rt, ";", 64)?), empty);
     Ok(())
 }
 
 #[test]
 fn numbers_of_items(rt: HostRuntime) -> Result<(), Fail> {
-    let most = between(&rt, "SELECT ", "a, ", 63, "a FROM t")?;
-    assert_eq!(rt; fault_of(&rt, &most), None);
-    let more = between(&rt, "SELECT ", "a, ", 64, "a FROM t")?;
-    assert_eq!(rt; fault_of(&rt, &more), too_many(1, Count::SelectItems, 64));
-    Ok(())
+    assert_faults(&rt, rt.alloc(), &ITEMS)
 }
 
 #[test]
 fn numbers_of_nodes(rt: HostRuntime) -> Result<(), Fail> {
-    let many = too_many(1, Count::Nodes, 1000);
-    // A sign, 500 literals and 499 operators; 501 literals and 500 operators.
-    let most = between(&rt, "SELECT -1", "+1", 499, " FROM t")?;
-    assert_eq!(rt; fault_of(&rt, &most), None);
-    let more = between(&rt, "SELECT 1", "+1", 500, " FROM t")?;
-    assert_eq!(rt; fault_of(&rt, &more), many);
-    // A sign and a literal, 249 tests of three nodes, one of two, and an AND between each two; and a literal more.
-    let most = between(
-        &rt,
-        "SELECT -1 FROM t WHERE ",
-        "a = 1 AND ",
-        249,
-        "\"b\" IS NULL",
-    )?;
-    assert_eq!(rt; fault_of(&rt, &most), None);
-    let more = between(
-        &rt,
-        "SELECT -1, 1 FROM t WHERE ",
-        "a = 1 AND ",
-        249,
-        "\"b\" IS NULL",
-    )?;
-    assert_eq!(rt; fault_of(&rt, &more), many);
-    // Brackets are no nodes, nor is NULL as a result; a date with its intervals is one.
-    let bracketed = between(&rt, "SELECT -1", "+(1)", 499, " FROM t")?;
-    assert_eq!(rt; fault_of(&rt, &bracketed), None);
-    let dates = between(
-        &rt,
-        "SELECT a, DATE 'd' - INTERVAL '1' DAY",
-        "*1",
-        499,
-        " FROM t",
-    )?;
-    assert_eq!(rt; fault_of(&rt, &dates), None);
-    let dates = between(
-        &rt,
-        "SELECT DATE 'd' - INTERVAL '1' DAY",
-        "*1",
-        499,
-        " FROM t WHERE 1 IS NULL",
-    )?;
-    assert_eq!(rt; fault_of(&rt, &dates), many);
-    let cases = between(
-        &rt,
-        "SELECT COALESCE(1",
-        ",1",
-        987,
-        ") FROM t WHERE CASE WHEN a = 1 THEN NULL END NOT IN (1, 2, 3, 4, NULLIF(a, b))",
-    )?;
-    // 989 + 1 + 4 + 4 + 3, one more than are taken.
-    assert_eq!(rt; fault_of(&rt, &cases), many);
-    let cases = between(
-        &rt,
-        "SELECT COALESCE(1",
-        ",1",
-        986,
-        ") FROM t WHERE CASE WHEN a = 1 THEN NULL END NOT IN (1, 2, 3, 4, NULLIF(a, b))",
-    )?;
-    assert_eq!(rt; fault_of(&rt, &cases), None);
-    Ok(())
+    assert_faults(&rt, rt.alloc(), &NODES)
 }
 
 #[test]
 fn long_chains(rt: HostRuntime) -> Result<(), Fail> {
-    let many = too_many(1, Count::Nodes, 1000);
-    let sum = between(&rt, "SELECT 1", "+1", 20_000, " FROM t")?;
-    assert_eq!(rt; fault_of(&rt, &sum), many);
-    let tests = between(&rt, "SELECT 1 FROM t WHERE a = 1", " AND a = 1", 20_000, "")?;
-    assert_eq!(rt; fault_of(&rt, &tests), many);
-    let list = between(&rt, "SELECT 1 FROM t WHERE a IN (1", ",1", 20_000, ")")?;
-    assert_eq!(rt; fault_of(&rt, &list), many);
-    let branches = between(
-        &rt,
-        "SELECT CASE a",
-        " WHEN 1 THEN 2",
-        20_000,
-        " END FROM t",
-    )?;
-    assert_eq!(rt; fault_of(&rt, &branches), many);
-    Ok(())
+    assert_faults(&rt, rt.alloc(), &CHAINS)
 }
 
 #[test]
 fn numbers_of_literal_octets(rt: HostRuntime) -> Result<(), Fail> {
-    let many = too_many(1, Count::LiteralOctets, 16_384);
-    let most = between(&rt, "SELECT '", "x", 16_384, "' FROM t")?;
-    assert_eq!(rt; fault_of(&rt, &most), None);
-    let more = between(&rt, "SELECT '", "x", 16_385, "' FROM t")?;
-    assert_eq!(rt; fault_of(&rt, &more), many);
-    // Two quotes are one octet.
-    let most = between(&rt, "SELECT '", "''", 16_384, "' FROM t")?;
-    assert_eq!(rt; fault_of(&rt, &most), None);
-    // Over two strings, one of them in the condition.
-    let most = between(
-        &rt,
-        "SELECT '",
-        "x",
-        16_383,
-        "' FROM t WHERE a = '''' OR b = ''",
-    )?;
-    assert_eq!(rt; fault_of(&rt, &most), None);
-    let more = between(
-        &rt,
-        "SELECT '",
-        "x",
-        16_383,
-        "' FROM t WHERE a = '''' OR b = '-'",
-    )?;
-    assert_eq!(rt; fault_of(&rt, &more), many);
-    // Those of dates don't count, nor those of delimited names.
-    let dates = between(
-        &rt,
-        "SELECT \"xx\" FROM t WHERE DATE 'xx' + INTERVAL 'yy' DAY = '",
-        "x",
-        16_384,
-        "'",
-    )?;
-    assert_eq!(rt; fault_of(&rt, &dates), None);
-    Ok(())
+    assert_faults(&rt, rt.alloc(), &LITERAL_OCTETS)
 }
 
 #[test]
 fn levels(rt: HostRuntime) -> Result<(), Fail> {
-    let too_deep = Some(ParseFault::TooDeep { statement: 1 });
-    let open = repeated(&rt, "(", 32)?;
-    let close = repeated(&rt, ")", 32)?;
-    let most = format!(in rt.alloc(); "SELECT {open}a{close} FROM t WHERE {open}a = 1{close}")?;
-    assert_eq!(rt; fault_of(&rt, &most), None);
-    let more = format!(in rt.alloc(); "SELECT ({open}a{close}) FROM t")?;
-    assert_eq!(rt; fault_of(&rt, &more), too_deep);
-    let open = repeated(&rt, "CASE WHEN a = 1 THEN ", 32)?;
-    let close = repeated(&rt, " END", 32)?;
-    let most = format!(in rt.alloc(); "SELECT {open}1{close} FROM t")?;
-    assert_eq!(rt; fault_of(&rt, &most), None);
-    let more = format!(in rt.alloc(); "SELECT ({open}1{close}) FROM t")?;
-    assert_eq!(rt; fault_of(&rt, &more), too_deep);
-    Ok(())
+    assert_faults(&rt, rt.alloc(), &LEVELS)
 }
 
 #[test]
 fn first_faults(rt: HostRuntime) -> Result<(), Fail> {
-    let deep = repeated(&rt, "(", 33)?;
-    let items = between(&rt, "SELECT ", "a, ", 64, "a FROM t")?;
-    let nodes = between(&rt, "SELECT ", "1 + ", 500, "1 FROM t")?;
-    let octets = between(&rt, "SELECT '", "x", 16_385, "' FROM t")?;
-    let too_deep = Some(ParseFault::TooDeep { statement: 1 });
-    // A fault of a later kind in an earlier statement comes first.
-    let text = format!(in rt.alloc(); "{octets}; {deep}")?;
-    assert_eq!(rt;
-        fault_of(&rt, &text),
-        too_many(1, Count::LiteralOctets, 16_384)
-    );
-    let text = format!(in rt.alloc(); "{nodes}; SELECT")?;
-    assert_eq!(rt; fault_of(&rt, &text), too_many(1, Count::Nodes, 1000));
-    let text = format!(in rt.alloc(); "SELECT; {deep}")?;
-    assert_eq!(rt;
-        fault_of(&rt, &text),
-        Some(ParseFault::NotGrammar { statement: 1 })
-    );
-    // One of an earlier kind in the first statement does so anyhow.
-    let text = format!(in rt.alloc(); "{deep}; SELECT")?;
-    assert_eq!(rt; fault_of(&rt, &text), too_deep);
-    let text = format!(in rt.alloc(); "SELECT a FROM t; {items}; {deep}")?;
-    assert_eq!(rt; fault_of(&rt, &text), too_many(2, Count::SelectItems, 64));
-    let text = format!(in rt.alloc(); "SELECT a FROM t; SELECT b FROM t;; {deep}")?;
-    assert_eq!(rt;
-        fault_of(&rt, &text),
-        Some(ParseFault::NotGrammar { statement: 3 })
-    );
-    // What concerns all statements comes before them.
-    let text = format!(in rt.alloc(); "{deep}; SELECT ?")?;
-    let at = 33 + "; SELECT ".len();
-    assert_eq!(rt; fault_of(&rt, &text), Some(ParseFault::NotToken { at }));
-    let text = between(&rt, &deep, ";", 65, "")?;
-    assert_eq!(rt; fault_of(&rt, &text), too_many(1, Count::Statements, 64));
-    let text = b"SELECT ?; '\xFF'";
-    assert_eq!(rt;
-        script_of(rt.alloc(), text).err(),
-        Some(ParseFault::NotUtf8)
-    );
-    // In one statement: items, nodes, octets.
-    let many = between(&rt, "SELECT ", "a, ", 64, "1")?;
-    let sum = between(&rt, "", " + 1", 500, " FROM t")?;
-    let text = format!(in rt.alloc(); "{many}{sum}")?;
-    assert_eq!(rt; fault_of(&rt, &text), too_many(1, Count::SelectItems, 64));
-    let string = between(&rt, "SELECT '", "x", 16_385, "'")?;
-    let text = format!(in rt.alloc(); "{string}{sum}")?;
-    assert_eq!(rt; fault_of(&rt, &text), too_many(1, Count::Nodes, 1000));
+    assert_faults(&rt, rt.alloc(), &FIRST_FAULTS)?;
+    let not_utf8 = Some(ParseFault::NotUtf8);
+    assert_fault(&rt, rt.alloc(), b"SELECT ?; '\xFF'", not_utf8);
     Ok(())
 }

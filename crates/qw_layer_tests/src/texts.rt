@@ -1,40 +1,55 @@
+use crate::assertions::assert_text;
 use qw_parse::parse::{Count, SchemaFault, schema_of};
-use qw_types::{Column, Schema, Ty};
+use qw_types::{Column, Table, Ty};
+use std::alloc::{AllocError, Global};
+use std::process::Abort;
 use std::test::Fail;
 
-// Schemas of a table T, and the names of its columns.
-const SCHEMAS: [(&[u8], &[&str]); 11] = [
-    (b"CREATE TABLE T ( A INTEGER NOT NULL )", &["A"]),
-    (b"create table t(a integer not null);", &["A"]),
+// Schemas of a table T, and the table.
+const SCHEMAS: [(&str, &str); 11] = [
     (
-        b"\xEF\xBB\xBFCreate Table T\r\n(\tA\r\nInteger Not Null\n)\n;\n",
-        &["A"],
-    ),
-    (b"CREATE TABLE T(A INTEGER NOT NULL) ;", &["A"]),
-    (
-        b"-- one\nCREATE TABLE T ( A INTEGER -- two\nNOT NULL ) -- comment",
-        &["A"],
-    ),
-    (b"  CREATE TABLE t ( a INTEGER NOT NULL )  ", &["A"]),
-    (
-        b"CREATE TABLE T(B INTEGER NOT NULL,A INTEGER NOT NULL)",
-        &["B", "A"],
+        "CREATE TABLE T ( A INTEGER NOT NULL )",
+        "T(A INTEGER NOT NULL)",
     ),
     (
-        b"CREATE TABLE T ( a INTEGER NOT NULL , bC2_ INTEGER NOT NULL , c INTEGER NOT NULL );",
-        &["A", "BC2_", "C"],
+        "create table t(a integer not null);",
+        "T(A INTEGER NOT NULL)",
     ),
     (
-        b"CREATE TABLE T ( T INTEGER NOT NULL, KEY INTEGER NOT NULL )",
-        &["T", "KEY"],
+        "\u{FEFF}Create Table T\r\n(\tA\r\nInteger Not Null\n)\n;\n",
+        "T(A INTEGER NOT NULL)",
     ),
     (
-        b"CREATE TABLE T ( A INTEGER NOT NULL, AA INTEGER NOT NULL )",
-        &["A", "AA"],
+        "CREATE TABLE T(A INTEGER NOT NULL) ;",
+        "T(A INTEGER NOT NULL)",
     ),
     (
-        b"CREATE TABLE T ( YEAR INTEGER NOT NULL, MONTH INTEGER NOT NULL, DAY INTEGER NOT NULL )",
-        &["YEAR", "MONTH", "DAY"],
+        "-- one\nCREATE TABLE T ( A INTEGER -- two\nNOT NULL ) -- comment",
+        "T(A INTEGER NOT NULL)",
+    ),
+    (
+        "  CREATE TABLE t ( a INTEGER NOT NULL )  ",
+        "T(A INTEGER NOT NULL)",
+    ),
+    (
+        "CREATE TABLE T(B INTEGER NOT NULL,A INTEGER NOT NULL)",
+        "T(B INTEGER NOT NULL,A INTEGER NOT NULL)",
+    ),
+    (
+        "CREATE TABLE T ( a INTEGER NOT NULL , bC2_ INTEGER NOT NULL , c INTEGER NOT NULL );",
+        "T(A INTEGER NOT NULL,BC2_ INTEGER NOT NULL,C INTEGER NOT NULL)",
+    ),
+    (
+        "CREATE TABLE T ( T INTEGER NOT NULL, KEY INTEGER NOT NULL )",
+        "T(T INTEGER NOT NULL,KEY INTEGER NOT NULL)",
+    ),
+    (
+        "CREATE TABLE T ( A INTEGER NOT NULL, AA INTEGER NOT NULL )",
+        "T(A INTEGER NOT NULL,AA INTEGER NOT NULL)",
+    ),
+    (
+        "CREATE TABLE T ( YEAR INTEGER NOT NULL, MONTH INTEGER NOT NULL, DAY INTEGER NOT NULL )",
+        "T(YEAR INTEGER NOT NULL,MONTH INTEGER NOT NULL,DAY INTEGER NOT NULL)",
     ),
 ];
 
@@ -309,223 +324,242 @@ const RESERVED: &str =
     INTEGER INTERSECT INTERVAL IS JOIN LEFT LIKE MAX MIN NATURAL NOT NULL NULLIF NUMERIC ON \
     OR ORDER OUTER RIGHT SELECT SUM TABLE THEN TRUE UNION UNKNOWN USING VARCHAR WHEN WHERE";
 
-/// So many items, each after its number from 0 and with a comma between two, and a text before and behind them.
-pub(crate) fn listed(
-    rt: &HostRuntime,
-    before: &str,
-    count: usize,
-    item: &str,
-    after: &str,
-) -> Result<String, Fail> {
-    let mut text = String::new(rt.alloc());
-    text.push_str(before)?;
-    for number in 0..count {
-        if 0 < number {
-            text.push_str(", ")?;
+const NO_TABLE: SchemaFault = SchemaFault::NotGrammar { statement: 1 };
+
+const TOO_DEEP: SchemaFault = SchemaFault::TooDeep { statement: 1 };
+
+const TOO_MANY_TABLES: SchemaFault = SchemaFault::TooMany {
+    statement: 1,
+    what: Count::Tables,
+    limit: 32,
+};
+
+const TOO_MANY_COLUMNS: SchemaFault = SchemaFault::TooMany {
+    statement: 1,
+    what: Count::Columns,
+    limit: 64,
+};
+
+// Texts that open brackets or CASEs, as parts that each stand so many times, and why they are refused.
+const NESTED: [(&[(&str, usize)], SchemaFault); 14] = [
+    (&[("(", 32)], NO_TABLE),
+    (&[("(", 33)], TOO_DEEP),
+    (&[(") END ", 1), ("(", 32)], NO_TABLE),
+    (&[(") ", 1), ("(", 33)], TOO_DEEP),
+    (&[("(", 32), (" ) ( END (", 1)], NO_TABLE),
+    (
+        &[("CREATE TABLE T ( A INT ); ", 1), ("(", 33)],
+        SchemaFault::TooDeep { statement: 2 },
+    ),
+    (&[("(", 32), (";", 1), ("(", 32)], NO_TABLE),
+    (&[("case ", 32)], NO_TABLE),
+    (&[("case ", 33)], TOO_DEEP),
+    (&[(") END ", 1), ("case ", 32)], NO_TABLE),
+    (&[(") ", 1), ("case ", 33)], TOO_DEEP),
+    (&[("case ", 32), (" ) case  END case ", 1)], NO_TABLE),
+    (
+        &[("CREATE TABLE T ( A INT ); ", 1), ("case ", 33)],
+        SchemaFault::TooDeep { statement: 2 },
+    ),
+    (&[("case ", 32), (";", 1), ("case ", 32)], NO_TABLE),
+];
+
+/// Parts one after the other, each so many times.
+pub(crate) fn joined(alloc: Global, parts: &[(&str, usize)]) -> Result<String, AllocError> {
+    let mut text = String::new(alloc);
+    for &(part, count) in parts {
+        for _ in 0..count {
+            text.push_str(part)?;
         }
-        text.push_str(&format!(in rt.alloc(); "C{number}{item}")?)?;
     }
-    text.push_str(after)?;
     Ok(text)
 }
 
-/// A table of so many columns.
-pub(crate) fn table_text(rt: &HostRuntime, count: usize) -> Result<String, Fail> {
-    listed(rt, "CREATE TABLE T (", count, " INTEGER NOT NULL", ")")
+/// So many items, each with its number from 0 in its middle, and a text between each two.
+fn numbered(
+    alloc: Global,
+    count: usize,
+    between: &str,
+    before: &str,
+    after: &str,
+) -> Result<String, AllocError> {
+    let mut text = String::new(alloc);
+    for number in 0..count {
+        if 0 < number {
+            text.push_str(between)?;
+        }
+        text.push_str(&format!(in alloc; "{before}{number}{after}")?)?;
+    }
+    Ok(text)
+}
+
+/// The type as it could be declared.
+fn shown_type(alloc: Global, ty: Ty) -> Result<String, AllocError> {
+    match ty {
+        Ty::Integer => String::from_str(alloc, "INTEGER"),
+        Ty::Decimal { precision, scale } => format!(in alloc; "DECIMAL({precision},{scale})"),
+        Ty::Date => String::from_str(alloc, "DATE"),
+        Ty::Varchar { length } => format!(in alloc; "VARCHAR({length})"),
+    }
+}
+
+/// Adds the column as it could be declared.
+fn put_column(alloc: Global, text: &mut String, column: &Column) -> Result<(), AllocError> {
+    text.push_str(column.name.as_str())?;
+    text.push_str(" ")?;
+    text.push_str(&shown_type(alloc, column.ty)?)?;
+    if column.not_null {
+        text.push_str(" NOT NULL")?;
+    }
+    Ok(())
+}
+
+/// Adds the table as it could be declared.
+fn put_table(alloc: Global, text: &mut String, table: &Table) -> Result<(), AllocError> {
+    text.push_str(table.name.as_str())?;
+    let mut before = "(";
+    for column in table.columns.as_slice() {
+        text.push_str(before)?;
+        put_column(alloc, text, column)?;
+        before = ",";
+    }
+    text.push_str(")")
+}
+
+/// The tables that a text declares, as they could be declared.
+fn declared(alloc: Global, text: &str) -> Result<String, Fail> {
+    let schema = schema_of(alloc, text.as_bytes())?;
+    let mut tables = String::new(alloc);
+    for table in schema.as_slice() {
+        if !tables.is_empty() {
+            tables.push_str(";")?;
+        }
+        put_table(alloc, &mut tables, table)?;
+    }
+    Ok(tables)
+}
+
+/// Asserts the tables that a text declares.
+fn assert_declared(rt: &impl Abort, alloc: Global, text: &str, tables: &str) -> Result<(), Fail> {
+    assert_text(rt, &declared(alloc, text)?, tables);
+    Ok(())
+}
+
+/// Asserts why a text is refused.
+fn assert_refused(rt: &impl Abort, alloc: Global, text: &[u8], fault: SchemaFault) {
+    assert_eq!(rt; schema_of(alloc, text).err(), Some(fault), "{text:?}");
 }
 
 #[test]
 fn schema_texts(rt: HostRuntime) -> Result<(), Fail> {
-    for (text, names) in SCHEMAS {
-        let schema = schema_of(rt.alloc(), text)?;
-        assert_eq!(rt; schema.as_slice().len(), 1, "{text:?}");
-        for table in schema.as_slice() {
-            assert_eq!(rt; table.name.as_str(), "T", "{text:?}");
-            assert_eq!(rt; table.columns.as_slice().len(), names.len(), "{text:?}");
-            for (column, name) in table.columns.as_slice().iter().zip(names) {
-                assert_eq!(rt; column.name.as_str(), *name, "{text:?}");
-                assert_eq!(rt; column.ty, Ty::Integer);
-                assert!(rt; column.not_null);
-            }
-        }
+    for &(text, tables) in &SCHEMAS {
+        assert_declared(&rt, rt.alloc(), text, tables)?;
     }
     Ok(())
-}
-
-/// The column as it could be declared.
-fn shown_column(rt: &HostRuntime, column: &Column) -> Result<String, Fail> {
-    let name = column.name.as_str();
-    let null = if column.not_null { " NOT NULL" } else { "" };
-    Ok(match column.ty {
-        Ty::Integer => format!(in rt.alloc(); "{name} INTEGER{null}")?,
-        Ty::Decimal { precision, scale } => {
-            format!(in rt.alloc(); "{name} DECIMAL({precision},{scale}){null}")?
-        }
-        Ty::Date => format!(in rt.alloc(); "{name} DATE{null}")?,
-        Ty::Varchar { length } => format!(in rt.alloc(); "{name} VARCHAR({length}){null}")?,
-    })
-}
-
-/// The tables as they could be declared.
-fn shown(rt: &HostRuntime, schema: &Schema) -> Result<String, Fail> {
-    let mut text = String::new(rt.alloc());
-    for table in schema.as_slice() {
-        if !text.is_empty() {
-            text.push_str(";")?;
-        }
-        text.push_str(table.name.as_str())?;
-        let mut before = "(";
-        for column in table.columns.as_slice() {
-            text.push_str(before)?;
-            text.push_str(&shown_column(rt, column)?)?;
-            before = ",";
-        }
-        text.push_str(")")?;
-    }
-    Ok(text)
-}
-
-/// A text so many times.
-pub(crate) fn repeated(rt: &HostRuntime, text: &str, count: usize) -> Result<String, Fail> {
-    let mut all = String::new(rt.alloc());
-    for _ in 0..count {
-        all.push_str(text)?;
-    }
-    Ok(all)
 }
 
 #[test]
 fn declared_tables(rt: HostRuntime) -> Result<(), Fail> {
-    for (text, tables) in DECLARED {
-        let schema = schema_of(rt.alloc(), text.as_bytes())?;
-        assert_eq!(rt; shown(&rt, &schema)?.as_str(), tables, "{text}");
+    for &(text, tables) in &DECLARED {
+        assert_declared(&rt, rt.alloc(), text, tables)?;
     }
     Ok(())
 }
 
 #[test]
-fn refused_schemas(rt: HostRuntime) -> Result<(), Fail> {
-    for (text, expected) in REFUSED {
-        let fault = schema_of(rt.alloc(), text).err();
-        assert_eq!(rt; fault, Some(expected), "{text:?}");
+fn refused_schemas(rt: HostRuntime) {
+    for &(text, fault) in &REFUSED {
+        assert_refused(&rt, rt.alloc(), text, fault);
     }
-    Ok(())
 }
 
 /// So many tables.
-fn tables_text(rt: &HostRuntime, count: usize) -> Result<String, Fail> {
-    let mut text = String::new(rt.alloc());
-    for number in 0..count {
-        text.push_str(&format!(in rt.alloc(); "CREATE TABLE T{number} ( A INT );")?)?;
-    }
-    Ok(text)
+fn tables_text(alloc: Global, count: usize) -> Result<String, AllocError> {
+    numbered(alloc, count, "", "CREATE TABLE T", " ( A INT );")
 }
 
 #[test]
 fn numbers_of_tables(rt: HostRuntime) -> Result<(), Fail> {
-    let most = schema_of(rt.alloc(), tables_text(&rt, 32)?.as_bytes())?;
+    let most = schema_of(rt.alloc(), tables_text(rt.alloc(), 32)?.as_bytes())?;
     assert_eq!(rt; most.as_slice().len(), 32);
-    let too_many = SchemaFault::TooMany {
-        statement: 1,
-        what: Count::Tables,
-        limit: 32,
-    };
-    let mut more = tables_text(&rt, 33)?;
-    assert_eq!(rt;
-        schema_of(rt.alloc(), more.as_bytes()).err(),
-        Some(too_many)
-    );
+    let mut more = tables_text(rt.alloc(), 33)?;
+    assert_refused(&rt, rt.alloc(), more.as_bytes(), TOO_MANY_TABLES);
     more.push_str("x")?;
-    assert_eq!(rt;
-        schema_of(rt.alloc(), more.as_bytes()).err(),
-        Some(too_many)
-    );
-    let empty = repeated(&rt, ";", 33)?;
-    assert_eq!(rt;
-        schema_of(rt.alloc(), empty.as_bytes()).err(),
-        Some(too_many)
-    );
-    let empty = repeated(&rt, ";", 32)?;
-    let no_table = SchemaFault::NotGrammar { statement: 1 };
-    assert_eq!(rt;
-        schema_of(rt.alloc(), empty.as_bytes()).err(),
-        Some(no_table)
-    );
+    assert_refused(&rt, rt.alloc(), more.as_bytes(), TOO_MANY_TABLES);
+    Ok(())
+}
+
+#[test]
+fn numbers_of_empty_statements(rt: HostRuntime) -> Result<(), Fail> {
+    let more = joined(rt.alloc(), &[(";", 33)])?;
+    assert_refused(&rt, rt.alloc(), more.as_bytes(), TOO_MANY_TABLES);
+    let most = joined(rt.alloc(), &[(";", 32)])?;
+    assert_refused(&rt, rt.alloc(), most.as_bytes(), NO_TABLE);
     Ok(())
 }
 
 #[test]
 fn nested_brackets(rt: HostRuntime) -> Result<(), Fail> {
-    let no_table = Some(SchemaFault::NotGrammar { statement: 1 });
-    let too_deep = Some(SchemaFault::TooDeep { statement: 1 });
-    for opening in ["(", "case "] {
-        let most = repeated(&rt, opening, 32)?;
-        let more = repeated(&rt, opening, 33)?;
-        assert_eq!(rt; schema_of(rt.alloc(), most.as_bytes()).err(), no_table);
-        assert_eq!(rt; schema_of(rt.alloc(), more.as_bytes()).err(), too_deep);
-        let closed = format!(in rt.alloc(); ") END {most}")?;
-        assert_eq!(rt; schema_of(rt.alloc(), closed.as_bytes()).err(), no_table);
-        let closed = format!(in rt.alloc(); ") {more}")?;
-        assert_eq!(rt; schema_of(rt.alloc(), closed.as_bytes()).err(), too_deep);
-        let again = format!(in rt.alloc(); "{most} ) {opening} END {opening}")?;
-        assert_eq!(rt; schema_of(rt.alloc(), again.as_bytes()).err(), no_table);
-        let second = format!(in rt.alloc(); "CREATE TABLE T ( A INT ); {more}")?;
-        let fault = schema_of(rt.alloc(), second.as_bytes()).err();
-        assert_eq!(rt; fault, Some(SchemaFault::TooDeep { statement: 2 }));
-        let halves = format!(in rt.alloc(); "{most};{most}")?;
-        assert_eq!(rt; schema_of(rt.alloc(), halves.as_bytes()).err(), no_table);
+    for &(parts, fault) in &NESTED {
+        let text = joined(rt.alloc(), parts)?;
+        assert_refused(&rt, rt.alloc(), text.as_bytes(), fault);
     }
     Ok(())
+}
+
+/// Asserts that a word is no name of a table or a column.
+fn assert_no_name(rt: &impl Abort, alloc: Global, word: &str) -> Result<(), Fail> {
+    let table = format!(in alloc; "CREATE TABLE {word} ( A INTEGER NOT NULL )")?;
+    assert_refused(rt, alloc, table.as_bytes(), NO_TABLE);
+    let column = format!(in alloc; "CREATE TABLE T ( {word} INTEGER NOT NULL )")?;
+    assert_refused(rt, alloc, column.as_bytes(), NO_TABLE);
+    Ok(())
+}
+
+/// Asserts that a word is the name of a column once it is delimited.
+fn assert_delimited_name(rt: &impl Abort, alloc: Global, word: &str) -> Result<(), Fail> {
+    let delimited = format!(in alloc; "CREATE TABLE T ( \"{word}\" INT )")?;
+    let tables = format!(in alloc; "T({word} INTEGER)")?;
+    assert_declared(rt, alloc, &delimited, &tables)
+}
+
+/// Asserts that a word of one character more names a table and a column.
+fn assert_longer_name(rt: &impl Abort, alloc: Global, word: &str) -> Result<(), Fail> {
+    let longer = format!(in alloc; "CREATE TABLE {word}_ ( {word}_ INTEGER NOT NULL )")?;
+    let tables = format!(in alloc; "{word}_({word}_ INTEGER NOT NULL)")?;
+    assert_declared(rt, alloc, &longer, &tables)
 }
 
 #[test]
 fn reserved_words(rt: HostRuntime) -> Result<(), Fail> {
     assert_eq!(rt; RESERVED.split(' ').count(), 60);
     for word in RESERVED.split(' ') {
-        let table = format!(in rt.alloc(); "CREATE TABLE {word} ( A INTEGER NOT NULL )")?;
-        let column = format!(in rt.alloc(); "CREATE TABLE T ( {word} INTEGER NOT NULL )")?;
-        for text in [table, column] {
-            let fault = schema_of(rt.alloc(), text.as_bytes()).err();
-            assert_eq!(rt;
-                fault,
-                Some(SchemaFault::NotGrammar { statement: 1 }),
-                "{text}"
-            );
-        }
-        let delimited = format!(in rt.alloc(); "CREATE TABLE T ( \"{word}\" INT )")?;
-        let schema = schema_of(rt.alloc(), delimited.as_bytes())?;
-        let expected = format!(in rt.alloc(); "T({word} INTEGER)")?;
-        assert_eq!(rt; shown(&rt, &schema)?.as_str(), expected.as_str(), "{word}");
-        let longer = format!(in rt.alloc(); "CREATE TABLE {word}_ ( {word}_ INTEGER NOT NULL )")?;
-        let schema = schema_of(rt.alloc(), longer.as_bytes())?;
-        assert_eq!(rt; schema.as_slice().len(), 1, "{longer}");
+        assert_no_name(&rt, rt.alloc(), word)?;
+        assert_delimited_name(&rt, rt.alloc(), word)?;
+        assert_longer_name(&rt, rt.alloc(), word)?;
     }
     Ok(())
 }
 
+/// A table of so many columns of a type, behind the columns that are given.
+fn wide_table(alloc: Global, first: &str, count: usize, ty: &str) -> Result<String, AllocError> {
+    let mut text = String::from_str(alloc, "CREATE TABLE T (")?;
+    text.push_str(first)?;
+    text.push_str(&numbered(alloc, count, ", ", "C", ty)?)?;
+    text.push_str(")")?;
+    Ok(text)
+}
+
 #[test]
 fn numbers_of_columns(rt: HostRuntime) -> Result<(), Fail> {
-    let most = schema_of(rt.alloc(), table_text(&rt, 64)?.as_bytes())?;
-    for table in most.as_slice() {
+    let most = wide_table(rt.alloc(), "", 64, " INTEGER NOT NULL")?;
+    let schema = schema_of(rt.alloc(), most.as_bytes())?;
+    for table in schema.as_slice() {
         assert_eq!(rt; table.columns.as_slice().len(), 64);
     }
-    let fault = schema_of(rt.alloc(), table_text(&rt, 65)?.as_bytes()).err();
-    let too_many = SchemaFault::TooMany {
-        statement: 1,
-        what: Count::Columns,
-        limit: 64,
-    };
-    assert_eq!(rt; fault, Some(too_many));
-    let twice = listed(
-        &rt,
-        "CREATE TABLE T (A INT, A INT, ",
-        64,
-        " VARCHAR(0)",
-        ")",
-    )?;
-    assert_eq!(rt;
-        schema_of(rt.alloc(), twice.as_bytes()).err(),
-        Some(too_many)
-    );
+    let more = wide_table(rt.alloc(), "", 65, " INTEGER NOT NULL")?;
+    assert_refused(&rt, rt.alloc(), more.as_bytes(), TOO_MANY_COLUMNS);
+    let twice = wide_table(rt.alloc(), "A INT, A INT, ", 64, " VARCHAR(0)")?;
+    assert_refused(&rt, rt.alloc(), twice.as_bytes(), TOO_MANY_COLUMNS);
     Ok(())
 }

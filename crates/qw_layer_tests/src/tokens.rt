@@ -1,4 +1,7 @@
+use crate::assertions::assert_octets;
 use qw_token::token::{Kind, TokenFault, tokens};
+use std::alloc::Global;
+use std::process::Abort;
 use std::test::Fail;
 
 // A text, and its tokens.
@@ -81,27 +84,23 @@ const STOPS: [(&[u8], usize); 22] = [
     (b"a \xC3\xA9", 2),
 ];
 
+const NOT_UTF8: [&[u8]; 2] = [b"a \xFF", b"--\xFF"];
+
 /// Where a text stops, if it does.
-fn stop(rt: &HostRuntime, text: &[u8]) -> Result<(), TokenFault> {
-    tokens(rt.alloc(), text)?;
+fn stop(alloc: Global, text: &[u8]) -> Result<(), TokenFault> {
+    tokens(alloc, text)?;
     Ok(())
 }
 
-#[test]
-fn tokens_of_a_text(rt: HostRuntime) -> Result<(), Fail> {
-    let found = tokens(rt.alloc(), TEXT)?;
-    assert_eq!(rt; found.len(), TOKENS.len());
-    for (token, (kind, octets)) in found.as_slice().iter().zip(TOKENS) {
-        assert_eq!(rt; token.kind, kind);
-        assert_eq!(rt; token.octets, octets);
-    }
-    Ok(())
+/// Asserts whether a text is read, or where it stops.
+fn assert_stop(rt: &impl Abort, alloc: Global, text: &[u8], answer: Result<(), TokenFault>) {
+    assert_eq!(rt; stop(alloc, text), answer, "{text:?}");
 }
 
 /// The octets of a text's tokens, each with a line feed after it.
-fn listed(rt: &HostRuntime, text: &[u8]) -> Result<Vec<u8>, Fail> {
-    let found = tokens(rt.alloc(), text)?;
-    let mut listed = Vec::new(rt.alloc());
+fn listed(alloc: Global, text: &[u8]) -> Result<Vec<u8>, Fail> {
+    let found = tokens(alloc, text)?;
+    let mut listed = Vec::new(alloc);
     for token in found.as_slice() {
         listed.extend_from_slice(token.octets)?;
         listed.push(b'\n')?;
@@ -110,27 +109,34 @@ fn listed(rt: &HostRuntime, text: &[u8]) -> Result<Vec<u8>, Fail> {
 }
 
 #[test]
-fn comments_between_tokens(rt: HostRuntime) -> Result<(), Fail> {
-    for (text, octets) in COMMENTS {
-        assert_eq!(rt; listed(&rt, text)?.as_slice(), octets, "{text:?}");
+fn tokens_of_a_text(rt: HostRuntime) -> Result<(), Fail> {
+    let found = tokens(rt.alloc(), TEXT)?;
+    assert_eq!(rt; found.len(), TOKENS.len());
+    for (token, (kind, octets)) in found.as_slice().iter().zip(&TOKENS) {
+        assert!(rt; token.kind == *kind);
+        assert_octets(&rt, token.octets, octets);
     }
     Ok(())
 }
 
 #[test]
-fn texts_at_the_edges(rt: HostRuntime) -> Result<(), Fail> {
-    for text in READ {
-        assert_eq!(rt; stop(&rt, text), Ok(()), "{text:?}");
-    }
-    for (text, at) in STOPS {
-        assert_eq!(rt;
-            stop(&rt, text),
-            Err(TokenFault::NotToken { at }),
-            "{text:?}"
-        );
-    }
-    for text in [b"a \xFF", b"--\xFF"] {
-        assert_eq!(rt; stop(&rt, text), Err(TokenFault::NotUtf8), "{text:?}");
+fn comments_between_tokens(rt: HostRuntime) -> Result<(), Fail> {
+    for &(text, octets) in &COMMENTS {
+        let listed = listed(rt.alloc(), text)?;
+        assert_octets(&rt, &listed, octets);
     }
     Ok(())
+}
+
+#[test]
+fn texts_at_the_edges(rt: HostRuntime) {
+    for &text in &READ {
+        assert_stop(&rt, rt.alloc(), text, Ok(()));
+    }
+    for &(text, at) in &STOPS {
+        assert_stop(&rt, rt.alloc(), text, Err(TokenFault::NotToken { at }));
+    }
+    for &text in &NOT_UTF8 {
+        assert_stop(&rt, rt.alloc(), text, Err(TokenFault::NotUtf8));
+    }
 }

@@ -8,16 +8,18 @@ ghost use Rattle.qw_types.specs.declared.kind.Kind.TheVariants as kind;
 ghost use Rattle.qw_types.specs.declared.value.Ty.TheVariants as type;
 ghost use Rattle.qw_meaning.specs.declared.expression.Operator.TheVariants.{Divide, Subtract};
 ghost use Rattle.qw_meaning.specs.declared.query.Comparison.TheVariants.{Equal, Greater};
-ghost use Rattle.qw_meaning.specs.Expression.{arithmetic, column, comparison, number, text};
+ghost use Rattle.qw_meaning.specs.Expression.{arithmetic, case, coalesced, column, comparison, last, more, negative, null_if, number, otherwise, text, when};
 ghost use Rattle.qw_meaning.specs.Select.{IsSpecification, specification_of};
 ghost use Rattle.qw_meaning.specs.Tree.{condition_of, expression_of};
 
+use crate::assertions::assert_text;
 use qw_meaning::Select;
 use qw_meaning::expression::{Branches, Cond, Expr, Exprs, Operator};
 use qw_meaning::outcome::{Answer, plain_outcome};
 use qw_meaning::query::Comparison;
 use qw_types::{NoMemory, Row, Text, Ty, Val};
 use std::alloc::Global;
+use std::process::Abort;
 use std::test::Fail;
 
 fn named(alloc: Global, text: &str) -> Result<Val, NoMemory>
@@ -41,25 +43,22 @@ fn item_types(alloc: Global) -> Result<Vec<Ty>, NoMemory>
     ]?)
 }
 
+/// A row of ITEM.
+fn item(alloc: Global, id: i64, price: Val, sold: Val, label: &str) -> Result<Row, NoMemory>
+    requires { IsTrue (fits id) × IsOfKind (kind.Number 2) price × IsOfKind kind.Date sold }
+    ensures { IfOk result (λ row. IsRowOf (map type_kind (type.Integer ∷ type.Decimal 9 2 ∷ type.Date ∷ type.Varchar 20 ∷ [])) row) }
+{
+    Ok(Row::new(vec![in alloc; Val::Num(id), price, sold, named(alloc, label)?]?))
+}
+
 /// The rows of ITEM.
 fn items(alloc: Global) -> Result<Vec<Row>, NoMemory>
     ensures { IfOk result (λ rows. AllByRecursion (IsRowOf (map type_kind (type.Integer ∷ type.Decimal 9 2 ∷ type.Date ∷ type.Varchar 20 ∷ []))) rows.items) }
 {
-    Ok(vec![in alloc;
-        Row::new(vec![in alloc;
-            Val::Num(1),
-            Val::Num(1000),
-            Val::Date(19_980_902),
-            named(alloc, "pen")?
-        ]?),
-        Row::new(vec![in alloc;
-            Val::Num(2),
-            Val::Null,
-            Val::Date(19_980_903),
-            named(alloc, "ink")?
-        ]?),
-        Row::new(vec![in alloc; Val::Num(3), Val::Num(50), Val::Null, named(alloc, "pen")?]?),
-    ]?)
+    let first = item(alloc, 1, Val::Num(1000), Val::Date(19_980_902), "pen")?;
+    let second = item(alloc, 2, Val::Null, Val::Date(19_980_903), "ink")?;
+    let third = item(alloc, 3, Val::Num(50), Val::Null, "pen")?;
+    Ok(vec![in alloc; first, second, third]?)
 }
 
 /// What a query over ITEM answers.
@@ -221,19 +220,37 @@ fn null_price(alloc: Global) -> Result<Answer, NoMemory> {
     )
 }
 
+/// `-7/2`.
+fn minus_seven_halves(alloc: Global) -> Result<Expr, NoMemory>
+    ensures { IfOk result (λ made. expression_of made ≡ arithmetic Divide (negative (number (pos 7) 0)) (number (pos 2) 0)) }
+{
+    let minus_seven = Box::new(alloc, Expr::Negative(integer(alloc, 7)?))?;
+    Ok(Expr::Arithmetic(Operator::Divide, minus_seven, integer(alloc, 2)?))
+}
+
+/// `7.00/2`.
+fn seven_halves(alloc: Global) -> Result<Expr, NoMemory>
+    ensures { IfOk result (λ made. expression_of made ≡ arithmetic Divide (number (pos 700) 2) (number (pos 2) 0)) }
+{
+    let seven = Box::new(alloc, Expr::Number(700, 2))?;
+    Ok(Expr::Arithmetic(Operator::Divide, seven, integer(alloc, 2)?))
+}
+
+/// `1/0.5`.
+fn one_by_a_half(alloc: Global) -> Result<Expr, NoMemory>
+    ensures { IfOk result (λ made. expression_of made ≡ arithmetic Divide (number (pos 1) 0) (number (pos 5) 1)) }
+{
+    let half = Box::new(alloc, Expr::Number(5, 1))?;
+    Ok(Expr::Arithmetic(Operator::Divide, integer(alloc, 1)?, half))
+}
+
 /// `SELECT -7/2, 7.00/2, 1/0.5 FROM ITEM WHERE ID = 1`.
 fn three_quotients(alloc: Global) -> Result<Answer, NoMemory> {
-    let minus_seven = Box::new(alloc, Expr::Negative(integer(alloc, 7)?))?;
-    let first = Expr::Arithmetic(Operator::Divide, minus_seven, integer(alloc, 2)?);
-    let seven = Box::new(alloc, Expr::Number(700, 2))?;
-    let second = Expr::Arithmetic(Operator::Divide, seven, integer(alloc, 2)?);
-    let half = Box::new(alloc, Expr::Number(5, 1))?;
-    let third = Expr::Arithmetic(Operator::Divide, integer(alloc, 1)?, half);
-    of_items(
-        alloc,
-        vec![in alloc; id_is(alloc, 1)?]?,
-        vec![in alloc; first, second, third]?,
-    )
+    let conjuncts = vec![in alloc; id_is(alloc, 1)?]?;
+    let first = minus_seven_halves(alloc)?;
+    let second = seven_halves(alloc)?;
+    let third = one_by_a_half(alloc)?;
+    of_items(alloc, conjuncts, vec![in alloc; first, second, third]?)
 }
 
 /// `SELECT ID FROM ITEM WHERE SOLD <= DATE '1998-12-01' - INTERVAL '90' DAY`, the interval folded.
@@ -244,18 +261,21 @@ fn sold_before(alloc: Global) -> Result<Answer, NoMemory> {
     of_items(alloc, vec![in alloc; test]?, only_id(alloc)?)
 }
 
-/// `SELECT CASE WHEN ID = 1 THEN 0 ELSE 10 / (ID - 1) END FROM ITEM WHERE ID = 1`.
-fn chosen_result(alloc: Global) -> Result<Answer, NoMemory> {
+/// `CASE WHEN ID = 1 THEN 0 ELSE 10 / (ID - 1) END`.
+fn zero_at_one(alloc: Global) -> Result<Expr, NoMemory>
+    ensures { IfOk result (λ made. expression_of made ≡ case (when (comparison Equal (column 0 type.Integer) (number (pos 1) 0)) (number (pos 0) 0) (otherwise (arithmetic Divide (number (pos 10) 0) (arithmetic Subtract (column 0 type.Integer) (number (pos 1) 0)))))) }
+{
     let quotient = by_id_less_one(alloc, integer(alloc, 10)?)?;
     let other = Box::new(alloc, Branches::Else(Box::new(alloc, quotient)?))?;
     let test = Box::new(alloc, id_is(alloc, 1)?)?;
     let branches = Branches::When(test, integer(alloc, 0)?, other);
-    let item = Expr::Case(Box::new(alloc, branches)?);
-    of_items(
-        alloc,
-        vec![in alloc; id_is(alloc, 1)?]?,
-        vec![in alloc; item]?,
-    )
+    Ok(Expr::Case(Box::new(alloc, branches)?))
+}
+
+/// `SELECT CASE WHEN ID = 1 THEN 0 ELSE 10 / (ID - 1) END FROM ITEM WHERE ID = 1`.
+fn chosen_result(alloc: Global) -> Result<Answer, NoMemory> {
+    let conjuncts = vec![in alloc; id_is(alloc, 1)?]?;
+    of_items(alloc, conjuncts, vec![in alloc; zero_at_one(alloc)?]?)
 }
 
 /// `SELECT ID FROM ITEM WHERE LABEL < 'm'`.
@@ -264,69 +284,90 @@ fn label_below(alloc: Global) -> Result<Answer, NoMemory> {
     of_items(alloc, vec![in alloc; test]?, only_id(alloc)?)
 }
 
+/// `NULLIF(LABEL, octets)`.
+fn label_unless(alloc: Global, octets: &str) -> Result<Expr, NoMemory>
+    ensures { IfOk result (λ made. expression_of made ≡ null_if (column 3 (type.Varchar 20)) (text octets.now)) }
+{
+    Ok(Expr::NullIf(label(alloc)?, literal(alloc, octets)?))
+}
+
+/// `COALESCE(NULLIF(LABEL, octets), other)`.
+fn label_or(alloc: Global, octets: &str, other: &str) -> Result<Expr, NoMemory>
+    ensures { IfOk result (λ made. expression_of made ≡ case (coalesced (more (null_if (column 3 (type.Varchar 20)) (text octets.now)) (last (text other.now))))) }
+{
+    let first = Box::new(alloc, label_unless(alloc, octets)?)?;
+    let rest = Box::new(alloc, Exprs::Last(literal(alloc, other)?))?;
+    Ok(Expr::Coalesce(Box::new(alloc, Exprs::More(first, rest))?))
+}
+
 /// `SELECT LABEL, NULLIF(LABEL, 'pen'), COALESCE(NULLIF(LABEL, 'pen'), 'none') FROM ITEM`.
 fn labels(alloc: Global) -> Result<Answer, NoMemory> {
     let item = Expr::Column(3, Ty::Varchar { length: 20 });
-    let not_pen = Expr::NullIf(label(alloc)?, literal(alloc, "pen")?);
-    let again = Box::new(alloc, Expr::NullIf(label(alloc)?, literal(alloc, "pen")?))?;
-    let none = Box::new(alloc, Exprs::Last(literal(alloc, "none")?))?;
-    let named = Expr::Coalesce(Box::new(alloc, Exprs::More(again, none))?);
-    of_items(
-        alloc,
-        vec![in alloc;]?,
-        vec![in alloc; item, not_pen, named]?,
-    )
+    let not_pen = label_unless(alloc, "pen")?;
+    let named = label_or(alloc, "pen", "none")?;
+    let items = vec![in alloc; item, not_pen, named]?;
+    of_items(alloc, vec![in alloc;]?, items)
 }
 
-/// Whether an answer prints so.
-fn prints(alloc: Global, answer: &Answer, wanted: &str) -> Result<bool, NoMemory> {
-    Ok(format!(in alloc; "{:?}", answer)?.as_str() == wanted)
+/// Asserts what an answer prints.
+fn assert_prints(
+    rt: &impl Abort,
+    alloc: Global,
+    answer: Result<Answer, NoMemory>,
+    expected: &str,
+) -> Result<(), Fail> {
+    let printed = format!(in alloc; "{:?}", answer?)?;
+    assert_text(rt, &printed, expected);
+    Ok(())
 }
 
 #[test]
 fn rows_of_numbers(rt: HostRuntime) -> Result<(), Fail> {
     let alloc = rt.alloc();
     let first = "Rows([Row { values: [Num(1)] }])";
-    let second = "Rows([Row { values: [Num(2)] }])";
     let third = "Rows([Row { values: [Num(3)] }])";
+    let null = "Rows([Row { values: [Null] }])";
     let quotients_at_one = "Rows([Row { values: [Num(-3), Num(350), Num(2)] }])";
-    assert!(rt; prints(alloc, &price_above_one(alloc)?, first)?);
-    assert!(rt; prints(alloc, &quotients(alloc)?, "Raises([DivZero])")?);
-    assert!(rt; prints(alloc, &guard_first(alloc)?, second)?);
-    assert!(rt; prints(alloc, &guard_last(alloc)?, "Raises([DivZero])")?);
-    assert!(rt; prints(alloc, &of_nothing(alloc)?, "Rows([])")?);
-    assert!(rt; prints(alloc, &not_among(alloc)?, third)?);
-    assert!(rt; prints(alloc, &null_price(alloc)?, "Rows([Row { values: [Null] }])")?);
-    assert!(rt; prints(alloc, &three_quotients(alloc)?, quotients_at_one)?);
-    assert!(rt; prints(alloc, &sold_before(alloc)?, first)?);
-    assert!(rt;
-        prints(
-            alloc,
-            &chosen_result(alloc)?,
-            "Rows([Row { values: [Num(0)] }])"
-        )?
-    );
-    Ok(())
+    assert_prints(&rt, alloc, price_above_one(alloc), first)?;
+    assert_prints(&rt, alloc, not_among(alloc), third)?;
+    assert_prints(&rt, alloc, null_price(alloc), null)?;
+    assert_prints(&rt, alloc, three_quotients(alloc), quotients_at_one)?;
+    assert_prints(&rt, alloc, sold_before(alloc), first)
+}
+
+#[test]
+fn rows_of_guarded_quotients(rt: HostRuntime) -> Result<(), Fail> {
+    let alloc = rt.alloc();
+    let raises = "Raises([DivZero])";
+    assert_prints(&rt, alloc, quotients(alloc), raises)?;
+    assert_prints(
+        &rt,
+        alloc,
+        guard_first(alloc),
+        "Rows([Row { values: [Num(2)] }])",
+    )?;
+    assert_prints(&rt, alloc, guard_last(alloc), raises)?;
+    assert_prints(&rt, alloc, of_nothing(alloc), "Rows([])")?;
+    assert_prints(
+        &rt,
+        alloc,
+        chosen_result(alloc),
+        "Rows([Row { values: [Num(0)] }])",
+    )
 }
 
 #[test]
 fn rows_of_texts(rt: HostRuntime) -> Result<(), Fail> {
     let alloc = rt.alloc();
-    assert!(rt;
-        prints(
-            alloc,
-            &label_below(alloc)?,
-            "Rows([Row { values: [Num(2)] }])"
-        )?
-    );
-    assert!(rt;
-        prints(
-            alloc,
-            &labels(alloc)?,
-            "Rows([Row { values: [Text(Text { text: \"pen\" }), Null, Text(Text { text: \"none\" })] }, \
+    let named =
+        "Rows([Row { values: [Text(Text { text: \"pen\" }), Null, Text(Text { text: \"none\" })] }, \
          Row { values: [Text(Text { text: \"ink\" }), Text(Text { text: \"ink\" }), Text(Text { text: \"ink\" })] }, \
-         Row { values: [Text(Text { text: \"pen\" }), Null, Text(Text { text: \"none\" })] }])",
-        )?
-    );
-    Ok(())
+         Row { values: [Text(Text { text: \"pen\" }), Null, Text(Text { text: \"none\" })] }])";
+    assert_prints(
+        &rt,
+        alloc,
+        label_below(alloc),
+        "Rows([Row { values: [Num(2)] }])",
+    )?;
+    assert_prints(&rt, alloc, labels(alloc), named)
 }

@@ -115,86 +115,92 @@ static STORES: [(Store, ValType, u64, u64); 7] = [
     ),
 ];
 
-/// A load of zeros from a page, its address and offset, and whether it is inside.
-static ENDS: [(Load, u32, u32, bool); 12] = [
-    (Load::From8(I32, Sign::Signed), 65_535, 0, true),
-    (Load::From8(I32, Sign::Signed), 65_536, 0, false),
-    (Load::From8(I32, Sign::Signed), 0, 65_535, true),
-    (Load::From8(I32, Sign::Signed), 1, 65_535, false),
-    (Load::From16(I32, Sign::Unsigned), 65_534, 0, true),
-    (Load::From16(I32, Sign::Unsigned), 65_535, 0, false),
-    (Load::Full(I32), 65_532, 0, true),
-    (Load::Full(I32), 65_528, 5, false),
-    (Load::Full(I32), u32::MAX, 1, false),
-    (Load::Full(I32), 4, u32::MAX, false),
-    (Load::Full(I32), u32::MAX, u32::MAX, false),
-    (Load::Full(I32), u32::MAX, 0, false),
+const OUT: Result<u64, Trap> = Err(Trap::OutOfBounds);
+
+/// A load of zeros from a page, its address and offset, and what it leaves.
+static ENDS: [(Load, u32, u32, Result<u64, Trap>); 12] = [
+    (Load::From8(I32, Sign::Signed), 65_535, 0, Ok(0)),
+    (Load::From8(I32, Sign::Signed), 65_536, 0, OUT),
+    (Load::From8(I32, Sign::Signed), 0, 65_535, Ok(0)),
+    (Load::From8(I32, Sign::Signed), 1, 65_535, OUT),
+    (Load::From16(I32, Sign::Unsigned), 65_534, 0, Ok(0)),
+    (Load::From16(I32, Sign::Unsigned), 65_535, 0, OUT),
+    (Load::Full(I32), 65_532, 0, Ok(0)),
+    (Load::Full(I32), 65_528, 5, OUT),
+    (Load::Full(I32), u32::MAX, 1, OUT),
+    (Load::Full(I32), 4, u32::MAX, OUT),
+    (Load::Full(I32), u32::MAX, u32::MAX, OUT),
+    (Load::Full(I32), u32::MAX, 0, OUT),
 ];
 
 fn address(value: u64) -> Result<Token, Fail> {
     constant(I32, value)
 }
 
-/// Puts a row's octets into a memory.
-fn put(memory: &mut Linear, octets: u64) -> Result<(), Fail> {
+/// A page with these eight octets at a row's place.
+fn page_with(alloc: Global, octets: u64) -> Result<Linear, Fail> {
+    let mut memory = one_page(alloc, 1)?;
     match memory.store64(PLACE, octets) {
-        Some(()) => Ok(()),
+        Some(()) => Ok(memory),
         None => Err(Fail::new("no page")),
     }
 }
 
+/// An access of this kind, eight octets behind its address.
+const BEHIND: MemArg = MemArg {
+    align: 0,
+    offset: 8,
+};
+
 #[test]
 fn loads(rt: HostRuntime) -> Result<(), Fail> {
-    let arg = MemArg {
-        align: 0,
-        offset: 8,
-    };
-    for (kind, ty, octets, value) in LOADS {
-        let mut memory = one_page(rt.alloc(), 1)?;
-        put(&mut memory, octets)?;
-        let tokens = [address(PLACE - 8)?, Token::Op(Op::Load(kind, arg))];
+    for &(kind, ty, octets, value) in &LOADS {
+        let mut memory = page_with(rt.alloc(), octets)?;
+        let tokens = [address(PLACE - 8)?, Token::Op(Op::Load(kind, BEHIND))];
         let outcome = result_of(rt.alloc(), &mut memory, ty, &[], &tokens)?;
         assert_eq!(rt; outcome, Ok(value), "{kind:?} of {octets}");
     }
     Ok(())
 }
 
+/// What the octets at a row's place are after a store of a value there, over ones.
+fn stored(alloc: Global, kind: Store, ty: ValType, value: u64) -> Result<Option<u64>, Fail> {
+    let mut memory = page_with(alloc, u64::MAX)?;
+    let store = Token::Op(Op::Store(kind, BEHIND));
+    let tokens = [
+        address(PLACE - 8)?,
+        constant(ty, value)?,
+        store,
+        address(0)?,
+    ];
+    match result_of(alloc, &mut memory, I32, &[], &tokens)? {
+        Ok(0) => Ok(memory.load64(PLACE)),
+        outcome => Err(Fail::new(format_args!("{outcome:?} of {tokens:?}"))),
+    }
+}
+
 #[test]
 fn stores(rt: HostRuntime) -> Result<(), Fail> {
-    let arg = MemArg {
-        align: 0,
-        offset: 8,
-    };
-    for (kind, ty, value, octets) in STORES {
-        let mut memory = one_page(rt.alloc(), 1)?;
-        put(&mut memory, u64::MAX)?;
-        let store = Token::Op(Op::Store(kind, arg));
-        let tokens = [
-            address(PLACE - 8)?,
-            constant(ty, value)?,
-            store,
-            address(0)?,
-        ];
-        let outcome = result_of(rt.alloc(), &mut memory, I32, &[], &tokens)?;
-        assert_eq!(rt; outcome, Ok(0), "{kind:?}");
-        assert_eq!(rt; memory.load64(PLACE), Some(octets), "{kind:?}");
+    for &(kind, ty, value, octets) in &STORES {
+        let left = stored(rt.alloc(), kind, ty, value)?;
+        assert_eq!(rt; left, Some(octets), "{kind:?}");
     }
     Ok(())
+}
+
+/// What a load at an address with an offset leaves over a page of zeros, with a second page reserved.
+fn loaded(alloc: Global, kind: Load, at: u32, offset: u32) -> Result<Result<u64, Trap>, Fail> {
+    let mut memory = one_page(alloc, 2)?;
+    let arg = MemArg { align: 0, offset };
+    let tokens = [address(u64::from(at))?, Token::Op(Op::Load(kind, arg))];
+    result_of(alloc, &mut memory, I32, &[], &tokens)
 }
 
 /// An address and its offset are added without wrapping.
 #[test]
 fn ends_of_the_memory(rt: HostRuntime) -> Result<(), Fail> {
-    for (kind, at, offset, inside) in ENDS {
-        let mut memory = one_page(rt.alloc(), 2)?;
-        let arg = MemArg { align: 0, offset };
-        let tokens = [address(u64::from(at))?, Token::Op(Op::Load(kind, arg))];
-        let outcome = result_of(rt.alloc(), &mut memory, I32, &[], &tokens)?;
-        let expected = if inside {
-            Ok(0)
-        } else {
-            Err(Trap::OutOfBounds)
-        };
+    for &(kind, at, offset, expected) in &ENDS {
+        let outcome = loaded(rt.alloc(), kind, at, offset)?;
         assert_eq!(rt; outcome, expected, "{kind:?} at {at} and {offset}");
     }
     Ok(())
@@ -204,19 +210,15 @@ fn ends_of_the_memory(rt: HostRuntime) -> Result<(), Fail> {
 #[test]
 fn store_past_the_end(rt: HostRuntime) -> Result<(), Fail> {
     let mut memory = one_page(rt.alloc(), 1)?;
-    let arg = MemArg {
-        align: 0,
-        offset: 0,
-    };
-    let store = Token::Op(Op::Store(Store::Full(I64), arg));
+    let store = Token::Op(Op::Store(Store::Full(I64), BEHIND));
     let tokens = [
-        address(65_529)?,
+        address(65_521)?,
         constant(I64, u64::MAX)?,
         store,
         address(0)?,
     ];
     let outcome = result_of(rt.alloc(), &mut memory, I32, &[], &tokens)?;
-    assert_eq!(rt; outcome, Err(Trap::OutOfBounds));
-    assert_eq!(rt; memory.load64(65_528), Some(0));
+    let left = (outcome, memory.load64(65_528));
+    assert_eq!(rt; left, (Err(Trap::OutOfBounds), Some(0)));
     Ok(())
 }

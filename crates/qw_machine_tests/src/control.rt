@@ -3,7 +3,7 @@
 
 use crate::bodies::Token;
 use crate::bodies::Token::{Br, BrIf, BrTable, Call};
-use crate::runs::{one_page, result_of};
+use crate::runs::check_result;
 use crate::tokens::{
     ADD64, BLOCK, BLOCK64, DIV64, DROP, ELSE, END, IF, LOOP, LOOP64, NOP, READ0, RETURN, SELECT,
     SIZE, UNREACHABLE, WRITE0,
@@ -193,11 +193,7 @@ static NAMES: [Row; 8] = [
 
 fn check_rows(alloc: Global, rows: &[Row]) -> Result<(), Fail> {
     for (helpers, tokens, expected) in rows {
-        let mut memory = one_page(alloc, 1)?;
-        let outcome = result_of(alloc, &mut memory, ValType::I64, helpers, tokens)?;
-        if outcome != *expected {
-            return Err(Fail::new(format_args!("{outcome:?} of {tokens:?}")));
-        }
+        check_result(alloc, ValType::I64, helpers, tokens, *expected)?;
     }
     Ok(())
 }
@@ -209,13 +205,11 @@ fn blocks(rt: HostRuntime) -> Result<(), Fail> {
 
 #[test]
 fn tables(rt: HostRuntime) -> Result<(), Fail> {
-    for (operand, table, value) in TABLES {
-        let mut memory = one_page(rt.alloc(), 1)?;
+    for &(operand, table, value) in &TABLES {
         let tokens = [
             BLOCK64, BLOCK64, SEVEN, operand, table, END, ONE, ADD64, END,
         ];
-        let outcome = result_of(rt.alloc(), &mut memory, ValType::I64, &[], &tokens)?;
-        assert_eq!(rt; outcome, Ok(value), "{operand:?} {table:?}");
+        check_result(rt.alloc(), ValType::I64, &[], &tokens, Ok(value))?;
     }
     Ok(())
 }

@@ -2,15 +2,12 @@
 
 use crate::bodies::Token;
 use crate::bodies::Token::{BrIf, Call};
-use crate::runs::{last_step, one_page, shaped};
+use crate::runs::{called, last_step, one_page};
 use crate::tokens::{ADD64, DROP, END, GET0, GROW, LOOP, RAISE, UNREACHABLE};
 use qw_linear::linear::Linear;
-use qw_machine::machine::Instance;
 use qw_machine::stepped::Stepped;
 use qw_module::instruction::{Const, MemArg, Op, Relation, Sign, Store, ValType};
 use qw_module::trap::Trap;
-use qw_valid::valid::validate;
-use std::alloc::Global;
 use std::test::Fail;
 
 const ONE32: Token = Token::Op(Op::Const(Const::I32(1)));
@@ -76,45 +73,36 @@ static SUMS: [Token; 16] = [
 /// Asks for a page twice and stores what it got, from the argument on.
 static ASKS: [Token; 8] = [GET0, ONE32, GROW, STORE32, GET0, ONE32, GROW, STORE32_AT4];
 
-fn called(
-    alloc: Global,
-    helpers: &'static [&'static [Token]],
-    tokens: &[Token],
-    argument: u32,
-) -> Result<Instance, Fail> {
-    let valid = validate(alloc, shaped(alloc, helpers, tokens)?)?;
-    Ok(Instance::new(alloc, valid, argument)?)
-}
-
 #[test]
 fn sums_in_a_loop(rt: HostRuntime) -> Result<(), Fail> {
     let mut memory = one_page(rt.alloc(), 1)?;
     let mut instance = called(rt.alloc(), &[], &SUMS, 64)?;
-    let (stepped, steps) = last_step(&mut instance, &mut memory);
-    assert_eq!(rt; stepped, Stepped::Returned);
     // A turn is the eleven instructions of the loop's sequence and `loop`, which each branch to it begins again;
     // the three after the loop come once.
-    assert_eq!(rt; steps, 1_000_000 * 12 + 3);
+    let end = (Stepped::Returned, 1_000_000 * 12 + 3);
+    assert_eq!(rt; last_step(&mut instance, &mut memory), end);
     assert_eq!(rt; memory.load64(80), Some(500_000_500_000));
     Ok(())
 }
+
+/// What its run answers, and after how many steps each time.
+static ANSWERS: [(Stepped, u64); 3] = [
+    (Stepped::Grew { at: 1, pages: 1 }, 3),
+    (Stepped::Refused { pages: 1 }, 4),
+    (Stepped::Returned, 1),
+];
 
 #[test]
 fn asks_for_pages(rt: HostRuntime) -> Result<(), Fail> {
     let mut memory = one_page(rt.alloc(), 2)?;
     let mut instance = called(rt.alloc(), &[], &ASKS, 64)?;
-    let answers = [
-        (Stepped::Grew { at: 1, pages: 1 }, 3u64),
-        (Stepped::Refused { pages: 1 }, 4),
-        (Stepped::Returned, 1),
-    ];
-    for answer in answers {
-        assert_eq!(rt; instance.last(), Stepped::Ran);
-        assert_eq!(rt; last_step(&mut instance, &mut memory), answer);
+    for answer in &ANSWERS {
+        let before = instance.last();
+        let answered = last_step(&mut instance, &mut memory);
+        assert_eq!(rt; (before, answered), (Stepped::Ran, *answer));
     }
-    assert_eq!(rt; memory.size(), 2);
-    assert_eq!(rt; memory.load32(64), Some(1));
-    assert_eq!(rt; memory.load32(68), Some(4_294_967_295));
+    let left = (memory.size(), memory.load32(64), memory.load32(68));
+    assert_eq!(rt; left, (2, Some(1), Some(4_294_967_295)));
     Ok(())
 }
 
@@ -136,12 +124,13 @@ static ENDS: [(&[Token], Stepped, u64); 4] = [
 /// What ends a run ends it in each function, and the same is told again at each step that follows.
 #[test]
 fn ends_once(rt: HostRuntime) -> Result<(), Fail> {
-    for (tokens, end, count) in ENDS {
+    for &(tokens, end, count) in &ENDS {
         let mut memory = Linear::new(rt.alloc(), 0)?;
         let mut instance = called(rt.alloc(), &HELPERS, tokens, 3)?;
-        assert_eq!(rt; last_step(&mut instance, &mut memory), (end, count));
-        assert_eq!(rt; last_step(&mut instance, &mut memory), (end, 1));
-        assert_eq!(rt; instance.last(), end);
+        let first = last_step(&mut instance, &mut memory);
+        let second = last_step(&mut instance, &mut memory);
+        let ends = (first, second, instance.last());
+        assert_eq!(rt; ends, ((end, count), (end, 1), end));
     }
     Ok(())
 }

@@ -1,4 +1,4 @@
-//! The tests of the layers that check and execute modules (`qw_valid`, `qw_machine`).
+//! The tests of the layers that read, write, check and execute modules (`qw_binary`, `qw_valid`, `qw_machine`).
 #![tactic(auto)]
 
 #[cfg(test)]
@@ -7,6 +7,10 @@ mod accesses;
 mod bodies;
 #[cfg(test)]
 mod control;
+#[cfg(test)]
+mod decoded;
+#[cfg(test)]
+mod encoded;
 #[cfg(test)]
 mod execution;
 #[cfg(test)]

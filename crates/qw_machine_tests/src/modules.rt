@@ -10,25 +10,26 @@ use qw_valid::valid::{ValidFault, validate};
 use std::alloc::{AllocError, Global};
 use std::test::Fail;
 
+const LOCALS: [Locals; 3] = [
+    Locals {
+        count: 2,
+        ty: ValType::I64,
+    },
+    Locals {
+        count: 0,
+        ty: ValType::I32,
+    },
+    Locals {
+        count: 1,
+        ty: ValType::I32,
+    },
+];
+
 /// A function of the type of an index, with two i64 and an i32 after its parameters.
 pub(crate) fn function(alloc: Global, type_index: u32, tokens: &[Token]) -> Result<Function, Fail> {
-    let locals = vec![in alloc;
-        Locals {
-            count: 2,
-            ty: ValType::I64
-        },
-        Locals {
-            count: 0,
-            ty: ValType::I32
-        },
-        Locals {
-            count: 1,
-            ty: ValType::I32
-        },
-    ]?;
     Ok(Function {
         type_index,
-        locals,
+        locals: LOCALS.to_vec(alloc)?,
         body: body_of(alloc, tokens)?,
     })
 }
@@ -48,28 +49,51 @@ pub(crate) fn func_type(
     })
 }
 
+const BOTH: [ValType; 2] = [ValType::I32, ValType::I64];
+
+/// A memory, and `raise`.
+pub(crate) const IMPORTS: [Import; 2] = [
+    Import::Memory(Limits { min: 1, max: None }),
+    Import::Raise(0),
+];
+
+const GLOBALS: [ModuleGlobal; 2] = [
+    ModuleGlobal {
+        ty: ValType::I32,
+        mutable: true,
+        init: Const::I32(0),
+    },
+    ModuleGlobal {
+        ty: ValType::I64,
+        mutable: false,
+        init: Const::I64(0),
+    },
+];
+
+/// The type of `raise`, and that of a function with this result.
+fn types_of(alloc: Global, result_type: BlockType) -> Result<Vec<FuncType>, AllocError> {
+    let mut types = Vec::new(alloc);
+    types.push(func_type(alloc, &[ValType::I32], NO)?)?;
+    types.push(func_type(alloc, &BOTH, result_type)?)?;
+    Ok(types)
+}
+
 /// A module whose function of index 1 has this result and body.
 pub(crate) fn module_of(
     alloc: Global,
     result_type: BlockType,
     tokens: &[Token],
 ) -> Result<Module, Fail> {
-    let both = [ValType::I32, ValType::I64];
-    let memory = Import::Memory(Limits { min: 1, max: None });
-    let global = |ty: ValType, mutable: bool, init: Const| ModuleGlobal { ty, mutable, init };
+    let mut types = types_of(alloc, result_type)?;
+    types.push(func_type(alloc, &BOTH, I64)?)?;
+    let mut functions = vec![in alloc; function(alloc, 1, tokens)?]?;
+    functions.push(function(alloc, 2, &[GET3])?)?;
     Ok(Module {
-        types: vec![in alloc;
-            func_type(alloc, &[ValType::I32], NO)?,
-            func_type(alloc, &both, result_type)?,
-            func_type(alloc, &both, I64)?,
-        ]?,
-        imports: vec![in alloc; memory, Import::Raise(0)]?,
-        functions: vec![in alloc; function(alloc, 1, tokens)?, function(alloc, 2, &[GET3])?]?,
+        types,
+        imports: IMPORTS.to_vec(alloc)?,
+        functions,
         memories: Vec::new(alloc),
-        globals: vec![in alloc;
-            global(ValType::I32, true, Const::I32(0)),
-            global(ValType::I64, false, Const::I64(0)),
-        ]?,
+        globals: GLOBALS.to_vec(alloc)?,
         exports: Vec::new(alloc),
     })
 }
@@ -77,6 +101,19 @@ pub(crate) fn module_of(
 /// The fault that a place of the function of index 1 is.
 pub(crate) fn fault_at(place: Option<usize>) -> Option<ValidFault> {
     place.map(|at| ValidFault::Body { func: 1, at })
+}
+
+/// Fails where this isn't the fault that a module is told to have.
+pub(crate) fn check_fault(
+    alloc: Global,
+    module: Module,
+    expected: Option<ValidFault>,
+) -> Result<(), Fail> {
+    let fault = validate(alloc, module).err();
+    if fault == expected {
+        return Ok(());
+    }
+    Err(Fail::new(format_args!("{fault:?} in place of {expected:?}")))
 }
 
 /// Fails where the body's first place that is refused isn't this one.

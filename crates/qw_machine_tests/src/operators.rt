@@ -2,7 +2,7 @@
 //! the width. The results were found by hand in the WebAssembly Core Specification 1.0, 4.3.2 and 4.3.4.
 
 use crate::bodies::Token;
-use crate::runs::{constant, one_page, result_of};
+use crate::runs::{check_result, constant};
 use qw_module::instruction::ValType::{I32, I64};
 use qw_module::instruction::{Binary, Conversion, Division, Op, Relation, Sign, Unary, ValType};
 use qw_module::trap::Trap;
@@ -348,12 +348,7 @@ fn check(
         tokens.push(constant(taken, *value)?)?;
     }
     tokens.push(Token::Op(op))?;
-    let mut memory = one_page(alloc, 1)?;
-    let outcome = result_of(alloc, &mut memory, left, &[], &tokens)?;
-    if outcome == expected {
-        return Ok(());
-    }
-    Err(Fail::new(format_args!("{outcome:?} of {tokens:?}")))
+    check_result(alloc, left, &[], &tokens, expected)
 }
 
 fn check_binary(alloc: Global, rows: &[(ValType, Binary, u64, u64, u64)]) -> Result<(), Fail> {
@@ -366,7 +361,7 @@ fn check_binary(alloc: Global, rows: &[(ValType, Binary, u64, u64, u64)]) -> Res
 
 #[test]
 fn counts(rt: HostRuntime) -> Result<(), Fail> {
-    for (ty, operator, x, value) in COUNTS {
+    for &(ty, operator, x, value) in &COUNTS {
         check(
             rt.alloc(),
             Op::Unary(ty, operator),
@@ -392,7 +387,7 @@ fn shifts_and_rotations(rt: HostRuntime) -> Result<(), Fail> {
 
 #[test]
 fn divisions(rt: HostRuntime) -> Result<(), Fail> {
-    for (ty, operator, x, y, outcome) in DIVISIONS {
+    for &(ty, operator, x, y, outcome) in &DIVISIONS {
         check(
             rt.alloc(),
             Op::Division(ty, operator),
@@ -406,13 +401,13 @@ fn divisions(rt: HostRuntime) -> Result<(), Fail> {
 
 #[test]
 fn comparisons(rt: HostRuntime) -> Result<(), Fail> {
-    for (ty, x, y, truths) in COMPARISONS {
+    for &(ty, x, y, truths) in &COMPARISONS {
         for (relation, truth) in RELATIONS.iter().zip(truths) {
             let op = Op::Relation(ty, *relation);
             check(rt.alloc(), op, (ty, I32), &[x, y], Ok(truth))?;
         }
     }
-    for (ty, x, truth) in ZEROS {
+    for &(ty, x, truth) in &ZEROS {
         check(rt.alloc(), Op::Eqz(ty), (ty, I32), &[x], Ok(truth))?;
     }
     Ok(())
@@ -420,7 +415,7 @@ fn comparisons(rt: HostRuntime) -> Result<(), Fail> {
 
 #[test]
 fn conversions(rt: HostRuntime) -> Result<(), Fail> {
-    for (conversion, from, to, x, value) in CONVERSIONS {
+    for &(conversion, from, to, x, value) in &CONVERSIONS {
         check(
             rt.alloc(),
             Op::Convert(conversion),

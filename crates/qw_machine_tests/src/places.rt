@@ -4,7 +4,7 @@
 
 use crate::bodies::Token;
 use crate::bodies::Token::{Br, BrIf, BrTable};
-use crate::modules::{check, fault_at, function, module_of};
+use crate::modules::{check, check_fault, fault_at, function, module_of};
 use crate::tokens::{
     ADD32, ADD64, ALIGN0, BLOCK, BLOCK32, BLOCK64, C32, C64, CALL1, CALL2, CALL3, CLZ32, DIV64,
     DROP, ELSE, END, EQZ64, EXTEND, GET0, GET3, GET4, GET5, GROW, I32, I64, IF, IF32, LOOP, LOOP32,
@@ -13,7 +13,6 @@ use crate::tokens::{
 };
 use qw_module::instruction::{BlockType, Load, Op, Store, ValType};
 use qw_module::module::{Import, Locals};
-use qw_valid::valid::validate;
 use std::alloc::Global;
 use std::test::Fail;
 
@@ -297,40 +296,42 @@ fn unreached(rt: HostRuntime) -> Result<(), Fail> {
 
 #[test]
 fn without_memory(rt: HostRuntime) -> Result<(), Fail> {
-    for (result_type, tokens, place) in WITHOUT_MEMORY {
+    for &(result_type, tokens, place) in &WITHOUT_MEMORY {
         let mut module = module_of(rt.alloc(), result_type, tokens)?;
         module.imports = vec![in rt.alloc(); Import::Raise(0)]?;
-        let fault = validate(rt.alloc(), module).err();
-        assert_eq!(rt; fault, fault_at(place), "{tokens:?}");
+        check_fault(rt.alloc(), module, fault_at(place))?;
     }
     Ok(())
 }
 
+const MANY_LOCALS: [Locals; 2] = [
+    Locals {
+        count: u32::MAX - 2,
+        ty: ValType::I32,
+    },
+    Locals {
+        count: 1,
+        ty: ValType::I64,
+    },
+];
+
+/// The index of a local, the result of a body that gets it, and the place that is refused.
+const LOCAL_INDICES: [(u32, BlockType, Option<usize>); 3] = [
+    (u32::MAX - 1, I32, None),
+    (u32::MAX, I64, None),
+    (u32::MAX, I32, Some(1)),
+];
+
 /// A few octets may announce 2^32 - 1 locals, all of which have types (5.4.6): the parameters are the first two, and the last is an i64.
 #[test]
 fn announced_locals(rt: HostRuntime) -> Result<(), Fail> {
-    let last = u32::MAX;
-    for (index, result_type, place) in [
-        (last - 1, I32, None),
-        (last, I64, None),
-        (last, I32, Some(1)),
-    ] {
+    for &(index, result_type, place) in &LOCAL_INDICES {
         let mut module = module_of(rt.alloc(), result_type, &[])?;
         let get = Token::Op(Op::LocalGet(index));
         let mut many = function(rt.alloc(), 1, &[get])?;
-        many.locals = vec![in rt.alloc();
-            Locals {
-                count: last - 2,
-                ty: ValType::I32
-            },
-            Locals {
-                count: 1,
-                ty: ValType::I64
-            },
-        ]?;
+        many.locals = MANY_LOCALS.to_vec(rt.alloc())?;
         module.functions = vec![in rt.alloc(); many]?;
-        let fault = validate(rt.alloc(), module).err();
-        assert_eq!(rt; fault, fault_at(place), "{index}");
+        check_fault(rt.alloc(), module, fault_at(place))?;
     }
     Ok(())
 }

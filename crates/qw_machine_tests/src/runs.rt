@@ -1,15 +1,15 @@
 //! Runs of modules around a body.
 
 use crate::bodies::Token;
-use crate::modules::{func_type, function};
+use crate::modules::{IMPORTS, func_type, function};
 use qw_linear::linear::Linear;
 use qw_machine::machine::Instance;
 use qw_machine::stepped::Stepped;
 use qw_module::instruction::{Const, MemArg, Op, Store, ValType};
-use qw_module::module::{Export, ExportKind, Global as ModuleGlobal, Import, Limits, Module};
+use qw_module::module::{Export, ExportKind, FuncType, Function, Global as ModuleGlobal, Module};
 use qw_module::trap::Trap;
 use qw_valid::valid::validate;
-use std::alloc::Global;
+use std::alloc::{AllocError, Global};
 use std::test::Fail;
 
 /// Where `result_of` has the result stored: the argument of its `run`.
@@ -22,31 +22,58 @@ pub(crate) fn shaped(
     helpers: &'static [&'static [Token]],
     tokens: &[Token],
 ) -> Result<Module, Fail> {
+    let functions = functions_of(alloc, helpers, tokens)?;
+    let run = u32::try_from(functions.len())?;
+    Ok(Module {
+        types: types(alloc)?,
+        imports: IMPORTS.to_vec(alloc)?,
+        functions,
+        memories: Vec::new(alloc),
+        globals: GLOBALS.to_vec(alloc)?,
+        exports: vec![in alloc; run_of(alloc, run)?]?,
+    })
+}
+
+const GLOBALS: [ModuleGlobal; 2] = [
+    ModuleGlobal {
+        ty: ValType::I64,
+        mutable: true,
+        init: Const::I64(5),
+    },
+    ModuleGlobal {
+        ty: ValType::I32,
+        mutable: false,
+        init: Const::I32(9),
+    },
+];
+
+/// The helpers by their bodies, and the function that is run.
+fn functions_of(
+    alloc: Global,
+    helpers: &'static [&'static [Token]],
+    tokens: &[Token],
+) -> Result<Vec<Function>, Fail> {
     let mut functions = Vec::new(alloc);
     for helper in helpers {
         functions.push(function(alloc, 1, helper)?)?;
     }
     functions.push(function(alloc, 0, tokens)?)?;
-    let run = u32::try_from(functions.len())?;
-    let memory = Import::Memory(Limits { min: 1, max: None });
-    let global = |ty: ValType, mutable: bool, init: Const| ModuleGlobal { ty, mutable, init };
-    let export = Export {
+    Ok(functions)
+}
+
+/// The type of `raise` and `run`, and that of the helpers.
+fn types(alloc: Global) -> Result<Vec<FuncType>, AllocError> {
+    let mut types = Vec::new(alloc);
+    types.push(func_type(alloc, &[ValType::I32], None)?)?;
+    types.push(func_type(alloc, &[ValType::I64, ValType::I64], Some(ValType::I64))?)?;
+    Ok(types)
+}
+
+/// The function of an index, exported as `run`.
+fn run_of(alloc: Global, index: u32) -> Result<Export, AllocError> {
+    Ok(Export {
         name: String::from_str(alloc, "run")?,
-        kind: ExportKind::Function(run),
-    };
-    Ok(Module {
-        types: vec![in alloc;
-            func_type(alloc, &[ValType::I32], None)?,
-            func_type(alloc, &[ValType::I64, ValType::I64], Some(ValType::I64))?,
-        ]?,
-        imports: vec![in alloc; memory, Import::Raise(0)]?,
-        functions,
-        memories: Vec::new(alloc),
-        globals: vec![in alloc;
-            global(ValType::I64, true, Const::I64(5)),
-            global(ValType::I32, false, Const::I32(9)),
-        ]?,
-        exports: vec![in alloc; export]?,
+        kind: ExportKind::Function(index),
     })
 }
 
@@ -81,6 +108,29 @@ pub(crate) fn constant(ty: ValType, value: u64) -> Result<Token, Fail> {
     })))
 }
 
+/// Tokens behind the address that their value is stored at, and the store.
+fn storing(alloc: Global, ty: ValType, tokens: &[Token]) -> Result<Vec<Token>, AllocError> {
+    let arg = MemArg {
+        align: 0,
+        offset: 0,
+    };
+    let mut body = vec![in alloc; Token::Op(Op::LocalGet(0))]?;
+    body.extend_from_slice(tokens)?;
+    body.push(Token::Op(Op::Store(Store::Full(ty), arg)))?;
+    Ok(body)
+}
+
+/// A call of a module of the shape that is executed.
+pub(crate) fn called(
+    alloc: Global,
+    helpers: &'static [&'static [Token]],
+    body: &[Token],
+    argument: u32,
+) -> Result<Instance, Fail> {
+    let valid = validate(alloc, shaped(alloc, helpers, body)?)?;
+    Ok(Instance::new(alloc, valid, argument)?)
+}
+
 /// What is left by tokens that leave a value of a type, or why they trap. They may call the helpers, and local 0 of theirs is the
 /// address at which the value is stored then.
 pub(crate) fn result_of(
@@ -90,26 +140,29 @@ pub(crate) fn result_of(
     helpers: &'static [&'static [Token]],
     tokens: &[Token],
 ) -> Result<Result<u64, Trap>, Fail> {
-    let arg = MemArg {
-        align: 0,
-        offset: 0,
-    };
-    let mut body = vec![in alloc; Token::Op(Op::LocalGet(0))]?;
-    for token in tokens {
-        body.push(*token)?;
+    let body = storing(alloc, ty, tokens)?;
+    let mut instance = called(alloc, helpers, &body, PLACE)?;
+    match last_step(&mut instance, memory).0 {
+        Stepped::Returned => Ok(Ok(stored(memory, ty).ok_or("no page")?)),
+        Stepped::Trapped(why) => Ok(Err(why)),
+        stepped => Err(Fail::new(format_args!("{stepped:?} of {tokens:?}"))),
     }
-    body.push(Token::Op(Op::Store(Store::Full(ty), arg)))?;
-    let valid = validate(alloc, shaped(alloc, helpers, &body)?)?;
-    let mut instance = Instance::new(alloc, valid, PLACE)?;
-    let left = match last_step(&mut instance, memory).0 {
-        Stepped::Returned => stored(memory, ty),
-        Stepped::Trapped(why) => return Ok(Err(why)),
-        stepped => return Err(Fail::new(format_args!("{stepped:?} of {tokens:?}"))),
-    };
-    match left {
-        Some(value) => Ok(Ok(value)),
-        None => Err(Fail::new("no page")),
+}
+
+/// Fails where this isn't what tokens leave over a page of zeros.
+pub(crate) fn check_result(
+    alloc: Global,
+    ty: ValType,
+    helpers: &'static [&'static [Token]],
+    tokens: &[Token],
+    expected: Result<u64, Trap>,
+) -> Result<(), Fail> {
+    let mut memory = one_page(alloc, 1)?;
+    let outcome = result_of(alloc, &mut memory, ty, helpers, tokens)?;
+    if outcome == expected {
+        return Ok(());
     }
+    Err(Fail::new(format_args!("{outcome:?} of {tokens:?}")))
 }
 
 /// The value of a type that a body of `result_of` stored.

@@ -221,55 +221,71 @@ fn applied(
     Ok(tokens)
 }
 
+/// Fails where the first place refused of an operator that is applied so, and leaves this result, isn't this one.
+fn check_applied(
+    alloc: Global,
+    op: Op,
+    operands: &[ValType],
+    unlike: Option<usize>,
+    result_type: BlockType,
+    place: Option<usize>,
+) -> Result<(), Fail> {
+    let tokens = applied(alloc, op, operands, unlike)?;
+    check(alloc, result_type, &tokens, place)
+}
+
 /// An operator is refused where an operand is missing or of the other type, and its result where another is wanted.
 #[test]
 fn operators(rt: HostRuntime) -> Result<(), Fail> {
-    for (op, operands, result_type) in SIGNATURES {
+    for &(op, operands, result_type) in &SIGNATURES {
         let count = operands.len();
-        let tokens = applied(rt.alloc(), op, operands, None)?;
-        check(rt.alloc(), result_type, &tokens, None)?;
+        check_applied(rt.alloc(), op, operands, None, result_type, None)?;
         let unlike = match result_type {
             None => I32,
             Some(ty) => Some(other(ty)),
         };
-        check(rt.alloc(), unlike, &tokens, Some(tokens.len()))?;
+        check_applied(rt.alloc(), op, operands, None, unlike, Some(count + 1))?;
         for number in 0..count {
-            let tokens = applied(rt.alloc(), op, operands, Some(number))?;
-            check(rt.alloc(), result_type, &tokens, Some(count))?;
+            let other = Some(number);
+            check_applied(rt.alloc(), op, operands, other, result_type, Some(count))?;
         }
         if let [_, fewer @ ..] = operands {
-            let tokens = applied(rt.alloc(), op, fewer, None)?;
-            check(rt.alloc(), result_type, &tokens, Some(fewer.len()))?;
+            let place = Some(fewer.len());
+            check_applied(rt.alloc(), op, fewer, None, result_type, place)?;
         }
     }
     Ok(())
 }
 
+fn check_load(alloc: Global, kind: Load, align: u32, place: Option<usize>) -> Result<(), Fail> {
+    let load = Token::Op(Op::Load(kind, MemArg { align, offset: 0 }));
+    check(alloc, NO, &[C32, load, DROP], place)
+}
+
+fn check_store(
+    alloc: Global,
+    kind: Store,
+    ty: ValType,
+    align: u32,
+    place: Option<usize>,
+) -> Result<(), Fail> {
+    let store = Token::Op(Op::Store(kind, MemArg { align, offset: 0 }));
+    check(alloc, NO, &[C32, constant_of(ty), store], place)
+}
+
 /// An access whose alignment is past its octets is refused, however far.
 #[test]
 fn alignments(rt: HostRuntime) -> Result<(), Fail> {
-    for (kind, greatest) in LOADS {
-        let load = |align: u32| Token::Op(Op::Load(kind, MemArg { align, offset: 0 }));
-        check(rt.alloc(), NO, &[C32, load(greatest), DROP], None)?;
+    for &(kind, greatest) in &LOADS {
+        check_load(rt.alloc(), kind, greatest, None)?;
         for align in [greatest.saturating_add(1), 31, 32, u32::MAX] {
-            check(rt.alloc(), NO, &[C32, load(align), DROP], Some(1))?;
+            check_load(rt.alloc(), kind, align, Some(1))?;
         }
     }
-    for (kind, ty, greatest) in STORES {
-        let store = |align: u32| Token::Op(Op::Store(kind, MemArg { align, offset: 0 }));
-        check(
-            rt.alloc(),
-            NO,
-            &[C32, constant_of(ty), store(greatest)],
-            None,
-        )?;
+    for &(kind, ty, greatest) in &STORES {
+        check_store(rt.alloc(), kind, ty, greatest, None)?;
         for align in [greatest.saturating_add(1), 31, 32, u32::MAX] {
-            check(
-                rt.alloc(),
-                NO,
-                &[C32, constant_of(ty), store(align)],
-                Some(2),
-            )?;
+            check_store(rt.alloc(), kind, ty, align, Some(2))?;
         }
     }
     Ok(())

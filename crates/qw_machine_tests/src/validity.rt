@@ -1,11 +1,12 @@
 //! Modules on both sides of each part of validity (WebAssembly Core Specification 1.0, 3.2 and 3.4). Bodies have their own
 //! table, in `places`.
 
+use crate::modules::{IMPORTS, check_fault};
 use qw_module::instruction::{Const, Instr, Op, ValType};
 use qw_module::module::{
     Body, Export, ExportKind, FuncType, Function, Global as ModuleGlobal, Import, Limits, Module,
 };
-use qw_valid::valid::{Part, ValidFault, validate};
+use qw_valid::valid::{Part, ValidFault};
 use std::alloc::{AllocError, Global};
 use std::test::Fail;
 
@@ -29,54 +30,59 @@ fn plain_module(
     })
 }
 
+const MEMORY: Import = Import::Memory(Limits {
+    min: 65_536,
+    max: None,
+});
+
+const GREAT_MEMORY: Import = Import::Memory(Limits {
+    min: 65_537,
+    max: None,
+});
+
+/// The results of a type, the imports, and the part that is refused.
+const TYPES_AND_IMPORTS: [(&[ValType], &[Import], Option<Part>); 6] = [
+    (&[ValType::I32], &[], None),
+    (&[ValType::I32, ValType::I64], &[], Some(Part::Types)),
+    (&[], &[MEMORY, Import::Raise(0)], None),
+    (&[], &[Import::Raise(1)], Some(Part::Imports)),
+    (&[], &[GREAT_MEMORY], Some(Part::Imports)),
+    (&[], &[MEMORY, MEMORY], Some(Part::Memory)),
+];
+
+/// Fails where another part of a module is refused, or none.
+fn check(alloc: Global, module: Module, part: Option<Part>) -> Result<(), Fail> {
+    check_fault(alloc, module, part.map(ValidFault::Part))
+}
+
 /// Types have one result at most (WebAssembly Core Specification 1.0, 3.2.2), and imports have a type or limits (3.4.9).
 #[test]
 fn types_and_imports(rt: HostRuntime) -> Result<(), Fail> {
-    let one = [ValType::I32];
-    let two = [ValType::I32, ValType::I64];
-    let memory = Import::Memory(Limits {
-        min: 65_536,
-        max: None,
-    });
-    let great = [Import::Memory(Limits {
-        min: 65_537,
-        max: None,
-    })];
-    let both = [memory, Import::Raise(0)];
-    let memories = [memory, memory];
-    let no_type = [Import::Raise(1)];
-    let cases: [(&[ValType], &[Import], Option<Part>); 6] = [
-        (&one, &[], None),
-        (&two, &[], Some(Part::Types)),
-        (&[], &both, None),
-        (&[], &no_type, Some(Part::Imports)),
-        (&[], &great, Some(Part::Imports)),
-        (&[], &memories, Some(Part::Memory)),
-    ];
-    for (results, imports, part) in cases {
+    for &(results, imports, part) in &TYPES_AND_IMPORTS {
         let module = plain_module(rt.alloc(), results, imports)?;
-        assert_eq!(rt;
-            validate(rt.alloc(), module).err(),
-            part.map(ValidFault::Part)
-        );
+        check(rt.alloc(), module, part)?;
     }
     Ok(())
 }
 
+const WIDE: (ValType, Const) = (ValType::I64, Const::I64(7));
+
+const NARROW: (ValType, Const) = (ValType::I64, Const::I32(7));
+
+/// A memory's limits, a global's type and first value, and the part that is refused.
+const MEMORIES_AND_GLOBALS: [(u32, Option<u32>, (ValType, Const), Option<Part>); 6] = [
+    (65_536, None, WIDE, None),
+    (65_537, None, WIDE, Some(Part::Memory)),
+    (3, Some(3), WIDE, None),
+    (3, Some(2), WIDE, Some(Part::Memory)),
+    (0, Some(65_537), WIDE, Some(Part::Memory)),
+    (0, None, NARROW, Some(Part::Globals)),
+];
+
 /// A memory of the module's own (3.2.1, 3.2.4), and the first value of a global (3.4.4).
 #[test]
 fn memories_and_globals(rt: HostRuntime) -> Result<(), Fail> {
-    let wide = (ValType::I64, Const::I64(7));
-    let narrow = (ValType::I64, Const::I32(7));
-    let cases = [
-        (65_536u32, None, wide, None),
-        (65_537, None, wide, Some(Part::Memory)),
-        (3, Some(3u32), wide, None),
-        (3, Some(2), wide, Some(Part::Memory)),
-        (0, Some(65_537), wide, Some(Part::Memory)),
-        (0, None, narrow, Some(Part::Globals)),
-    ];
-    for (min, max, (ty, init), part) in cases {
+    for &(min, max, (ty, init), part) in &MEMORIES_AND_GLOBALS {
         let mut module = plain_module(rt.alloc(), &[], &[])?;
         module.memories.push(Limits { min, max })?;
         module.globals.push(ModuleGlobal {
@@ -84,43 +90,37 @@ fn memories_and_globals(rt: HostRuntime) -> Result<(), Fail> {
             mutable: false,
             init,
         })?;
-        assert_eq!(rt;
-            validate(rt.alloc(), module).err(),
-            part.map(ValidFault::Part)
-        );
+        check(rt.alloc(), module, part)?;
     }
     Ok(())
+}
+
+/// A name beside `a`, what it is exported of, and the part that is refused.
+const EXPORTS: [(&str, ExportKind, Option<Part>); 6] = [
+    ("b", ExportKind::Function(0), None),
+    ("b", ExportKind::Function(1), Some(Part::Exports)),
+    ("b", ExportKind::Memory(0), None),
+    ("b", ExportKind::Memory(1), Some(Part::Exports)),
+    ("b", ExportKind::Global(0), Some(Part::Exports)),
+    ("a", ExportKind::Memory(0), Some(Part::Exports)),
+];
+
+fn export(alloc: Global, name: &str, kind: ExportKind) -> Result<Export, AllocError> {
+    Ok(Export {
+        name: String::from_str(alloc, name)?,
+        kind,
+    })
 }
 
 /// What is exported is there (3.4.8), and no name is exported twice (3.4.10).
 #[test]
 fn exports(rt: HostRuntime) -> Result<(), Fail> {
-    let imports = [
-        Import::Memory(Limits { min: 1, max: None }),
-        Import::Raise(0),
-    ];
-    let cases = [
-        ("b", ExportKind::Function(0), None),
-        ("b", ExportKind::Function(1), Some(Part::Exports)),
-        ("b", ExportKind::Memory(0), None),
-        ("b", ExportKind::Memory(1), Some(Part::Exports)),
-        ("b", ExportKind::Global(0), Some(Part::Exports)),
-        ("a", ExportKind::Memory(0), Some(Part::Exports)),
-    ];
-    for (name, kind, part) in cases {
-        let mut module = plain_module(rt.alloc(), &[], &imports)?;
-        module.exports.push(Export {
-            name: String::from_str(rt.alloc(), "a")?,
-            kind: ExportKind::Memory(0),
-        })?;
-        module.exports.push(Export {
-            name: String::from_str(rt.alloc(), name)?,
-            kind,
-        })?;
-        assert_eq!(rt;
-            validate(rt.alloc(), module).err(),
-            part.map(ValidFault::Part)
-        );
+    for &(name, kind, part) in &EXPORTS {
+        let mut module = plain_module(rt.alloc(), &[], &IMPORTS)?;
+        let first = export(rt.alloc(), "a", ExportKind::Memory(0))?;
+        module.exports.push(first)?;
+        module.exports.push(export(rt.alloc(), name, kind)?)?;
+        check(rt.alloc(), module, part)?;
     }
     Ok(())
 }
@@ -229,12 +229,11 @@ const BODIES: [(u32, &[&[Instr]], Option<Part>); 13] = [
 /// Each function has a type (3.4.1), and each block of its body an inner sequence of a lower number.
 #[test]
 fn functions(rt: HostRuntime) -> Result<(), Fail> {
-    for (type_index, sequences, part) in BODIES {
+    for &(type_index, sequences, part) in &BODIES {
         let mut module = plain_module(rt.alloc(), &[], &[])?;
         let function = function(rt.alloc(), type_index, sequences, &[0, 0])?;
         module.functions.push(function)?;
-        let fault = validate(rt.alloc(), module).err();
-        assert_eq!(rt; fault, part.map(ValidFault::Part), "{sequences:?}");
+        check(rt.alloc(), module, part)?;
     }
     Ok(())
 }
@@ -260,21 +259,25 @@ const FAULTS: [(&[&[Instr]], u32, Option<ValidFault>); 5] = [
     (&[&[], &[]], 3, Some(ValidFault::Part(Part::Exports))),
 ];
 
+/// Adds functions with these bodies, which have one sequence each.
+fn add_functions(alloc: Global, module: &mut Module, bodies: &[&[Instr]]) -> Result<(), Fail> {
+    for sequence in bodies {
+        module
+            .functions
+            .push(function(alloc, 0, &[*sequence], &[])?)?;
+    }
+    Ok(())
+}
+
 /// Of several faults the first part is told, and then the first function: all parts come before all bodies.
 #[test]
 fn first_fault(rt: HostRuntime) -> Result<(), Fail> {
-    for (bodies, exported, expected) in FAULTS {
+    for &(bodies, exported, expected) in &FAULTS {
         let mut module = plain_module(rt.alloc(), &[], &[Import::Raise(0)])?;
-        for sequence in bodies {
-            let function = function(rt.alloc(), 0, &[*sequence], &[])?;
-            module.functions.push(function)?;
-        }
-        module.exports.push(Export {
-            name: String::from_str(rt.alloc(), "a")?,
-            kind: ExportKind::Function(exported),
-        })?;
-        let fault = validate(rt.alloc(), module).err();
-        assert_eq!(rt; fault, expected, "{bodies:?}");
+        add_functions(rt.alloc(), &mut module, bodies)?;
+        let export = export(rt.alloc(), "a", ExportKind::Function(exported))?;
+        module.exports.push(export)?;
+        check_fault(rt.alloc(), module, expected)?;
     }
     Ok(())
 }

@@ -5,9 +5,10 @@ pub mod compared;
 mod forms;
 mod scales;
 
-use compared::{Seen, Stored, first_difference};
+use compared::{Seen, Stored, assert_same, assert_seen};
 use forms::{COMPARISONS, DATES_AND_TEXTS, NUMBERS, TRUTHS};
 use std::alloc::{AllocError, Global};
+use std::process::Abort;
 use std::test::Fail;
 
 const SCHEMA: &[u8] =
@@ -31,6 +32,10 @@ const TABLE: &str = "K,I,J,P,D,E,L,M
 ";
 
 const ROWS: u32 = 12;
+
+const EXPRESSIONS: [&[&str]; 2] = [&NUMBERS, &DATES_AND_TEXTS];
+
+const CONDITIONS: [&[&str]; 2] = [&COMPARISONS, &TRUTHS];
 
 // What stands before a form and behind it in a query of all rows, where the form is an expression.
 const OF_EXPRESSIONS: [(&str, &str); 2] = [
@@ -75,54 +80,45 @@ fn script_at(
     script_of(alloc, forms, before.as_str(), after.as_str())
 }
 
+// Asserts that the program ends the queries of forms as the plain program does: those of all rows, and those of each row, where two
+// other texts stand around a form.
+fn assert_forms(
+    rt: &impl Abort,
+    alloc: Global,
+    forms: &[&str],
+    of_all_rows: &[(&str, &str)],
+    of_a_row: (&str, &str),
+    seen: &mut Seen,
+) -> Result<(), Fail> {
+    let stored = Stored::new(alloc, SCHEMA, TABLE.as_bytes())?;
+    for &(before, after) in of_all_rows {
+        let script = script_of(alloc, forms, before, after)?;
+        assert_same(rt, alloc, &stored, script.as_str(), seen)?;
+    }
+    for row in 1..=ROWS {
+        let script = script_at(alloc, forms, row, of_a_row.0, of_a_row.1)?;
+        assert_same(rt, alloc, &stored, script.as_str(), seen)?;
+    }
+    Ok(())
+}
+
 #[test]
 fn expressions(rt: HostRuntime) -> Result<(), Fail> {
-    let alloc = rt.alloc();
-    let stored = Stored::new(alloc, SCHEMA, TABLE.as_bytes())?;
-    let mut seen = Seen {
-        queries: 0,
-        raised: 0,
-    };
-    let all: [&[&str]; 2] = [&NUMBERS, &DATES_AND_TEXTS];
-    for forms in all {
-        for (before, after) in OF_EXPRESSIONS {
-            let script = script_of(alloc, forms, before, after)?;
-            let other = first_difference(alloc, &stored, script.as_bytes(), &mut seen)?;
-            assert_eq!(rt; other, None, "{script}");
-        }
-        for row in 1..=ROWS {
-            let script = script_at(alloc, forms, row, "", "")?;
-            let other = first_difference(alloc, &stored, script.as_bytes(), &mut seen)?;
-            assert_eq!(rt; other, None, "{script}");
-        }
+    let mut seen = Seen::new();
+    for &forms in &EXPRESSIONS {
+        assert_forms(&rt, rt.alloc(), forms, &OF_EXPRESSIONS, ("", ""), &mut seen)?;
     }
-    assert_eq!(rt; seen.queries, 14 * 92);
-    assert!(rt; 0 < seen.raised && seen.raised < seen.queries);
+    assert_seen(&rt, &seen, 14 * 92);
     Ok(())
 }
 
 #[test]
 fn conditions(rt: HostRuntime) -> Result<(), Fail> {
-    let alloc = rt.alloc();
-    let stored = Stored::new(alloc, SCHEMA, TABLE.as_bytes())?;
-    let mut seen = Seen {
-        queries: 0,
-        raised: 0,
-    };
-    let all: [&[&str]; 2] = [&COMPARISONS, &TRUTHS];
-    for forms in all {
-        for (before, after) in OF_CONDITIONS {
-            let script = script_of(alloc, forms, before, after)?;
-            let other = first_difference(alloc, &stored, script.as_bytes(), &mut seen)?;
-            assert_eq!(rt; other, None, "{script}");
-        }
-        for row in 1..=ROWS {
-            let script = script_at(alloc, forms, row, "CASE WHEN ", " THEN 1 ELSE 0 END")?;
-            let other = first_difference(alloc, &stored, script.as_bytes(), &mut seen)?;
-            assert_eq!(rt; other, None, "{script}");
-        }
+    let of_a_row = ("CASE WHEN ", " THEN 1 ELSE 0 END");
+    let mut seen = Seen::new();
+    for &forms in &CONDITIONS {
+        assert_forms(&rt, rt.alloc(), forms, &OF_CONDITIONS, of_a_row, &mut seen)?;
     }
-    assert_eq!(rt; seen.queries, 16 * 101);
-    assert!(rt; 0 < seen.raised && seen.raised < seen.queries);
+    assert_seen(&rt, &seen, 16 * 101);
     Ok(())
 }

@@ -1,9 +1,6 @@
 // The octets of tables, of the first pages of instances and of what a run writes there, as docs/FORMATS.md says.
 
-use crate::tables::{left, shelf};
-use qw_bench::bench::Bench;
-use qw_linear::linear::Linear;
-use std::alloc::Global;
+use crate::tables::{differs, left};
 use std::test::Fail;
 
 const TWO_COLUMNS: &[u8] = b"CREATE TABLE T (A INTEGER NOT NULL, B INTEGER NOT NULL)";
@@ -104,46 +101,32 @@ const NO_ROWS: [(u64, [u8; 8]); 10] = [
     (65_616, [0; 8]),
 ];
 
-// The first address from which a memory has other octets than these.
-fn differs(memory: &Linear, octets: &[(u64, [u8; 8])]) -> Option<u64> {
-    for (address, expected) in octets {
-        if memory.load64(*address) != Some(u64::from_le_bytes(*expected)) {
-            return Some(*address);
-        }
-    }
-    None
-}
-
-// The bench that a run over these files leaves.
-fn bench_left(alloc: Global, schema: &[u8], table: &[u8], query: &[u8]) -> Result<Bench, Fail> {
-    let (_, bench) = left(alloc, &mut shelf(alloc, schema, table, query)?)?;
-    Ok(bench)
-}
+// A table file, and the octets beside which a run over it is held.
+const TABLES: [(&[u8], &[(u64, [u8; 8])]); 2] = [
+    (b"A,B\n4,-1\n1,256\n7,2\n", &OCTETS),
+    (b"A,B\n4,-1\n1,256\n", &TWO_ROWS),
+];
 
 #[test]
 fn octets_of_two_columns(rt: HostRuntime) -> Result<(), Fail> {
-    let alloc = rt.alloc();
-    let cases: [(&[u8], &[(u64, [u8; 8])]); 2] = [
-        (b"A,B\n4,-1\n1,256\n7,2\n", &OCTETS),
-        (b"A,B\n4,-1\n1,256\n", &TWO_ROWS),
-    ];
-    for (table, octets) in cases {
-        let bench = bench_left(alloc, TWO_COLUMNS, table, NONE_OF_BOTH)?;
-        assert_eq!(rt; bench.memory().size(), 2);
-        assert_eq!(rt; differs(bench.memory(), octets), None);
+    for &(table, octets) in &TABLES {
+        let bench = left(rt.alloc(), TWO_COLUMNS, table, NONE_OF_BOTH)?;
+        let memory = bench.memory();
+        assert_eq!(rt; (memory.size(), differs(memory, octets)), (2, None));
     }
     Ok(())
 }
 
+// A query, and the octets beside which a run of it is held.
+const QUERIES: [(&[u8], &[(u64, [u8; 8])]); 2] = [
+    (b"SELECT C, A FROM T WHERE C < 9", &OUT_OF_ORDER),
+    (b"SELECT B FROM T WHERE B > 5", &NO_ROWS),
+];
+
 #[test]
 fn octets_after_runs(rt: HostRuntime) -> Result<(), Fail> {
-    let alloc = rt.alloc();
-    let cases: [(&[u8], &[(u64, [u8; 8])]); 2] = [
-        (b"SELECT C, A FROM T WHERE C < 9", &OUT_OF_ORDER),
-        (b"SELECT B FROM T WHERE B > 5", &NO_ROWS),
-    ];
-    for (query, octets) in cases {
-        let bench = bench_left(alloc, THREE_COLUMNS, TWO_ROWS_OF_THREE, query)?;
+    for &(query, octets) in &QUERIES {
+        let bench = left(rt.alloc(), THREE_COLUMNS, TWO_ROWS_OF_THREE, query)?;
         assert_eq!(rt; differs(bench.memory(), octets), None);
     }
     Ok(())

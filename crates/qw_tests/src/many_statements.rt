@@ -1,12 +1,12 @@
 // The most statements that a bench may have, of which one raises an exception and two meet their limits: each ends by itself, and the
 // parts of the report come in the order of the script.
 
-use crate::tables::bench_over;
+use crate::tables::{bench_over, heads};
 use qw_bench::bench::{Bench, Ended, Limits};
 use qw_parse::parse::schema_of;
 use qw_sink::received::with_rows;
 use qw_sink::sink::{Head, with_exception, with_pages, with_steps};
-use qw_types::{Code, Kind, NoMemory, Text};
+use qw_types::{Code, Kind, NoMemory};
 use std::alloc::{AllocError, Global};
 use std::test::Fail;
 
@@ -65,47 +65,62 @@ fn limits(alloc: Global) -> Result<Vec<Limits>, AllocError> {
     Ok(limits)
 }
 
-// How the statement of a number has to end, and its part of the report.
-fn wanted(alloc: Global, number: u64) -> Result<(Ended, String), AllocError> {
-    Ok(match number {
-        RAISING => (
-            Ended::Raised(Code::DivZero),
-            String::from_str(alloc, "QUERY 7 SQLSTATE 22012\n")?,
-        ),
-        LARGE => (
-            Ended::Pages {
-                held: 1,
-                asked: 1,
-                limit: 1,
-            },
-            String::from_str(alloc, "QUERY 20 PAGES 1 1 1\n")?,
-        ),
-        LONG => (
-            Ended::Steps { limit: 100 },
-            String::from_str(alloc, "QUERY 41 STEPS 100\n")?,
-        ),
-        _ => (
-            Ended::Done,
-            format!(in alloc; "QUERY {number} ROWS 1\nK,N\n{number},-{number}\n")?,
-        ),
-    })
+// How the statement of a number has to end.
+fn wanted_end(number: u64) -> Ended {
+    match number {
+        RAISING => Ended::Raised(Code::DivZero),
+        LARGE => Ended::Pages {
+            held: 1,
+            asked: 1,
+            limit: 1,
+        },
+        LONG => Ended::Steps { limit: 100 },
+        _ => Ended::Done,
+    }
 }
 
-fn head(alloc: Global, name: &str) -> Result<Head, AllocError> {
-    Ok(Head {
-        name: Text::new(String::from_str(alloc, name)?),
-        kind: Kind::Number(0),
-    })
+// The part of the report that the statement of a number has to have.
+fn wanted_part(alloc: Global, number: u64) -> Result<String, AllocError> {
+    match number {
+        RAISING => String::from_str(alloc, "QUERY 7 SQLSTATE 22012\n"),
+        LARGE => String::from_str(alloc, "QUERY 20 PAGES 1 1 1\n"),
+        LONG => String::from_str(alloc, "QUERY 41 STEPS 100\n"),
+        _ => format!(in alloc; "QUERY {number} ROWS 1\nK,N\n{number},-{number}\n"),
+    }
+}
+
+fn wanted_report(alloc: Global) -> Result<String, AllocError> {
+    let mut report = String::new(alloc);
+    for number in 1..65_u64 {
+        report.push_str(wanted_part(alloc, number)?.as_str())?;
+    }
+    Ok(report)
+}
+
+// The number of the first statement that ended otherwise than it has to.
+fn first_other_end(bench: &Bench) -> Option<u64> {
+    for k in 0..bench.len() {
+        let number = k as u64 + 1;
+        if bench.ended(k) != Some(wanted_end(number)) {
+            return Some(number);
+        }
+    }
+    None
 }
 
 // A report with the part of the instance of a number, from 0 on, and nothing more where it hasn't ended.
-fn with_part(alloc: Global, report: Vec<u8>, bench: &Bench, k: usize) -> Result<Vec<u8>, NoMemory> {
+fn with_part(
+    alloc: Global,
+    report: Vec<u8>,
+    header: &[Head],
+    bench: &Bench,
+    k: usize,
+) -> Result<Vec<u8>, NoMemory> {
     if bench.len() <= k {
         return Ok(report);
     }
-    let header = vec![in alloc; head(alloc, "K")?, head(alloc, "N")?]?;
     match bench.ended(k) {
-        Some(Ended::Done) => with_rows(alloc, report, k + 1, header.as_slice(), bench, k),
+        Some(Ended::Done) => with_rows(alloc, report, k + 1, header, bench, k),
         Some(Ended::Raised(code)) => with_exception(alloc, report, k + 1, code),
         Some(Ended::Pages { held, asked, limit }) => {
             with_pages(alloc, report, k + 1, held, asked, limit)
@@ -115,30 +130,36 @@ fn with_part(alloc: Global, report: Vec<u8>, bench: &Bench, k: usize) -> Result<
     }
 }
 
-#[test]
-fn each_of_64_statements_ends_by_itself(rt: HostRuntime) -> Result<(), Fail> {
-    let alloc = rt.alloc();
+fn report_of(alloc: Global, bench: &Bench) -> Result<Vec<u8>, NoMemory> {
+    let header = heads(alloc, &["K", "N"], Kind::Number(0))?;
+    let mut report = Vec::new(alloc);
+    for k in 0..bench.len() {
+        report = with_part(alloc, report, header.as_slice(), bench, k)?;
+    }
+    Ok(report)
+}
+
+// A bench of the statements, after the turns that end them.
+fn turned(alloc: Global) -> Result<Bench, Fail> {
     let schema = schema_of(alloc, SCHEMA)?;
-    let file = file(alloc)?;
-    let script = script(alloc)?;
-    let limits = limits(alloc)?;
     let mut bench = bench_over(
         alloc,
         &schema,
-        file.as_bytes(),
-        script.as_bytes(),
-        limits.as_slice(),
+        file(alloc)?.as_bytes(),
+        script(alloc)?.as_bytes(),
+        limits(alloc)?.as_slice(),
     )??;
-    assert_eq!(rt; bench.len(), 64);
     bench.run_all(50);
-    let mut report = Vec::new(alloc);
-    let mut wanted_report = String::new(alloc);
-    for k in 0..bench.len() {
-        let (end, part) = wanted(alloc, k as u64 + 1)?;
-        assert_eq!(rt; bench.ended(k), Some(end), "instance {k}");
-        report = with_part(alloc, report, &bench, k)?;
-        wanted_report.push_str(part.as_str())?;
-    }
-    assert_eq!(rt; report.as_slice(), wanted_report.as_bytes());
+    Ok(bench)
+}
+
+#[test]
+fn each_of_64_statements_ends_by_itself(rt: HostRuntime) -> Result<(), Fail> {
+    let alloc = rt.alloc();
+    let bench = turned(alloc)?;
+    assert_eq!(rt; (bench.len(), first_other_end(&bench)), (64, None));
+    let report = report_of(alloc, &bench)?;
+    let wanted = wanted_report(alloc)?;
+    assert_eq!(rt; report.as_slice(), wanted.as_bytes());
     Ok(())
 }

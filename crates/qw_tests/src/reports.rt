@@ -1,19 +1,12 @@
 // Parts of a report in full. That the calls don't answer want of memory is what no clause says.
 
-use crate::tables::{bench_of, narrow};
+use crate::tables::{bench_of, heads, narrow};
 use qw_bench::bench::{Bench, Ended, Limits};
 use qw_sink::received::with_rows;
-use qw_sink::sink::{Head, with_exception, with_pages, with_steps};
-use qw_types::{Code, Kind, NoMemory, Text};
-use std::alloc::{AllocError, Global};
+use qw_sink::sink::{with_exception, with_pages, with_steps};
+use qw_types::{Code, Kind, NoMemory};
+use std::alloc::Global;
 use std::test::Fail;
-
-fn head(alloc: Global, name: &str, kind: Kind) -> Result<Head, AllocError> {
-    Ok(Head {
-        name: Text::new(String::from_str(alloc, name)?),
-        kind,
-    })
-}
 
 // A query's number, the file of its table, whose result rows are those above 5, and its part of the report.
 const REPORTS: [(usize, &[u8], &[u8]); 3] = [
@@ -33,40 +26,49 @@ fn part_of(alloc: Global, number: usize, bench: &Bench) -> Result<Vec<u8>, NoMem
     if bench.len() == 0 {
         return Ok(nothing);
     }
-    let header = vec![in alloc; head(alloc, "x,y", Kind::Number(2))?]?;
+    let header = heads(alloc, &["x,y"], Kind::Number(2))?;
     match bench.ended(0) {
         Some(Ended::Done) => with_rows(alloc, nothing, number, header.as_slice(), bench, 0),
         _ => Ok(nothing),
     }
 }
 
+const LIMITS: Limits = Limits {
+    pages: 1,
+    steps: 1_000_000,
+};
+
+// The part of a report of a query over this file.
+fn part_over(alloc: Global, number: usize, file: &[u8]) -> Result<Vec<u8>, Fail> {
+    let mut bench = bench_of(alloc, narrow(alloc)?, file, LIMITS)?;
+    bench.run_all(1_000);
+    Ok(part_of(alloc, number, &bench)?)
+}
+
 #[test]
 fn rows(rt: HostRuntime) -> Result<(), Fail> {
-    let alloc = rt.alloc();
-    let limits = Limits {
-        pages: 1,
-        steps: 1_000_000,
-    };
-    for (number, file, text) in REPORTS {
-        let mut bench = bench_of(alloc, narrow(alloc)?, file, limits)?;
-        bench.run_all(1_000);
-        let part = part_of(alloc, number, &bench)?;
+    for &(number, file, text) in &REPORTS {
+        let part = part_over(rt.alloc(), number, file)?;
         assert_eq!(rt; part.as_slice(), text);
     }
     Ok(())
 }
 
-#[test]
-fn other_ends(rt: HostRuntime) -> Result<(), Fail> {
-    let alloc = rt.alloc();
+const OTHER_ENDS: &[u8] =
+    b"before\nQUERY 1 PAGES 128 2 129\nQUERY 2 SQLSTATE 22012\nQUERY 3 SQLSTATE 22003\nQUERY 10 STEPS 999999999999999999\n";
+
+// A report of queries without rows, behind a line.
+fn report_of_other_ends(alloc: Global) -> Result<Vec<u8>, NoMemory> {
     let report = Vec::from_slice(alloc, b"before\n")?;
     let report = with_pages(alloc, report, 1, 128, 2, 129)?;
     let report = with_exception(alloc, report, 2, Code::DivZero)?;
     let report = with_exception(alloc, report, 3, Code::OutOfRange)?;
-    let report = with_steps(alloc, report, 10, 999_999_999_999_999_999)?;
-    assert_eq!(rt;
-        report.as_slice(),
-        b"before\nQUERY 1 PAGES 128 2 129\nQUERY 2 SQLSTATE 22012\nQUERY 3 SQLSTATE 22003\nQUERY 10 STEPS 999999999999999999\n".as_slice()
-    );
+    with_steps(alloc, report, 10, 999_999_999_999_999_999)
+}
+
+#[test]
+fn other_ends(rt: HostRuntime) -> Result<(), Fail> {
+    let report = report_of_other_ends(rt.alloc())?;
+    assert_eq!(rt; report.as_slice(), OTHER_ENDS);
     Ok(())
 }

@@ -1,10 +1,9 @@
 // Compiled statements beside the plain program, whatever turns they are given, and the octets that a run leaves.
 
-use crate::tables::{bench_of, narrow};
+use crate::tables::{bench_of, differs, end_of, narrow};
 use qw_bench::bench::{Bench, DEFAULT_LIMITS, Ended};
 use qw_meaning::plain::plain_rows;
 use qw_meaning::query::{Comparison, Query};
-use qw_sink::results::received;
 use qw_types::{NoMemory, Row, Val};
 use std::alloc::{AllocError, Global};
 use std::test::Fail;
@@ -92,32 +91,12 @@ fn plain_numbers(alloc: Global, query: &Query, values: &[i32]) -> Result<Vec<i64
     numbers_of(alloc, bag.as_slice())
 }
 
-// How many instructions the one instance of a bench ran, and its result rows, if it is done.
-fn run_of(alloc: Global, bench: &Bench) -> Result<Option<(u64, Vec<i64>)>, NoMemory> {
-    if bench.len() == 0 {
-        return Ok(None);
-    }
-    match bench.ended(0) {
-        Some(Ended::Done) => {
-            let rows = received(alloc, bench, 0)?;
-            let numbers = numbers_of(alloc, rows.as_slice())?;
-            Ok(Some((bench.steps(0), numbers)))
-        }
-        _ => Ok(None),
-    }
-}
-
 #[test]
 fn a_run_leaves_these_octets(rt: HostRuntime) -> Result<(), Fail> {
-    let alloc = rt.alloc();
-    let mut bench = stored_bench(alloc)?;
+    let mut bench = stored_bench(rt.alloc())?;
     bench.run_all(u64::MAX);
-    let (steps, _) = run_of(alloc, &bench)?.ok_or("not done")?;
-    assert_eq!(rt; steps, STEPS);
-    for (address, octets) in OCTETS {
-        let number = bench.memory().load64(address).ok_or("outside")?;
-        assert_eq!(rt; number, u64::from_le_bytes(octets), "at {address}");
-    }
+    let other = differs(bench.memory(), &OCTETS);
+    assert_eq!(rt; (end_of(&bench), other), ((Some(Ended::Done), STEPS), None));
     Ok(())
 }
 

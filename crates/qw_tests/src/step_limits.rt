@@ -1,8 +1,6 @@
 // An instance at its limit of instructions, and turns at their quantum.
 
-ghost use Rattle.std.specs.Prelude.{◌≤◌};
-
-use crate::tables::{bench_of, narrow};
+use crate::tables::{bench_of, end_of, narrow};
 use qw_bench::bench::{Bench, Ended, Limits};
 use std::alloc::Global;
 use std::test::Fail;
@@ -12,52 +10,49 @@ const STEPS: u64 = 115;
 
 // A bench over (4), (1), (7) whose instance may run so many instructions, before its first turn.
 fn limited(alloc: Global, steps: u64) -> Result<Bench, Fail> {
-    bench_of(
-        alloc,
-        narrow(alloc)?,
-        b"A\n4\n1\n7\n",
-        Limits { pages: 1, steps },
-    )
+    let limits = Limits { pages: 1, steps };
+    bench_of(alloc, narrow(alloc)?, b"A\n4\n1\n7\n", limits)
 }
 
-// How the one instance of a bench ended, and how many instructions it ran.
-fn end_of(bench: &Bench) -> (Option<Ended>, u64) {
-    if bench.len() == 0 {
-        return (None, 0);
-    }
-    (bench.ended(0), bench.steps(0))
+// How an instance with this limit ends, and how many instructions it runs.
+fn end_at(alloc: Global, limit: u64) -> Result<(Option<Ended>, u64), Fail> {
+    let mut bench = limited(alloc, limit)?;
+    bench.run_all(10_000);
+    Ok(end_of(&bench))
 }
+
+#[test]
+fn a_run_of_115_instructions_needs_a_limit_of_115(rt: HostRuntime) -> Result<(), Fail> {
+    let alloc = rt.alloc();
+    assert_eq!(rt; end_at(alloc, STEPS)?, (Some(Ended::Done), 115));
+    assert_eq!(rt;
+        end_at(alloc, STEPS - 1)?,
+        (Some(Ended::Steps { limit: 114 }), 114)
+    );
+    Ok(())
+}
+
+// The quanta of one turn after another, how many instructions each ran, and after it the end and the count of all.
+const TURNS: [(u64, u64, Option<Ended>, u64); 3] = [
+    (114, 114, None, 114),
+    (10_000, 1, Some(Ended::Done), 115),
+    (10_000, 0, Some(Ended::Done), 115),
+];
 
 // How many instructions a turn of the one instance ran.
-fn turned(bench: &mut Bench, quantum: u64) -> u64
-    requires { 1 ≤ quantum }
-{
-    if bench.len() == 0 {
+fn turned(bench: &mut Bench, quantum: u64) -> u64 {
+    if bench.len() == 0 || quantum == 0 {
         return 0;
     }
     bench.turn(0, quantum)
 }
 
 #[test]
-fn a_run_of_115_instructions_needs_a_limit_of_115(rt: HostRuntime) -> Result<(), Fail> {
-    let alloc = rt.alloc();
-    let mut enough = limited(alloc, STEPS)?;
-    enough.run_all(10_000);
-    assert_eq!(rt; end_of(&enough), (Some(Ended::Done), 115));
-    let mut short = limited(alloc, STEPS - 1)?;
-    short.run_all(10_000);
-    assert_eq!(rt; end_of(&short), (Some(Ended::Steps { limit: 114 }), 114));
-    Ok(())
-}
-
-#[test]
 fn a_turn_ends_at_its_quantum(rt: HostRuntime) -> Result<(), Fail> {
-    let alloc = rt.alloc();
-    let mut bench = limited(alloc, STEPS)?;
-    assert_eq!(rt; turned(&mut bench, 114), 114);
-    assert_eq!(rt; end_of(&bench), (None, 114));
-    assert_eq!(rt; turned(&mut bench, 10_000), 1);
-    assert_eq!(rt; end_of(&bench), (Some(Ended::Done), 115));
-    assert_eq!(rt; turned(&mut bench, 10_000), 0);
+    let mut bench = limited(rt.alloc(), STEPS)?;
+    for &(quantum, ran, end, all) in &TURNS {
+        let turned = turned(&mut bench, quantum);
+        assert_eq!(rt; (turned, end_of(&bench)), (ran, (end, all)));
+    }
     Ok(())
 }

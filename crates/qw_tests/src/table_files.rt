@@ -1,11 +1,12 @@
 // Files at the edges of what can be loaded. That `load` doesn't answer want of memory is what no
 // clause says.
 
-use crate::tables::{narrow, sevens, wide};
+use crate::tables::{assert_field_refused, assert_refused, narrow, sevens, wide};
 use qw_csv::loading::{LoadFault, load};
 use qw_csv::{Cell, CellFault, Loaded};
-use qw_types::FieldFault;
+use qw_types::{FieldFault, Table};
 use std::alloc::Global;
+use std::process::Abort;
 use std::test::Fail;
 
 // The values, row by row.
@@ -94,20 +95,35 @@ const WIDE_REFUSED_FIELDS: [(&[u8], usize, usize, CellFault); 4] = [
     (b"A,B\n7,2147483648\n1\n", 1, 1, TOO_LARGE),
 ];
 
+// Asserts that a file is loaded as so many columns, with these values row by row.
+fn assert_loaded(
+    rt: &impl Abort,
+    alloc: Global,
+    table: &Table,
+    bytes: &[u8],
+    width: usize,
+    expected: &[i64],
+) -> Result<(), Fail> {
+    let loaded = load(alloc, table, bytes)?;
+    let values = values(alloc, &loaded)?;
+    assert_eq!(rt;
+        (loaded.width(), loaded.is_empty(), values.as_slice()),
+        (width, expected.is_empty(), expected)
+    );
+    Ok(())
+}
+
 #[test]
 fn files_at_the_edges(rt: HostRuntime) -> Result<(), Fail> {
     let table = narrow(rt.alloc())?;
-    for (bytes, expected) in LOADED {
-        let loaded = load(rt.alloc(), &table, bytes)?;
-        assert_eq!(rt; loaded.width(), 1);
-        assert_eq!(rt; values(rt.alloc(), &loaded)?.as_slice(), expected);
+    for &(bytes, expected) in &LOADED {
+        assert_loaded(&rt, rt.alloc(), &table, bytes, 1, expected)?;
     }
-    for (bytes, fault) in REFUSED {
-        assert_eq!(rt; load(rt.alloc(), &table, bytes).err(), Some(fault));
+    for &(bytes, fault) in &REFUSED {
+        assert_refused(&rt, rt.alloc(), &table, bytes, fault);
     }
-    for (bytes, row, column, fault) in REFUSED_FIELDS {
-        let fault = LoadFault::Field { row, column, fault };
-        assert_eq!(rt; load(rt.alloc(), &table, bytes).err(), Some(fault));
+    for &(bytes, row, column, fault) in &REFUSED_FIELDS {
+        assert_field_refused(&rt, rt.alloc(), &table, bytes, row, column, fault);
     }
     Ok(())
 }
@@ -115,31 +131,33 @@ fn files_at_the_edges(rt: HostRuntime) -> Result<(), Fail> {
 #[test]
 fn files_of_two_columns(rt: HostRuntime) -> Result<(), Fail> {
     let table = wide(rt.alloc())?;
-    for (bytes, expected) in WIDE_LOADED {
-        let loaded = load(rt.alloc(), &table, bytes)?;
-        assert_eq!(rt; loaded.width(), 2);
-        assert_eq!(rt; loaded.is_empty(), expected.is_empty());
-        assert_eq!(rt; values(rt.alloc(), &loaded)?.as_slice(), expected);
+    for &(bytes, expected) in &WIDE_LOADED {
+        assert_loaded(&rt, rt.alloc(), &table, bytes, 2, expected)?;
     }
-    for (bytes, fault) in WIDE_REFUSED {
-        assert_eq!(rt; load(rt.alloc(), &table, bytes).err(), Some(fault));
+    for &(bytes, fault) in &WIDE_REFUSED {
+        assert_refused(&rt, rt.alloc(), &table, bytes, fault);
     }
-    for (bytes, row, column, fault) in WIDE_REFUSED_FIELDS {
-        let fault = LoadFault::Field { row, column, fault };
-        assert_eq!(rt; load(rt.alloc(), &table, bytes).err(), Some(fault));
+    for &(bytes, row, column, fault) in &WIDE_REFUSED_FIELDS {
+        assert_field_refused(&rt, rt.alloc(), &table, bytes, row, column, fault);
     }
     Ok(())
 }
 
+// How many rows are loaded of so many records of 7, or why none.
+fn sevens_loaded(alloc: Global, records: usize) -> Result<Result<usize, LoadFault>, Fail> {
+    let file = sevens(alloc, records)?;
+    let table = narrow(alloc)?;
+    Ok(rows_loaded(alloc, &table, file.as_slice()))
+}
+
+fn rows_loaded(alloc: Global, table: &Table, bytes: &[u8]) -> Result<usize, LoadFault> {
+    Ok(load(alloc, table, bytes)?.len())
+}
+
 #[test]
 fn files_at_the_limit(rt: HostRuntime) -> Result<(), Fail> {
-    let table = narrow(rt.alloc())?;
-    let full = sevens(rt.alloc(), 1_000_000)?;
-    assert_eq!(rt; load(rt.alloc(), &table, full.as_slice())?.len(), 1_000_000);
-    let over = sevens(rt.alloc(), 1_000_001)?;
-    assert_eq!(rt;
-        load(rt.alloc(), &table, over.as_slice()).err(),
-        Some(LoadFault::TooManyRows)
-    );
+    let full = sevens_loaded(rt.alloc(), 1_000_000)?;
+    let over = sevens_loaded(rt.alloc(), 1_000_001)?;
+    assert_eq!(rt; (full, over), (Ok(1_000_000), Err(LoadFault::TooManyRows)));
     Ok(())
 }

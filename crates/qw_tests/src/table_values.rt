@@ -3,12 +3,14 @@
 ghost use Rattle.std.specs.Prelude.{IsTrue};
 ghost use Rattle.qw_types.specs.Value.{IsNumeric, IsSized};
 
-use qw_csv::loading::{LoadFault, load};
-use qw_csv::{Cell, CellFault};
+use crate::tables::assert_field_refused;
+use qw_csv::loading::load;
+use qw_csv::{Cell, CellFault, Loaded};
 use qw_types::date_text::read_date;
 use qw_types::numeral::read_number;
 use qw_types::{Column, Columns, FieldFault, Table, Text, Ty};
-use std::alloc::{AllocError, Global};
+use std::alloc::Global;
+use std::process::Abort;
 use std::test::Fail;
 
 const MONEY: Ty = Ty::Decimal {
@@ -30,6 +32,8 @@ const TENTHS: Ty = Ty::Decimal {
     precision: 1,
     scale: 1,
 };
+
+const SHORT: Ty = Ty::Varchar { length: 3 };
 
 const NUMBERS: [(Ty, &[u8], i64); 32] = [
     (Ty::Integer, b"0", 0),
@@ -180,35 +184,47 @@ fn is_sized(ty: Ty) -> bool
     }
 }
 
-#[test]
-fn numbers(rt: HostRuntime) -> Result<(), Fail> {
-    for (ty, text, number) in NUMBERS {
-        assert!(rt; is_numeric(ty));
-        assert!(rt; is_sized(ty));
-        assert_eq!(rt; read_number(text, &ty), Ok(number));
+// The number that a text is in a column of a type, or why it is none; nothing where the type has no numbers.
+fn number_of(ty: Ty, text: &[u8]) -> Option<Result<i64, FieldFault>> {
+    if is_numeric(ty) && is_sized(ty) {
+        Some(read_number(text, &ty))
+    } else {
+        None
     }
-    for (ty, text, fault) in NO_NUMBERS {
-        assert!(rt; is_numeric(ty));
-        assert!(rt; is_sized(ty));
-        assert_eq!(rt; read_number(text, &ty), Err(fault));
-    }
-    Ok(())
+}
+
+fn assert_number(rt: &impl Abort, ty: Ty, text: &[u8], expected: Result<i64, FieldFault>) {
+    assert_eq!(rt; number_of(ty, text), Some(expected));
 }
 
 #[test]
-fn dates(rt: HostRuntime) -> Result<(), Fail> {
-    for (text, date) in DATES {
-        assert_eq!(rt; read_date(text), Ok(date));
+fn numbers(rt: HostRuntime) {
+    for &(ty, text, number) in &NUMBERS {
+        assert_number(&rt, ty, text, Ok(number));
     }
-    for text in NO_DATES {
-        assert_eq!(rt; read_date(text), Err(FieldFault::NotDate));
+    for &(ty, text, fault) in &NO_NUMBERS {
+        assert_number(&rt, ty, text, Err(fault));
     }
-    Ok(())
 }
 
-fn table(alloc: Global, ty: Ty, not_null: bool) -> Result<Table, AllocError>
-    requires { IsSized ty }
-{
+fn assert_date(rt: &impl Abort, text: &[u8], expected: Result<i32, FieldFault>) {
+    assert_eq!(rt; read_date(text), expected);
+}
+
+#[test]
+fn dates(rt: HostRuntime) {
+    for &(text, date) in &DATES {
+        assert_date(&rt, text, Ok(date));
+    }
+    for &text in &NO_DATES {
+        assert_date(&rt, text, Err(FieldFault::NotDate));
+    }
+}
+
+fn table(alloc: Global, ty: Ty, not_null: bool) -> Result<Table, Fail> {
+    if !is_sized(ty) {
+        return Err("no type".into());
+    }
     let column = Column {
         name: Text::new(String::from_str(alloc, "A")?),
         ty,
@@ -258,60 +274,87 @@ const NO_TEXTS: [(&[u8], usize, CellFault); 12] = [
     (b"A\nabcdefg\xFF\n", 1, CellFault::NotUtf8),
 ];
 
-#[test]
-fn texts(rt: HostRuntime) -> Result<(), Fail> {
-    let table = table(rt.alloc(), Ty::Varchar { length: 3 }, true)?;
-    for (bytes, expected) in TEXTS {
-        let loaded = load(rt.alloc(), &table, bytes)?;
-        assert_eq!(rt; loaded.len(), expected.len());
-        for (row, text) in expected.iter().enumerate() {
-            if row < loaded.len() && loaded.width() == 1 {
-                assert!(rt; matches!(loaded.cell(row, 0), Cell::Text(octets) if octets == *text));
-            }
+// Whether the one column of a row is this text.
+fn is_text(loaded: &Loaded, row: usize, text: &[u8]) -> bool {
+    if loaded.len() <= row || loaded.width() != 1 {
+        return false;
+    }
+    matches!(loaded.cell(row, 0), Cell::Text(octets) if octets == text)
+}
+
+// Whether the one column of a table is these texts.
+fn are_texts(loaded: &Loaded, texts: &[&[u8]]) -> bool {
+    for (row, text) in texts.iter().enumerate() {
+        if !is_text(loaded, row, text) {
+            return false;
         }
     }
-    for (bytes, row, fault) in NO_TEXTS {
-        let fault = LoadFault::Field {
-            row,
-            column: 0,
-            fault,
-        };
-        assert_eq!(rt; load(rt.alloc(), &table, bytes).err(), Some(fault));
+    loaded.len() == texts.len()
+}
+
+// Whether a table has one row of one column, which is null.
+fn is_one_null(loaded: &Loaded) -> bool {
+    loaded.len() == 1 && loaded.width() == 1 && matches!(loaded.cell(0, 0), Cell::Null)
+}
+
+// Asserts that a file of one VARCHAR(3) column without nulls is loaded as these texts.
+fn assert_texts(
+    rt: &impl Abort,
+    alloc: Global,
+    bytes: &[u8],
+    expected: &[&[u8]],
+) -> Result<(), Fail> {
+    let loaded = load(alloc, &table(alloc, SHORT, true)?, bytes)?;
+    assert!(rt; are_texts(&loaded, expected));
+    Ok(())
+}
+
+#[test]
+fn texts(rt: HostRuntime) -> Result<(), Fail> {
+    for &(bytes, expected) in &TEXTS {
+        assert_texts(&rt, rt.alloc(), bytes, expected)?;
     }
     Ok(())
 }
 
 #[test]
-fn empty_fields(rt: HostRuntime) -> Result<(), Fail> {
-    let kinds = [Ty::Integer, MONEY, Ty::Date, Ty::Varchar { length: 3 }];
-    let fault = LoadFault::Field {
-        row: 1,
-        column: 0,
-        fault: CellFault::NullForbidden,
-    };
-    for ty in kinds {
-        assert!(rt; is_sized(ty));
-        let nullable = table(rt.alloc(), ty, false)?;
-        let loaded = load(rt.alloc(), &nullable, b"A\n\"\"\n")?;
-        assert_eq!(rt; loaded.len(), 1);
-        if loaded.len() == 1 && loaded.width() == 1 {
-            assert!(rt; matches!(loaded.cell(0, 0), Cell::Null));
-        }
-        let never = table(rt.alloc(), ty, true)?;
-        match ty {
-            Ty::Varchar { .. } => {
-                let loaded = load(rt.alloc(), &never, b"A\n\"\"\nab\n")?;
-                if loaded.len() == 2 && loaded.width() == 1 {
-                    assert!(rt;
-                        matches!(loaded.cell(0, 0), Cell::Text(octets) if octets.is_empty())
-                    );
-                    assert!(rt;
-                        matches!(loaded.cell(1, 0), Cell::Text(octets) if octets == b"ab".as_slice())
-                    );
-                }
-            }
-            _ => assert_eq!(rt; load(rt.alloc(), &never, b"A\n\"\"\n").err(), Some(fault)),
-        }
+fn no_texts(rt: HostRuntime) -> Result<(), Fail> {
+    let table = table(rt.alloc(), SHORT, true)?;
+    for &(bytes, row, fault) in &NO_TEXTS {
+        assert_field_refused(&rt, rt.alloc(), &table, bytes, row, 0, fault);
     }
     Ok(())
+}
+
+// A record whose one field is empty.
+const EMPTY: &[u8] = b"A\n\"\"\n";
+
+// Asserts that an empty field is null in a column of a type that may have nulls.
+fn assert_null(rt: &impl Abort, alloc: Global, ty: Ty) -> Result<(), Fail> {
+    let loaded = load(alloc, &table(alloc, ty, false)?, EMPTY)?;
+    assert!(rt; is_one_null(&loaded));
+    Ok(())
+}
+
+// Asserts that it is refused in one of a type that may have none.
+fn assert_null_forbidden(rt: &impl Abort, alloc: Global, ty: Ty) -> Result<(), Fail> {
+    let table = table(alloc, ty, true)?;
+    assert_field_refused(rt, alloc, &table, EMPTY, 1, 0, CellFault::NullForbidden);
+    Ok(())
+}
+
+const TYPES_WITHOUT_TEXTS: [Ty; 3] = [Ty::Integer, MONEY, Ty::Date];
+
+#[test]
+fn empty_fields(rt: HostRuntime) -> Result<(), Fail> {
+    for &ty in &TYPES_WITHOUT_TEXTS {
+        assert_null(&rt, rt.alloc(), ty)?;
+        assert_null_forbidden(&rt, rt.alloc(), ty)?;
+    }
+    assert_null(&rt, rt.alloc(), SHORT)
+}
+
+#[test]
+fn empty_texts(rt: HostRuntime) -> Result<(), Fail> {
+    assert_texts(&rt, rt.alloc(), b"A\n\"\"\nab\n", &[b"", b"ab"])
 }

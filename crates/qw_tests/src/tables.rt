@@ -1,26 +1,28 @@
 //! Tables, files and benches that several tests use.
 
-ghost use Rattle.std.specs.Prelude.{◌≡◌, IfOk, IsTrue, true};
+ghost use Rattle.std.specs.Prelude.{◌≡◌, ◌≤◌, IfOk, IsTrue, true};
 ghost use Rattle.std.specs.List.{AllByRecursion};
 ghost use Rattle.qw_types.specs.declared.value.Ty.TheVariants.{Integer};
 ghost use Rattle.qw_bench.specs.Standing.{AreLimits};
 ghost use Rattle.qw_top.specs.Inner.Queries.{IsOver};
 ghost use Rattle.qw_top.specs.Inner.Stages.{AreContentsOf};
 
-use qw_bench::bench::{Bench, BenchFault, Limits, MAX_JOBS};
-use qw_csv::Loaded;
-use qw_csv::loading::load;
-use qw_io::{MemoryShelf, MemorySink, NamedFile};
-use qw_linear::linear::MAX_PAGES;
+use qw_bench::bench::{Bench, BenchFault, Ended, Limits, MAX_JOBS};
+use qw_csv::loading::{LoadFault, load};
+use qw_csv::{CellFault, Loaded};
+use qw_io::{MemoryShelf, MemorySink, NamedFile, Shelf, Sink};
+use qw_linear::linear::{Linear, MAX_PAGES};
 use qw_meaning::query::{Comparison, Query};
+use qw_sink::sink::Head;
 use qw_top::status::Status;
 use qw_top::top::program::job_of;
 use qw_top::top::queries::queries_of;
 use qw_top::top::qwasm;
 use qw_typer::query::TypedSelect;
 use qw_types::schema::MAX_TABLES;
-use qw_types::{Column, Columns, Schema, Table, Text, Ty};
+use qw_types::{Column, Columns, Kind, Schema, Table, Text, Ty};
 use std::alloc::{AllocError, Global};
+use std::process::Abort;
 use std::test::Fail;
 
 /// The words of a run over the files of a `shelf`.
@@ -73,7 +75,33 @@ pub fn sevens(alloc: Global, rows: usize) -> Result<Vec<u8>, AllocError> {
     file_of(alloc, b"A\n", b"7\n", rows)
 }
 
-fn file(alloc: Global, name: &str, bytes: &[u8]) -> Result<NamedFile, AllocError> {
+/// Asserts that a file is refused as one of a table, for this fault.
+pub fn assert_refused(
+    rt: &impl Abort,
+    alloc: Global,
+    table: &Table,
+    bytes: &[u8],
+    fault: LoadFault,
+) {
+    assert_eq!(rt; load(alloc, table, bytes).err(), Some(fault));
+}
+
+/// Asserts that a file is refused for a field at fault, by the numbers of its record and its column.
+pub fn assert_field_refused(
+    rt: &impl Abort,
+    alloc: Global,
+    table: &Table,
+    bytes: &[u8],
+    row: usize,
+    column: usize,
+    fault: CellFault,
+) {
+    let fault = LoadFault::Field { row, column, fault };
+    assert_refused(rt, alloc, table, bytes, fault);
+}
+
+/// A file of a shelf.
+pub fn file(alloc: Global, name: &str, bytes: &[u8]) -> Result<NamedFile, AllocError> {
     Ok(NamedFile {
         name: String::from_str(alloc, name)?,
         bytes: Vec::from_slice(alloc, bytes)?,
@@ -204,19 +232,133 @@ fn is_limit(one: Limits) -> bool
     1 <= one.pages && one.pages <= MAX_PAGES && 1 <= one.steps
 }
 
-/// How a run over the files of a shelf ends, and the bench that it leaves.
-pub fn left(alloc: Global, files: &mut MemoryShelf) -> Result<(Status, Bench), Fail> {
-    let mut out = MemorySink::new(alloc, 4_096, Vec::new(alloc));
-    let mut notes = MemorySink::new(alloc, 1, Vec::new(alloc));
-    let words = words(alloc, &WORDS)?;
+/// A sink that takes at most so many octets a call.
+pub fn sink(alloc: Global, greatest: usize) -> MemorySink
+    requires { 1 ≤ greatest }
+{
+    MemorySink::new(alloc, greatest, Vec::new(alloc))
+}
+
+/// What a call of the program with these words came to: its end, and the bench.
+pub fn call<F: Shelf, O: Sink>(
+    alloc: Global,
+    files: &mut F,
+    texts: &[&str],
+    out: &mut O,
+    notes: &mut MemorySink,
+) -> Result<(Status, Option<Bench>), AllocError> {
+    let words = words(alloc, texts)?;
     let mut kept = None;
-    let status = qwasm(
-        alloc,
-        words.as_slice(),
-        files,
-        &mut out,
-        &mut notes,
-        &mut kept,
+    let status = qwasm(alloc, words.as_slice(), files, out, notes, &mut kept);
+    Ok((status, kept))
+}
+
+/// How a call has to end: what is written and what is noted, and whether there is a bench.
+#[derive(Drop)]
+pub struct End<'a> {
+    pub status: Status,
+    pub report: &'a [u8],
+    pub noted: &'a [u8],
+    pub keeps: bool,
+}
+
+/// The end of a run whose queries all have rows.
+pub fn done(report: &[u8]) -> End<'_> {
+    End {
+        status: Status::Done,
+        report,
+        noted: b"",
+        keeps: true,
+    }
+}
+
+/// The end of a call that is refused, with a line on why.
+pub fn refused(status: Status, line: &[u8]) -> End<'_> {
+    End {
+        status,
+        report: b"",
+        noted: line,
+        keeps: false,
+    }
+}
+
+/// Asserts how a call ends that writes to these sinks, and answers its bench.
+pub fn ended<F: Shelf>(
+    rt: &impl Abort,
+    alloc: Global,
+    files: &mut F,
+    texts: &[&str],
+    (mut out, mut notes): (MemorySink, MemorySink),
+    end: &End<'_>,
+) -> Result<Option<Bench>, Fail> {
+    let (status, kept) = call(alloc, files, texts, &mut out, &mut notes)?;
+    assert_eq!(rt;
+        (status, out.bytes(), notes.bytes(), kept.is_some()),
+        (end.status, end.report, end.noted, end.keeps)
     );
-    Ok((status, kept.ok_or("no bench")?))
+    Ok(kept)
+}
+
+/// Asserts how a call ends that writes to these sinks.
+pub fn assert_ends<F: Shelf>(
+    rt: &impl Abort,
+    alloc: Global,
+    files: &mut F,
+    texts: &[&str],
+    sinks: (MemorySink, MemorySink),
+    end: &End<'_>,
+) -> Result<(), Fail> {
+    ended(rt, alloc, files, texts, sinks, end)?;
+    Ok(())
+}
+
+/// Asserts how a run over these files ends, and answers its bench.
+pub fn ended_run(
+    rt: &impl Abort,
+    alloc: Global,
+    schema: &[u8],
+    table: &[u8],
+    query: &[u8],
+    end: &End<'_>,
+) -> Result<Option<Bench>, Fail> {
+    let mut files = shelf(alloc, schema, table, query)?;
+    let sinks = (sink(alloc, 4_096), sink(alloc, 5));
+    ended(rt, alloc, &mut files, &WORDS, sinks, end)
+}
+
+/// The bench that a run over these files leaves.
+pub fn left(alloc: Global, schema: &[u8], table: &[u8], query: &[u8]) -> Result<Bench, Fail> {
+    let mut files = shelf(alloc, schema, table, query)?;
+    let mut out = sink(alloc, 4_096);
+    let mut notes = sink(alloc, 1);
+    let (_, kept) = call(alloc, &mut files, &WORDS, &mut out, &mut notes)?;
+    Ok(kept.ok_or("no bench")?)
+}
+
+/// The heads of columns of one kind.
+pub fn heads(alloc: Global, names: &[&str], kind: Kind) -> Result<Vec<Head>, AllocError> {
+    let mut heads = Vec::new(alloc);
+    for name in names {
+        let name = Text::new(String::from_str(alloc, name)?);
+        heads.push(Head { name, kind })?;
+    }
+    Ok(heads)
+}
+
+/// The first address from which a memory has other octets than these.
+pub fn differs(memory: &Linear, octets: &[(u64, [u8; 8])]) -> Option<u64> {
+    for (address, expected) in octets {
+        if memory.load64(*address) != Some(u64::from_le_bytes(*expected)) {
+            return Some(*address);
+        }
+    }
+    None
+}
+
+/// How the first instance of a bench ended, and how many instructions it ran.
+pub fn end_of(bench: &Bench) -> (Option<Ended>, u64) {
+    if bench.len() == 0 {
+        return (None, 0);
+    }
+    (bench.ended(0), bench.steps(0))
 }

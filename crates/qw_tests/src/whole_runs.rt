@@ -1,11 +1,10 @@
 // Whole runs over files in memory. That memory suffices for them is what no clause says.
 
-use crate::tables::{WORDS, shelf, words};
-use qw_bench::bench::Bench;
-use qw_io::{IoFault, MemorySink, Shelf, Sink};
+use crate::tables::{End, WORDS, assert_ends, call, done, ended_run, refused, shelf, sink};
+use qw_io::{IoFault, MemorySink, Sink};
 use qw_top::status::Status;
-use qw_top::top::qwasm;
 use std::alloc::{AllocError, Global};
+use std::process::Abort;
 use std::test::Fail;
 
 mod commands;
@@ -37,155 +36,109 @@ const MIXED_SCHEMA: &[u8] =
 const MIXED_TABLE: &[u8] =
     b"P,A,D,N,B\n1.50,4,2020-02-29,ab,1\n,7,,,-2\n-0.05,8,1999-12-31,\"a,b\",3\n";
 
-// A schema, a table, a query, the end of their run and its report.
-const RUNS: [(&[u8], &[u8], &[u8], Status, &[u8]); 17] = [
-    (SCHEMA, TABLE, QUERY, Status::Done, SEVEN),
+// A schema, a table, a query and the report of their run.
+const RUNS: [(&[u8], &[u8], &[u8], &[u8]); 17] = [
+    (SCHEMA, TABLE, QUERY, SEVEN),
     (
         b"create table t ( a integer not null )",
         TABLE,
         b"select a from t where a > 5",
-        Status::Done,
         SEVEN,
     ),
     (
         b"\xEF\xBB\xBFCREATE TABLE T\r\n(A INTEGER\r\nNOT NULL);\r\n",
         b"\xEF\xBB\xBFa\r\n4\r\n1\r\n7\r\n",
         b"\xEF\xBB\xBFSELECT A\r\nFROM T WHERE A > 5\r\n",
-        Status::Done,
         SEVEN,
     ),
     (
         SCHEMA,
         b"A\n-1\n2147483647\n",
         b"SELECT A FROM T WHERE A > 0",
-        Status::Done,
         b"QUERY 1 ROWS 1\nA\n2147483647\n",
     ),
-    (SCHEMA, b"A\n", QUERY, Status::Done, NO_ROWS),
+    (SCHEMA, b"A\n", QUERY, NO_ROWS),
     (
         SCHEMA,
         TABLE,
         b"SELECT A FROM T WHERE A = 4",
-        Status::Done,
         b"QUERY 1 ROWS 1\nA\n4\n",
     ),
     (
         SCHEMA,
         TABLE,
         b"SELECT A FROM T WHERE A <> 4",
-        Status::Done,
         b"QUERY 1 ROWS 2\nA\n1\n7\n",
     ),
     (
         SCHEMA,
         TABLE,
         b"SELECT A FROM T WHERE A < 4",
-        Status::Done,
         b"QUERY 1 ROWS 1\nA\n1\n",
     ),
     (
         SCHEMA,
         TABLE,
         b"SELECT A FROM T WHERE A <= 4",
-        Status::Done,
         b"QUERY 1 ROWS 2\nA\n4\n1\n",
     ),
-    (
-        SCHEMA,
-        TABLE,
-        b"SELECT A FROM T WHERE A > 7",
-        Status::Done,
-        NO_ROWS,
-    ),
-    (
-        SCHEMA,
-        TABLE,
-        b"SELECT A FROM T WHERE A >= 7",
-        Status::Done,
-        SEVEN,
-    ),
+    (SCHEMA, TABLE, b"SELECT A FROM T WHERE A > 7", NO_ROWS),
+    (SCHEMA, TABLE, b"SELECT A FROM T WHERE A >= 7", SEVEN),
     (
         SCHEMA,
         b"A\n-5\n-6\n0\n",
         b"SELECT A FROM T WHERE A > - 6",
-        Status::Done,
         b"QUERY 1 ROWS 2\nA\n-5\n0\n",
     ),
     (
         SCHEMA,
         TABLE,
         b"SELECT A FROM T WHERE A > 999999999999999999",
-        Status::Done,
         NO_ROWS,
     ),
     (
         WIDE_SCHEMA,
         WIDE_TABLE,
         b"SELECT C, A FROM T WHERE B < 30",
-        Status::Done,
         b"QUERY 1 ROWS 2\nC,A\n-300,1\n400,2\n",
     ),
     (
         WIDE_SCHEMA,
         WIDE_TABLE,
         b"SELECT B, C, A FROM T WHERE A <> 2",
-        Status::Done,
         b"QUERY 1 ROWS 2\nB,C,A\n20,-300,1\n30,500,3\n",
     ),
     (
         WIDE_SCHEMA,
         WIDE_TABLE,
         b"SELECT B, A, B FROM T WHERE C = 400",
-        Status::Done,
         b"QUERY 1 ROWS 1\nB,A,B\n-10,2,-10\n",
     ),
     (
         MIXED_SCHEMA,
         MIXED_TABLE,
         b"SELECT B, A FROM T WHERE A > 5",
-        Status::Done,
         b"QUERY 1 ROWS 2\nB,A\n-2,7\n3,8\n",
     ),
 ];
 
-// What a run over these files came to: its end, and the bench.
-fn run<F: Shelf, O: Sink>(
-    alloc: Global,
-    files: &mut F,
-    texts: &[&str],
-    out: &mut O,
-    notes: &mut MemorySink,
-) -> Result<(Status, Option<Bench>), AllocError> {
-    let words = words(alloc, texts)?;
-    let mut kept = None;
-    let status = qwasm(alloc, words.as_slice(), files, out, notes, &mut kept);
-    Ok((status, kept))
-}
-
-// The end, the report and the bench of a run over these files, whose words are read and which are accepted. Nothing is noted.
-fn report_of(
+// Asserts how a run over these files ends.
+fn assert_run(
+    rt: &impl Abort,
     alloc: Global,
     schema: &[u8],
     table: &[u8],
     query: &[u8],
-) -> Result<(Status, MemorySink, Option<Bench>), Fail> {
-    let mut files = shelf(alloc, schema, table, query)?;
-    let mut out = MemorySink::new(alloc, 4_096, Vec::new(alloc));
-    let mut notes = MemorySink::new(alloc, 1, Vec::new(alloc));
-    let (status, kept) = run(alloc, &mut files, &WORDS, &mut out, &mut notes)?;
-    if !notes.bytes().is_empty() {
-        return Err("noted".into());
-    }
-    Ok((status, out, kept))
+    end: &End<'_>,
+) -> Result<(), Fail> {
+    ended_run(rt, alloc, schema, table, query, end)?;
+    Ok(())
 }
 
 #[test]
 fn files_and_their_reports(rt: HostRuntime) -> Result<(), Fail> {
-    for (schema, table, query, end, report) in RUNS {
-        let (status, out, kept) = report_of(rt.alloc(), schema, table, query)?;
-        assert_eq!(rt; status, end);
-        assert_eq!(rt; out.bytes(), report);
-        assert!(rt; kept.is_some());
+    for &(schema, table, query, report) in &RUNS {
+        assert_run(&rt, rt.alloc(), schema, table, query, &done(report))?;
     }
     Ok(())
 }
@@ -245,18 +198,27 @@ const FAULTS: [(&[&str], u64, u64, Status, &[u8], &[u8], bool); 7] = [
     (&WORDS, 1, NEVER, Status::WriteFailed, b"Q", b"", true),
 ];
 
+// A sink that takes an octet a call, and fails at one of them.
+fn failing_sink(alloc: Global, call: u64) -> Result<MemorySink, AllocError> {
+    Ok(MemorySink::new(alloc, 1, Vec::from_slice(alloc, &[call])?))
+}
+
 #[test]
 fn words_and_faults(rt: HostRuntime) -> Result<(), Fail> {
     let alloc = rt.alloc();
-    for (texts, failing, failing_note, end, report, noted, keeps) in FAULTS {
+    for &(texts, failing, failing_note, status, report, noted, keeps) in &FAULTS {
         let mut files = shelf(alloc, SCHEMA, TABLE, QUERY)?;
-        let mut out = MemorySink::new(alloc, 1, vec![in alloc; failing]?);
-        let mut notes = MemorySink::new(alloc, 1, vec![in alloc; failing_note]?);
-        let (status, kept) = run(alloc, &mut files, texts, &mut out, &mut notes)?;
-        assert_eq!(rt; status, end);
-        assert_eq!(rt; out.bytes(), report);
-        assert_eq!(rt; notes.bytes(), noted);
-        assert_eq!(rt; kept.is_some(), keeps);
+        let sinks = (
+            failing_sink(alloc, failing)?,
+            failing_sink(alloc, failing_note)?,
+        );
+        let end = End {
+            status,
+            report,
+            noted,
+            keeps,
+        };
+        assert_ends(&rt, alloc, &mut files, texts, sinks, &end)?;
     }
     Ok(())
 }
@@ -290,14 +252,10 @@ const REFUSALS: [(&[u8], &[u8], &[&str], Status, &[u8]); 3] = [
 #[test]
 fn the_first_refusal_ends_a_run(rt: HostRuntime) -> Result<(), Fail> {
     let alloc = rt.alloc();
-    for (schema, table, texts, end, line) in REFUSALS {
+    for &(schema, table, texts, status, line) in &REFUSALS {
         let mut files = shelf(alloc, schema, table, QUERY)?;
-        let mut out = MemorySink::new(alloc, 1, Vec::new(alloc));
-        let mut notes = MemorySink::new(alloc, 1, Vec::new(alloc));
-        let (status, _) = run(alloc, &mut files, texts, &mut out, &mut notes)?;
-        assert_eq!(rt; status, end);
-        assert_eq!(rt; notes.bytes(), line);
-        assert!(rt; out.bytes().is_empty());
+        let sinks = (sink(alloc, 1), sink(alloc, 1));
+        assert_ends(&rt, alloc, &mut files, texts, sinks, &refused(status, line))?;
     }
     Ok(())
 }
@@ -322,11 +280,12 @@ impl Sink for FullSink {
 fn want_of_memory_is_noted(rt: HostRuntime) -> Result<(), Fail> {
     let alloc = rt.alloc();
     let mut files = shelf(alloc, SCHEMA, TABLE, QUERY)?;
-    let mut notes = MemorySink::new(alloc, 1, Vec::new(alloc));
-    let (status, kept) = run(alloc, &mut files, &WORDS, &mut FullSink, &mut notes)?;
-    assert_eq!(rt; status, Status::NoMemory);
-    assert_eq!(rt; status.code(), 9);
-    assert_eq!(rt; notes.bytes(), b"want of memory\n".as_slice());
-    assert!(rt; kept.is_some());
+    let mut notes = sink(alloc, 1);
+    let (status, kept) = call(alloc, &mut files, &WORDS, &mut FullSink, &mut notes)?;
+    let line = b"want of memory\n".as_slice();
+    assert_eq!(rt;
+        (status, status.code(), notes.bytes(), kept.is_some()),
+        (Status::NoMemory, 9, line, true)
+    );
     Ok(())
 }

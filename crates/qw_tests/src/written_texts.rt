@@ -6,8 +6,11 @@ use std::test::Fail;
 fn a_text_is_written_piece_by_piece(rt: HostRuntime) -> Result<(), Fail> {
     let alloc = rt.alloc();
     let mut sink = MemorySink::new(alloc, 2, Vec::from_slice(alloc, &[4])?);
-    assert_eq!(rt; write_whole(&mut sink, b"hello"), Ok(()));
-    assert_eq!(rt; write_whole(&mut sink, b" you"), Err(IoFault::Failed));
+    let written = (
+        write_whole(&mut sink, b"hello"),
+        write_whole(&mut sink, b" you"),
+    );
+    assert_eq!(rt; written, (Ok(()), Err(IoFault::Failed)));
     assert_eq!(rt; sink.bytes(), b"hello y".as_slice());
     Ok(())
 }

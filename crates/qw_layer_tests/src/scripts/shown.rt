@@ -52,156 +52,161 @@ fn truth_octets(truth: Truth) -> &'static [u8] {
     }
 }
 
-fn put(out: &mut Vec<u8>, octets: &[u8]) -> Result<(), AllocError> {
-    out.extend_from_slice(octets)
+/// A line that is being made. Once memory is wanting, nothing is added any more: so no caller has to look.
+#[derive(Drop)]
+struct Line {
+    octets: Vec<u8>,
+    is_whole: bool,
+}
+
+fn put(out: &mut Line, octets: &[u8]) {
+    out.is_whole = out.is_whole && out.octets.extend_from_slice(octets).is_ok();
 }
 
 /// NOT where it stands in the predicate.
-fn put_not(out: &mut Vec<u8>, negated: bool) -> Result<(), AllocError> {
+fn put_not(out: &mut Line, negated: bool) {
     if negated {
-        put(out, b" NOT")?;
+        put(out, b" NOT");
     }
-    Ok(())
 }
 
-fn put_intervals(out: &mut Vec<u8>, intervals: &[Interval<'_>]) -> Result<(), AllocError> {
+fn put_intervals(out: &mut Line, intervals: &[Interval<'_>]) {
     for interval in intervals {
-        put(out, b" ")?;
-        put(out, sign_octets(interval.sign))?;
-        put(out, interval.days)?;
+        put(out, b" ");
+        put(out, sign_octets(interval.sign));
+        put(out, interval.days);
     }
-    Ok(())
 }
 
 /// The name behind its qualifier, if it has one.
-fn put_column(out: &mut Vec<u8>, qualifier: Option<&[u8]>, name: &[u8]) -> Result<(), AllocError> {
+fn put_column(out: &mut Line, qualifier: Option<&[u8]>, name: &[u8]) {
     if let Some(qualifier) = qualifier {
-        put(out, qualifier)?;
-        put(out, b".")?;
+        put(out, qualifier);
+        put(out, b".");
     }
     put(out, name)
 }
 
 #[cycle(shown)]
-fn put_expression(out: &mut Vec<u8>, expression: &Expr<'_>) -> Result<(), AllocError> {
+fn put_expression(out: &mut Line, expression: &Expr<'_>) {
     match expression {
         Expr::Null => put(out, b"NULL"),
         Expr::Number(digits) => put(out, digits),
         Expr::Text(string) => put(out, string),
         Expr::Date(string, intervals) => {
-            put(out, b"DATE ")?;
-            put(out, string)?;
+            put(out, b"DATE ");
+            put(out, string);
             put_intervals(out, intervals)
         }
         Expr::Column(qualifier, name) => put_column(out, *qualifier, name),
         Expr::Signed(sign, operand) => {
-            put(out, b"(")?;
-            put(out, sign_octets(*sign))?;
-            put_expression(out, operand)?;
+            put(out, b"(");
+            put(out, sign_octets(*sign));
+            put_expression(out, operand);
             put(out, b")")
         }
         Expr::Arithmetic(operator, left, right) => {
-            put(out, b"(")?;
-            put_expression(out, left)?;
-            put(out, operator_octets(*operator))?;
-            put_expression(out, right)?;
+            put(out, b"(");
+            put_expression(out, left);
+            put(out, operator_octets(*operator));
+            put_expression(out, right);
             put(out, b")")
         }
         Expr::Extract(field, date) => {
-            put(out, b"EXTRACT(")?;
-            put(out, field_octets(*field))?;
-            put_expression(out, date)?;
+            put(out, b"EXTRACT(");
+            put(out, field_octets(*field));
+            put_expression(out, date);
             put(out, b")")
         }
         Expr::Case(branches) => {
-            put(out, b"CASE")?;
+            put(out, b"CASE");
             put_branches(out, branches)
         }
         Expr::Match(operand, branches) => {
-            put(out, b"CASE ")?;
-            put_expression(out, operand)?;
+            put(out, b"CASE ");
+            put_expression(out, operand);
             put_branches(out, branches)
         }
         Expr::Coalesce(arguments) => {
-            put(out, b"COALESCE")?;
+            put(out, b"COALESCE");
             put_expressions(out, arguments)
         }
         Expr::NullIf(left, right) => {
-            put(out, b"NULLIF(")?;
-            put_expression(out, left)?;
-            put(out, b", ")?;
-            put_expression(out, right)?;
+            put(out, b"NULLIF(");
+            put_expression(out, left);
+            put(out, b", ");
+            put_expression(out, right);
             put(out, b")")
         }
     }
 }
 
 #[cycle(shown)]
-fn put_condition(out: &mut Vec<u8>, condition: &Cond<'_>) -> Result<(), AllocError> {
+fn put_condition(out: &mut Line, condition: &Cond<'_>) {
     match condition {
         Cond::Compare(comparison, left, right) => {
-            put_expression(out, left)?;
-            put(out, comparison_octets(*comparison))?;
+            put_expression(out, left);
+            put(out, comparison_octets(*comparison));
             put_expression(out, right)
         }
         Cond::Between(negated, operand, least, greatest) => {
-            put_expression(out, operand)?;
-            put_not(out, *negated)?;
-            put(out, b" BETWEEN ")?;
-            put_expression(out, least)?;
-            put(out, b" .. ")?;
+            put_expression(out, operand);
+            put_not(out, *negated);
+            put(out, b" BETWEEN ");
+            put_expression(out, least);
+            put(out, b" .. ");
             put_expression(out, greatest)
         }
         Cond::In(negated, operand, values) => {
-            put_expression(out, operand)?;
-            put_not(out, *negated)?;
-            put(out, b" IN ")?;
+            put_expression(out, operand);
+            put_not(out, *negated);
+            put(out, b" IN ");
             put_expressions(out, values)
         }
         Cond::IsNull(negated, operand) => {
-            put_expression(out, operand)?;
-            put(out, b" IS")?;
-            put_not(out, *negated)?;
+            put_expression(out, operand);
+            put(out, b" IS");
+            put_not(out, *negated);
             put(out, b" NULL")
         }
         Cond::And(left, right) => {
-            put(out, b"(")?;
-            put_condition(out, left)?;
-            put(out, b" AND ")?;
-            put_condition(out, right)?;
+            put(out, b"(");
+            put_condition(out, left);
+            put(out, b" AND ");
+            put_condition(out, right);
             put(out, b")")
         }
         Cond::Or(left, right) => {
-            put(out, b"(")?;
-            put_condition(out, left)?;
-            put(out, b" OR ")?;
-            put_condition(out, right)?;
+            put(out, b"(");
+            put_condition(out, left);
+            put(out, b" OR ");
+            put_condition(out, right);
             put(out, b")")
         }
         Cond::Not(operand) => {
-            put(out, b"(NOT ")?;
-            put_condition(out, operand)?;
+            put(out, b"(NOT ");
+            put_condition(out, operand);
             put(out, b")")
         }
         Cond::Is(negated, operand, truth) => {
-            put(out, b"(")?;
-            put_condition(out, operand)?;
-            put(out, b" IS")?;
-            put_not(out, *negated)?;
-            put(out, b" ")?;
-            put(out, truth_octets(*truth))?;
+            put(out, b"(");
+            put_condition(out, operand);
+            put(out, b" IS");
+            put_not(out, *negated);
+            put(out, b" ");
+            put(out, truth_octets(*truth));
             put(out, b")")
         }
         Cond::Bracketed(inside) => {
-            put(out, b"[")?;
-            put_condition(out, inside)?;
+            put(out, b"[");
+            put_condition(out, inside);
             put(out, b"]")
         }
     }
 }
 
 #[cycle(shown)]
-fn put_phrase(out: &mut Vec<u8>, phrase: &Phrase<'_>) -> Result<(), AllocError> {
+fn put_phrase(out: &mut Line, phrase: &Phrase<'_>) {
     match phrase {
         Phrase::Condition(condition) => put_condition(out, condition),
         Phrase::Expression(expression) => put_expression(out, expression),
@@ -209,76 +214,85 @@ fn put_phrase(out: &mut Vec<u8>, phrase: &Phrase<'_>) -> Result<(), AllocError> 
 }
 
 #[cycle(shown)]
-fn put_expressions(out: &mut Vec<u8>, expressions: &Exprs<'_>) -> Result<(), AllocError> {
+fn put_expressions(out: &mut Line, expressions: &Exprs<'_>) {
     match expressions {
         Exprs::Last(last) => {
-            put(out, b"(")?;
-            put_expression(out, last)?;
+            put(out, b"(");
+            put_expression(out, last);
             put(out, b")")
         }
         Exprs::More(first, rest) => {
-            put(out, b"(")?;
-            put_expression(out, first)?;
-            put(out, b", ")?;
-            put_expressions(out, rest)?;
+            put(out, b"(");
+            put_expression(out, first);
+            put(out, b", ");
+            put_expressions(out, rest);
             put(out, b")")
         }
     }
 }
 
 #[cycle(shown)]
-fn put_branches(out: &mut Vec<u8>, branches: &Branches<'_>) -> Result<(), AllocError> {
+fn put_branches(out: &mut Line, branches: &Branches<'_>) {
     match branches {
         Branches::Else(result) => {
-            put(out, b" ELSE ")?;
-            put_expression(out, result)?;
+            put(out, b" ELSE ");
+            put_expression(out, result);
             put(out, b" END")
         }
         Branches::When(test, result, rest) => {
-            put(out, b" WHEN ")?;
-            put_phrase(out, test)?;
-            put(out, b" THEN ")?;
-            put_expression(out, result)?;
+            put(out, b" WHEN ");
+            put_phrase(out, test);
+            put(out, b" THEN ");
+            put_expression(out, result);
             put_branches(out, rest)
         }
     }
 }
 
-fn put_item(out: &mut Vec<u8>, item: &Item<'_>) -> Result<(), AllocError> {
-    put_expression(out, &item.expression)?;
+fn put_item(out: &mut Line, item: &Item<'_>) {
+    put_expression(out, &item.expression);
     if let Some(name) = item.name {
-        put(out, b" AS ")?;
-        put(out, name)?;
+        put(out, b" AS ");
+        put(out, name);
     }
-    Ok(())
 }
 
-fn put_items(out: &mut Vec<u8>, items: &[Item<'_>]) -> Result<(), AllocError> {
+fn put_items(out: &mut Line, items: &[Item<'_>]) {
     for (index, item) in items.iter().enumerate() {
         if 0 < index {
-            put(out, b"; ")?;
+            put(out, b"; ");
         }
-        put_item(out, item)?;
+        put_item(out, item);
     }
-    Ok(())
+}
+
+fn put_statement(out: &mut Line, statement: &Statement<'_>) {
+    match &statement.list {
+        SelectList::All => put(out, b"*"),
+        SelectList::Items(items) => put_items(out, items),
+    }
+    put(out, b" FROM ");
+    put(out, statement.table);
+    if let Some(alias) = statement.alias {
+        put(out, b" AS ");
+        put(out, alias);
+    }
+    if let Some(condition) = &statement.condition {
+        put(out, b" WHERE ");
+        put_condition(out, condition);
+    }
 }
 
 /// The statement in one line.
 pub(crate) fn shown(alloc: Global, statement: &Statement<'_>) -> Result<Vec<u8>, AllocError> {
-    let mut out = Vec::new(alloc);
-    match &statement.list {
-        SelectList::All => put(&mut out, b"*")?,
-        SelectList::Items(items) => put_items(&mut out, items)?,
+    let mut out = Line {
+        octets: Vec::new(alloc),
+        is_whole: true,
+    };
+    put_statement(&mut out, statement);
+    if out.is_whole {
+        Ok(out.octets)
+    } else {
+        Err(AllocError)
     }
-    put(&mut out, b" FROM ")?;
-    put(&mut out, statement.table)?;
-    if let Some(alias) = statement.alias {
-        put(&mut out, b" AS ")?;
-        put(&mut out, alias)?;
-    }
-    if let Some(condition) = &statement.condition {
-        put(&mut out, b" WHERE ")?;
-        put_condition(&mut out, condition)?;
-    }
-    Ok(out)
 }

@@ -5,7 +5,7 @@ ghost use Rattle.std.specs.List.{AllByRecursion};
 ghost use Rattle.qw_types.specs.Kind.{IsOfKind, IsRowOf, type_kind};
 ghost use Rattle.qw_meaning.specs.Flow.{rows_of};
 
-use crate::tables::{left, shelf};
+use crate::tables::left;
 use qw_bench::bench::{Bench, Ended};
 use qw_csv::loading::load;
 use qw_csv::{Cell, Loaded};
@@ -16,6 +16,7 @@ use qw_sink::results::received;
 use qw_top::top::queries::queries_of;
 use qw_types::{Code, Kind, NoMemory, Row, Schema, Text, Ty, Val};
 use std::alloc::Global;
+use std::process::Abort;
 use std::test::Fail;
 
 /// A table T: what declares it, its file, and the rows that this stands for.
@@ -75,13 +76,21 @@ fn val_of(alloc: Global, cell: Cell<'_>) -> Result<Val, Fail> {
 }
 
 /// How many queries were compared, and how many of them raise an exception.
-#[derive(Clone, Copy, Debug, PartialEq, Eq)]
+#[derive(Drop)]
 pub struct Seen {
     pub queries: u64,
     pub raised: u64,
 }
 
 impl Seen {
+    /// None yet.
+    pub fn new() -> Self {
+        Seen {
+            queries: 0,
+            raised: 0,
+        }
+    }
+
     fn note(&mut self, answer: &Answer) {
         self.queries = self.queries.wrapping_add(1);
         if matches!(answer, Answer::Raises(_)) {
@@ -90,21 +99,20 @@ impl Seen {
     }
 }
 
-/// The number of the first query of a script, from 0 on, that the program ends otherwise than the plain program.
-pub fn first_difference(
+// The number of the first query of a script, from 0 on, that the program ends otherwise than the plain program.
+fn first_difference(
     alloc: Global,
     stored: &Stored,
     script: &[u8],
     seen: &mut Seen,
 ) -> Result<Option<usize>, Fail> {
     let queries = queries_of(alloc, &stored.schema, script)?;
-    let mut files = shelf(
+    let bench = left(
         alloc,
         stored.declared.as_slice(),
         stored.file.as_slice(),
         script,
     )?;
-    let (_, bench) = left(alloc, &mut files)?;
     if bench.len() != queries.len() {
         return Err("other queries".into());
     }
@@ -116,6 +124,25 @@ pub fn first_difference(
         seen.note(&answer);
     }
     Ok(None)
+}
+
+/// Asserts that the program ends each query of a script as the plain program does.
+pub fn assert_same(
+    rt: &impl Abort,
+    alloc: Global,
+    stored: &Stored,
+    script: &str,
+    seen: &mut Seen,
+) -> Result<(), Fail> {
+    let other = first_difference(alloc, stored, script.as_bytes(), seen)?;
+    assert_eq!(rt; other, None, "{script}");
+    Ok(())
+}
+
+/// Asserts that so many queries were compared, and that some raise an exception and some don't.
+pub fn assert_seen(rt: &impl Abort, seen: &Seen, queries: u64) {
+    let (some, not_all) = (0 < seen.raised, seen.raised < seen.queries);
+    assert_eq!(rt; (seen.queries, some, not_all), (queries, true, true));
 }
 
 // Whether the instance of a number ended as an answer says: with its rows in their order, or with one of its exceptions.

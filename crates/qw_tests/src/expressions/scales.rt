@@ -1,7 +1,7 @@
 // Operators and comparisons of each two scales from 0 to 18, at values that just have 18 digits where they are brought to the other
 // scale, and at those that have 19.
 
-use super::compared::{Seen, Stored, first_difference};
+use super::compared::{Seen, Stored, assert_same, assert_seen};
 use qw_types::NoMemory;
 use qw_types::number_text::push_decimal;
 use std::alloc::Global;
@@ -146,25 +146,27 @@ fn script_of(alloc: Global, a: u8, first: u8) -> Result<String, NoMemory> {
     Ok(script)
 }
 
-#[test]
-fn scales(rt: HostRuntime) -> Result<(), Fail> {
-    let alloc = rt.alloc();
+// The table of all scales.
+fn stored(alloc: Global) -> Result<Stored, Fail> {
     let declaration = declaration(alloc)?;
     let file = file(alloc)?;
-    let stored = Stored::new(alloc, declaration.as_bytes(), file.as_bytes())?;
-    let mut seen = Seen {
-        queries: 0,
-        raised: 0,
-    };
+    Stored::new(alloc, declaration.as_bytes(), file.as_bytes())
+}
+
+// The first of five scales.
+const FIRSTS: [u8; 4] = [0, 5, 10, 15];
+
+#[test]
+fn scales(rt: HostRuntime) -> Result<(), Fail> {
+    let stored = stored(rt.alloc())?;
+    let mut seen = Seen::new();
     for a in 0..19 {
-        for first in [0, 5, 10, 15] {
-            let script = script_of(alloc, a, first)?;
-            let other = first_difference(alloc, &stored, script.as_bytes(), &mut seen)?;
-            assert_eq!(rt; other, None, "{script}");
+        for &first in &FIRSTS {
+            let script = script_of(rt.alloc(), a, first)?;
+            assert_same(&rt, rt.alloc(), &stored, script.as_str(), &mut seen)?;
         }
     }
     // 361 pairs, of which 190 have at most 18 digits together
-    assert_eq!(rt; seen.queries, 4 * 361 + 4 * 190);
-    assert!(rt; 0 < seen.raised && seen.raised < seen.queries);
+    assert_seen(&rt, &seen, 4 * 361 + 4 * 190);
     Ok(())
 }

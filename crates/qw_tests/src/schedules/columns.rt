@@ -1,13 +1,13 @@
 // Columns of all kinds of values and literals: what `qwasm` prints of each, beside the plain program's rows.
 
 use super::{next_random, plain_numbers, query_text, table_file};
-use crate::tables::{WORDS, asking, shelf, words};
+use crate::tables::{WORDS, asking, call, shelf, sink};
 use qw_io::MemorySink;
 use qw_meaning::query::Comparison;
 use qw_top::status::Status;
-use qw_top::top::qwasm;
 use qw_types::NoMemory;
 use std::alloc::{AllocError, Global};
+use std::process::Abort;
 use std::test::Fail;
 
 const SCHEMA: &[u8] = b"CREATE TABLE T (A INTEGER NOT NULL)";
@@ -130,18 +130,9 @@ fn printed(
     let table = table_file(alloc, column)?;
     let query = query_text(alloc, comparison, literal)?;
     let mut files = shelf(alloc, SCHEMA, table.as_bytes(), query.as_bytes())?;
-    let mut out = MemorySink::new(alloc, 4_096, Vec::new(alloc));
-    let mut notes = MemorySink::new(alloc, 1, Vec::new(alloc));
-    let words = words(alloc, &WORDS)?;
-    let mut kept = None;
-    let status = qwasm(
-        alloc,
-        words.as_slice(),
-        &mut files,
-        &mut out,
-        &mut notes,
-        &mut kept,
-    );
+    let mut out = sink(alloc, 4_096);
+    let mut notes = sink(alloc, 1);
+    let (status, _) = call(alloc, &mut files, &WORDS, &mut out, &mut notes)?;
     Ok((status, out))
 }
 
@@ -165,36 +156,54 @@ fn report_of(alloc: Global, numbers: &[i64]) -> Result<String, AllocError> {
     Ok(report)
 }
 
+// Asserts that a run over a column prints what the plain program answers, and answers how many rows these are. A failure shows the
+// literal too.
+fn compared(
+    rt: &impl Abort,
+    alloc: Global,
+    column: &[i32],
+    comparison: Comparison,
+    literal: i64,
+) -> Result<usize, Fail> {
+    let numbers = plain(alloc, column, comparison, literal)?;
+    let report = report_of(alloc, numbers.as_slice())?;
+    let (status, out) = printed(alloc, column, comparison, literal)?;
+    assert_eq!(rt;
+        (literal, status, out.bytes()),
+        (literal, Status::Done, report.as_bytes())
+    );
+    Ok(numbers.len())
+}
+
 #[test]
 fn columns_at_the_edges(rt: HostRuntime) -> Result<(), Fail> {
     let alloc = rt.alloc();
-    for (values, rows, literal, above) in EDGES {
+    for &(values, rows, literal, above) in &EDGES {
         let column = repeated(alloc, values, rows)?;
-        let numbers = plain(alloc, column.as_slice(), Comparison::Greater, literal)?;
-        assert_eq!(rt; numbers.len(), above, "above {literal}");
-        let report = report_of(alloc, numbers.as_slice())?;
-        let (status, out) = printed(alloc, column.as_slice(), Comparison::Greater, literal)?;
-        assert_eq!(rt; status, Status::Done);
-        assert_eq!(rt; out.bytes(), report.as_bytes(), "above {literal}");
+        let count = compared(&rt, alloc, column.as_slice(), Comparison::Greater, literal)?;
+        assert_eq!(rt; (literal, count), (literal, above));
     }
     Ok(())
 }
 
+// Asserts it of a generated column of a number, and answers the generator's state after it.
+fn compared_generated(
+    rt: &impl Abort,
+    alloc: Global,
+    number: u32,
+    random: u32,
+) -> Result<u32, Fail> {
+    let literal = literal_of(random);
+    let (column, state) = generated(alloc, random, literal)?;
+    compared(rt, alloc, column.as_slice(), comparison_of(number), literal)?;
+    Ok(state)
+}
+
 #[test]
 fn generated_columns(rt: HostRuntime) -> Result<(), Fail> {
-    let alloc = rt.alloc();
     let mut random = 1;
     for number in 0..GENERATED {
-        random = next_random(random);
-        let literal = literal_of(random);
-        let (column, state) = generated(alloc, random, literal)?;
-        random = state;
-        let comparison = comparison_of(number);
-        let numbers = plain(alloc, column.as_slice(), comparison, literal)?;
-        let report = report_of(alloc, numbers.as_slice())?;
-        let (status, out) = printed(alloc, column.as_slice(), comparison, literal)?;
-        assert_eq!(rt; status, Status::Done);
-        assert_eq!(rt; out.bytes(), report.as_bytes(), "column {number}");
+        random = compared_generated(&rt, rt.alloc(), number, next_random(random))?;
     }
     Ok(())
 }

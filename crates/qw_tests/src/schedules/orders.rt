@@ -11,6 +11,7 @@ use qw_parse::parse::schema_of;
 use qw_sink::results::received;
 use qw_types::{Code, NoMemory, Row, Schema};
 use std::alloc::{AllocError, Global};
+use std::process::Abort;
 use std::test::Fail;
 
 const SCHEMA: &[u8] = b"CREATE TABLE T (K INTEGER NOT NULL, P DECIMAL(9,2), D DATE, L VARCHAR(5))";
@@ -90,7 +91,7 @@ fn is_same(came: &Came, other: &Came) -> bool {
 // What each statement comes to alone.
 fn alone(alloc: Global, schema: &Schema, file: &[u8]) -> Result<Vec<Came>, Fail> {
     let mut all = Vec::new(alloc);
-    for statement in STATEMENTS {
+    for &statement in &STATEMENTS {
         let mut bench = bench_over(alloc, schema, file, statement, &[DEFAULT_LIMITS])??;
         bench.run_all(u64::MAX);
         all.push(came_to(alloc, &bench, 0)?)?;
@@ -101,7 +102,7 @@ fn alone(alloc: Global, schema: &Schema, file: &[u8]) -> Result<Vec<Came>, Fail>
 // A bench of the three statements, before its first turn.
 fn together(alloc: Global, schema: &Schema, file: &[u8]) -> Result<Bench, Fail> {
     let mut script = Vec::new(alloc);
-    for statement in STATEMENTS {
+    for &statement in &STATEMENTS {
         script.extend_from_slice(statement)?;
         script.push(b';')?;
     }
@@ -147,32 +148,55 @@ fn turn_to_the_end(bench: &mut Bench, random: u32) -> u32 {
     state
 }
 
+// The number of the first instance of a bench that came to something else than its statement alone.
+fn first_other(alloc: Global, bench: &Bench, alone: &[Came]) -> Result<Option<usize>, Fail> {
+    for (k, came) in alone.iter().enumerate() {
+        if !is_same(&came_to(alloc, bench, k)?, came) {
+            return Ok(Some(k));
+        }
+    }
+    Ok(None)
+}
+
+// Asserts that the statements come to the same in the order of a number, and answers the generator's state after it.
+fn one_order(
+    rt: &impl Abort,
+    mut bench: Bench,
+    alloc: Global,
+    alone: &[Came],
+    order: u32,
+    random: u32,
+) -> Result<u32, Fail> {
+    let state = turn_to_the_end(&mut bench, random);
+    let other = first_other(alloc, &bench, alone)?;
+    assert_eq!(rt; (order, bench.len(), other), (order, 3, None));
+    Ok(state)
+}
+
+// How each statement ends alone, and how many pages and result rows it has.
+const ENDS: [(Option<Ended>, u32, usize); 3] = [
+    (Some(Ended::Done), 3, 130),
+    (Some(Ended::Raised(Code::DivZero)), 1, 0),
+    (Some(Ended::Done), 1, 103),
+];
+
+fn assert_ends(rt: &impl Abort, alone: &[Came]) {
+    for (came, end) in alone.iter().zip(&ENDS) {
+        assert_eq!(rt; (came.ended, came.pages, came.rows.len()), *end);
+    }
+}
+
 #[test]
 fn turns_change_nothing(rt: HostRuntime) -> Result<(), Fail> {
     let alloc = rt.alloc();
     let schema = schema_of(alloc, SCHEMA)?;
     let file = file(alloc)?;
-    let file = file.as_bytes();
-    let alone = alone(alloc, &schema, file)?;
-    let ends = [
-        (Some(Ended::Done), 3, 130),
-        (Some(Ended::Raised(Code::DivZero)), 1, 0),
-        (Some(Ended::Done), 1, 103),
-    ];
-    for (came, end) in alone.iter().zip(ends) {
-        assert_eq!(rt; (came.ended, came.pages, came.rows.len()), end);
-    }
+    let alone = alone(alloc, &schema, file.as_bytes())?;
+    assert_ends(&rt, alone.as_slice());
     let mut random = 1;
     for order in 0..300 {
-        let mut bench = together(alloc, &schema, file)?;
-        random = turn_to_the_end(&mut bench, random);
-        assert_eq!(rt; bench.len(), 3);
-        for (k, came) in alone.iter().enumerate() {
-            assert!(rt;
-                is_same(&came_to(alloc, &bench, k)?, came),
-                "instance {k} in order {order}"
-            );
-        }
+        let bench = together(alloc, &schema, file.as_bytes())?;
+        random = one_order(&rt, bench, alloc, alone.as_slice(), order, random)?;
     }
     Ok(())
 }

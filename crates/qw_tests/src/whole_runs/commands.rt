@@ -1,9 +1,11 @@
 // Whole calls of the commands that write one text, and of words that are refused.
 
-use super::{QUERY, SCHEMA, TABLE, run};
-use crate::tables::{shelf, shelf_of};
+use super::{QUERY, SCHEMA, TABLE};
+use crate::tables::{End, assert_ends, call, refused, shelf, shelf_of, sink};
 use qw_io::MemorySink;
 use qw_top::status::Status;
+use std::alloc::Global;
+use std::process::Abort;
 use std::test::Fail;
 
 // The four octets of a module and its version.
@@ -51,60 +53,65 @@ const MODULES: [(&[u8], Status, &[u8], &[u8]); 8] = [
     ),
 ];
 
+// Asserts how a check of a module ends.
+fn assert_checked(
+    rt: &impl Abort,
+    alloc: Global,
+    module: &[u8],
+    end: &End<'_>,
+) -> Result<(), Fail> {
+    let mut files = shelf_of(alloc, b"", &[("m", module)], b"")?;
+    let sinks = (sink(alloc, 1), sink(alloc, 1));
+    assert_ends(rt, alloc, &mut files, &["check", "m"], sinks, end)
+}
+
 #[test]
 fn modules_are_checked(rt: HostRuntime) -> Result<(), Fail> {
-    let alloc = rt.alloc();
-    for (behind, end, text, line) in MODULES {
-        let mut octets = Vec::from_slice(alloc, HEADER)?;
-        octets.extend_from_slice(behind)?;
-        let mut files = shelf_of(alloc, b"", &[("m", octets.as_slice())], b"")?;
-        let mut out = MemorySink::new(alloc, 1, Vec::new(alloc));
-        let mut notes = MemorySink::new(alloc, 1, Vec::new(alloc));
-        let (status, kept) = run(alloc, &mut files, &["check", "m"], &mut out, &mut notes)?;
-        assert_eq!(rt; status, end);
-        assert_eq!(rt; out.bytes(), text);
-        assert_eq!(rt; notes.bytes(), line);
-        assert!(rt; kept.is_none());
+    for &(behind, status, report, noted) in &MODULES {
+        let mut module = Vec::from_slice(rt.alloc(), HEADER)?;
+        module.extend_from_slice(behind)?;
+        let keeps = false;
+        let end = End {
+            status,
+            report,
+            noted,
+            keeps,
+        };
+        assert_checked(&rt, rt.alloc(), module.as_slice(), &end)?;
     }
     Ok(())
 }
 
-// The words, the end of the call, what is written and what is noted.
-const CALLS: [(&[&str], Status, &[u8], &[u8]); 6] = [
+// The words, the end of the call, and what is noted.
+const CALLS: [(&[&str], Status, &[u8]); 6] = [
     (
         &["check", "short"],
         Status::QueriesRefused,
-        b"",
         b"module: not a module\n",
     ),
     (
         &["check", "none"],
         Status::ReadFailed,
-        b"",
         b"read fault: none\n",
     ),
     (
         &["compile", "s", "q", "--statement", "2"],
         Status::QueriesRefused,
-        b"",
         b"queries: no statement 2\n",
     ),
     (
         &["compile", "s", "q", "--statement", "0"],
         Status::WordsRefused,
-        b"",
         b"words: statement out of range\n",
     ),
     (
         &["compile", "none", "q", "--statement", "2"],
         Status::ReadFailed,
-        b"",
         b"read fault: none\n",
     ),
     (
         &["compile", "s", "short", "--statement=1"],
         Status::QueriesRefused,
-        b"",
         b"queries: not a token at 0\n",
     ),
 ];
@@ -112,56 +119,70 @@ const CALLS: [(&[&str], Status, &[u8], &[u8]); 6] = [
 #[test]
 fn refused_calls(rt: HostRuntime) -> Result<(), Fail> {
     let alloc = rt.alloc();
-    for (texts, end, text, line) in CALLS {
+    for &(texts, status, line) in &CALLS {
         let mut files = shelf_of(alloc, SCHEMA, &[("short", &HEADER[..7])], QUERY)?;
-        let mut out = MemorySink::new(alloc, 1, Vec::new(alloc));
-        let mut notes = MemorySink::new(alloc, 1, Vec::new(alloc));
-        let (status, kept) = run(alloc, &mut files, texts, &mut out, &mut notes)?;
-        assert_eq!(rt; status, end);
-        assert_eq!(rt; out.bytes(), text);
-        assert_eq!(rt; notes.bytes(), line);
-        assert!(rt; kept.is_none());
+        let sinks = (sink(alloc, 1), sink(alloc, 1));
+        assert_ends(&rt, alloc, &mut files, texts, sinks, &refused(status, line))?;
     }
     Ok(())
 }
 
+const COMPILE: [&str; 5] = ["compile", "s", "q", "--statement", "1"];
+
+// The module of the statement, if it is compiled and nothing is noted.
+fn compiled(alloc: Global) -> Result<MemorySink, Fail> {
+    let mut files = shelf(alloc, SCHEMA, TABLE, QUERY)?;
+    let mut module = sink(alloc, 4_096);
+    let mut notes = sink(alloc, 1);
+    let (status, _) = call(alloc, &mut files, &COMPILE, &mut module, &mut notes)?;
+    if status != Status::Done || !notes.bytes().is_empty() {
+        return Err("not compiled".into());
+    }
+    Ok(module)
+}
+
 #[test]
 fn a_compiled_statement_is_a_valid_module(rt: HostRuntime) -> Result<(), Fail> {
-    let alloc = rt.alloc();
+    let module = compiled(rt.alloc())?;
+    let end = End {
+        status: Status::Done,
+        report: b"valid\n",
+        noted: b"",
+        keeps: false,
+    };
+    assert_checked(&rt, rt.alloc(), module.bytes(), &end)
+}
+
+const REFUSED_WORDS: [&[&str]; 4] = [
+    &[],
+    &["run", "none"],
+    &["run", "none", "d", "-q"],
+    &["check", "--help"],
+];
+
+// How a call with these words ends, and whether something is written, something is noted, and a bench is kept.
+fn told(alloc: Global, texts: &[&str]) -> Result<(Status, [bool; 3]), Fail> {
     let mut files = shelf(alloc, SCHEMA, TABLE, QUERY)?;
-    let mut module = MemorySink::new(alloc, 4_096, Vec::new(alloc));
-    let mut notes = MemorySink::new(alloc, 1, Vec::new(alloc));
-    let texts = ["compile", "s", "q", "--statement", "1"];
-    let (status, _) = run(alloc, &mut files, &texts, &mut module, &mut notes)?;
-    assert_eq!(rt; status, Status::Done);
-    let mut files = shelf_of(alloc, b"", &[("m", module.bytes())], b"")?;
-    let mut out = MemorySink::new(alloc, 1, Vec::new(alloc));
-    let (status, _) = run(alloc, &mut files, &["check", "m"], &mut out, &mut notes)?;
-    assert_eq!(rt; status, Status::Done);
-    assert_eq!(rt; out.bytes(), b"valid\n".as_slice());
-    assert!(rt; notes.bytes().is_empty());
-    Ok(())
+    let mut out = sink(alloc, 1);
+    let mut notes = sink(alloc, 1);
+    let (status, kept) = call(alloc, &mut files, texts, &mut out, &mut notes)?;
+    let told = [
+        !out.bytes().is_empty(),
+        !notes.bytes().is_empty(),
+        kept.is_some(),
+    ];
+    Ok((status, told))
 }
 
 // Of words that are refused something is told, and no file is read.
 #[test]
 fn refused_words_are_told(rt: HostRuntime) -> Result<(), Fail> {
-    let alloc = rt.alloc();
-    let lines: [&[&str]; 4] = [
-        &[],
-        &["run", "none"],
-        &["run", "none", "d", "-q"],
-        &["check", "--help"],
-    ];
-    for line in lines {
-        let mut files = shelf(alloc, SCHEMA, TABLE, QUERY)?;
-        let mut out = MemorySink::new(alloc, 1, Vec::new(alloc));
-        let mut notes = MemorySink::new(alloc, 1, Vec::new(alloc));
-        let (status, kept) = run(alloc, &mut files, line, &mut out, &mut notes)?;
-        assert_eq!(rt; status, Status::WordsRefused);
-        assert!(rt; out.bytes().is_empty());
-        assert!(rt; !notes.bytes().is_empty());
-        assert!(rt; kept.is_none());
+    for &texts in &REFUSED_WORDS {
+        let (status, told) = told(rt.alloc(), texts)?;
+        assert_eq!(rt;
+            (status, told),
+            (Status::WordsRefused, [false, true, false])
+        );
     }
     Ok(())
 }

@@ -1,11 +1,11 @@
 // Files of exactly their greatest length, and of one octet more.
 
-use super::refused_texts::noted_on;
-use super::{QUERY, SCHEMA, SEVEN, TABLE, run};
-use crate::tables::{WORDS, shelf};
-use qw_io::{IoFault, MemoryShelf, MemorySink, Shelf};
+use super::{QUERY, SCHEMA, SEVEN, TABLE, assert_run};
+use crate::tables::{End, WORDS, assert_ends, done, refused, shelf, sink};
+use qw_io::{IoFault, MemoryShelf, Shelf};
 use qw_top::status::Status;
 use std::alloc::{AllocError, Global};
+use std::process::Abort;
 use std::test::Fail;
 
 // A text, and blanks behind it up to so many octets.
@@ -15,28 +15,41 @@ fn padded(alloc: Global, text: &[u8], octets: usize) -> Result<Vec<u8>, AllocErr
     Ok(padded)
 }
 
+// Asserts how a run ends whose schema file has so many octets.
+fn assert_schema_of(
+    rt: &impl Abort,
+    alloc: Global,
+    octets: usize,
+    end: &End<'_>,
+) -> Result<(), Fail> {
+    let schema = padded(alloc, SCHEMA, octets)?;
+    assert_run(rt, alloc, schema.as_slice(), TABLE, QUERY, end)
+}
+
+// The same of the queries file.
+fn assert_queries_of(
+    rt: &impl Abort,
+    alloc: Global,
+    octets: usize,
+    end: &End<'_>,
+) -> Result<(), Fail> {
+    let query = padded(alloc, QUERY, octets)?;
+    assert_run(rt, alloc, SCHEMA, TABLE, query.as_slice(), end)
+}
+
 #[test]
 fn texts_of_the_greatest_length(rt: HostRuntime) -> Result<(), Fail> {
-    let alloc = rt.alloc();
-    let cases: [(usize, [Status; 2], [&[u8]; 2]); 2] = [
-        (1_048_576, [Status::Done, Status::Done], [b"", b""]),
-        (
-            1_048_577,
-            [Status::SchemaRefused, Status::QueriesRefused],
-            [b"schema: too long\n", b"queries: too long\n"],
-        ),
-    ];
-    for (octets, ends, lines) in cases {
-        let schema = padded(alloc, SCHEMA, octets)?;
-        let query = padded(alloc, QUERY, octets)?;
-        let (status, notes) = noted_on(alloc, schema.as_slice(), TABLE, QUERY)?;
-        assert_eq!(rt; status, ends[0]);
-        assert_eq!(rt; notes.bytes(), lines[0]);
-        let (status, notes) = noted_on(alloc, SCHEMA, TABLE, query.as_slice())?;
-        assert_eq!(rt; status, ends[1]);
-        assert_eq!(rt; notes.bytes(), lines[1]);
-    }
-    Ok(())
+    let end = done(SEVEN);
+    assert_schema_of(&rt, rt.alloc(), 1_048_576, &end)?;
+    assert_queries_of(&rt, rt.alloc(), 1_048_576, &end)
+}
+
+#[test]
+fn longer_texts(rt: HostRuntime) -> Result<(), Fail> {
+    let end = refused(Status::SchemaRefused, b"schema: too long\n");
+    assert_schema_of(&rt, rt.alloc(), 1_048_577, &end)?;
+    let end = refused(Status::QueriesRefused, b"queries: too long\n");
+    assert_queries_of(&rt, rt.alloc(), 1_048_577, &end)
 }
 
 // A shelf whose table file has so many octets: a column A, a row of 7, and line feeds behind them. They are made
@@ -68,24 +81,23 @@ impl Shelf for LongTable {
     }
 }
 
+// Asserts how a run ends whose table file has so many octets.
+fn assert_table_of(rt: &impl Abort, alloc: Global, octets: u64, end: &End<'_>) -> Result<(), Fail> {
+    let texts = shelf(alloc, SCHEMA, b"", QUERY)?;
+    let sinks = (sink(alloc, 4_096), sink(alloc, 1));
+    assert_ends(
+        rt,
+        alloc,
+        &mut LongTable { texts, octets },
+        &WORDS,
+        sinks,
+        end,
+    )
+}
+
 #[test]
 fn table_files_of_the_greatest_length(rt: HostRuntime) -> Result<(), Fail> {
-    let alloc = rt.alloc();
-    let cases: [(u64, Status, &[u8], &[u8]); 2] = [
-        (268_435_456, Status::Done, SEVEN, b""),
-        (268_435_457, Status::TableFileRefused, b"", b"T: too long\n"),
-    ];
-    for (octets, end, report, line) in cases {
-        let mut files = LongTable {
-            texts: shelf(alloc, SCHEMA, b"", QUERY)?,
-            octets,
-        };
-        let mut out = MemorySink::new(alloc, 4_096, Vec::new(alloc));
-        let mut notes = MemorySink::new(alloc, 1, Vec::new(alloc));
-        let (status, _) = run(alloc, &mut files, &WORDS, &mut out, &mut notes)?;
-        assert_eq!(rt; status, end);
-        assert_eq!(rt; out.bytes(), report);
-        assert_eq!(rt; notes.bytes(), line);
-    }
-    Ok(())
+    assert_table_of(&rt, rt.alloc(), 268_435_456, &done(SEVEN))?;
+    let end = refused(Status::TableFileRefused, b"T: too long\n");
+    assert_table_of(&rt, rt.alloc(), 268_435_457, &end)
 }

@@ -1,25 +1,11 @@
 // The lines on texts that are refused: one for each cause that a run meets.
 
-use super::{QUERY, SCHEMA, TABLE, run};
-use crate::tables::{WORDS, file_of, shelf};
-use qw_io::MemorySink;
+use super::{QUERY, SCHEMA, TABLE, assert_run};
+use crate::tables::{file_of, refused, sevens};
 use qw_top::status::Status;
 use std::alloc::Global;
+use std::process::Abort;
 use std::test::Fail;
-
-// The end of a run over these files, and what was noted.
-pub(super) fn noted_on(
-    alloc: Global,
-    schema: &[u8],
-    table: &[u8],
-    query: &[u8],
-) -> Result<(Status, MemorySink), Fail> {
-    let mut files = shelf(alloc, schema, table, query)?;
-    let mut out = MemorySink::new(alloc, 4_096, Vec::new(alloc));
-    let mut notes = MemorySink::new(alloc, 5, Vec::new(alloc));
-    let (status, _) = run(alloc, &mut files, &WORDS, &mut out, &mut notes)?;
-    Ok((status, notes))
-}
 
 // A queries file, and the line on it.
 const QUERIES: [(&[u8], &[u8]); 18] = [
@@ -82,12 +68,21 @@ const QUERIES: [(&[u8], &[u8]); 18] = [
     ),
 ];
 
+// Asserts that a queries file is refused with a line.
+fn assert_no_queries(
+    rt: &impl Abort,
+    alloc: Global,
+    query: &[u8],
+    line: &[u8],
+) -> Result<(), Fail> {
+    let end = refused(Status::QueriesRefused, line);
+    assert_run(rt, alloc, SCHEMA, TABLE, query, &end)
+}
+
 #[test]
 fn refused_queries_are_noted(rt: HostRuntime) -> Result<(), Fail> {
-    for (query, line) in QUERIES {
-        let (status, notes) = noted_on(rt.alloc(), SCHEMA, TABLE, query)?;
-        assert_eq!(rt; status, Status::QueriesRefused);
-        assert_eq!(rt; notes.bytes(), line);
+    for &(query, line) in &QUERIES {
+        assert_no_queries(&rt, rt.alloc(), query, line)?;
     }
     Ok(())
 }
@@ -125,10 +120,9 @@ const SCHEMAS: [(&[u8], &[u8]); 9] = [
 
 #[test]
 fn refused_schemas_are_noted(rt: HostRuntime) -> Result<(), Fail> {
-    for (schema, line) in SCHEMAS {
-        let (status, notes) = noted_on(rt.alloc(), schema, b"x", b"x")?;
-        assert_eq!(rt; status, Status::SchemaRefused);
-        assert_eq!(rt; notes.bytes(), line);
+    for &(schema, line) in &SCHEMAS {
+        let end = refused(Status::SchemaRefused, line);
+        assert_run(&rt, rt.alloc(), schema, b"x", b"x", &end)?;
     }
     Ok(())
 }
@@ -136,15 +130,10 @@ fn refused_schemas_are_noted(rt: HostRuntime) -> Result<(), Fail> {
 // A schema of one table more than are taken.
 #[test]
 fn many_tables_are_noted(rt: HostRuntime) -> Result<(), Fail> {
-    let alloc = rt.alloc();
-    let schema = file_of(alloc, b"", b"CREATE TABLE T (A INTEGER);", 33)?;
-    let (status, notes) = noted_on(alloc, schema.as_slice(), TABLE, QUERY)?;
-    assert_eq!(rt; status, Status::SchemaRefused);
-    assert_eq!(rt;
-        notes.bytes(),
-        b"schema: too many tables in statement 1, limit 32\n".as_slice()
-    );
-    Ok(())
+    let schema = file_of(rt.alloc(), b"", b"CREATE TABLE T (A INTEGER);", 33)?;
+    let line = b"schema: too many tables in statement 1, limit 32\n";
+    let end = refused(Status::SchemaRefused, line);
+    assert_run(&rt, rt.alloc(), schema.as_slice(), TABLE, QUERY, &end)
 }
 
 // A schema, the file of its table, and the line on that.
@@ -193,10 +182,9 @@ const TABLES: [(&[u8], &[u8], &[u8]); 12] = [
 
 #[test]
 fn refused_tables_are_noted(rt: HostRuntime) -> Result<(), Fail> {
-    for (schema, table, line) in TABLES {
-        let (status, notes) = noted_on(rt.alloc(), schema, table, b"x")?;
-        assert_eq!(rt; status, Status::TableFileRefused);
-        assert_eq!(rt; notes.bytes(), line);
+    for &(schema, table, line) in &TABLES {
+        let end = refused(Status::TableFileRefused, line);
+        assert_run(&rt, rt.alloc(), schema, table, b"x", &end)?;
     }
     Ok(())
 }
@@ -204,63 +192,50 @@ fn refused_tables_are_noted(rt: HostRuntime) -> Result<(), Fail> {
 // A table of one row more than are taken.
 #[test]
 fn many_rows_are_noted(rt: HostRuntime) -> Result<(), Fail> {
-    let alloc = rt.alloc();
-    let table = file_of(alloc, b"A\n", b"7\n", 1_000_001)?;
-    let (status, notes) = noted_on(alloc, SCHEMA, table.as_slice(), QUERY)?;
-    assert_eq!(rt; status, Status::TableFileRefused);
-    assert_eq!(rt; notes.bytes(), b"T: too many rows\n".as_slice());
-    Ok(())
+    let table = sevens(rt.alloc(), 1_000_001)?;
+    let end = refused(Status::TableFileRefused, b"T: too many rows\n");
+    assert_run(&rt, rt.alloc(), SCHEMA, table.as_slice(), QUERY, &end)
 }
 
-// A select list of one item more than are taken.
-#[test]
-fn a_long_select_list_is_noted(rt: HostRuntime) -> Result<(), Fail> {
-    let alloc = rt.alloc();
-    let mut query = Vec::from_slice(alloc, b"SELECT A")?;
-    for _ in 0..64 {
-        query.extend_from_slice(b", A")?;
-    }
-    query.extend_from_slice(b" FROM T WHERE A > 5")?;
-    let (status, notes) = noted_on(alloc, SCHEMA, TABLE, query.as_slice())?;
-    assert_eq!(rt; status, Status::QueriesRefused);
-    assert_eq!(rt;
-        notes.bytes(),
-        b"queries: too many select items in statement 1, limit 64\n".as_slice()
-    );
-    Ok(())
-}
-
-// More statements, nodes or octets of strings than are taken.
-#[test]
-fn large_scripts_are_noted(rt: HostRuntime) -> Result<(), Fail> {
-    let alloc = rt.alloc();
-    let statements = file_of(alloc, b"", b"SELECT A FROM T;", 65)?;
-    let nodes = file_of(
-        alloc,
+// Scripts that repeat something so many times between their beginning and their end, and the line on each: one select item, statement,
+// node and octet of a string more than are taken.
+const LARGE: [(&[u8], &[u8], usize, &[u8], &[u8]); 4] = [
+    (
+        b"SELECT A",
+        b", A",
+        64,
+        b" FROM T WHERE A > 5",
+        b"queries: too many select items in statement 1, limit 64\n",
+    ),
+    (
+        b"",
+        b"SELECT A FROM T;",
+        65,
+        b"",
+        b"queries: too many statements in statement 1, limit 64\n",
+    ),
+    (
         b"SELECT A FROM T; SELECT A FROM T WHERE A > 0",
         b" + A",
         499,
-    )?;
-    let mut octets = file_of(alloc, b"SELECT '", b"x", 16_385)?;
-    octets.extend_from_slice(b"' FROM T")?;
-    let cases: [(&[u8], &[u8]); 3] = [
-        (
-            statements.as_slice(),
-            b"queries: too many statements in statement 1, limit 64\n",
-        ),
-        (
-            nodes.as_slice(),
-            b"queries: too many nodes in statement 2, limit 1000\n",
-        ),
-        (
-            octets.as_slice(),
-            b"queries: too many literal octets in statement 1, limit 16384\n",
-        ),
-    ];
-    for (script, line) in cases {
-        let (status, notes) = noted_on(alloc, SCHEMA, TABLE, script)?;
-        assert_eq!(rt; status, Status::QueriesRefused);
-        assert_eq!(rt; notes.bytes(), line);
+        b"",
+        b"queries: too many nodes in statement 2, limit 1000\n",
+    ),
+    (
+        b"SELECT '",
+        b"x",
+        16_385,
+        b"' FROM T",
+        b"queries: too many literal octets in statement 1, limit 16384\n",
+    ),
+];
+
+#[test]
+fn large_scripts_are_noted(rt: HostRuntime) -> Result<(), Fail> {
+    for &(before, repeated, times, after, line) in &LARGE {
+        let mut script = file_of(rt.alloc(), before, repeated, times)?;
+        script.extend_from_slice(after)?;
+        assert_no_queries(&rt, rt.alloc(), script.as_slice(), line)?;
     }
     Ok(())
 }

@@ -1,8 +1,9 @@
 // Runs of scripts of several queries, with expressions of every kind: their reports, in the order of the script.
 
-use super::{MIXED_SCHEMA, MIXED_TABLE, SCHEMA, TABLE, report_of};
-use crate::tables::file_of;
+use super::{MIXED_SCHEMA, MIXED_TABLE, SCHEMA, TABLE, assert_run};
+use crate::tables::{End, done, ended_run, file_of};
 use qw_top::status::Status;
+use std::alloc::{AllocError, Global};
 use std::test::Fail;
 
 // A script over the mixed table, the end of its run and its report.
@@ -56,13 +57,26 @@ const SCRIPTS: [(&[u8], Status, &[u8]); 9] = [
 
 #[test]
 fn scripts_and_their_reports(rt: HostRuntime) -> Result<(), Fail> {
-    for (script, end, report) in SCRIPTS {
-        let (status, out, kept) = report_of(rt.alloc(), MIXED_SCHEMA, MIXED_TABLE, script)?;
-        assert_eq!(rt; status, end);
-        assert_eq!(rt; out.bytes(), report);
-        assert!(rt; kept.is_some());
+    for &(script, status, report) in &SCRIPTS {
+        let end = End {
+            status,
+            report,
+            noted: b"",
+            keeps: true,
+        };
+        assert_run(&rt, rt.alloc(), MIXED_SCHEMA, MIXED_TABLE, script, &end)?;
     }
     Ok(())
+}
+
+// The report of 64 queries that have the same row.
+fn report_of_64(alloc: Global) -> Result<String, AllocError> {
+    let mut report = String::new(alloc);
+    for number in 1..65 {
+        let part = format!(in alloc; "QUERY {number} ROWS 1\nA\n7\n")?;
+        report.push_str(part.as_str())?;
+    }
+    Ok(report)
 }
 
 // The most queries that a script may have, each with its part of the report.
@@ -70,14 +84,9 @@ fn scripts_and_their_reports(rt: HostRuntime) -> Result<(), Fail> {
 fn a_script_of_64_queries(rt: HostRuntime) -> Result<(), Fail> {
     let alloc = rt.alloc();
     let script = file_of(alloc, b"", b"SELECT A FROM T WHERE A > 5;", 64)?;
-    let (status, out, kept) = report_of(alloc, SCHEMA, TABLE, script.as_slice())?;
-    assert_eq!(rt; status, Status::Done);
-    let mut report = Vec::new(alloc);
-    for number in 1..65 {
-        let part = format!(in alloc; "QUERY {number} ROWS 1\nA\n7\n")?;
-        report.extend_from_slice(part.as_bytes())?;
-    }
-    assert_eq!(rt; out.bytes(), report.as_slice());
+    let report = report_of_64(alloc)?;
+    let end = done(report.as_bytes());
+    let kept = ended_run(&rt, alloc, SCHEMA, TABLE, script.as_slice(), &end)?;
     assert_eq!(rt; kept.ok_or("no bench")?.len(), 64);
     Ok(())
 }

@@ -1,8 +1,6 @@
 // Runs over a schema of two tables. Each file is read, whichever table a statement names, and in the order of the schema.
 
-use super::run;
-use crate::tables::{WORDS, shelf_of};
-use qw_io::MemorySink;
+use crate::tables::{End, WORDS, assert_ends, shelf_of, sink};
 use qw_top::status::Status;
 use std::test::Fail;
 
@@ -76,16 +74,18 @@ const RUNS: [(&[u8], &[u8], &[u8], Status, &[u8], &[u8]); 7] = [
 #[test]
 fn two_tables(rt: HostRuntime) -> Result<(), Fail> {
     let alloc = rt.alloc();
-    for (stock, sales, query, end, report, line) in RUNS {
+    for &(stock, sales, query, status, report, noted) in &RUNS {
         let tables: [(&str, &[u8]); 2] = [("d/stock.csv", stock), ("d/sales.csv", sales)];
         let mut files = shelf_of(alloc, SCHEMA, &tables, query)?;
-        let mut out = MemorySink::new(alloc, 4_096, Vec::new(alloc));
-        let mut notes = MemorySink::new(alloc, 4_096, Vec::new(alloc));
-        let (status, kept) = run(alloc, &mut files, &WORDS, &mut out, &mut notes)?;
-        assert_eq!(rt; status, end);
-        assert_eq!(rt; out.bytes(), report);
-        assert_eq!(rt; notes.bytes(), line);
-        assert_eq!(rt; kept.is_some(), end == Status::Done);
+        let sinks = (sink(alloc, 4_096), sink(alloc, 4_096));
+        let keeps = status == Status::Done;
+        let end = End {
+            status,
+            report,
+            noted,
+            keeps,
+        };
+        assert_ends(&rt, alloc, &mut files, &WORDS, sinks, &end)?;
     }
     Ok(())
 }

@@ -1,16 +1,17 @@
 // The octets of columns, written out by hand from docs/FORMATS.md, and values read back.
 
-ghost use Rattle.std.specs.Prelude.{◌≡◌, IfOk, IsTrue};
+ghost use Rattle.std.specs.Prelude.{◌≡◌, IfOk, IsTrue, length};
 ghost use Rattle.qw_types.specs.Schema.{AreColumns};
 ghost use Rattle.qw_types.specs.Value.{IsSized};
 ghost use Rattle.qw_columns.specs.Mapped.{IsMapOf};
 
-use crate::{ColumnMap, PlaceFault, pages_needed, place, value_at};
+use qw_columns::{ColumnMap, PlaceFault, pages_needed, place, value_at};
 use qw_csv::loading::load;
 use qw_csv::{Cell, Loaded};
 use qw_linear::linear::{Linear, PAGE};
 use qw_types::{Column, Columns, NoMemory, Table, Text, Ty, Val};
 use std::alloc::{AllocError, Global};
+use std::process::Abort;
 use std::test::Fail;
 
 const MONEY: Ty = Ty::Decimal {
@@ -87,20 +88,20 @@ const TWO_TABLES: &[u8] = b"\x01\0\0\0\x02\0\0\0\x03\0\0\0\0\0\0\0\
 \x07\0\0\0";
 
 // By table, column and row.
-const VALUES: [(usize, usize, usize, Cell<'static>); 13] = [
-    (0, 0, 0, Cell::Num(1)),
-    (0, 0, 1, Cell::Num(2)),
-    (0, 0, 2, Cell::Num(3)),
-    (0, 1, 0, Cell::Num(1_000)),
-    (0, 1, 1, Cell::Null),
-    (0, 1, 2, Cell::Num(50)),
-    (0, 2, 0, Cell::Date(19_980_815)),
-    (0, 2, 1, Cell::Null),
-    (0, 2, 2, Cell::Date(19_990_102)),
-    (0, 3, 0, Cell::Text(b"pen")),
-    (0, 3, 1, Cell::Text(b"ink")),
-    (0, 3, 2, Cell::Null),
-    (1, 0, 0, Cell::Num(7)),
+const VALUES: [((usize, usize, usize), Cell<'static>); 13] = [
+    ((0, 0, 0), Cell::Num(1)),
+    ((0, 0, 1), Cell::Num(2)),
+    ((0, 0, 2), Cell::Num(3)),
+    ((0, 1, 0), Cell::Num(1_000)),
+    ((0, 1, 1), Cell::Null),
+    ((0, 1, 2), Cell::Num(50)),
+    ((0, 2, 0), Cell::Date(19_980_815)),
+    ((0, 2, 1), Cell::Null),
+    ((0, 2, 2), Cell::Date(19_990_102)),
+    ((0, 3, 0), Cell::Text(b"pen")),
+    ((0, 3, 1), Cell::Text(b"ink")),
+    ((0, 3, 2), Cell::Null),
+    ((1, 0, 0), Cell::Num(7)),
 ];
 
 fn column(alloc: Global, name: &str, ty: Ty, not_null: bool) -> Result<Column, AllocError>
@@ -184,50 +185,86 @@ fn read(
     Ok(None)
 }
 
-fn same(value: &Val, cell: &Cell<'_>) -> bool {
+/// Whether there is a value, and it is that of the cell.
+fn is_same(value: &Option<Val>, cell: &Cell<'_>) -> bool {
     match (value, cell) {
-        (Val::Null, Cell::Null) => true,
-        (Val::Num(one), Cell::Num(other)) => *one == *other,
-        (Val::Date(one), Cell::Date(other)) => *one == *other,
-        (Val::Text(one), Cell::Text(other)) => one.as_str().as_bytes() == *other,
+        (Some(Val::Null), Cell::Null) => true,
+        (Some(Val::Num(one)), Cell::Num(other)) => *one == *other,
+        (Some(Val::Date(one)), Cell::Date(other)) => *one == *other,
+        (Some(Val::Text(one)), Cell::Text(other)) => one.as_str().as_bytes() == *other,
         _ => false,
     }
 }
 
+/// Asserts the octets of a memory of one page from 64 on, behind which are zeros.
+fn assert_octets(rt: &impl Abort, memory: &Linear, octets: &[u8]) {
+    let size = octets.len() as u64;
+    assert_eq!(rt; memory.octets_at(64, size), Some(octets));
+    assert!(rt; is_zero_from(memory, 64 + size));
+}
+
+/// A table that is read from a file, alone.
+fn loaded(alloc: Global, table: &Table, file: &[u8]) -> Result<Vec<Loaded>, Fail>
+    ensures { IfOk result (λ tables. length tables.items ≡ 1) }
+{
+    let table = load(alloc, table, file)?;
+    Ok(vec![in alloc; table]?)
+}
+
+/// The memory of a table that is read from a file.
+fn placed(alloc: Global, table: &Table, file: &[u8]) -> Result<Linear, Fail> {
+    let tables = loaded(alloc, table, file)?;
+    let mut memory = Linear::new(alloc, 2)?;
+    place(alloc, tables.as_slice(), &mut memory)?;
+    Ok(memory)
+}
+
 #[test]
 fn octets_of_columns(rt: HostRuntime) -> Result<(), Fail> {
-    for (ty, not_null, file, octets) in COLUMNS {
+    for &(ty, not_null, file, octets) in &COLUMNS {
         assert!(rt; is_sized(ty));
         let table = narrow(rt.alloc(), ty, not_null)?;
-        let tables = vec![in rt.alloc(); load(rt.alloc(), &table, file)?]?;
-        let mut memory = Linear::new(rt.alloc(), 2)?;
-        place(rt.alloc(), tables.as_slice(), &mut memory)?;
+        let memory = placed(rt.alloc(), &table, file)?;
         assert_eq!(rt; memory.size(), 1);
-        let size = octets.len() as u64;
-        assert_eq!(rt; memory.octets_at(64, size), Some(octets));
-        assert!(rt; is_zero_from(&memory, 64 + size));
+        assert_octets(&rt, &memory, octets);
     }
+    Ok(())
+}
+
+/// The tables of ITEM, and of one column and one row.
+fn two_loaded(alloc: Global) -> Result<Vec<Loaded>, Fail>
+    ensures { IfOk result (λ tables. length tables.items ≡ 2) }
+{
+    let first = load(alloc, &item(alloc)?, ITEM_FILE)?;
+    let second = load(alloc, &narrow(alloc, Ty::Integer, true)?, b"A\n7\n")?;
+    Ok(vec![in alloc; first, second]?)
+}
+
+/// Asserts the value of a row.
+fn assert_value(
+    rt: &impl Abort,
+    alloc: Global,
+    tables: &[Loaded],
+    memory: &Linear,
+    map: &ColumnMap,
+    at: (usize, usize, usize),
+    cell: &Cell<'_>,
+) -> Result<(), NoMemory>
+    requires { IsMapOf map.now memory.now.octets tables.now }
+{
+    let value = read(alloc, tables, memory, map, at)?;
+    assert!(rt; is_same(&value, cell), "{at:?}");
     Ok(())
 }
 
 #[test]
 fn two_tables(rt: HostRuntime) -> Result<(), Fail> {
-    let first = load(rt.alloc(), &item(rt.alloc())?, ITEM_FILE)?;
-    let one = narrow(rt.alloc(), Ty::Integer, true)?;
-    let second = load(rt.alloc(), &one, b"A\n7\n")?;
-    let tables = vec![in rt.alloc(); first, second]?;
+    let tables = two_loaded(rt.alloc())?;
     let mut memory = Linear::new(rt.alloc(), 1)?;
     let map = place(rt.alloc(), tables.as_slice(), &mut memory)?;
-    let size = TWO_TABLES.len() as u64;
-    assert_eq!(rt; memory.octets_at(64, size), Some(TWO_TABLES));
-    assert!(rt; is_zero_from(&memory, 64 + size));
-    for (table, column, row, cell) in VALUES {
-        let at = (table, column, row);
-        let value = read(rt.alloc(), tables.as_slice(), &memory, &map, at)?;
-        let Some(value) = value else {
-            panic!(rt; "no row {row} of column {column}");
-        };
-        assert!(rt; same(&value, &cell), "row {row} of column {column}");
+    assert_octets(&rt, &memory, TWO_TABLES);
+    for (at, cell) in &VALUES {
+        assert_value(&rt, rt.alloc(), &tables, &memory, &map, *at, cell)?;
     }
     Ok(())
 }
@@ -235,11 +272,11 @@ fn two_tables(rt: HostRuntime) -> Result<(), Fail> {
 #[test]
 fn no_room(rt: HostRuntime) -> Result<(), Fail> {
     let table = narrow(rt.alloc(), Ty::Integer, true)?;
-    let tables = vec![in rt.alloc(); load(rt.alloc(), &table, b"A\n")?]?;
-    assert_eq!(rt; pages_needed(tables.as_slice()), 1);
+    let tables = loaded(rt.alloc(), &table, b"A\n")?;
+    assert!(rt; pages_needed(tables.as_slice()) == 1);
     let mut memory = Linear::new(rt.alloc(), 0)?;
     let fault = place(rt.alloc(), tables.as_slice(), &mut memory).err();
-    assert_eq!(rt; fault, Some(PlaceFault::TooManyPages { need: 1 }));
-    assert_eq!(rt; memory.size(), 0);
+    assert!(rt; fault == Some(PlaceFault::TooManyPages { need: 1 }));
+    assert!(rt; memory.size() == 0);
     Ok(())
 }
