@@ -20,7 +20,6 @@ pub struct Interval<'a> {
 
 /// An expression (6.11 "value expression").
 #[cycle(script)]
-#[derive(Debug)]
 pub enum Expr<'a> {
     /// The word NULL, which stands only as a result of a CASE; also the result of an ELSE that isn't there (6.9).
     Null,
@@ -50,7 +49,6 @@ pub enum Expr<'a> {
 
 /// A condition (8.12 "search condition", with its predicates). A `bool` tells whether NOT stands in the predicate.
 #[cycle(script)]
-#[derive(Debug)]
 pub enum Cond<'a> {
     /// `left comparison right` (8.2).
     Compare(Comparison, Box<Expr<'a>>, Box<Expr<'a>>),
@@ -74,7 +72,7 @@ pub enum Cond<'a> {
 
 /// A condition or an expression.
 #[cycle(script)]
-#[derive(Debug, Drop)]
+#[derive(Drop)]
 pub enum Phrase<'a> {
     Condition(Cond<'a>),
     Expression(Expr<'a>),
@@ -82,7 +80,6 @@ pub enum Phrase<'a> {
 
 /// One or more expressions in order.
 #[cycle(script)]
-#[derive(Debug)]
 pub enum Exprs<'a> {
     Last(Box<Expr<'a>>),
     More(Box<Expr<'a>>, Box<Exprs<'a>>),
@@ -90,7 +87,6 @@ pub enum Exprs<'a> {
 
 /// The branches of a CASE.
 #[cycle(script)]
-#[derive(Debug)]
 pub enum Branches<'a> {
     /// `ELSE result`, with NULL where there is no ELSE.
     Else(Box<Expr<'a>>),
@@ -99,14 +95,14 @@ pub enum Branches<'a> {
 }
 
 /// An item of a select list: `expression [[AS] name]` (7.9 "derived column").
-#[derive(Debug, Drop)]
+#[derive(Drop)]
 pub struct Item<'a> {
     pub expression: Expr<'a>,
     pub name: Option<&'a [u8]>,
 }
 
 /// A select list (7.9).
-#[derive(Debug, Drop)]
+#[derive(Drop)]
 pub enum SelectList<'a> {
     /// `*`.
     All,
@@ -115,7 +111,7 @@ pub enum SelectList<'a> {
 }
 
 /// `SELECT list FROM table [[AS] alias] [WHERE condition]` (7.9, 7.4, 7.6).
-#[derive(Debug, Drop)]
+#[derive(Drop)]
 pub struct Statement<'a> {
     pub list: SelectList<'a>,
     pub table: &'a [u8],
@@ -124,7 +120,7 @@ pub struct Statement<'a> {
 }
 
 /// The statements of a text, in order.
-#[derive(Debug, Drop)]
+#[derive(Drop)]
 pub struct Script<'a> {
     pub statements: Vec<Statement<'a>>,
 }

@@ -108,7 +108,7 @@ impl Job {
 }
 
 /// Pages that an instance was granted: the number of the first one in the memory, and how many they are.
-#[derive(Clone, Copy, Debug, PartialEq, Eq)]
+#[derive(Clone, Copy, PartialEq, Eq)]
 struct Grant {
     at: u32,
     pages: u32,

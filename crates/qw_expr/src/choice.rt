@@ -19,7 +19,7 @@ use qw_module::instruction::{Op, ValType};
 use qw_types::{Kind, NoMemory};
 
 /// Where a choice leaves its value, with a null word; of a text its address and its length.
-#[derive(Clone, Copy, Debug)]
+#[derive(Clone, Copy)]
 pub(crate) struct Place {
     pub value: Local,
     pub length: Local,
@@ -27,7 +27,7 @@ pub(crate) struct Place {
 }
 
 /// Where a choice is after its first result: the place of its value, and the first result's operand.
-#[derive(Clone, Copy, Debug)]
+#[derive(Clone, Copy)]
 pub(crate) struct Started {
     pub place: Place,
     pub first: Operand,

@@ -29,7 +29,7 @@ use qw_types::NoMemory;
 use std::alloc::Global;
 
 /// A label that the instance is in (4.2.12).
-#[derive(Clone, Copy, Debug, PartialEq, Eq)]
+#[derive(Clone, Copy, PartialEq, Eq)]
 pub(crate) struct Entry {
     /// How many operands lie below the label's own.
     pub(crate) base: usize,
@@ -44,7 +44,7 @@ pub(crate) struct Entry {
 }
 
 /// A frame: what a function that was called comes back to (4.2.12).
-#[derive(Clone, Copy, Debug, PartialEq, Eq)]
+#[derive(Clone, Copy, PartialEq, Eq)]
 pub(crate) struct Frame {
     /// How many operands lie below those of the function that was called.
     pub(crate) base: usize,
@@ -63,7 +63,7 @@ pub(crate) struct Frame {
 }
 
 /// What awaits the end of a sequence (4.2.12).
-#[derive(Clone, Copy, Debug, PartialEq, Eq)]
+#[derive(Clone, Copy, PartialEq, Eq)]
 pub(crate) enum Awaiting {
     Label(Entry),
     Call(Frame),

@@ -13,7 +13,7 @@ use qw_module::instruction::Op;
 use qw_module::trap::Trap;
 
 /// What an operator came to.
-#[derive(Clone, Copy, Debug, PartialEq, Eq)]
+#[derive(Clone, Copy, PartialEq, Eq)]
 pub(crate) enum Operated {
     Ran,
     /// A request was granted: the memory's size before, and how much it grew, in pages.

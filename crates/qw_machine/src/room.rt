@@ -8,7 +8,7 @@ use qw_module::instruction::Instr;
 use qw_module::module::{Function, Locals, Module};
 
 /// How many operands, labels and frames, and locals there is room for.
-#[derive(Clone, Copy, Debug, PartialEq, Eq)]
+#[derive(Clone, Copy, PartialEq, Eq)]
 pub(crate) struct Rooms {
     pub(crate) operands: usize,
     pub(crate) awaiting: usize,

@@ -56,7 +56,7 @@ impl Run {
 }
 
 /// How a run has ended.
-#[derive(Clone, Copy, Debug, PartialEq, Eq)]
+#[derive(Clone, Copy, PartialEq, Eq)]
 pub(crate) enum RunEnd {
     Returned,
     Raised(u32),

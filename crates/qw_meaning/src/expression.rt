@@ -22,7 +22,7 @@ pub enum Field {
 
 /// A typed expression (6.11 "value expression").
 #[cycle(expression)]
-#[derive(Debug, Drop)]
+#[derive(Drop)]
 pub enum Expr {
     /// The literal NULL, which stands only as the result of a CASE.
     Null,
@@ -52,7 +52,7 @@ pub enum Expr {
 
 /// A typed condition (8.12 "search condition", with its predicates).
 #[cycle(expression)]
-#[derive(Debug, Drop)]
+#[derive(Drop)]
 pub enum Cond {
     /// `left comparison right` (8.2).
     Compare(Comparison, Box<Expr>, Box<Expr>),
@@ -74,7 +74,7 @@ pub enum Cond {
 
 /// One or more expressions in order.
 #[cycle(expression)]
-#[derive(Debug, Drop)]
+#[derive(Drop)]
 pub enum Exprs {
     Last(Box<Expr>),
     More(Box<Expr>, Box<Exprs>),
@@ -82,7 +82,7 @@ pub enum Exprs {
 
 /// The branches of a CASE (6.9 "searched case").
 #[cycle(expression)]
-#[derive(Debug, Drop)]
+#[derive(Drop)]
 pub enum Branches {
     /// `ELSE result`.
     Else(Box<Expr>),
@@ -92,7 +92,7 @@ pub enum Branches {
 
 /// The branches of a CASE with an operand (6.9 "simple case").
 #[cycle(expression)]
-#[derive(Debug, Drop)]
+#[derive(Drop)]
 pub enum Matches {
     /// `WHEN value THEN result ELSE other`.
     Last(Box<Expr>, Box<Expr>, Box<Expr>),

@@ -10,7 +10,7 @@ use std::marker::Model;
 /// A typed query specification over one table (ISO/IEC 9075:1992, 7.9): `SELECT items FROM table WHERE conjuncts`. Columns are
 /// counted from 0, in the order of the table. Contracts see it as its parts; which specification they make is
 /// `specification_of`.
-#[derive(Debug, Drop)]
+#[derive(Drop)]
 pub struct Select {
     table: usize,
     types: Vec<Ty>,

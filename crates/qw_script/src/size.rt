@@ -8,7 +8,7 @@ ghost use Rattle.qw_script.specs.Inner.Sizes.{Counts, behind_octet, counted};
 use qw_ast::script::{Branches, Cond, Expr, Exprs, Item, Phrase, SelectList, Statement};
 
 /// Nodes, and octets of the values of character strings. Each of the two stays at the greatest number where it would pass it.
-#[derive(Clone, Copy, Debug)]
+#[derive(Clone, Copy)]
 pub(crate) struct Size {
     pub(crate) nodes: usize,
     pub(crate) octets: usize,

@@ -12,7 +12,7 @@ use qw_types::{Kind, NoMemory, Text, Val};
 use std::alloc::Global;
 
 /// The value of a cell, its text lent, so that reading one takes no memory.
-#[derive(Clone, Copy, Debug)]
+#[derive(Clone, Copy)]
 pub(crate) enum Cell<'a> {
     /// The null value.
     Null,
@@ -77,7 +77,7 @@ fn plain_cell(memory: &Linear, at: u64, kind: Kind) -> Cell<'_>
 }
 
 /// The chain of an instance's result rows, each of which has the address of the next one.
-#[derive(Clone, Copy, Debug)]
+#[derive(Clone, Copy)]
 pub(crate) struct Chain {
     /// The address of the first row, or 0 where there is none.
     pub(crate) first: u64,

@@ -20,7 +20,7 @@ use qw_valid::valid::Part;
 use std::alloc::Global;
 
 /// Why a run whose words were read ends before it has a bench.
-#[derive(Clone, Copy, Debug)]
+#[derive(Clone, Copy)]
 pub(crate) enum Cause<'a> {
     SchemaTooLong,
     Schema(&'a SchemaFault),

@@ -19,7 +19,7 @@ const MAX_LITERAL: i64 = 999_999_999_999_999_999;
 const MAX_SCALE: usize = 18;
 
 /// A number and its scale.
-#[derive(Clone, Copy, Debug)]
+#[derive(Clone, Copy)]
 pub(crate) struct Numeral {
     pub(crate) number: i64,
     pub(crate) scale: u8,

@@ -22,14 +22,14 @@ use qw_types::{Column, NoMemory, Schema, Table, Text, Ty};
 use std::alloc::Global;
 
 /// A query over a schema's tables: its specification, and the names of its result columns in order.
-#[derive(Debug, Drop)]
+#[derive(Drop)]
 pub struct TypedSelect {
     pub select: Select,
     pub names: Vec<Text>,
 }
 
 /// What a query is over the columns of its table.
-#[derive(Debug, Drop)]
+#[derive(Drop)]
 struct Over {
     types: Vec<Ty>,
     conjuncts: Vec<Cond>,

@@ -9,14 +9,14 @@ use crate::fault::FaultKind;
 use qw_ast::script::{Branches, Cond, Expr, Exprs, Phrase};
 
 /// A token of the text, by its octets.
-#[derive(Clone, Copy, Debug)]
+#[derive(Clone, Copy)]
 pub(crate) enum Token<'a> {
     Name(&'a [u8]),
     Literal(&'a [u8]),
 }
 
 /// Why a construct is refused.
-#[derive(Clone, Copy, Debug)]
+#[derive(Clone, Copy)]
 pub(crate) enum Refusal<'a> {
     NoMemory,
     Fault(FaultKind, Token<'a>),

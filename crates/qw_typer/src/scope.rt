@@ -15,14 +15,14 @@ use qw_types::{Column, NoMemory, Text, Ty};
 use std::alloc::Global;
 
 /// The entry of FROM (ISO/IEC 9075:1992, 7.4): its alias, or without one its table's name, and its columns in order.
-#[derive(Debug, Drop)]
+#[derive(Drop)]
 pub(crate) struct Scope<'s> {
     pub(crate) name: Text,
     pub(crate) columns: &'s [Column],
 }
 
 /// A column's place in its table, counted from 0, and its type.
-#[derive(Clone, Copy, Debug)]
+#[derive(Clone, Copy)]
 pub(crate) struct Place {
     pub(crate) place: usize,
     pub(crate) ty: Ty,

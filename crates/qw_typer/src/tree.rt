@@ -9,14 +9,14 @@ use qw_types::Kind;
 use std::alloc::Global;
 
 /// An expression and the kind of its values, none where null is the only one.
-#[derive(Debug, Drop)]
+#[derive(Drop)]
 pub(crate) struct Typed {
     pub(crate) tree: Expr,
     pub(crate) kind: Option<Kind>,
 }
 
 /// The branches of a CASE or the like; the kind of their results together, and whether they are of one.
-#[derive(Debug, Drop)]
+#[derive(Drop)]
 pub(crate) struct Results<T> {
     pub(crate) tree: T,
     pub(crate) kind: Option<Kind>,
@@ -24,7 +24,7 @@ pub(crate) struct Results<T> {
 }
 
 /// The values of IN, and whether each compares with the operand.
-#[derive(Debug, Drop)]
+#[derive(Drop)]
 pub(crate) struct Values {
     pub(crate) tree: Exprs,
     pub(crate) comparable: bool,

@@ -20,7 +20,7 @@ use qw_module::instruction::{BlockType, Instr, ValType};
 use qw_module::module::Body;
 
 /// How a sequence that is open was begun.
-#[derive(Clone, Copy, Debug, PartialEq, Eq)]
+#[derive(Clone, Copy, PartialEq, Eq)]
 pub(crate) enum Opener {
     Body,
     Block,
@@ -65,7 +65,7 @@ fn taken(opener: Opener, result_type: BlockType) -> BlockType
 }
 
 /// Why a body is refused: at the first place that isn't typable, or for want of memory.
-#[derive(Clone, Copy, Debug, PartialEq, Eq)]
+#[derive(Clone, Copy, PartialEq, Eq)]
 pub(crate) enum BodyFault {
     At(usize),
     NoMemory,

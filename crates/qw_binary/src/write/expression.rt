@@ -27,7 +27,7 @@ use qw_module::module::Body;
 use std::alloc::{AllocError, Global};
 
 /// A sequence that is open round another one.
-#[derive(Debug, Drop)]
+#[derive(Drop)]
 struct Around {
     /// What opened that other one.
     opener: Opener,
@@ -38,7 +38,7 @@ struct Around {
 }
 
 /// An expression that is being written.
-#[derive(Debug, Drop)]
+#[derive(Drop)]
 struct Writer {
     /// How many sequences have ended, those of the lowest numbers.
     ended: usize,

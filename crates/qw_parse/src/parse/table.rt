@@ -27,7 +27,7 @@ const MAX_PRECISION: u16 = 18;
 const MAX_LENGTH: u16 = 1000;
 
 /// What the word in front of a data type says.
-#[derive(Clone, Copy, Debug)]
+#[derive(Clone, Copy)]
 pub(crate) enum TypeWord {
     Integer,
     Decimal,
@@ -36,7 +36,7 @@ pub(crate) enum TypeWord {
 }
 
 /// A column definition, with its name as it stands in the text. The type is `None` where its sizes are not taken.
-#[derive(Clone, Copy, Debug)]
+#[derive(Clone, Copy)]
 pub(crate) struct WrittenColumn<'a> {
     name: &'a [u8],
     ty: Option<Ty>,

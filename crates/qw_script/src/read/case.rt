@@ -14,7 +14,7 @@ use qw_ast::script::{Branches, Expr, Phrase};
 use std::alloc::{AllocError, Global};
 
 /// What WHEN and THEN say.
-#[derive(Debug, Drop)]
+#[derive(Drop)]
 pub(crate) struct Branch<'a> {
     pub(crate) test: Phrase<'a>,
     pub(crate) result: Expr<'a>,

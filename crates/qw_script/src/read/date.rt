@@ -8,7 +8,7 @@ use super::tree::push;
 use qw_ast::script::Interval;
 
 /// A date: its string, with its quotes, and its intervals.
-#[derive(Debug, Drop)]
+#[derive(Drop)]
 pub(crate) struct Date<'a> {
     pub(crate) string: &'a [u8],
     pub(crate) intervals: Vec<Interval<'a>>,

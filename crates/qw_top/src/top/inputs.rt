@@ -29,7 +29,7 @@ use qw_words::command::RunWords;
 use std::alloc::Global;
 
 /// What the files of a run hold.
-#[derive(Debug, Drop)]
+#[derive(Drop)]
 pub struct Prepared {
     /// The schema.
     pub schema: Schema,

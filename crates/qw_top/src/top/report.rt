@@ -37,7 +37,7 @@ pub fn deliver<O: Sink>(alloc: Global, run: &Turned, out: &mut O) -> Status
 }
 
 /// What is reported of a run, and the status that it ends with where this is written.
-#[derive(Debug, Drop)]
+#[derive(Drop)]
 struct Report {
     text: Vec<u8>,
     status: Status,
