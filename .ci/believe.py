@@ -3,8 +3,8 @@
 
 From the clauses of public functions, through the imports of their files, to each definition of specs/ that they reach.
 Prints a line for each spec file that has such definitions: their number and lines. With --check compares these with the
-tables of docs/BELIEVE.md instead, and ends with 1 where they differ, where a public clause rests on specs/Inner, or where
-docs/THEOREMS.md names an edit that isn't there.
+tables of docs/BELIEVE.md instead, and ends with 1 where they differ, where a public clause rests on specs/Inner, or where the
+promise of docs/THEOREMS.md names a definition, a file, a function or clause, a test or an edit that isn't there.
 """
 import os
 import re
@@ -179,6 +179,36 @@ def rows(specs, found):
             yield specs[module].path, len(here), sum(len(d.lines) for d in here)
 
 
+def lacking():
+    """What the rows of docs/THEOREMS.md name that isn't there."""
+    read = lambda path: open(path, encoding="utf-8").read()
+    specs = [(os.path.basename(path)[:-5], set(WORD.findall(read(path)))) for path in files_below(CRATES, ".antt") if "/specs/" in path]
+    sources = {path.partition("/src/")[2] for path in files_below(CRATES, ".rt")}
+    said = set(re.findall(r"\bfn (\w+)|\b(?:ensures|requires)\*? (\w+) ", "".join(map(read, files_below(CRATES, ".rt")))))
+    words = {word for pair in said for word in pair if word} | {word for _, names in specs for word in names}
+    edits = {os.path.basename(path)[:-5] for path in files_below(CRATES, ".edit")}
+    promise = read(os.path.join(TOP, "docs", "THEOREMS.md")).partition("| words |")[2].partition("\n\n")[0]
+    for row in promise.split("\n")[2:]:
+        _, _, definition, carrier, test, edit, _ = row.split("|")
+        for name in re.findall(r"`([^`]+)`", definition + carrier):
+            if name.endswith(".rt"):
+                is_there = name in sources
+            elif "." in name:
+                file, _, part = name.partition(".")
+                is_there = any(file == spec and part in names for spec, names in specs)
+            else:
+                # a function, a clause, or a part of a definition
+                is_there = name.rpartition("::")[2] in words or name == "clap"
+            if not is_there:
+                yield name
+        for name in re.findall(r"`([\w:]+)`", test):
+            if f"{name.replace('::', '/')}.rt" not in sources:
+                yield f"the test {name}"
+        for name in re.findall(r"`([\w-]+)`", edit):
+            if name not in edits:
+                yield f"the edit {name}"
+
+
 def main():
     specs = {}
     for path in files_below(CRATES, ".antt"):
@@ -211,10 +241,7 @@ def main():
         said = {(p, int(d), int(l)) for p, d, l in re.findall(r"^\| `([^`]+)` \| (\d+) \| (\d+) \|", section, flags=re.M)}
         bad += [f"{part}: {p} has {d} definitions in {l} lines, and docs/BELIEVE.md doesn't say so" for p, d, l in sorted(set(lines) - said)]
         bad += [f"{part}: docs/BELIEVE.md says {d} definitions in {l} lines of {p}" for p, d, l in sorted(said - set(lines))]
-    edits = {os.path.basename(e)[:-5] for e in files_below(CRATES, ".edit")}
-    promises = open(os.path.join(TOP, "docs", "THEOREMS.md"), encoding="utf-8").read().partition("| words |")[2].partition("\n\n")[0]
-    named = re.findall(r"`([a-z_0-9]+)`", " ".join(row.rstrip(" |").split("|")[-1] for row in promises.split("\n")))
-    bad += [f"docs/THEOREMS.md names the edit {e}, which isn't there" for e in named if e not in edits]
+    bad += [f"docs/THEOREMS.md names {it}, which isn't there" for it in lacking()]
     for line in bad:
         print(f"believe: {line}")
     return 1 if bad else 0
