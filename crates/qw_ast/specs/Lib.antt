@@ -2,6 +2,7 @@ pub use Rattle.qw_token.specs.Token
 pub use Rattle.qw_types.specs.Digits
 pub mod Grammar
 pub mod Inner
+pub mod Limits
 pub mod SchemaGrammar
 pub mod ScriptGrammar
 pub mod Syntax

@@ -11,7 +11,6 @@ use Rattle.qw_ast.specs.declared.script.Item.{Item}
 use Rattle.qw_ast.specs.declared.script.SelectList.{SelectList}
 use Rattle.qw_ast.specs.declared.script.SelectList.TheVariants.{All, Items}
 use Rattle.qw_ast.specs.declared.script.Statement.{Statement}
-use Rattle.qw_ast.specs.declared.script.Script.{Script}
 use Rattle.qw_ast.specs.declared.script.Expr.TheVariants.{Null, Number, Text, Date, Column, Signed', Arithmetic', Extract', Case', Match', Coalesce', NullIf'}
 use Rattle.qw_ast.specs.declared.script.Cond.TheVariants.{Compare', Between', In', IsNull', And', Or', Not', Is', Bracketed'}
 use Rattle.qw_ast.specs.Syntax.{Days, Expression, null, number, text, date, column, signed, arithmetic, extract, searched_case, simple_case, coalesce, null_if, Condition, comparison, between, among, is_null, both, either, negation_of, is, bracketed, Clause, condition, expression, Expressions, last, further, Branching, otherwise, when, SelectItem, Selected, all_columns, items, Select}
@@ -71,6 +70,6 @@ selected_of (Items items') = items (map item_of items'.items)
 abbrev pub select_of : Statement → Select
 select_of s = record { selected = selected_of s.list; table = s.table.now; alias = octets_of s.alias; filter = option_map condition_of s.condition }
 
--- the statements in order
-abbrev pub selects_of : Script → List Select
-selects_of s = map select_of s.statements.items
+-- the queries that statements are, in order
+abbrev pub selects_of : List Statement → List Select
+selects_of statements = map select_of statements

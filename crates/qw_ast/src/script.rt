@@ -1,8 +1,13 @@
 //! The trees of a script. Names and literals are slices of the text, as they stand there.
 
+ghost use Rattle.std.specs.Prelude.{◌≡◌};
+ghost use Rattle.qw_ast.specs.Limits.{AreQueries};
+ghost use Rattle.qw_ast.specs.SyntaxTree.{selects_of};
+
+use qw_meaning::comparison::Comparison;
 use qw_meaning::expression::{Field, Operator};
-use qw_meaning::query::Comparison;
 use qw_types::Truth;
+use std::marker::Model;
 
 /// A sign before a factor or an interval (ISO/IEC 9075:1992, 6.11, 6.14).
 #[derive(Clone, Copy, Debug, PartialEq, Eq)]
@@ -119,10 +124,49 @@ pub struct Statement<'a> {
     pub condition: Option<Cond<'a>>,
 }
 
-/// The statements of a text, in order.
+/// The statements of a text, in order: as many as a script may have, each of which some tokens are, none larger than a query may be.
 #[derive(Drop)]
 pub struct Script<'a> {
-    pub statements: Vec<Statement<'a>>,
+    statements: Vec<Statement<'a>>,
+}
+
+impl<'a> Model for Script<'a> {
+    ghost use mir.Syntax.{named};
+    ghost use Rattle.std.specs.Prelude.{List, []};
+    ghost use Rattle.std.specs.Coded.{codes};
+    ghost use Rattle.qw_ast.specs.declared.script.Statement.{Statement};
+    ghost use Rattle.qw_ast.specs.contracts.script.Expr as expression;
+    ghost use Rattle.qw_ast.specs.contracts.script.Cond as condition;
+
+    ghost Value = { List Statement };
+
+    ghost coded = { Prim.hlevel (codes, (expression.the_row (record { mir = named 1; lft = [] })).coded, (condition.the_row (record { mir = named 1; lft = [] })).coded) };
+
+    ghost use Rattle.qw_ast.specs.Limits.{AreQueries};
+    ghost use Rattle.qw_ast.specs.SyntaxTree.{selects_of};
+
+    ghost view = { λ a. a.statements.items };
+
+    ghost invariant = { λ a. AreQueries (selects_of a.statements.items) };
+}
+
+impl<'a> Script<'a> {
+    /// Takes the statements as they are. That each is a query of the grammar, and that they keep the limits, is not tested here: the
+    /// caller knows it.
+    pub fn new(statements: Vec<Statement<'a>>) -> Self
+        requires { AreQueries (selects_of statements.items) }
+        ensures { result ≡ statements.entry.items }
+    {
+        Script { statements }
+    }
+
+    /// The statements, in order.
+    pub fn as_slice(&self) -> &[Statement<'a>]
+        ensures same { result.now ≡ self.now }
+        ensures limits { AreQueries (selects_of self.now) }
+    {
+        self.statements.as_slice()
+    }
 }
 
 // Chains of operators and lists may be as long as a text, so they are dropped by a loop. What else nests is bounded by the

@@ -4,12 +4,11 @@ use Rattle.std.specs.List.{AllByRecursion, AllZip}
 use Rattle.std.specs.Option.{option_map}
 use Rattle.std.proofs.lemmas.List.{length-map}
 use Rattle.std.proofs.lemmas.Option.{none-some, same_Some, slice_get-get_or, slice_get-map, slice_get_within}
-use Rattle.qw_types.specs.Contents.{AreLoaded, Contents, IsOfColumnType}
+use Rattle.qw_types.specs.Contents.{AreLoaded, Contents, IsOfColumnType, rows_of}
 use Rattle.qw_types.specs.declared.schema.ColumnType.{ColumnType}
 use Rattle.qw_types.specs.declared.value.Val.{Val}
 use Rattle.qw_linear.specs.Linear.{Octets}
 use Rattle.qw_linear.specs.Memory.{page, AreOctets, SameBelow}
-use Rattle.qw_meaning.specs.Flow.{rows_of}
 use Rattle.qw_module.specs.declared.module.Module.{Module}
 use Rattle.qw_module.specs.Execution.{State}
 use Rattle.qw_module.specs.Start.{begun}
@@ -123,7 +122,6 @@ module _ (tables : List Contents) (memory : List ℕ) (program : Program) (one :
         (λ (area : Area). (64 ≤ area.start) × (area.start + area.size ≤ d))
         (λ area h. (h.0, omega (arith, h.1, pages-reach tables, behind))) (areas_of used.ty used.not_null one) (lies-between tables used one place column));
     behind = let start : 64 ≤ tables_end columns_start tables = tables-end-above columns_start tables in omega (arith, start, pages-reach tables, behind);
-    small = is.small;
     inside = inside;
     fresh = is.fresh;
   }
@@ -159,6 +157,7 @@ module _ (tables : List Contents) (memory : List ℕ) (program : Program) (one :
     ready = rw (is.layout_is, is.limits_are, is.descriptor_is) is_ready;
     may_hold = rw is.limits_are limits.some_pages;
     may_run = rw is.limits_are limits.some_steps;
+    few_steps = rw is.limits_are limits.few_steps;
     instance = same;
   }
 

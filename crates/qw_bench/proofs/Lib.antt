@@ -10,3 +10,4 @@ mod SeatRuns
 mod SeatSteps
 pub mod Serving
 pub mod Starting
+mod SteadyTurns

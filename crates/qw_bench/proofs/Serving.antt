@@ -11,11 +11,11 @@ use Rattle.qw_linear.specs.Memory.{page}
 use Rattle.qw_module.specs.Execution.{Config, State, Running, Returned, Raised, Trapped, Event, Silent, Loads, Stores, Grows, Raises, Traps}
 use Rattle.qw_module.specs.Step.{Next, next, wants}
 use Rattle.qw_module.proofs.Outcomes.{outcome}
-use Rattle.qw_map.specs.Areas.{Area, World, Others, AsksWithin, IsAnswered, IsFine, granted_area, grants, world_after}
+use Rattle.qw_map.specs.Areas.{Area, World, Others, AsksOn, IsAnswered, IsFine, granted_area, grants, world_after}
 use Rattle.qw_map.specs.Behaving.{HasRows}
 use Rattle.qw_map.specs.Columns.{Holds, column_pages, columns_start, map_of, tables_end}
 use Rattle.qw_map.specs.Layout.{Layout, rows_at}
-use Rattle.qw_map.specs.Runs.{Moment, OpenStep, OpenRun, begins, goes_on}
+use Rattle.qw_map.specs.Runs.{Moment, OpenStep, OpenRun, begins, goes_on, Behaves, most_run}
 use Rattle.qw_map.specs.Turns.{Instance, Shared, Act, turn, steps_of, turn_at, turns, with_instance, EachInstance, IsWhole, moment_of}
 use Rattle.qw_map.proofs.AccessLemmas.{lies-ahead}
 use Rattle.qw_map.proofs.AreaLemmas.{Gains, LiesBehind, all-append, all-back, all-weaker, outcome-gains}
@@ -199,12 +199,15 @@ module _ (tables : List Contents) (tasks : List Task) (s : Shared) (serving : Ar
         whole = turns-whole s acts (each-whole tables tasks s serving) k later found;
         number = now.number;
         shaped = now.shaped;
-        behaves = (
-          now.behaves.0 - (later.ran - i.ran),
-          now.behaves.1,
-          behaves-turns s acts serving.safe k i later first.found found now.behaves.0 now.behaves.1 P
-              (λ b after others h. rows-stay t.program.layout t.descriptor b after others b.state h) now.behaves.2,
-        );
+        few_steps = now.few_steps;
+        behaves =
+            let count : most_run - i.ran - (later.ran - i.ran) ≡ most_run - later.ran = let more = led.0 in omega (arith, more) in
+            let limit : later.most_steps ≡ t.steps = limits-turns s acts k i later first.found found ∙ now.may_run in
+            let whole : IsWhole later = turns-whole s acts (each-whole tables tasks s serving) k later found in
+            let enough : later.ran - i.ran ≤ most_run - i.ran = let more = led.0 in omega (arith, more, whole.within, limit, now.few_steps) in
+            subst (λ (n : ℕ). Behaves n P (moment_of later (turns acts s).common.memory)) count
+            (behaves-turns s acts serving.safe k i later first.found found (most_run - i.ran) P
+            (λ b after others h. rows-stay t.program.layout t.descriptor b after others b.state h) enough now.behaves);
       }
 
   pub turns-serving : (acts : List Act) → AreServing tables tasks (turns acts s)
@@ -218,28 +221,28 @@ module _ (tables : List Contents) (tasks : List Task) (s : Shared) (serving : Ar
 
 -- ---- what can be told of each step
 -- a step that may be made, and that asks as it may
-told-by : (w : World) (m : List ℕ) (pages : ℕ) (e : Event) (s : State) → AsksWithin pages w e s → Goes (world_after w m e) s → CanBeTold w e s
-told-by w m pages (Grows asked granted) s asks goes = asks.1
-told-by w m pages Silent (Running c) asks goes = tt
-told-by w m pages Silent Returned asks goes = tt
-told-by w m pages Silent (Raised code) asks goes = goes
-told-by w m pages Silent (Trapped why) asks goes = goes
-told-by w m pages (Loads address width) (Running c) asks goes = tt
-told-by w m pages (Loads address width) Returned asks goes = tt
-told-by w m pages (Loads address width) (Raised code) asks goes = goes
-told-by w m pages (Loads address width) (Trapped why) asks goes = goes
-told-by w m pages (Stores address width) (Running c) asks goes = tt
-told-by w m pages (Stores address width) Returned asks goes = tt
-told-by w m pages (Stores address width) (Raised code) asks goes = goes
-told-by w m pages (Stores address width) (Trapped why) asks goes = goes
-told-by w m pages (Raises number) (Running c) asks goes = tt
-told-by w m pages (Raises number) Returned asks goes = tt
-told-by w m pages (Raises number) (Raised code) asks goes = goes
-told-by w m pages (Raises number) (Trapped why) asks goes = goes
-told-by w m pages (Traps because) (Running c) asks goes = tt
-told-by w m pages (Traps because) Returned asks goes = tt
-told-by w m pages (Traps because) (Raised code) asks goes = goes
-told-by w m pages (Traps because) (Trapped why) asks goes = goes
+told-by : (w : World) (m : List ℕ) (e : Event) (s : State) → AsksOn e s → Goes (world_after w m e) s → CanBeTold w e s
+told-by w m (Grows asked granted) s asks goes = asks
+told-by w m Silent (Running c) asks goes = tt
+told-by w m Silent Returned asks goes = tt
+told-by w m Silent (Raised code) asks goes = goes
+told-by w m Silent (Trapped why) asks goes = goes
+told-by w m (Loads address width) (Running c) asks goes = tt
+told-by w m (Loads address width) Returned asks goes = tt
+told-by w m (Loads address width) (Raised code) asks goes = goes
+told-by w m (Loads address width) (Trapped why) asks goes = goes
+told-by w m (Stores address width) (Running c) asks goes = tt
+told-by w m (Stores address width) Returned asks goes = tt
+told-by w m (Stores address width) (Raised code) asks goes = goes
+told-by w m (Stores address width) (Trapped why) asks goes = goes
+told-by w m (Raises number) (Running c) asks goes = tt
+told-by w m (Raises number) Returned asks goes = tt
+told-by w m (Raises number) (Raised code) asks goes = goes
+told-by w m (Raises number) (Trapped why) asks goes = goes
+told-by w m (Traps because) (Running c) asks goes = tt
+told-by w m (Traps because) Returned asks goes = tt
+told-by w m (Traps because) (Raised code) asks goes = goes
+told-by w m (Traps because) (Trapped why) asks goes = goes
 
 -- an instance that serves its task can be told in each step, however long its turn is: after it, it serves its task
 pub serving-told : (tables : List Contents) (tasks : List Task) (s : Shared) → AreServing tables tasks s → (k : ℕ) (t : Task) (i : Instance) →
@@ -252,6 +255,6 @@ serving-told tables tasks s serving k t i task found quantum c n running made =
     let at : Moment = moment_of x.0 x.1.memory in
     let step : OpenStep at c x.1.memory n.event n.state n.memory = open-step (with_instance s k x) later.safe.separate k x.0 c n put running made in
     let behaves = (later.serving k t x.0 task put).behaves in
-    let fine : IsFine x.0.world n.event = behaves.2.fine 0 at c x.1.memory n.event n.state n.memory (begins at) step in
-    told-by x.0.world x.1.memory behaves.1 n.event n.state (behaves.2.asks 0 at c x.1.memory n.event n.state n.memory (begins at) step)
+    let fine : IsFine x.0.world n.event = behaves.fine 0 at c x.1.memory n.event n.state n.memory (begins at) step in
+    told-by x.0.world x.1.memory n.event n.state (behaves.asks_on 0 at c x.1.memory n.event n.state n.memory (begins at) step)
     (step-goes x.0.world c x.1.memory n.event n.state n.memory step.step fine)

@@ -7,23 +7,26 @@ use Rattle.std.proofs.lemmas.Bool.Decides.{leb_tells}
 use Rattle.qw_types.specs.Contents.{Contents}
 use Rattle.qw_types.specs.declared.value.Val.{Val}
 use Rattle.qw_linear.specs.Memory.{page}
-use Rattle.qw_meaning.specs.Outcome.{Outcome, outcome}
-use Rattle.qw_meaning.specs.Select.{Specification}
+use Rattle.qw_meaning.specs.Outcome.{Outcome}
+use Rattle.qw_meaning.specs.Select.{AreOfEntries}
 use Rattle.qw_module.specs.Execution.{Config, State, Running, Returned, Raised, Trapped, IsOver}
 use Rattle.qw_module.specs.Validity.{IsShaped}
 use Rattle.qw_map.specs.Areas.{Area, World, Others}
 use Rattle.qw_map.specs.Behaving.{beginning}
 use Rattle.qw_map.specs.Columns.{areas_of, column_pages, columns_start, map_of, tables_end}
 use Rattle.qw_map.specs.Layout.{Layout, column_areas}
-use Rattle.qw_map.specs.Runs.{Moment, Behaves}
+use Rattle.qw_map.specs.Runs.{Moment, BehavesWithin, most_run}
+use Rattle.qw_map.specs.Seen.{ended_at}
 use Rattle.qw_map.specs.Turns.{Done, Exception, Pages, Steps, Trap, End, Instance, Shared, Act, turns, IsWhole, AreApart, LiesWithin, AreSeparate, end_at, moment_of, LeadsTo}
 use Rattle.qw_map.proofs.AreaLemmas.{all-append, all-weaker}
+use Rattle.qw_map.proofs.BehavingLemmas.{held-within}
 use Rattle.qw_map.proofs.ColumnLemmas.{pages-reach}
 use Rattle.qw_map.proofs.LayoutLemmas.{areas-all}
 use Rattle.qw_map.proofs.ResultLemmas.{results_stay}
 use Rattle.qw_map.proofs.Separate.{runs-turns}
-use Rattle.qw_map.proofs.TurnSteps.{turns-whole}
-use Rattle.qw_emit.specs.Compiled.{Answers, AnswersAt, IsCompiled, bound, end_at_state, page_bound}
+use Rattle.qw_map.proofs.TurnSteps.{turns-whole, limits-turns}
+use Rattle.qw_emit.specs.Compiled.{Answers, AnswersAt, IsCompiled, bound}
+use Rattle.qw_emit.specs.Promise.{Promise}
 use Rattle.qw_bench.specs.Bench.{AreServing, EachTask, IsAt, IsStart, IsStarting, Serves, Task, rows_in_tables}
 use Rattle.qw_bench.proofs.LayoutLemmas.{all-get, lies-between, placed-get}
 use Rattle.qw_bench.proofs.Serving.{before, each-whole, task-of}
@@ -39,7 +42,8 @@ starts-serving tables memory t i first = rw first.instance (record {
   whole = record { within = omega arith; end_is = refl };
   number = first.number;
   shaped = first.shaped;
-  behaves = first.behaves.behaves first.number t.descriptor t.pages t.placed (rows_in_tables tables) memory first.shaped first.ready;
+  few_steps = first.few_steps;
+  behaves = first.behaves.behaves first.number t.descriptor t.pages t.placed (rows_in_tables tables) memory first.shaped first.may_hold first.ready;
 })
 
 -- first pages of different numbers lie apart
@@ -117,7 +121,7 @@ module _ (tables : List Contents) (tasks : List Task) (s : Shared) (start : IsSt
       separate = start-separate;
       fine = λ k i found.
           let f = first_of k i found in
-          (starts-serving tables s.common.memory f.t i f.begins).behaves.2.fine;
+          (starts-serving tables s.common.memory f.t i f.begins).behaves.fine;
     };
     many = start.many;
     serving = λ k t i task found. starts-serving tables s.common.memory t i (start.starting k t i task found);
@@ -134,53 +138,65 @@ answers-stay out layout most pages d w m after others (Steps limit) h = h
 answers-stay out layout most pages d w m after others Trap h = h
 
 -- the end of an instance that is over is the one at its state
-end-over : (s : State) (w : World) (ran most : ℕ) → IsOver s → end_at s w ran most ≡ end_at_state s w
+end-over : (s : State) (w : World) (ran most : ℕ) → IsOver s → end_at s w ran most ≡ ended_at s w
 end-over (Running c) w ran most over = absurd over
 end-over Returned w ran most over = refl
 end-over (Raised code) w ran most over = refl
 end-over (Trapped why) w ran most over = refl
 
-module _ (query : Specification) (tables : List (List (List Val))) (t : Task) (number : ℕ) (first : Moment) (later : Instance) (memory : List ℕ)
-    (behaves : Behaves (bound query tables t.program.module' number) (page_bound query tables)
-    (AnswersAt (outcome query tables) t.program.layout (bound query tables t.program.module' number) (page_bound query tables) t.descriptor) first)
-    (led : LeadsTo later.ran first (moment_of later memory)) (whole : IsWhole later) where
+module _ (promise : Promise) (tables : List (List (List Val))) (t : Task) (number : ℕ) (first : Moment) (later : Instance) (memory : List ℕ)
+    (behaves : BehavesWithin (bound promise tables t.program.module' number) (promise.pages tables) most_run
+    (AnswersAt (promise.outcome tables) t.program.layout (bound promise tables t.program.module' number) (promise.pages tables) t.descriptor) first)
+    (led : LeadsTo later.ran first (moment_of later memory)) (whole : IsWhole later) (few : later.ran ≤ most_run) (one : first.world.held ≡ 1) where
   abbrev most : ℕ
-  most = bound query tables t.program.module' number
+  most = bound promise tables t.program.module' number
 
   abbrev left : Moment
   left = record { world = later.world; state = later.state; memory = led.left }
 
+  held : 1 ≤ promise.pages tables → later.world.held ≤ promise.pages tables
+  held some = held-within most (promise.pages tables) most_run
+      (AnswersAt (promise.outcome tables) t.program.layout most (promise.pages tables) t.descriptor) first left later.ran behaves (omega (arith, one, some)) led.run
+
   stopped : (c : Config) → later.state ≡ Running c → (at_limit : Bool) → nat_le later.most_steps later.ran ≡ at_limit →
-      IsAt query tables memory t number later (if at_limit then Some (Steps later.most_steps) else None)
+      IsAt promise tables memory t number later (if at_limit then Some (Steps later.most_steps) else None)
   stopped c is true at_limit =
       let below : later.ran < most = behaves.bounded later.ran left c led.run is in
       let reached : later.most_steps ≤ later.ran = leb-true later.most_steps later.ran at_limit in
-      (omega arith, omega arith)
-  stopped c is false below = behaves.bounded later.ran left c led.run is
+      record { ran = omega (arith, below); goes_on = λ none. below; held = held; answers = omega (arith, below, reached) }
+  stopped c is false unended =
+      let below : later.ran < most = behaves.bounded later.ran left c led.run is in
+      record { ran = omega (arith, below); goes_on = λ none. below; held = held; answers = tt }
 
-  over : (s : State) → later.state ≡ s → IsOver s → IsAt query tables memory t number later (end_at s later.world later.ran later.most_steps)
+  over : (s : State) → later.state ≡ s → IsOver s → IsAt promise tables memory t number later (end_at s later.world later.ran later.most_steps)
   over s is ended =
       let end = behaves.ends later.ran left led.run (subst IsOver (sym is) ended) in
-      let told : end_at s later.world later.ran later.most_steps ≡ Some end.1.0 =
-      end-over s later.world later.ran later.most_steps ended ∙ ap (λ (x : State). end_at_state x later.world) (sym is) ∙ end.1.1 in
-      subst (IsAt query tables memory t number later) (sym told) (
-        end.0,
-        answers-stay (outcome query tables) t.program.layout most (page_bound query tables) t.descriptor later.world led.left memory led.others end.1.0 end.1.2,
-      )
+      let answers = end.1 few in
+      let told : end_at s later.world later.ran later.most_steps ≡ Some answers.0 =
+      end-over s later.world later.ran later.most_steps ended ∙ ap (λ (x : State). ended_at x later.world) (sym is) ∙ answers.1 in
+      subst (IsAt promise tables memory t number later) (sym told) (record {
+        ran = end.0;
+        goes_on = λ none. absurd (ends answers.0 none);
+        held = held;
+        answers = answers-stay (promise.outcome tables) t.program.layout most (promise.pages tables) t.descriptor later.world led.left memory led.others answers.0 answers.2;
+      })
+    where
+      ends : (end : End) → Some end ≡ None → ⊥
+      ends end none = cc none
 
-  by_state : (s : State) → later.state ≡ s → IsAt query tables memory t number later (end_at s later.world later.ran later.most_steps)
+  by_state : (s : State) → later.state ≡ s → IsAt promise tables memory t number later (end_at s later.world later.ran later.most_steps)
   by_state (Running c) is = stopped c is (nat_le later.most_steps later.ran) refl
   by_state Returned is = over Returned is tt
   by_state (Raised code) is = over (Raised code) is tt
   by_state (Trapped why) is = over (Trapped why) is tt
 
-  pub at-end : IsAt query tables memory t number later later.end
-  at-end = subst (IsAt query tables memory t number later) (sym whole.end_is) (by_state later.state refl)
+  pub at-end : IsAt promise tables memory t number later later.end
+  at-end = subst (IsAt promise tables memory t number later) (sym whole.end_is) (by_state later.state refl)
 
-pub compiled-answers : (tables : List Contents) (tasks : List Task) (s : Shared) (acts : List Act) (query : Specification) → IsStart tables tasks s →
-    EachTask (λ t i. IsCompiled query t.program.layout t.program.module' →
-    (number : ℕ) × IsShaped t.program.module' number × IsAt query (rows_in_tables tables) (turns acts s).common.memory t number i i.end) tasks (turns acts s)
-compiled-answers tables tasks s acts query start k t later task found compiled =
+pub compiled-answers : (tables : List Contents) (tasks : List Task) (s : Shared) (acts : List Act) (promise : Promise) → IsStart tables tasks s →
+    EachTask (λ t i. IsCompiled promise t.program.layout t.program.module' → AreOfEntries promise.entries (rows_in_tables tables) →
+    (number : ℕ) × IsShaped t.program.module' number × IsAt promise (rows_in_tables tables) (turns acts s).common.memory t number i i.end) tasks (turns acts s)
+compiled-answers tables tasks s acts promise start k t later task found compiled entries =
     let serving = start-serving tables tasks s start in
     let first = before s acts k later found in
     let i = first.i in
@@ -189,12 +205,15 @@ compiled-answers tables tasks s acts query start k t later task found compiled =
     let from : Moment = beginning t.program.module' begins.number t.program.layout t.placed t.descriptor t.pages s.common.memory in
     let none : later.ran - i.ran ≡ later.ran = let ran : i.ran ≡ 0 = ap (λ (x : Instance). x.ran) begins.instance in omega (arith, ran) in
     let at : moment_of i s.common.memory ≡ from = ap (λ (x : Instance). moment_of x s.common.memory) begins.instance in
+    let whole : IsWhole later = turns-whole s acts (each-whole tables tasks s serving) k later found in
+    let limit : later.most_steps ≡ t.steps = limits-turns s acts k i later first.found found ∙ ap (λ (x : Instance). x.most_steps) begins.instance in
+    let few : later.ran ≤ most_run = omega (arith, whole.within, limit, begins.few_steps) in
     let runs : LeadsTo later.ran from (moment_of later (turns acts s).common.memory) =
     subst (λ (n : ℕ). LeadsTo n from (moment_of later (turns acts s).common.memory)) none
     (subst (λ (m : Moment). LeadsTo (later.ran - i.ran) m (moment_of later (turns acts s).common.memory)) at led.1) in (
       begins.number,
       begins.shaped,
-      at-end query (rows_in_tables tables) t begins.number from later (turns acts s).common.memory
-          (compiled.behaves begins.number t.descriptor t.pages t.placed (rows_in_tables tables) s.common.memory begins.shaped begins.ready)
-          runs (turns-whole s acts (each-whole tables tasks s serving) k later found),
+      at-end promise (rows_in_tables tables) t begins.number from later (turns acts s).common.memory
+          (compiled.behaves begins.number t.descriptor t.pages t.placed (rows_in_tables tables) s.common.memory entries begins.shaped begins.ready)
+          runs whole few refl,
     )

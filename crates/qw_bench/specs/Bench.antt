@@ -1,5 +1,5 @@
 -- Instances of modules that share one memory: how they begin, and what holds of them whatever turns they are given.
-use Rattle.std.specs.Prelude.{◌≡◌, ℕ, zero, suc, ◌+◌, ◌*◌, ◌<◌, ◌≤◌, if◌then◌else◌, List, [], ◌∷◌, ◌++◌, length, map, Option, Some, None, is_some, slice_get}
+use Rattle.std.specs.Prelude.{◌≡◌, ℕ, zero, suc, ◌+◌, ◌-◌, ◌*◌, ◌<◌, ◌≤◌, if◌then◌else◌, List, [], ◌∷◌, ◌++◌, length, map, Option, Some, None, IfSome, is_some, slice_get}
 use Rattle.std.specs.List.{AllByRecursion}
 use Rattle.std.specs.Option.{option_and_then, option_map_or}
 use Rattle.qw_types.specs.Contents.{Contents}
@@ -9,17 +9,16 @@ use Rattle.qw_linear.specs.Memory.{page, most_pages, AreOctets}
 use Rattle.qw_module.specs.declared.module.Module.{Module}
 use Rattle.qw_module.specs.Start.{begun}
 use Rattle.qw_module.specs.Validity.{IsShaped}
-use Rattle.qw_meaning.specs.Outcome.{outcome}
-use Rattle.qw_meaning.specs.Select.{Specification}
 use Rattle.qw_map.specs.Areas.{Area}
 use Rattle.qw_map.specs.Behaving.{BehavesWith, HasRows}
 use Rattle.qw_map.specs.Columns.{Holds, column_pages, map_of}
 use Rattle.qw_map.specs.Layout.{Layout, IsReady, column_areas, first_world}
-use Rattle.qw_map.specs.Runs.{Behaves}
+use Rattle.qw_map.specs.Runs.{Behaves, most_run}
 use Rattle.qw_map.specs.Turns.{End, Instance, Shared, Act, turn, end_at, turns, may_ask, IsWhole, AreSafe, moment_of}
 use Rattle.qw_map.specs.declared.layout.Placed.{Placed}
 use Rattle.qw_map.specs.declared.layout.Used.{Used}
-use Rattle.qw_emit.specs.Compiled.{Answers, bound, page_bound}
+use Rattle.qw_emit.specs.Compiled.{Answers, bound}
+use Rattle.qw_emit.specs.Promise.{Promise}
 
 -- a module and the layout that it behaves with
 pub record Program : Type 0 where
@@ -68,6 +67,7 @@ pub record IsStarting (tables : List Contents) (memory : List ℕ) (t : Task) (i
   pub ready : IsReady t.program.layout t.placed (rows_in_tables tables) t.descriptor t.pages memory
   pub may_hold : 1 ≤ t.pages
   pub may_run : 1 ≤ t.steps
+  pub few_steps : t.steps ≤ most_run
   pub instance : i ≡ starting number t
 
 -- R holds between each task and its instance
@@ -86,17 +86,18 @@ pub record IsStart (tables : List Contents) (tasks : List Task) (s : Shared) : T
   pub size : length s.common.memory ≡ (column_pages tables + length tasks) * page
 
 -- An instance serves its task: it maps the layout's columns, has its first page and what it was granted, and behaves from where it
--- is on.
+-- is on, with as many instructions left as the greatest limit and those that it has run leave.
 pub record Serves (memory : List ℕ) (t : Task) (i : Instance) : Type 0 where
   pub mapped : i.world.mapped ≡ column_areas t.program.layout.columns t.placed
   pub first_page : (granted : List Area) × (i.world.own ≡ record { start = t.descriptor; size = page } ∷ granted)
   pub may_hold : i.world.limit ≡ t.pages
   pub holds : i.world.held ≤ t.pages
   pub may_run : i.most_steps ≡ t.steps
+  pub few_steps : t.steps ≤ most_run
   pub whole : IsWhole i
   pub number : ℕ
   pub shaped : IsShaped t.program.module' number
-  pub behaves : (most pages : ℕ) × Behaves most pages (λ b. HasRows t.program.layout t.descriptor b b.state) (moment_of i memory)
+  pub behaves : Behaves (most_run - i.ran) (λ b. HasRows t.program.layout t.descriptor b b.state) (moment_of i memory)
 
 -- each own area lies behind the pages of the columns
 abbrev pub AreBehind : ℕ → Shared → Type 0
@@ -111,13 +112,15 @@ pub record AreServing (tables : List Contents) (tasks : List Task) (s : Shared) 
   pub many : length s.instances ≡ length tasks
   pub serving : EachTask (Serves s.common.memory) tasks s
 
--- An instance at its end, or before it, of a module that is compiled for a query: it has run fewer instructions than the bound
--- says; or at most so many, and its end answers.
-abbrev pub IsAt : Specification → (tables : List (List (List Val))) → (memory : List ℕ) → Task → (number : ℕ) → Instance → Option End → Type 0
-IsAt query tables memory t number i None = i.ran < bound query tables t.program.module' number
-IsAt query tables memory t number i (Some end) =
-    (i.ran ≤ bound query tables t.program.module' number)
-    × Answers (outcome query tables) t.program.layout (bound query tables t.program.module' number) (page_bound query tables) t.descriptor i.world memory end
+-- An instance at its end, or before it, of a module that is compiled for what is promised, over tables: it has run at most as many
+-- instructions as the bound says, and fewer before its end; it holds no more pages than the bound says, if that has room for its first one; and
+-- its end answers.
+pub record IsAt (promise : Promise) (tables : List (List (List Val))) (memory : List ℕ) (t : Task) (number : ℕ) (i : Instance) (end : Option End) : Type 0 where
+  pub ran : i.ran ≤ bound promise tables t.program.module' number
+  pub goes_on : end ≡ None → i.ran < bound promise tables t.program.module' number
+  pub held : 1 ≤ promise.pages tables → i.world.held ≤ promise.pages tables
+  pub answers : IfSome end (λ one. Answers (promise.outcome tables) t.program.layout (bound promise tables t.program.module' number) (promise.pages tables) t.descriptor
+      i.world memory one)
 
 -- how the instance of a number ended, if it has, and how many instructions it has run
 abbrev pub end_in : Shared → ℕ → Option End

@@ -1,3 +1,4 @@
+pub mod Alike
 pub mod Bench
 pub mod FirstPage
 pub mod Inner

@@ -6,6 +6,7 @@ use Rattle.qw_types.specs.declared.value.Val.{Val}
 use Rattle.qw_linear.specs.Memory.{page, most_pages}
 use Rattle.qw_map.specs.Columns.{column_pages}
 use Rattle.qw_map.specs.Layout.{rows_at}
+use Rattle.qw_map.specs.Runs.{most_run}
 use Rattle.qw_map.specs.Turns.{Done, Exception, Pages, Steps, End, Instance, Shared, may_ask}
 use Rattle.qw_emit.specs.Compiled.{raised_for}
 use Rattle.qw_bench.specs.declared.bench.Ended.{Ended}
@@ -35,11 +36,12 @@ end_of (Some (ended.Raised code)) = Some (Exception (raised_for code))
 end_of (Some (ended.Pages held asked limit)) = Some (Pages held asked limit)
 end_of (Some (ended.Steps limit)) = Some (Steps limit)
 
--- limits in their ranges
+-- Limits in their ranges. No run has more instructions than the greatest limit of them.
 pub record AreLimits (one : Limits) : Type 0 where
   pub some_pages : 1 ≤ one.pages
   pub few_pages : one.pages ≤ most_pages
   pub some_steps : 1 ≤ one.steps
+  pub few_steps : one.steps ≤ most_run
 
 -- how many pages the instances with these limits may hold together
 abbrev pub limit_pages : List Limits → ℕ

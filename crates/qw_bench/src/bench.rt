@@ -29,19 +29,15 @@ use thiserror::Error;
 pub struct Limits {
     /// How many pages it may hold, from 1 to [`MAX_PAGES`].
     pub pages: u32,
-    /// How many instructions it may run.
+    /// How many instructions it may run, from 1 to [`MAX_STEPS`].
     pub steps: u64,
 }
 
+/// The greatest limit of instructions.
+pub const MAX_STEPS: u64 = 999_999_999_999_999_999;
+
 /// The most jobs of a bench.
 pub const MAX_JOBS: usize = 64;
-
-/// The limits where none are given. That of instructions is larger than the bound of any compiled module
-/// whose query reads one table of at most `MAX_ROWS` rows, which is below 2^45.
-pub const DEFAULT_LIMITS: Limits = Limits {
-    pages: 128,
-    steps: 999_999_999_999_999_999,
-};
 
 /// Why there is no bench.
 #[derive(Clone, Copy, Debug, PartialEq, Eq, Error)]

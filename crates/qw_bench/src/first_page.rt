@@ -3,7 +3,7 @@
 ghost use Rattle.std.specs.Prelude.{◌≡◌, ◌+◌, ◌*◌, ◌<◌, ◌≤◌, ◌^◌, ◌++◌, length, take, drop};
 ghost use Rattle.std.specs.List.{AllByRecursion};
 ghost use Rattle.qw_linear.specs.Memory.{AreOctets, page, with_number, SameBelow};
-ghost use Rattle.qw_map.specs.Layout.{HasEntry, IsFresh, descriptor_size};
+ghost use Rattle.qw_map.specs.Layout.{HasEntry, IsFresh};
 ghost use Rattle.qw_map.specs.Layout as layout;
 ghost use Rattle.qw_bench.specs.FirstPage.{HasAddresses, IsBlank};
 ghost use Rattle.qw_bench.specs.Inner.Entries.{AreEntries, SameOutside};
@@ -24,7 +24,6 @@ pub fn begin_page(memory: &mut Linear, descriptor: u32, layout: &Layout, placed:
     requires inside { descriptor + page ≤ length memory.old.octets }
     requires blank { IsBlank memory.old.octets descriptor }
     ensures fresh { IsFresh memory.new.octets descriptor layout.now placed.now }
-    ensures small { descriptor_size layout.now ≤ page }
     ensures below { SameBelow memory.old.octets memory.new.octets descriptor }
     ensures octets { AreOctets memory.old.octets → AreOctets memory.new.octets }
     ensures len { length memory.new.octets ≡ length memory.old.octets }

@@ -74,8 +74,9 @@ pub fn a_column_of_two_tables()
         × (IsColumnIn tables (used 2 0) → ⊥) }
 {}
 
-/// An instance may hold from 1 to 65,535 pages, and runs an instruction at least.
+/// An instance may hold from 1 to 65,535 pages, and run from 1 to 999,999,999,999,999,999 instructions.
 pub fn limits_in_their_ranges()
     ensures { (limits : (pages steps : ℕ) → Limits) → limits ≡ (λ pages steps. record { pages = pages; steps = steps })
-        → AreLimits (limits 1 1) × AreLimits (limits 65535 1) × (AreLimits (limits 0 1) → ⊥) × (AreLimits (limits 65536 1) → ⊥) × (AreLimits (limits 1 0) → ⊥) }
+        → AreLimits (limits 1 1) × AreLimits (limits 65535 1) × (AreLimits (limits 0 1) → ⊥) × (AreLimits (limits 65536 1) → ⊥) × (AreLimits (limits 1 0) → ⊥)
+        × AreLimits (limits 1 999999999999999999) × (AreLimits (limits 1 1000000000000000000) → ⊥) }
 {}

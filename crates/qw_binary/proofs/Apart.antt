@@ -1,9 +1,11 @@
 -- What a grammar spells, taken apart.
-use Rattle.std.proofs.Common.{◌≡◌, ℕ, Bool, true, false, cond, List, Option, Some, None, Result, Ok, Err, refl, ap, subst}
+use Rattle.std.proofs.Common.{◌≡◌, ℕ, zero, suc, Bool, true, false, cond, List, [], ◌∷◌, ◌++◌, Option, Some, None, Result, Ok, Err, refl, ap, subst}
 use Rattle.std.specs.Prelude.{◌==◌}
+use Rattle.std.specs.List.{AllByRecursion}
 use Rattle.qw_grammar.specs.declared.fault.BinaryFault.{BinaryFault}
 use Rattle.qw_grammar.specs.Grammar.{Grammar, is, refuse, after, pick, settle, Spells}
 use Rattle.qw_grammar.specs.Numbers.{u32, s32, s64}
+use Rattle.qw_grammar.specs.Vectors.{counted, one_more, vector}
 use Rattle.qw_module.specs.declared.instruction.Const.TheVariants as const
 use Rattle.qw_module.specs.declared.instruction.Op.{Op}
 use Rattle.qw_module.specs.declared.instruction.Op.TheVariants as o
@@ -49,6 +51,26 @@ pub settled : {A : Type 0} (r : Result A BinaryFault) (x : A) (text : List ℕ) 
 unfolding Spells
 settled (Ok y) x text s = ap Ok s.0
 settled (Err f) x text s = absurd s
+
+-- ---- vectors
+
+pub joined : {X : Type 0} (P : X → Type 0) (xs ys : List X) → AllByRecursion P xs → AllByRecursion P ys → AllByRecursion P (xs ++ ys)
+joined P [] ys h k = k
+joined P (x ∷ xs) ys h k = (h.0, joined P xs ys h.1 k)
+
+-- what holds of each item that is spelled holds of the items of a vector
+module _ {A : Type 0} (item : Grammar A) (P : A → Type 0) (each : (x : A) (text : List ℕ) → Spells item x text → P x) where
+  counted_each : (n : ℕ) (before found : List A) (text : List ℕ) → AllByRecursion P before → Spells (counted n (one_more item) before) found text → AllByRecursion P found
+  unfolding counted
+  counted_each zero before found text h s = subst (AllByRecursion P) (it_is before found text s) h
+  counted_each (suc n) before found text h s =
+      by_after (AllByRecursion P found) (one_more item before) _ found text
+      (λ mid front rest t u. counted_each n mid found rest
+      (by_after (AllByRecursion P mid) item _ mid front
+      (λ x here none v w. subst (AllByRecursion P) (it_is (before ++ x ∷ []) mid none w) (joined P before (x ∷ []) h (each x here v, tt))) t) u) s
+
+  pub vector_each : (xs : List A) (text : List ℕ) → Spells (vector item) xs text → AllByRecursion P xs
+  vector_each xs text = by_after (AllByRecursion P xs) u32 _ xs text (λ n front rest s. counted_each n [] xs rest tt)
 
 -- ---- instructions that hold no sequence and name no labels
 

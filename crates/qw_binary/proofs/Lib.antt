@@ -7,6 +7,13 @@ mod LocalsLemmas
 mod ModuleLaws
 mod NumberedBodies
 mod Refusals
+mod Short
+mod ShortBodies
+mod ShortCodes
+mod ShortModules
+mod ShortParts
+pub mod ShortRun
+mod ShortTyped
 mod WriteCodes
 mod WriteExpression
 mod WriteSections

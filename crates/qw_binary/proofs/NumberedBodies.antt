@@ -12,13 +12,13 @@ use Rattle.qw_module.specs.declared.instruction.ValType.{ValType}
 use Rattle.qw_module.specs.declared.instruction.Instr.{Instr}
 use Rattle.qw_module.specs.declared.instruction.Instr.TheVariants as i
 use Rattle.qw_module.specs.Syntax.{Sequences, NamesBelow, IsNumbered}
-use Rattle.qw_binary.specs.Contents.{FunctionContents, Contents}
-use Rattle.qw_binary.specs.Types.{block_type, func_type, limits}
+use Rattle.qw_binary.specs.Contents.{FunctionContents, GlobalContents, Contents}
+use Rattle.qw_binary.specs.Types.{val_type, block_type, func_type, limits, mutability}
 use Rattle.qw_binary.specs.Instructions.{simple, Opener, block, loop, first, second, Open, Progress, at_first, with_instruction, with_table, begun, instruction_of, at_end, else_of, with_else, at_else, opener_by, instruction, expression}
-use Rattle.qw_binary.specs.Sections.{imports, global, export, locals, code, next_function, functions, Sections, no_sections, with_types, with_imports, with_indices, with_memories, with_globals, with_exports, with_functions, content, section_by, section}
+use Rattle.qw_binary.specs.Sections.{imports, global_from, global, export, locals, code, next_function, functions, Sections, no_sections, with_types, with_imports, with_indices, with_memories, with_globals, with_exports, with_functions, content, section_by, section}
 use Rattle.qw_binary.specs.Modules.{SpellsModule}
 use Rattle.qw_binary.specs.Inner.Followed.{IsAlone}
-use Rattle.qw_binary.proofs.Apart.{some_is, ok_is, by_cond, by_pick, by_given, by_after, it_is, nothing, settled, simple_alone}
+use Rattle.qw_binary.proofs.Apart.{some_is, ok_is, by_cond, by_pick, by_given, by_after, it_is, nothing, settled, joined, vector_each, simple_alone}
 
 -- ---- instructions that name no sequence and no labels
 
@@ -42,10 +42,6 @@ names_none (i.Call index) h = λ c n. tt
 weaker : {X : Type 0} (P Q : X → Type 0) → ((x : X) → P x → Q x) → (xs : List X) → AllByRecursion P xs → AllByRecursion Q xs
 weaker P Q f [] h = tt
 weaker P Q f (x ∷ xs) h = (f x h.0, weaker P Q f xs h.1)
-
-joined : {X : Type 0} (P : X → Type 0) (xs ys : List X) → AllByRecursion P xs → AllByRecursion P ys → AllByRecursion P (xs ++ ys)
-joined P [] ys h k = k
-joined P (x ∷ xs) ys h k = (h.0, joined P xs ys h.1 k)
 
 names_more : (c d m n : ℕ) → c ≤ d → m ≤ n → (x : Instr) → NamesBelow c m x → NamesBelow d n x
 names_more c d m n p q (i.Op operator) h = h
@@ -229,7 +225,7 @@ pub expression_numbered : (x : Sequences) (text : List ℕ) → Spells expressio
 unfolding Spells
 expression_numbered x text s = fine_chain s.0 (goes_on at_first) x text (record { ended = tt; around = tt; now = tt }) s.1
 
--- ---- functions, sections, modules
+-- ---- functions
 
 abbrev pub AreNumbered : List FunctionContents → Type 0
 AreNumbered functions = AllByRecursion (λ function. IsNumbered function.body) functions
@@ -261,28 +257,40 @@ functions_numbered : (indices : List ℕ) (fs : List FunctionContents) (text : L
 functions_numbered indices fs text =
     by_after (AreNumbered fs) u32 _ fs text (λ n front rest s. by_pick (AreNumbered fs) (n == length indices) _ _ fs rest (counted_numbered indices n [] fs rest tt) (λ t. absurd (nothing fs rest NotModule t)))
 
-abbrev HasNumbered : Sections → Type 0
-HasNumbered s = AreNumbered s.contents.functions
+-- ---- globals
 
--- a section that leaves the functions as they are
-kept : {B : Type 0} (g : Grammar B) (make : B → Sections) (t : Sections) (text : List ℕ) → ((y : B) → HasNumbered (make y)) → Spells (after g (λ y. is (make y))) t text → HasNumbered t
-kept g make t text h = by_after (HasNumbered t) g (λ y. is (make y)) t text (λ y front rest s u. subst HasNumbered (it_is (make y) t rest u) (h y))
+abbrev IsInitNumbered : GlobalContents → Type 0
+IsInitNumbered x = IsNumbered x.init
+
+init_numbered : (x : GlobalContents) (text : List ℕ) → Spells global x text → IsInitNumbered x
+init_numbered x text =
+    by_after (IsInitNumbered x) val_type _ x text (λ type a b s. by_after (IsInitNumbered x) mutability _ x b (λ mutable c d t. by_after (IsInitNumbered x) expression _ x d
+    (λ init e f u v. subst IsInitNumbered (it_is (global_from type mutable init) x f v) (expression_numbered init e u))))
+
+-- ---- sections, modules
+
+abbrev HasNumbered : Sections → Type 0
+HasNumbered s = AreNumbered s.contents.functions × AllByRecursion IsInitNumbered s.contents.globals
+
+-- a section that leaves the bodies as they are, or whose own are numbered
+kept : {B : Type 0} (g : Grammar B) (make : B → Sections) (t : Sections) (text : List ℕ) → ((y : B) (front : List ℕ) → Spells g y front → HasNumbered (make y)) → Spells (after g (λ y. is (make y))) t text → HasNumbered t
+kept g make t text h = by_after (HasNumbered t) g (λ y. is (make y)) t text (λ y front rest s u. subst HasNumbered (it_is (make y) t rest u) (h y front s))
 
 content_numbered : (s : Sections) (id : ℕ) (t : Sections) (text : List ℕ) → HasNumbered s → Spells (content s id) t text → HasNumbered t
 content_numbered s id t text h =
-    by_pick (HasNumbered t) (id == 1) _ _ t text (kept (vector func_type) (λ types. with_types s types) t text (λ y. h))
-    (by_pick (HasNumbered t) (id == 2) _ _ t text (kept imports (λ imports. with_imports s imports) t text (λ y. h))
-    (by_pick (HasNumbered t) (id == 3) _ _ t text (kept (vector u32) (λ indices. with_indices s indices) t text (λ y. h))
-    (by_pick (HasNumbered t) (id == 5) _ _ t text (kept (vector limits) (λ memories. with_memories s memories) t text (λ y. h))
-    (by_pick (HasNumbered t) (id == 6) _ _ t text (kept (vector global) (λ globals. with_globals s globals) t text (λ y. h))
-    (by_pick (HasNumbered t) (id == 7) _ _ t text (kept (vector export) (λ exports. with_exports s exports) t text (λ y. h))
+    by_pick (HasNumbered t) (id == 1) _ _ t text (kept (vector func_type) (λ types. with_types s types) t text (λ y f u. h))
+    (by_pick (HasNumbered t) (id == 2) _ _ t text (kept imports (λ imports. with_imports s imports) t text (λ y f u. h))
+    (by_pick (HasNumbered t) (id == 3) _ _ t text (kept (vector u32) (λ indices. with_indices s indices) t text (λ y f u. h))
+    (by_pick (HasNumbered t) (id == 5) _ _ t text (kept (vector limits) (λ memories. with_memories s memories) t text (λ y f u. h))
+    (by_pick (HasNumbered t) (id == 6) _ _ t text (kept (vector global) (λ globals. with_globals s globals) t text (λ y f u. (h.0, vector_each global IsInitNumbered init_numbered y f u)))
+    (by_pick (HasNumbered t) (id == 7) _ _ t text (kept (vector export) (λ exports. with_exports s exports) t text (λ y f u. h))
     (by_pick (HasNumbered t) (id == 10) _ _ t text
-    (by_after (HasNumbered t) (functions s.type_indices) _ t text (λ fs front rest u v. subst HasNumbered (it_is (with_functions s fs) t rest v) (functions_numbered s.type_indices fs front u)))
+    (by_after (HasNumbered t) (functions s.type_indices) _ t text (λ fs front rest u v. subst HasNumbered (it_is (with_functions s fs) t rest v) (functions_numbered s.type_indices fs front u, h.1)))
     (λ u. absurd (nothing t text NotModule u))))))))
 
 section_numbered : (s : Sections) (id : ℕ) (t : Sections) (text : List ℕ) → HasNumbered s → Spells (section s id) t text → HasNumbered t
 section_numbered s id t text h =
-    by_pick (HasNumbered t) (id == 0) _ _ t text (by_after (HasNumbered t) u32 _ t text (λ size front rest u. begun_in (HasNumbered t) size _ t rest (λ here v. kept name (λ text. s) t here (λ y. h) v)))
+    by_pick (HasNumbered t) (id == 0) _ _ t text (by_after (HasNumbered t) u32 _ t text (λ size front rest u. begun_in (HasNumbered t) size _ t rest (λ here v. kept name (λ text. s) t here (λ y f u. h) v)))
     (by_after (HasNumbered t) (settle (section_by s.last id)) _ t text (λ known here more v. by_after (HasNumbered t) u32 _ t more
     (λ size front rest u. filled (HasNumbered t) size (content s known) t rest (content_numbered s known t rest h))))
 
@@ -292,5 +300,12 @@ all_numbered (suc n) s t [] h e = subst HasNumbered e h
 all_numbered zero s t (b ∷ text) h e = absurd e
 all_numbered (suc n) s t (b ∷ text) h e = let (mid, front, rest, p, u, d) = e in all_numbered n mid t rest (section_numbered s b mid front h u) d
 
+all_bodies : (text : List ℕ) (m : Contents) → SpellsModule m text → AreNumbered m.functions × AllByRecursion IsInitNumbered m.globals
+all_bodies text m h =
+    subst (λ (c : Contents). AreNumbered c.functions × AllByRecursion IsInitNumbered c.globals) h.stands_for (all_numbered h.most no_sections h.last h.sections (tt, tt) h.each)
+
 pub numbered_bodies : (text : List ℕ) (m : Contents) → SpellsModule m text → AreNumbered m.functions
-numbered_bodies text m h = subst (λ (c : Contents). AreNumbered c.functions) h.stands_for (all_numbered h.most no_sections h.last h.sections tt h.each)
+numbered_bodies text m h = (all_bodies text m h).0
+
+pub numbered_globals : (text : List ℕ) (m : Contents) → SpellsModule m text → AllByRecursion IsInitNumbered m.globals
+numbered_globals text m h = (all_bodies text m h).1

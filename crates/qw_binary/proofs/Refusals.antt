@@ -12,12 +12,13 @@ use Rattle.qw_grammar.specs.Vectors.{counted, vector, name}
 use Rattle.qw_module.specs.declared.module.Import.{Import}
 use Rattle.qw_module.specs.declared.module.Import.TheVariants as import
 use Rattle.qw_module.specs.declared.module.Locals.{Locals}
-use Rattle.qw_binary.specs.Types.{func_type, limits}
+use Rattle.qw_binary.specs.Types.{val_type, func_type, limits, mutability}
 use Rattle.qw_binary.specs.Instructions.{expression}
-use Rattle.qw_binary.specs.Contents.{FunctionContents, Contents}
-use Rattle.qw_binary.specs.Sections.{Imported, memory, raise, imported, is_among, once, equal, named_by, names, other_kind, described, import_behind, next_import, imports, global, export, locals_run, locals_count, locals, code, next_function, functions, Sections, no_sections, with_types, with_imports, with_indices, with_memories, with_globals, with_exports, with_functions, content, section_by, section}
+use Rattle.qw_binary.specs.Contents.{FunctionContents, GlobalContents, Contents}
+use Rattle.qw_binary.specs.Sections.{Imported, memory, raise, imported, is_among, once, equal, named_by, names, other_kind, described, import_behind, next_import, imports, global_from, global, export, locals_run, locals_count, locals, code, next_function, functions, Sections, no_sections, with_types, with_imports, with_indices, with_memories, with_globals, with_exports, with_functions, content, section_by, section}
 use Rattle.qw_binary.specs.Modules.{IsSpelled}
-use Rattle.qw_binary.proofs.Apart.{ok_is, by_cond, by_pick, by_after, it_is, nothing, settled}
+use Rattle.qw_binary.specs.Inner.Parts.{IsInitSpelled}
+use Rattle.qw_binary.proofs.Apart.{ok_is, by_cond, by_pick, by_after, it_is, nothing, settled, joined, vector_each}
 
 by_octet : {A : Type 0} (P : Type 0) (k : ℕ → Grammar A) (x : A) (text : List ℕ) → ((b : ℕ) (rest : List ℕ) → Spells (k b) x rest → P) → Spells (octet k) x text → P
 unfolding Spells
@@ -54,10 +55,6 @@ code_parts type_index f text =
     subst HasParts (it_is (record { type_index = type_index; locals = runs; body = body }) f none u)
     (record { locals_text = here; locals_spelled = r; body_text = one; body_spelled = t })))))
 
-joined : {X : Type 0} (P : X → Type 0) (xs ys : List X) → AllByRecursion P xs → AllByRecursion P ys → AllByRecursion P (xs ++ ys)
-joined P [] ys h k = k
-joined P (x ∷ xs) ys h k = (h.0, joined P xs ys h.1 k)
-
 -- some octets spell the code of a function, with some type
 abbrev pub IsCodeSpelled : FunctionContents → Type 0
 IsCodeSpelled f = (type_index : ℕ) × (text : List ℕ) × Spells (code type_index) f text
@@ -80,6 +77,13 @@ pub each_at : {X Y : Type 0} (P : Y → Type 0) (f : X → Y) (xs : List X) (k :
 each_at P f [] k x at h = absurd cc
 each_at P f (y ∷ ys) zero x at h = let same : y ≡ x = cc in subst (λ (z : _). P (f z)) same h.0
 each_at P f (y ∷ ys) (suc k) x at h = each_at P f ys k x at h.1
+
+-- ---- globals
+
+init_spelled : (global_here : GlobalContents) (text : List ℕ) → Spells global global_here text → IsInitSpelled global_here
+init_spelled x text =
+    by_after (IsInitSpelled x) val_type _ x text (λ type a b s. by_after (IsInitSpelled x) mutability _ x b (λ mutable c d t. by_after (IsInitSpelled x) expression _ x d
+    (λ init e f u v. subst IsInitSpelled (it_is (global_from type mutable init) x f v) (e, u))))
 
 -- ---- imports
 
@@ -164,9 +168,10 @@ import_missing xs front k d text lt e missing s =
 
 -- ---- modules
 
--- what sections hold of imports and code is nothing, or is spelled
+-- what sections hold of imports, globals and code is nothing, or is spelled
 pub record HasSpelled (s : Sections) : Type 0 where
   pub of_imports : (s.contents.imports ≡ []) ⊎ ((text : List ℕ) × Spells imports s.contents.imports text)
+  pub of_globals : AllByRecursion IsInitSpelled s.contents.globals
   pub of_code : (s.contents.functions ≡ []) ⊎ ((indices : List ℕ) × (text : List ℕ) × Spells (functions indices) s.contents.functions text)
 
 kept : {B : Type 0} (g : Grammar B) (make : B → Sections) (t : Sections) (text : List ℕ) → ((y : B) (front : List ℕ) → Spells g y front → HasSpelled (make y)) → Spells (after g (λ y. is (make y))) t text → HasSpelled t
@@ -174,13 +179,13 @@ kept g make t text h = by_after (HasSpelled t) g (λ y. is (make y)) t text (λ 
 
 content_spelled : (s : Sections) (id : ℕ) (t : Sections) (text : List ℕ) → HasSpelled s → Spells (content s id) t text → HasSpelled t
 content_spelled s id t text h =
-    by_pick (HasSpelled t) (id == 1) _ _ t text (kept (vector func_type) (λ types. with_types s types) t text (λ y f u. record { of_imports = h.of_imports; of_code = h.of_code }))
-    (by_pick (HasSpelled t) (id == 2) _ _ t text (kept imports (λ imports. with_imports s imports) t text (λ y f u. record { of_imports = inr (f, u); of_code = h.of_code }))
-    (by_pick (HasSpelled t) (id == 3) _ _ t text (kept (vector u32) (λ indices. with_indices s indices) t text (λ y f u. record { of_imports = h.of_imports; of_code = h.of_code }))
-    (by_pick (HasSpelled t) (id == 5) _ _ t text (kept (vector limits) (λ memories. with_memories s memories) t text (λ y f u. record { of_imports = h.of_imports; of_code = h.of_code }))
-    (by_pick (HasSpelled t) (id == 6) _ _ t text (kept (vector global) (λ globals. with_globals s globals) t text (λ y f u. record { of_imports = h.of_imports; of_code = h.of_code }))
-    (by_pick (HasSpelled t) (id == 7) _ _ t text (kept (vector export) (λ exports. with_exports s exports) t text (λ y f u. record { of_imports = h.of_imports; of_code = h.of_code }))
-    (by_pick (HasSpelled t) (id == 10) _ _ t text (kept (functions s.type_indices) (λ fs. with_functions s fs) t text (λ y f u. record { of_imports = h.of_imports; of_code = inr (s.type_indices, f, u) }))
+    by_pick (HasSpelled t) (id == 1) _ _ t text (kept (vector func_type) (λ types. with_types s types) t text (λ y f u. record { of_imports = h.of_imports; of_globals = h.of_globals; of_code = h.of_code }))
+    (by_pick (HasSpelled t) (id == 2) _ _ t text (kept imports (λ imports. with_imports s imports) t text (λ y f u. record { of_imports = inr (f, u); of_globals = h.of_globals; of_code = h.of_code }))
+    (by_pick (HasSpelled t) (id == 3) _ _ t text (kept (vector u32) (λ indices. with_indices s indices) t text (λ y f u. record { of_imports = h.of_imports; of_globals = h.of_globals; of_code = h.of_code }))
+    (by_pick (HasSpelled t) (id == 5) _ _ t text (kept (vector limits) (λ memories. with_memories s memories) t text (λ y f u. record { of_imports = h.of_imports; of_globals = h.of_globals; of_code = h.of_code }))
+    (by_pick (HasSpelled t) (id == 6) _ _ t text (kept (vector global) (λ globals. with_globals s globals) t text (λ y f u. record { of_imports = h.of_imports; of_globals = vector_each global IsInitSpelled init_spelled y f u; of_code = h.of_code }))
+    (by_pick (HasSpelled t) (id == 7) _ _ t text (kept (vector export) (λ exports. with_exports s exports) t text (λ y f u. record { of_imports = h.of_imports; of_globals = h.of_globals; of_code = h.of_code }))
+    (by_pick (HasSpelled t) (id == 10) _ _ t text (kept (functions s.type_indices) (λ fs. with_functions s fs) t text (λ y f u. record { of_imports = h.of_imports; of_globals = h.of_globals; of_code = inr (s.type_indices, f, u) }))
     (λ u. absurd (nothing t text NotModule u))))))))
 
 begun_in : {A : Type 0} (P : Type 0) (n : ℕ) (g : Grammar A) (x : A) (text : List ℕ) → ((front : List ℕ) → Spells g x front → P) → Spells (within n true g) x text → P
@@ -201,9 +206,14 @@ all_spelled (suc n) s t (b ∷ text) h e = let (mid, front, rest, p, u, d) = e i
 
 pub module_imports : (m : Contents) → IsSpelled m → (m.imports ≡ []) ⊎ ((text : List ℕ) × Spells imports m.imports text)
 module_imports m (text, h) =
-    subst (λ (c : Contents). (c.imports ≡ []) ⊎ ((text : List ℕ) × Spells imports c.imports text)) h.stands_for (all_spelled h.most no_sections h.last h.sections (record { of_imports = inl refl; of_code = inl refl }) h.each).of_imports
+    subst (λ (c : Contents). (c.imports ≡ []) ⊎ ((text : List ℕ) × Spells imports c.imports text)) h.stands_for (all_spelled h.most no_sections h.last h.sections (record { of_imports = inl refl; of_globals = tt; of_code = inl refl }) h.each).of_imports
+
+pub module_globals : (m : Contents) → IsSpelled m → AllByRecursion IsInitSpelled m.globals
+module_globals m (text, h) =
+    subst (λ (c : Contents). AllByRecursion IsInitSpelled c.globals) h.stands_for
+    (all_spelled h.most no_sections h.last h.sections (record { of_imports = inl refl; of_globals = tt; of_code = inl refl }) h.each).of_globals
 
 pub module_code : (m : Contents) → IsSpelled m → (m.functions ≡ []) ⊎ ((indices : List ℕ) × (text : List ℕ) × Spells (functions indices) m.functions text)
 module_code m (text, h) =
     subst (λ (c : Contents). (c.functions ≡ []) ⊎ ((indices : List ℕ) × (text : List ℕ) × Spells (functions indices) c.functions text)) h.stands_for
-    (all_spelled h.most no_sections h.last h.sections (record { of_imports = inl refl; of_code = inl refl }) h.each).of_code
+    (all_spelled h.most no_sections h.last h.sections (record { of_imports = inl refl; of_globals = tt; of_code = inl refl }) h.each).of_code

@@ -6,8 +6,7 @@ use Rattle.std.proofs.Math.Seq.{take-suc, take-length, take-add}
 use Rattle.qw_grammar.specs.declared.fault.BinaryFault.{BinaryFault}
 use Rattle.qw_grammar.specs.Grammar.{Next, goes_on, ends, octet, settle}
 use Rattle.qw_grammar.specs.Writing.{Puts}
-use Rattle.qw_grammar.specs.Inner.Awaiting.{AwaitsItems}
-use Rattle.qw_grammar.proofs.WriteLaws.{puts_octet, puts_is, puts_after, items_begin, items_next, items_end}
+use Rattle.qw_grammar.proofs.WriteLaws.{puts_octet, puts_is}
 use Rattle.qw_module.specs.declared.instruction.ValType.{ValType}
 use Rattle.qw_module.specs.declared.instruction.Instr.{Instr}
 use Rattle.qw_module.specs.declared.instruction.Instr.TheVariants as i
@@ -16,11 +15,7 @@ use Rattle.qw_grammar.specs.Numbers.{u32}
 use Rattle.qw_grammar.specs.Vectors.{vector}
 use Rattle.qw_binary.specs.Inner.Writer.{PutsInstruction}
 use Rattle.qw_binary.proofs.WriteCodes.{puts_table}
-use Rattle.qw_binary.specs.Instructions.{Opener, first, second, Open, Progress, at_first, with_instruction, instruction, instruction_of, at_end, at_else, expression}
-use Rattle.qw_module.specs.declared.instruction.Const.{Const}
-use Rattle.qw_module.specs.declared.instruction.Op.TheVariants as o
-use Rattle.qw_binary.specs.Sections.{constant_of}
-use Rattle.qw_binary.specs.Inner.Parts.{constant}
+use Rattle.qw_binary.specs.Instructions.{Opener, first, second, Open, Progress, instruction, instruction_of, at_end, at_else}
 
 -- one more of a list
 pub take_next : {A : Type 0} (xs : List A) (i : ℕ) (x : A) → slice_get xs i ≡ Some x → take (i + 1) xs ≡ take i xs ++ x ∷ []
@@ -105,13 +100,3 @@ puts_table_here body ended from count sequence place default around named old pu
     let now : take (place + 1) (sequence_at body sequence) ≡ take place (sequence_at body sequence) ++ i.BrTable (length (take from body.labels)) (length named) default ∷ [] = rw (before, many) (take_next (sequence_at body sequence) place (i.BrTable from count default) at) in
     let all : take (from + count) body.labels ≡ take from body.labels ++ named = take-add from count body.labels ∙ ap (λ w. take from body.labels ++ w) (sym found.0) in
     rw (now, all) (puts_table p named default old mid new (subst (λ w. Puts (vector u32) named w mid) push f) s)
-
--- an expression that is one constant
-pub puts_constant : (c : Const) (old mid : List ℕ) → PutsInstruction (i.Op (o.Const c)) old mid → Puts constant c old (mid ++ 0x0B ∷ [])
-unfolding PutsInstruction
-puts_constant c old mid put =
-    let whole : Sequences = record { each = (i.Op (o.Const c) ∷ []) ∷ []; labels = [] } in
-    let now : Progress = with_instruction at_first (i.Op (o.Const c)) in
-    let one : AwaitsItems instruction at_first (goes_on now) old mid = items_next instruction at_first at_first (goes_on now) old old mid (items_begin instruction at_first old) (put at_first) in
-    let all : AwaitsItems instruction at_first (ends whole) old (mid ++ 0x0B ∷ []) = items_next instruction at_first now (ends whole) old mid (mid ++ 0x0B ∷ []) one (puts_end now mid) in
-    puts_after expression (λ e. settle (constant_of e.each)) whole c old (mid ++ 0x0B ∷ []) (mid ++ 0x0B ∷ []) (items_end instruction at_first whole old (mid ++ 0x0B ∷ []) all) (puts_is c (mid ++ 0x0B ∷ []))

@@ -10,10 +10,9 @@ use Rattle.qw_grammar.proofs.WriteLaws.{puts_is, puts_octet, puts_after, puts_ma
 use Rattle.qw_module.specs.declared.module.Limits.{Limits}
 use Rattle.qw_module.specs.declared.module.Import.{Import}
 use Rattle.qw_module.specs.declared.module.Function.{Function}
-use Rattle.qw_module.specs.declared.module.Global.{Global}
 use Rattle.qw_module.specs.Typing.{Signature}
 use Rattle.qw_binary.specs.Types.{func_type, limits}
-use Rattle.qw_binary.specs.Contents.{FunctionContents, ExportContents, Contents, function_contents}
+use Rattle.qw_binary.specs.Contents.{FunctionContents, GlobalContents, ExportContents, Contents, function_contents}
 use Rattle.qw_binary.specs.Sections.{Sections, no_sections, imports, global, export, functions, content, section_by, section, with_types, with_imports, with_indices, with_memories, with_globals, with_exports, with_functions}
 use Rattle.qw_binary.specs.Modules.{header, SpellsModule}
 use Rattle.qw_binary.specs.Inner.Parts.{type_index_of}
@@ -76,7 +75,7 @@ memories_written indices c memories text old new p put w =
     next 3 5 indices indices c (record c { memories = memories }) text old new (λ s. with_memories s memories) refl
     (λ s le i e. (rw (lt-ltb s.last 5 (before s.last 3 5 le (omega arith))) refl, made (vector limits) (with_memories s) memories text p, omega arith, i, ap (λ (c : Contents). record c { memories = memories }) e)) put w
 
-pub globals_written : (indices : List ℕ) (c : Contents) (globals : List Global) (text old new : List ℕ) → Puts (vector global) globals [] text → PutsSection 6 text old new → Written 5 indices c old → Written 6 indices (record c { globals = globals }) new
+pub globals_written : (indices : List ℕ) (c : Contents) (globals : List GlobalContents) (text old new : List ℕ) → Puts (vector global) globals [] text → PutsSection 6 text old new → Written 5 indices c old → Written 6 indices (record c { globals = globals }) new
 globals_written indices c globals text old new p put w =
     next 5 6 indices indices c (record c { globals = globals }) text old new (λ s. with_globals s globals) refl
     (λ s le i e. (rw (lt-ltb s.last 6 (before s.last 5 6 le (omega arith))) refl, made (vector global) (with_globals s) globals text p, omega arith, i, ap (λ (c : Contents). record c { globals = globals }) e)) put w

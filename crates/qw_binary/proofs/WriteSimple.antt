@@ -1,5 +1,5 @@
 -- What is put by grammars of a few parts.
-use Rattle.std.proofs.Common.{◌≡◌, ℕ, ◌==◌, ◌+◌, ◌-◌, ◌^◌, ◌<◌, ◌≤◌, true, false, nat_lt, List, [], ◌∷◌, ◌++◌, length, get_or, map, take, codes, Some, None, Result, Ok, Err, refl, sym, ap, subst, ◌∙◌, arith, add-one}
+use Rattle.std.proofs.Common.{◌≡◌, ℕ, ◌==◌, ◌+◌, ◌-◌, ◌^◌, ◌<◌, ◌≤◌, Bool, true, false, nat_lt, List, [], ◌∷◌, ◌++◌, length, get_or, map, take, codes, Some, None, Result, Ok, Err, refl, sym, ap, subst, ◌∙◌, arith, add-one}
 use Rattle.std.proofs.lemmas.Bool.{eq-eqb}
 use Rattle.std.proofs.lemmas.List.{length-map, length-take-le, get_or-map, take_all}
 use Rattle.std.proofs.Math.Seq.{take-suc}
@@ -18,7 +18,6 @@ use Rattle.qw_module.specs.declared.module.Import.{Import}
 use Rattle.qw_module.specs.declared.module.Import.TheVariants as import
 use Rattle.qw_module.specs.declared.module.Locals.{Locals}
 use Rattle.qw_module.specs.declared.module.Function.{Function}
-use Rattle.qw_module.specs.declared.module.Global.{Global}
 use Rattle.qw_module.specs.declared.module.ExportKind.{ExportKind}
 use Rattle.qw_module.specs.Syntax.{Sequences}
 use Rattle.qw_binary.specs.Types.{val_type, func_type, limits, limits_from, mutability}
@@ -26,7 +25,7 @@ use Rattle.qw_binary.specs.Instructions.{mem_arg, mem_arg_from, expression}
 use Rattle.qw_binary.specs.Contents.{FunctionContents, function_contents}
 use Rattle.qw_binary.specs.Sections.{memory, raise, is_among, named_by, names, described, import_behind, next_import, imports, global_from, kind_by, export_kind, export, locals_from, locals_run, locals_count, locals, code, next_function, functions}
 use Rattle.qw_binary.specs.Sections.{global as global_grammar}
-use Rattle.qw_binary.specs.Inner.Parts.{constant, MakesKind, type_index_of}
+use Rattle.qw_binary.specs.Inner.Parts.{MakesKind, type_index_of}
 use Rattle.qw_binary.proofs.WriteCodes.{puts_by}
 
 pub puts_mem_arg : (arg : MemArg) (old mid new : List ℕ) → Puts u32 arg.align old mid → Puts u32 arg.offset mid new → Puts mem_arg arg old new
@@ -46,10 +45,11 @@ puts_both min max old mid new p q =
     puts_octet _ 0x01 (limits_from min (Some max)) old new
     (puts_after u32 _ min (limits_from min (Some max)) (old ++ 0x01 ∷ []) mid new p (puts_made u32 (λ max. limits_from min (Some max)) max mid new q))
 
-pub puts_global : (global : Global) (old first second new : List ℕ) → Puts val_type global.ty old first → Puts mutability global.mutable first second → Puts constant global.init second new → Puts global_grammar global old new
-puts_global global old first second new p q s =
-    puts_after val_type _ global.ty global old first new p
-    (puts_after mutability _ global.mutable global first second new q (puts_made constant (λ init. global_from global.ty global.mutable init) global.init second new s))
+pub puts_global : (type : ValType) (mutable : Bool) (init : Sequences) (old first second new : List ℕ) → Puts val_type type old first → Puts mutability mutable first second → Puts expression init second new
+    → Puts global_grammar (record { type = record { type = type; mutable = mutable }; init = init }) old new
+puts_global type mutable init old first second new p q s =
+    puts_after val_type _ type (global_from type mutable init) old first new p
+    (puts_after mutability _ mutable (global_from type mutable init) first second new q (puts_made expression (λ init. global_from type mutable init) init second new s))
 
 pub puts_kind : (b index : ℕ) (kind : ExportKind) (old new : List ℕ) → MakesKind (kind_by b) index kind → Puts u32 index (old ++ b ∷ []) new → Puts export_kind kind old new
 puts_kind b index kind old new m p = made (kind_by b) refl m

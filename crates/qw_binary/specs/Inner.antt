@@ -6,6 +6,7 @@ pub mod Imported
 pub mod Indexed
 pub mod Parts
 pub mod Reader
+pub mod Short
 pub mod SoFar
 pub mod Writer
 pub mod Written

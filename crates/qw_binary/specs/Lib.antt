@@ -3,6 +3,7 @@ pub mod Inner
 pub mod Instructions
 pub mod Modules
 pub mod Sections
+pub mod Sizes
 pub mod Types
 pub use Rattle.qw_grammar.specs.Grammar
 pub use Rattle.qw_grammar.specs.Numbers

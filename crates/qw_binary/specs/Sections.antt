@@ -6,22 +6,18 @@ use Rattle.qw_grammar.specs.declared.fault.What.TheVariants as what
 use Rattle.qw_grammar.specs.Grammar.{Grammar, is, refuse, octet, after, within, pick, settle}
 use Rattle.qw_grammar.specs.Numbers.{u32}
 use Rattle.qw_grammar.specs.Vectors.{counted, one_more, vector, name}
-use Rattle.qw_module.specs.declared.instruction.Const.{Const}
 use Rattle.qw_module.specs.declared.instruction.ValType.{ValType}
-use Rattle.qw_module.specs.declared.instruction.Instr.{Instr}
-use Rattle.qw_module.specs.declared.instruction.Instr.TheVariants as i
-use Rattle.qw_module.specs.declared.instruction.Op.TheVariants as o
 use Rattle.qw_module.specs.declared.module.Limits.{Limits}
 use Rattle.qw_module.specs.declared.module.Locals.{Locals}
 use Rattle.qw_module.specs.declared.module.Import.{Import}
 use Rattle.qw_module.specs.declared.module.Import.TheVariants as import
-use Rattle.qw_module.specs.declared.module.Global.{Global}
 use Rattle.qw_module.specs.declared.module.ExportKind.{ExportKind}
 use Rattle.qw_module.specs.declared.module.ExportKind.TheVariants as kind
+use Rattle.qw_module.specs.Syntax.{Sequences}
 use Rattle.qw_module.specs.Typing.{Signature}
 use Rattle.qw_binary.specs.Types.{val_type, func_type, limits, mutability}
 use Rattle.qw_binary.specs.Instructions.{expression}
-use Rattle.qw_binary.specs.Contents.{FunctionContents, ExportContents, Contents}
+use Rattle.qw_binary.specs.Contents.{FunctionContents, GlobalContents, ExportContents, Contents}
 
 -- ---- imports (5.5.5)
 
@@ -91,30 +87,12 @@ imports = after u32 (λ n. counted n next_import [])
 
 -- ---- globals (5.5.9)
 
--- the constant that an instruction is
-abbrev pub constant_instruction : Instr → Result Const BinaryFault
-constant_instruction (i.Op (o.Const c)) = Ok c
-constant_instruction _ = Err NotModule
+abbrev pub global_from : ValType → Bool → Sequences → GlobalContents
+global_from type mutable init = record { type = record { type = type; mutable = mutable }; init = init }
 
--- the constant that a sequence is, where it is that alone
-abbrev pub constant_sequence : List Instr → Result Const BinaryFault
-constant_sequence [] = Err NotModule
-constant_sequence (instruction ∷ []) = constant_instruction instruction
-constant_sequence (instruction ∷ next ∷ rest) = Err NotModule
-
--- the constant that an expression is, where it is that alone
-abbrev pub constant_of : List (List Instr) → Result Const BinaryFault
-constant_of [] = Err NotModule
-constant_of (sequence ∷ []) = constant_sequence sequence
-constant_of (sequence ∷ next ∷ rest) = Err NotModule
-
-abbrev pub global_from : ValType → Bool → Const → Global
-global_from type mutable init = record { ty = type; mutable = mutable; init = init }
-
--- a global: its type, whether it may be set, and an expression, which is one constant
-abbrev pub global : Grammar Global
-global =
-    after val_type (λ type. after mutability (λ mutable. after (after expression (λ e. settle (constant_of e.each))) (λ init. is (global_from type mutable init))))
+-- a global: its type, whether it may be set, and the expression of its first value
+abbrev pub global : Grammar GlobalContents
+global = after val_type (λ type. after mutability (λ mutable. after expression (λ init. is (global_from type mutable init))))
 
 -- ---- exports (5.5.10)
 
@@ -194,7 +172,7 @@ with_indices s indices = record s { last = 3; type_indices = indices }
 abbrev pub with_memories : Sections → List Limits → Sections
 with_memories s memories = record s { last = 5; contents = record (s.contents) { memories = memories } }
 
-abbrev pub with_globals : Sections → List Global → Sections
+abbrev pub with_globals : Sections → List GlobalContents → Sections
 with_globals s globals = record s { last = 6; contents = record (s.contents) { globals = globals } }
 
 abbrev pub with_exports : Sections → List ExportContents → Sections

@@ -14,6 +14,7 @@ use Rattle.qw_module.specs.declared.module.Limits.{Limits}
 use Rattle.qw_module.specs.declared.module.Import.{Import}
 use Rattle.qw_module.specs.declared.module.Import.TheVariants as import
 use Rattle.qw_module.specs.declared.module.Function.{Function}
+use Rattle.qw_module.specs.declared.module.Global.{Global}
 use Rattle.qw_module.specs.declared.module.Export.{Export}
 use Rattle.qw_module.specs.declared.module.ExportKind.{ExportKind}
 use Rattle.qw_module.specs.declared.module.ExportKind.TheVariants as kind
@@ -21,8 +22,8 @@ use Rattle.qw_module.specs.declared.module.Module.{Module}
 use Rattle.qw_module.specs.Syntax.{Code, Sequences, code_of, IsNumbered}
 use Rattle.qw_module.specs.Typing.{Outside, Scope, Signature, Typed}
 use Rattle.qw_module.specs.Places.{Typing, tokens_of, IsRefusedAt}
-use Rattle.qw_module.specs.Validity.{signature_of, signature_in, sequences_of, code_of_body, declared_types, function_scope, outside_of, functions_of, imported_functions, memories_of, IsValidType, IsValidImport, IsExportedOf, IsExport, IsTypedFunction, IsValidFunction, HaveOtherNames, IsValid}
-use Rattle.qw_binary.specs.Contents.{Contents, ExportContents, FunctionContents, contents_of, export_contents, function_contents}
+use Rattle.qw_module.specs.Validity.{signature_of, signature_in, sequences_of, code_of_body, declared_types, function_scope, outside_of, functions_of, imported_functions, memories_of, global_type, IsInitial, IsValidGlobal, IsValidType, IsValidImport, IsExportedOf, IsExport, IsTypedFunction, IsValidFunction, HaveOtherNames, IsValid}
+use Rattle.qw_binary.specs.Contents.{Contents, ExportContents, FunctionContents, GlobalContents, contents_of, export_contents, function_contents, global_contents}
 use Rattle.qw_valid.specs.declared.valid.Part.{Part}
 use Rattle.qw_valid.specs.declared.valid.Part.TheVariants as part
 use Rattle.qw_valid.specs.declared.valid.ValidFault.{ValidFault}
@@ -83,6 +84,9 @@ module _ (m n : Module) (same : contents_of m ≡ contents_of n) where
   exports : map export_contents m.exports.items ≡ map export_contents n.exports.items
   exports = ap (λ (c : Contents). c.exports) same
 
+  globals : map global_contents m.globals.items ≡ map global_contents n.globals.items
+  globals = ap (λ (c : Contents). c.globals) same
+
   imports : m.imports.items ≡ n.imports.items
   imports = ap (λ (c : Contents). c.imports) same
 
@@ -101,12 +105,17 @@ module _ (m n : Module) (same : contents_of m ≡ contents_of n) where
   memories_same : memories_of m ≡ memories_of n
   memories_same = rw (imports, ap (λ (c : Contents). c.memories) same) refl
 
+  global_types_same : map global_type m.globals.items ≡ map global_type n.globals.items
+  global_types_same =
+      let of_contents : (gs : List Global) → map (λ (c : GlobalContents). c.type) (map global_contents gs) ≡ map global_type gs =
+      λ gs. map_of_map global_contents (λ (c : GlobalContents). c.type) global_type gs (λ g. refl) in
+      sym (of_contents m.globals.items) ∙ ap (map (λ (c : GlobalContents). c.type)) globals ∙ of_contents n.globals.items
+
   outside_same : outside_of m ≡ outside_of n
   outside_same =
       let signatures : map (signature_in m) (functions_of m) ≡ map (signature_in n) (functions_of n) =
       same_map (signature_in m) (signature_in n) (functions_of m) signature_same ∙ ap (map (signature_in n)) functions_same in
-      let globals = ap (λ (c : Contents). c.globals) same in
-      rw (signatures, globals, memories_same) refl
+      rw (signatures, global_types_same, memories_same) refl
 
   -- ---- functions
 
@@ -168,7 +177,7 @@ module _ (m n : Module) (same : contents_of m ≡ contents_of n) where
   exported_alike : (x : ExportKind) → IsExportedOf m x → IsExportedOf n x
   exported_alike (kind.Function index) there = rw functions_same at there
   exported_alike (kind.Memory index) there = rw memories_same at there
-  exported_alike (kind.Global index) there = rw (ap (λ (c : Contents). c.globals) same) at there
+  exported_alike (kind.Global index) there = let few = same_length global_contents m.globals.items n.globals.items globals in omega (arith, there, few)
 
   export_alike : (x y : Export) → export_contents x ≡ export_contents y → IsExport m x → IsExport n y
   export_alike x y is there = exported_alike y.kind (subst (IsExportedOf m) (ap (λ (e : ExportContents). e.kind) is) there)
@@ -179,12 +188,18 @@ module _ (m n : Module) (same : contents_of m ≡ contents_of n) where
   type_alike : (s t : FuncType) → signature_of s ≡ signature_of t → IsValidType s → IsValidType t
   type_alike s t is valid = rw (ap (λ (z : Signature). z.results) is) at valid
 
+  global_alike : (g h : Global) → global_contents g ≡ global_contents h → IsValidGlobal g → IsValidGlobal h
+  global_alike g h is valid =
+      let type : g.ty ≡ h.ty = ap (λ (c : GlobalContents). c.type.type) is in
+      let init : sequences_of g.init ≡ sequences_of h.init = ap (λ (c : GlobalContents). c.init) is in
+      subst (λ (t : ValType). IsInitial t (sequences_of h.init)) type (subst (IsInitial g.ty) init valid)
+
   part_alike : (p : Part) → PartHolds m p → PartHolds n p
   part_alike part.Types all = All-alike signature_of m.types.items n.types.items types IsValidType IsValidType type_alike all
   part_alike part.Imports all = subst (All (IsValidImport n)) imports (λ k d within. import_alike (get_or m.imports.items k d) (all k d within))
   part_alike part.Functions all = All-alike function_contents m.functions.items n.functions.items functions (HasBody m) (HasBody n) body_alike all
   part_alike part.Memory all = (rw (ap (λ (c : Contents). c.memories) same) at all.0, rw memories_same at all.1)
-  part_alike part.Globals all = rw (ap (λ (c : Contents). c.globals) same) at all
+  part_alike part.Globals all = All-alike global_contents m.globals.items n.globals.items globals IsValidGlobal IsValidGlobal global_alike all
   part_alike part.Exports (all, names) =
       (All-alike export_contents m.exports.items n.exports.items exports (IsExport m) (IsExport n) export_alike all, AllPairs-alike export_contents m.exports.items n.exports.items exports HaveOtherNames names_alike names)
 

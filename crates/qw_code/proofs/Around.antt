@@ -9,13 +9,12 @@ use Rattle.qw_module.specs.declared.module.Import.{Import}
 use Rattle.qw_module.specs.declared.module.Function.{Function}
 use Rattle.qw_module.specs.declared.module.Global.{Global}
 use Rattle.qw_module.specs.declared.module.Module.{Module}
-use Rattle.qw_module.specs.Numbers.{constant}
 use Rattle.qw_module.specs.Execution.{Closure, Callee, host_raise, own, Store}
 use Rattle.qw_module.specs.Soundness.{raise_signature}
-use Rattle.qw_module.specs.Start.{host_of, closure_with, closure_of, callees_of, first_store}
+use Rattle.qw_module.specs.Start.{host_of, closure_with, closure_of, callees_of, first_store, initial_value}
 use Rattle.qw_module.specs.Syntax.{Sequences, code_of}
 use Rattle.qw_module.specs.Typing.{Signature, GlobalType, Outside}
-use Rattle.qw_module.specs.Validity.{declared_types, imported_function, imported_functions, imported_memory, functions_of, memories_of, sequences_of, signature_of, signature_in, global_type, outside_of}
+use Rattle.qw_module.specs.Validity.{code_of_body, declared_types, imported_function, imported_functions, imported_memory, functions_of, memories_of, sequences_of, signature_of, signature_in, global_type, outside_of}
 use Rattle.qw_code.specs.Inner.Around.{IsAround, contents_of}
 
 -- the one element that a list has, by what is made of it
@@ -116,4 +115,4 @@ module _ (locals : List ValType) (sequences : Sequences) where
     pub store_is : first_store m ≡ the_store locals sequences
     store_is =
         ap₂ (λ (functions : List Callee) (globals : List ℕ). let s : Store = record { functions = functions; globals = globals } in s)
-        callees_are (ap (λ (globals : List Global). map (λ (global : Global). constant global.init) globals) is.globals)
+        callees_are (ap (λ (globals : List Global). map (λ (global : Global). initial_value (code_of_body global.init)) globals) is.globals)

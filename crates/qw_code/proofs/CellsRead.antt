@@ -1,6 +1,7 @@
 -- The cells of result rows, read in a memory.
-use Rattle.std.proofs.Common.{◌≡◌, ℕ, ◌+◌, Bool, true, false, T, List, [], ◌∷◌, length, map, Some, refl, sym, ap, ◌∙◌, subst, arith}
+use Rattle.std.proofs.Common.{◌≡◌, ℕ, ◌+◌, List, [], ◌∷◌, length, map, Some, refl, sym, ap, ◌∙◌, subst, arith}
 use Rattle.std.proofs.lemmas.Option.{same_Some}
+use Rattle.qw_types.proofs.DayLemmas.{is_day_of}
 use Rattle.qw_types.specs.Kind.{IsOfKind}
 use Rattle.qw_types.specs.declared.kind.Kind.{Kind}
 use Rattle.qw_types.specs.declared.kind.Kind.TheVariants as kind
@@ -12,10 +13,6 @@ use Rattle.qw_map.specs.Layout.{cell_at, cells_at, text_cell}
 use Rattle.qw_low.specs.State.{Part, Own, Value, Number, Address, LowState}
 use Rattle.qw_low.specs.Places.{area_of, Means, Holds, StandsFor}
 use Rattle.qw_code.specs.RowCells.{AreOfKinds, HasCell, HasCells, HasRow}
-
-true-of : (b : Bool) → T b → b ≡ true
-true-of true h = refl
-true-of false h = absurd h
 
 module _ (Text : Part → ℕ → List ℕ → Type 0) (texts : List Area) (w : World) (t : LowState) (memory : List ℕ) (stands : StandsFor w t memory)
     (text_there : (p : Part) (off word : ℕ) (octets : List ℕ) → Text p off octets → Means w (Address p off) word → text_cell texts memory word (length octets) ≡ Some (val.Text octets)) where
@@ -44,7 +41,7 @@ module _ (Text : Part → ℕ → List ℕ → Type 0) (texts : List Area) (w : 
         let place : a.start + (at + 8) ≡ a.start + at + 8 = omega arith in
         let null : number_at memory (a.start + at + 8) 1 ≡ 0 = meant (at + 8) 1 (a.start + at + 8) (Number 0) h.1 place in
         let number : number_at memory (a.start + at) 8 ≡ h.0.0 = meant at 8 (a.start + at) (Number h.0.0) h.0.1 refl in
-        rw (null, number, h.0.2, true-of _ typed.0.le, true-of _ typed.1.le) refl
+        rw (null, number, h.0.2, is_day_of d typed) refl
     cell_read at kind.Date (val.Text x) typed h = absurd typed
     cell_read at kind.Text (val.Num v) typed h = absurd typed
     cell_read at kind.Text (val.Date d) typed h = absurd typed

@@ -3,9 +3,11 @@ mod Around
 pub mod CellRuns
 pub mod CellsRead
 pub mod FinishRuns
+mod FormLemmas
 pub mod Frames
 mod Locals
 mod ModuleRuns
+mod ModuleSpelled
 mod ModuleValid
 pub mod PushRuns
 pub mod Refusals

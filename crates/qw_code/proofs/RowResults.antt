@@ -7,9 +7,11 @@ use Rattle.std.proofs.lemmas.List.Elements.{Contains-append_left, Contains-appen
 use Rattle.qw_types.specs.Arithmetic.{◌>>=◌}
 use Rattle.qw_types.specs.declared.code.Code.{Code}
 use Rattle.qw_types.specs.declared.value.Val.{Val}
+use Rattle.qw_meaning.specs.Evaluation.{at_row}
 use Rattle.qw_meaning.specs.Conjuncts.{passes}
 use Rattle.qw_meaning.specs.Expression.{Condition, Expression}
-use Rattle.qw_meaning.specs.Flow.{codes_given, flow, kept, product, rows_given, rows_of, selected}
+use Rattle.qw_types.specs.Contents.{rows_of}
+use Rattle.qw_meaning.specs.Flow.{codes_given, flow, kept, product, rows_given, selected}
 use Rattle.qw_meaning.specs.Outcome.{Rows, Raises, ended, outcome}
 use Rattle.qw_meaning.specs.Select.{Parts, specification_of}
 use Rattle.qw_code.proofs.ScanLoop.{IsMade, made}
@@ -27,7 +29,7 @@ abbrev pub passed_on : List Expression → List Val → Bool → Result (List (L
 passed_on es row p = if p then selected es row else Ok []
 
 abbrev pub row_result : List Condition → List Expression → List Val → Result (List (List Val)) Code
-row_result cs es row = passes cs (record { row = row }) >>= passed_on es row
+row_result cs es row = passes cs (at_row row) >>= passed_on es row
 
 abbrev keeping : List Val → Bool → Result (List (List Val)) Code
 keeping row p = Ok (if p then row ∷ [] else [])
@@ -79,7 +81,7 @@ module _ (parts : Parts) (tables : List (List (List Val))) (rows : List (List Va
   whole all = flat_map (λ row. flat_map (λ r. rows_given (selected es r)) (rows_given (kept cs row))) all
 
   whole-made : whole rows ≡ made (row_result cs es) rows
-  whole-made = same-made (λ row. flat_map (λ r. rows_given (selected es r)) (rows_given (kept cs row))) (λ row. rows_given (row_result cs es row)) rows (λ row. made-one cs es row (passes cs (record { row = row })))
+  whole-made = same-made (λ row. flat_map (λ r. rows_given (selected es r)) (rows_given (kept cs row))) (λ row. rows_given (row_result cs es row)) rows (λ row. made-one cs es row (passes cs (at_row row)))
 
   abbrev where_codes : List Code
   where_codes = flat_map (λ row. codes_given (kept cs row)) rows
@@ -104,9 +106,9 @@ module _ (parts : Parts) (tables : List (List (List Val))) (rows : List (List Va
   -- where no row raises, the rows are the outcome
   pub answers_rows : AllByRecursion (IsMade (row_result cs es)) rows → outcome (specification_of parts) tables ≡ Rows (made (row_result cs es) rows)
   answers_rows all =
-      let first : where_codes ≡ [] = nothing-made (IsMade (row_result cs es)) (λ row. codes_given (kept cs row)) rows (λ row one. (no-codes cs es row (passes cs (record { row = row })) one.0 one.1).0) all in
+      let first : where_codes ≡ [] = nothing-made (IsMade (row_result cs es)) (λ row. codes_given (kept cs row)) rows (λ row one. (no-codes cs es row (passes cs (at_row row)) one.0 one.1).0) all in
       let second : item_codes ≡ [] = nothing-made (IsMade (row_result cs es)) (λ row. flat_map (λ r. codes_given (selected es r)) (rows_given (kept cs row))) rows
-      (λ row one. (no-codes cs es row (passes cs (record { row = row })) one.0 one.1).1) all in
+      (λ row one. (no-codes cs es row (passes cs (at_row row)) one.0 one.1).1) all in
       outcome-is ∙ ap₂ ended whole-made (ap₂ (λ (a b : List Code). a ++ b) first second)
 
   -- and where one does, its exception is one of the outcome's
@@ -115,5 +117,5 @@ module _ (parts : Parts) (tables : List (List (List Val))) (rows : List (List Va
       let found : Contains (where_codes ++ item_codes) code = ⊎_elim
       (λ first. Contains-append_left where_codes item_codes code (in-made (λ row. codes_given (kept cs row)) rows row code there first))
       (λ second. Contains-append_right where_codes item_codes code (in-made (λ row. flat_map (λ r. codes_given (selected es r)) (rows_given (kept cs row))) rows row code there second))
-      (one-code cs es row (passes cs (record { row = row })) code is) in
+      (one-code cs es row (passes cs (at_row row)) code is) in
       (where_codes ++ item_codes, outcome-is ∙ raises (whole rows) (where_codes ++ item_codes) code found, found)

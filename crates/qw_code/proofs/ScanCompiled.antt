@@ -4,48 +4,57 @@ use Rattle.std.proofs.lemmas.List.{length-replicate}
 use Rattle.std.proofs.lemmas.Nat.{mul-le}
 use Rattle.qw_types.specs.declared.value.Val.{Val}
 use Rattle.qw_types.specs.declared.value.Val.TheVariants as val
+use Rattle.qw_linear.specs.Memory.{page}
 use Rattle.qw_module.specs.declared.module.Module.{Module}
 use Rattle.qw_module.specs.Validity.{IsShaped}
-use Rattle.qw_meaning.specs.Flow.{rows_of}
+use Rattle.qw_types.specs.Contents.{rows_of}
 use Rattle.qw_meaning.specs.Outcome.{outcome}
 use Rattle.qw_meaning.specs.Select.{Parts, specification_of}
 use Rattle.qw_map.specs.Areas.{World}
-use Rattle.qw_map.specs.Behaving.{IsRunnable, beginning}
-use Rattle.qw_map.specs.Layout.{Layout, IsReady, IsReadyColumn, descriptor_size, first_world, text_areas, text_cell}
-use Rattle.qw_map.specs.Runs.{Behaves}
+use Rattle.qw_map.specs.Behaving.{BehavesWith, HasRows, beginning}
+use Rattle.qw_map.specs.Layout.{Layout, IsReady, IsReadyColumn, descriptor_size, first_world, rows_at, text_areas, text_cell}
+use Rattle.qw_map.specs.Runs.{Behaves, BehavesWithin, Moment, OpenRun, most_run}
+use Rattle.qw_map.specs.Seen.{Seen, seen, IsSteady}
+use Rattle.qw_map.proofs.BehavingLemmas.{behaves-weaker, within-behaves}
+use Rattle.qw_module.specs.Execution.{Returned}
 use Rattle.qw_map.specs.declared.layout.Placed.{Placed}
 use Rattle.qw_map.specs.declared.layout.Used.{Used}
 use Rattle.qw_low.specs.Begin.{first_state}
 use Rattle.qw_low.specs.Syntax.{Statement}
 use Rattle.qw_low.specs.State.{Part, Own, Value, Number, Address, LowState}
-use Rattle.qw_low.specs.Meaning.{meaning}
-use Rattle.qw_low.specs.Places.{Means, RunsAs, StandsFor}
+use Rattle.qw_low.specs.Meaning.{Completed, Exited, Stopped, Wrong, Unfinished, meaning}
+use Rattle.qw_low.specs.Meaning as low
+use Rattle.qw_low.specs.Places.{Means, IsDone, StandsFor}
 use Rattle.qw_low.specs.Promise.{Ends}
 use Rattle.qw_low.specs.Raising.{Kept}
 use Rattle.qw_low.specs.Size.{size}
 use Rattle.qw_low.proofs.BeginLemmas.{entries-known, head-known, zeros-known}
 use Rattle.qw_low.proofs.Promises.{Ends-weaker}
-use Rattle.qw_emit.specs.Compiled.{AnswersAt, GoesWith, IsCompiled, bound, module_weight, page_bound, units, weight_of}
+use Rattle.qw_emit.specs.Compiled.{AnswersAt, GoesWith, IsCompiled, bound}
+use Rattle.qw_emit.specs.Queries.{page_bound, promise_of, units}
+use Rattle.qw_emit.proofs.CompiledLemmas.{has-rows}
+use Rattle.qw_code.specs.RunsOf.{comes_to, IsMadeOf}
 use Rattle.qw_code.specs.Results.{HasResult}
 use Rattle.qw_code.specs.RowCells.{HasRow, begin_block, kinds_of, outs_of, row_block, scan_block}
 use Rattle.qw_code.proofs.PushRuns.{Never}
 use Rattle.qw_code.proofs.RowPush.{bytes}
+use Rattle.qw_code.proofs.RowResults.{row_result}
 use Rattle.qw_code.proofs.RunWorlds.{Keeps}
-use Rattle.qw_code.proofs.ScanAnswers.{scan_answers, truths_of, values_in}
-use Rattle.qw_code.proofs.ScanLoop.{spend}
+use Rattle.qw_code.proofs.ScanAnswers.{result_of, scan_answers, scan_rows, truths_of, values_in}
+use Rattle.qw_code.proofs.ScanLoop.{Told, made, spend}
 use Rattle.qw_code.proofs.ScanRuns.{Plan, Promises, Begun, Finished, Since-same, scan_ends}
 use Rattle.qw_code.proofs.StartRuns.{Fresh, Started, begins, empty-result}
 
 -- ---- where a run begins
 pub first-fresh : (layout : Layout) (placed : List Placed) (tables : List (List (List Val))) (descriptor limit : ℕ) (memory : List ℕ) (others : ℕ) (used : Used) →
-    IsReady layout placed tables descriptor limit memory → slice_get layout.columns 0 ≡ Some used → length (rows_of tables used.table) ≤ 1000000 → 7 ≤ others →
-    Fresh (descriptor_size layout) (length (rows_of tables used.table)) (first_state layout placed descriptor limit memory (Address (Own 0) 0 ∷ replicate others (Number 0)))
-first-fresh layout placed tables descriptor limit memory others used ready there few many =
+    IsReady layout placed tables descriptor limit memory → descriptor_size layout ≤ page → slice_get layout.columns 0 ≡ Some used → length (rows_of tables used.table) ≤ 1000000 → 7 ≤ others →
+    Fresh (descriptor_size layout) (length (rows_of tables used.table)) (first_state layout tables limit (Address (Own 0) 0 ∷ replicate others (Number 0)))
+first-fresh layout placed tables descriptor limit memory others used ready small there few many =
     let head = head-known layout placed tables descriptor limit memory ready in
     let entry = entries-known layout placed tables descriptor limit memory ready 0 used there in
     record {
       behind = omega arith;
-      small = ready.small;
+      small = small;
       few = few;
       many = omega (arith, many, length-replicate {A = Value} others (Number 0));
       own = refl;
@@ -75,6 +84,18 @@ pub record Run : Type 0 where
   pub tables : List (List (List Val))
   pub memory : List ℕ
 
+-- an outcome of which something is promised is neither wrong nor unfinished
+ends-done : (most : ℕ) (P X : LowState → Type 0) (R : ℕ → Type 0) (out : low.Outcome) → Ends most P X R out → IsDone out
+ends-done most P X R (Completed n t) h = tt
+ends-done most P X R (Exited n t) h = tt
+ends-done most P X R (Stopped code n t) h = tt
+ends-done most P X R Wrong h = absurd h
+ends-done most P X R Unfinished h = absurd h
+
+-- a run of which the tables and the limit alone matter
+abbrev any : List (List (List Val)) → ℕ → Run
+any tables limit = record { descriptor = 0; limit = limit; placed = []; tables = tables; memory = [] }
+
 module _ (parts : Parts) (layout : Layout) (plan : Plan) (columns : Statement) (others : ℕ) (first_column : Used)
     (Text : Run → Part → ℕ → List ℕ → Type 0) (each : Run → List Val → ℕ) (Held : Run → (stage : ℕ) → List Val → LowState → Type 0) (Bases : Run → LowState → Type 0) where
   abbrev scan : Statement
@@ -84,7 +105,7 @@ module _ (parts : Parts) (layout : Layout) (plan : Plan) (columns : Statement) (
   rows r = rows_of r.tables parts.table
 
   abbrev first : Run → LowState
-  first r = first_state layout r.placed r.descriptor r.limit r.memory (Address (Own 0) 0 ∷ replicate others (Number 0))
+  first r = first_state layout r.tables r.limit (Address (Own 0) 0 ∷ replicate others (Number 0))
 
   abbrev pages : Run → ℕ
   pages r = page_bound (specification_of parts) r.tables
@@ -111,13 +132,12 @@ module _ (parts : Parts) (layout : Layout) (plan : Plan) (columns : Statement) (
     pub first_is : slice_get layout.columns 0 ≡ Some first_column
     pub table_is : first_column.table ≡ parts.table
     pub kinds_are : kinds_of (outs_of plan.items) ≡ map Some layout.cells
-    pub goes_with : GoesWith (specification_of parts) layout
+    pub goes_with : GoesWith (promise_of (specification_of parts)) layout
     pub short : size scan ≤ 2 ^ 22
+    pub each_alike : (r q : Run) → r.tables ≡ q.tables → each r ≡ each q
 
   module _ (planned : Planned) (sound : (r : Run) → IsReady layout r.placed r.tables r.descriptor r.limit r.memory → Sound r) (m : Module)
-      (runnable : IsRunnable m) (weight_is : module_weight m ≡ size scan) (called_is : (number : ℕ) → IsShaped m number → weight_of m number ≡ size scan)
-      (runs : (most fuel number descriptor limit : ℕ) (layout' : Layout) (placed : List Placed) (tables : List (List (List Val))) (memory : List ℕ) → IsShaped m number → IsReady layout' placed tables descriptor limit memory →
-      RunsAs (meaning most fuel scan (first_state layout' placed descriptor limit memory (Address (Own 0) 0 ∷ replicate others (Number 0)))) most (beginning m number layout' placed descriptor limit memory)) where
+      (is_made : IsMadeOf m scan others) where
     module _ (number : ℕ) (shape : IsShaped m number) (r : Run) (ready : IsReady layout r.placed r.tables r.descriptor r.limit r.memory) where
       abbrev s : Sound r
       s = sound r ready
@@ -134,7 +154,7 @@ module _ (parts : Parts) (layout : Layout) (plan : Plan) (columns : Statement) (
       fresh =
           let few' : length (rows_of r.tables first_column.table) ≤ 1000000 = subst (λ (table : ℕ). length (rows_of r.tables table) ≤ 1000000) (sym planned.table_is) few in
           subst (λ (table : ℕ). Fresh (descriptor_size layout) (length (rows_of r.tables table)) (first r)) planned.table_is
-          (first-fresh layout r.placed r.tables r.descriptor r.limit r.memory others first_column ready planned.first_is few' planned.others_many)
+          (first-fresh layout r.placed r.tables r.descriptor r.limit r.memory others first_column ready planned.goes_with.small planned.first_is few' planned.others_many)
 
       begun : (s0 : LowState) → Started (descriptor_size layout) (length (rows r)) (Bases r) (first r) s0 →
           Begun plan (Text r) (rows r) (each r) (Held r) (truths_of (specification_of parts).conjuncts) (values_in (specification_of parts).items) (pages r) (fuel r) s0
@@ -160,22 +180,82 @@ module _ (parts : Parts) (layout : Layout) (plan : Plan) (columns : Statement) (
           (meaning (pages r) (fuel r) (begin_block (descriptor_size layout) columns) (first r)) (omega arith) begun (λ t x. x) (λ code x. x)
           (begins (descriptor_size layout) (length (rows r)) (pages r) (fuel r) (Bases r) columns (first r) fresh s.columns_end))
 
-      pub run_behaves : Behaves (bound (specification_of parts) r.tables m number) (pages r)
-          (AnswersAt (outcome (specification_of parts) r.tables) layout (bound (specification_of parts) r.tables m number) (pages r) r.descriptor)
+      abbrev most : ℕ
+      most = bound (promise_of (specification_of parts)) r.tables m number
+
+      all_end : Ends (size scan * (1 + spend (each r) (rows r)))
+          (Finished plan (Text r) (rows r) (each r) (Held r) (truths_of (specification_of parts).conjuncts) (values_in (specification_of parts).items) (pages r) (fuel r)) Never
+          (Told (result_of (specification_of parts).conjuncts (specification_of parts).items) (rows r)) (meaning (pages r) (fuel r) scan (first r))
+      all_end = scan_ends plan (Text r) (rows r) (each r) (Held r) (truths_of (specification_of parts).conjuncts) (values_in (specification_of parts).items) (pages r) (fuel r) (first r) (omega arith) start_ends
+
+      pub run_behaves : BehavesWithin most (pages r) most_run
+          (AnswersAt (outcome (specification_of parts) r.tables) layout most (pages r) r.descriptor)
           (beginning m number layout r.placed r.descriptor r.limit r.memory)
       run_behaves =
-          let whole : size scan * (1 + spend (each r) (rows r)) ≤ bound (specification_of parts) r.tables m number =
-          rw (called_is number shape) (mul-le (size scan) (1 + spend (each r) (rows r)) (size scan) (1 + units (specification_of parts) r.tables) (omega arith) (omega (arith, s.spent))) in
-          scan_answers parts r.tables layout plan (Text r) (each r) (Held r) (bound (specification_of parts) r.tables m number) (pages r) (fuel r) r.descriptor (beginning m number layout r.placed r.descriptor r.limit r.memory)
-          ready.small refl planned.kinds_are s.texts scan (first r) (size scan * (1 + spend (each r) (rows r))) whole
-          (runs (pages r) (fuel r) number r.descriptor r.limit layout r.placed r.tables r.memory shape ready)
-          (scan_ends plan (Text r) (rows r) (each r) (Held r) (truths_of (specification_of parts).conjuncts) (values_in (specification_of parts).items) (pages r) (fuel r) (first r) (omega arith) start_ends)
+          let whole : size scan * (1 + spend (each r) (rows r)) ≤ most =
+          rw (is_made.called number shape) (mul-le (size scan) (1 + spend (each r) (rows r)) (size scan) (1 + units (specification_of parts) r.tables) (omega arith) (omega (arith, s.spent))) in
+          scan_answers parts r.tables layout plan (Text r) (each r) (Held r) most (pages r) most_run (fuel r) r.descriptor (beginning m number layout r.placed r.descriptor r.limit r.memory)
+          planned.goes_with.small refl planned.kinds_are s.texts scan (first r) (size scan * (1 + spend (each r) (rows r))) refl whole
+          (is_made.runs.runs (pages r) (fuel r) number r.descriptor r.limit layout r.placed r.tables r.memory shape planned.goes_with.small ready) all_end
 
-    pub scan_compiled : IsCompiled (specification_of parts) layout m
+      -- the rows that are read where it returned
+      pub run_rows : (k : ℕ) (b : Moment) → OpenRun k (beginning m number layout r.placed r.descriptor r.limit r.memory) b → b.state ≡ Returned →
+          rows_at layout b.world b.memory r.descriptor ≡ Some (made (row_result (specification_of parts).conjuncts (specification_of parts).items) (rows r))
+      run_rows =
+          scan_rows parts r.tables layout plan (Text r) (each r) (Held r) most (pages r) most_run (fuel r) r.descriptor (beginning m number layout r.placed r.descriptor r.limit r.memory)
+          planned.goes_with.small refl planned.kinds_are s.texts scan (first r) (size scan * (1 + spend (each r) (rows r)))
+          (is_made.runs.runs (pages r) (fuel r) number r.descriptor r.limit layout r.placed r.tables r.memory shape planned.goes_with.small ready) all_end
+
+      -- it comes to an end
+      pub run_done : IsDone (meaning (pages r) (fuel r) scan (first r))
+      run_done = ends-done _ _ _ _ (meaning (pages r) (fuel r) scan (first r)) all_end
+
+      -- it keeps what is asked of a job
+      pub run_of_job : Behaves most_run (λ b. HasRows layout r.descriptor b b.state) (beginning m number layout r.placed r.descriptor r.limit r.memory)
+      run_of_job = behaves-weaker most_run most_run (AnswersAt (outcome (specification_of parts) r.tables) layout most (pages r) r.descriptor) (λ b. HasRows layout r.descriptor b b.state) _ (omega arith)
+          (λ b answers. has-rows (outcome (specification_of parts) r.tables) layout most (pages r) r.descriptor b b.state answers.0 answers.1 answers.2) (within-behaves most (pages r) most_run _ _ run_behaves)
+
+    -- what is seen of the runs over tables
+    course_of : (number limit : ℕ) (tables : List (List (List Val))) → IsShaped m number →
+        (course : ℕ → Seen) × (IsDone (comes_to (page_bound (specification_of parts) tables) (suc (spend (each (any tables limit)) (rows_of tables parts.table))) scan layout tables limit others) →
+        (k descriptor : ℕ) (placed : List Placed) (memory : List ℕ) (b : Moment) →
+        IsReady layout placed tables descriptor limit memory → OpenRun k (beginning m number layout placed descriptor limit memory) b → seen b ≡ course k)
+    course_of number limit tables shape = is_made.runs.course (page_bound (specification_of parts) tables) (suc (spend (each (any tables limit)) (rows_of tables parts.table))) number limit layout tables shape planned.goes_with.small
+
+    abbrev run_of : (descriptor limit : ℕ) → List Placed → List (List (List Val)) → List ℕ → Run
+    run_of descriptor limit placed tables memory = record { descriptor = descriptor; limit = limit; placed = placed; tables = tables; memory = memory }
+
+    scan_steady : IsSteady layout m
+    scan_steady = record {
+      course = λ number limit tables shape. (
+        (course_of number limit tables shape).0,
+        λ k descriptor placed memory b ready run.
+            let r : Run = run_of descriptor limit placed tables memory in
+            (course_of number limit tables shape).1 (subst (λ (of : List Val → ℕ). IsDone (comes_to (page_bound (specification_of parts) tables) (suc (spend of (rows_of tables parts.table))) scan layout tables limit others)) (planned.each_alike r (any tables limit) refl) (run_done number shape r ready)) k descriptor placed memory b ready run,
+      );
+      rows = λ number limit tables shape k j descriptor other placed others memory another b c ready second run again at also.
+          run_rows number shape (run_of descriptor limit placed tables memory) ready k b run at ∙ sym (run_rows number shape (run_of other limit others tables another) second j c again also);
+    }
+
+    scan_job : BehavesWith layout m
+    scan_job = record {
+      valid = is_made.runnable.valid;
+      shaped = is_made.runnable.shaped;
+      descends = is_made.runnable.descends;
+      small = planned.goes_with.small;
+      behaves = λ number descriptor limit placed tables memory shape some ready. run_of_job number shape (run_of descriptor limit placed tables memory) ready;
+    }
+
+    pub scan_compiled : IsCompiled (promise_of (specification_of parts)) layout m
     scan_compiled = record {
-      runnable = runnable;
+      runnable = is_made.runnable;
+      is_job = scan_job;
       goes_with = planned.goes_with;
-      short = omega (arith, weight_is, planned.short);
-      light = λ number shape. omega (arith, called_is number shape, planned.short);
-      behaves = λ number descriptor limit placed tables memory shape ready. run_behaves number shape (record { descriptor = descriptor; limit = limit; placed = placed; tables = tables; memory = memory }) ready;
+      nests = is_made.nests;
+      no_size = is_made.no_size;
+      spelled = is_made.spelled;
+      short = omega (arith, is_made.weight, planned.short);
+      light = λ number shape. omega (arith, is_made.called number shape, planned.short);
+      behaves = λ number descriptor limit placed tables memory of shape ready. run_behaves number shape (run_of descriptor limit placed tables memory) ready;
+      steady = scan_steady;
     }

@@ -147,7 +147,8 @@ module _ (plan : Plan) (Text : Part → ℕ → List ℕ → Type 0) (rows : Lis
     pub tests_are : (i : ℕ) (r : List Val) → slice_get rows i ≡ Some r → AreTests most fuel (1 + units r) plan.known plan.many (λ k. Held k r) 0 plan.tests (truths r)
     pub reads_end : (i : ℕ) (r : List Val) (s : LowState) → slice_get rows i ≡ Some r → Held decided r s → plan.many ≤ length s.locals →
         Ends (size plan.reads) (λ t. Kept plan.known s t × Held (suc decided) r t) Never (λ code. ⊥) (meaning most fuel plan.reads s)
-    pub items_are : (i : ℕ) (r : List Val) → slice_get rows i ≡ Some r → (some : 1 ≤ 1 + units r) →
+    -- at a row that passes
+    pub items_are : (i : ℕ) (r : List Val) → slice_get rows i ≡ Some r → all_true (truths r) ≡ Ok true → (some : 1 ≤ 1 + units r) →
         AreItems most fuel (1 + units r) plan.next plan.many some (Held (suc decided) r) (held_kept (suc decided) r) Text plan.next plan.items (values r)
 
   -- between two rows: the rows so far, and the number of those that were scanned; the others are left
@@ -271,7 +272,7 @@ module _ (plan : Plan) (Text : Part → ℕ → List ℕ → Type 0) (rows : Lis
 
       added_then : all_true (truths r) ≡ Ok true → (t : LowState) → Kept plan.known s t → Held (suc decided) r t → Ends (size added * N) Mid Never R (meaning most fuel added t)
       added_then is t kept held = by_values (all_values (values r)) refl
-          (items_end most fuel N plan.next plan.many some (Held (suc decided) r) (p.held_kept (suc decided) r) Text plan.items (values r) plan.next t (omega arith) (p.items_are i r there some) held (omega (arith, kept.many, ready.many)))
+          (items_end most fuel N plan.next plan.many some (Held (suc decided) r) (p.held_kept (suc decided) r) Text plan.items (values r) plan.next t (omega arith) (p.items_are i r there is some) held (omega (arith, kept.many, ready.many)))
         where
           result_then : result r ≡ (all_values (values r) >>= (λ vs. Ok (vs ∷ [])))
           result_then = rw is refl

@@ -1,3 +1,4 @@
 pub mod Inner
 pub mod Results
 pub mod RowCells
+pub mod RunsOf

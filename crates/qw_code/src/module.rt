@@ -1,15 +1,20 @@
 //! The module whose function `run` is a block's code.
 
-ghost use Rattle.std.specs.Prelude.{◌≡◌, ℕ, ◌+◌, List, ◌∷◌, length, replicate, sum_by, IfOk};
+ghost use Rattle.std.specs.Prelude.{◌≡◌, ℕ, ◌+◌, ◌^◌, ◌≤◌, List, [], ◌∷◌, length, replicate, sum_by, IfOk};
+ghost use Rattle.std.specs.List.{AllByRecursion};
+ghost use Rattle.qw_binary.specs.Contents.{contents_of};
+ghost use Rattle.qw_binary.specs.Modules.{SpellsModule};
 ghost use Rattle.qw_types.specs.declared.value.Val.{Val};
 ghost use Rattle.qw_module.specs.declared.instruction.ValType.TheVariants.{I32};
 ghost use Rattle.qw_module.specs.declared.module.Function.{Function};
+ghost use Rattle.qw_module.specs.declared.module.Locals as runs;
+ghost use Rattle.qw_module.specs.Form.{CallsNestWithin, NeverAsksSize};
 ghost use Rattle.qw_module.specs.Start.{weight, weight_of_function};
 ghost use Rattle.qw_module.specs.Validity.{IsShaped, code_of_body, declared_types, imported_functions, sequences_of};
 ghost use Rattle.qw_map.specs.Behaving.{IsRunnable, beginning};
 ghost use Rattle.qw_map.specs.Layout.{Layout, IsReady};
 ghost use Rattle.qw_map.specs.declared.layout.Placed.{Placed};
-ghost use Rattle.qw_low.specs.Begin.{first_state};
+ghost use Rattle.qw_code.specs.RunsOf.{RunsOf};
 ghost use Rattle.qw_low.specs.Meaning.{meaning};
 ghost use Rattle.qw_low.specs.Places.{RunsAs};
 ghost use Rattle.qw_low.specs.Size.{size};
@@ -36,7 +41,8 @@ const RUN_INDEX: u32 = 1;
 
 /// Locals of these types, each declared by itself.
 fn declared(alloc: Global, types: &[ValType]) -> Result<Vec<Locals>, NoMemory>
-    ensures { IfOk result (λ locals. declared_types locals.items ≡ types.now) }
+    ensures types { IfOk result (λ locals. declared_types locals.items ≡ types.now) }
+    ensures single { IfOk result (λ locals. AllByRecursion (λ (run : runs.Locals). run.count ≡ 1) locals.items) }
 {
     let mut locals = Vec::new(alloc);
     for ty in types {
@@ -47,7 +53,8 @@ fn declared(alloc: Global, types: &[ValType]) -> Result<Vec<Locals>, NoMemory>
 
 /// The module with this body and these locals of `run`.
 fn module_around(alloc: Global, body: Body, locals: Vec<Locals>) -> Result<Module, NoMemory>
-    ensures { IfOk result (λ m. IsAround (declared_types locals.items) (sequences_of body) m) }
+    ensures around { IfOk result (λ m. IsAround (declared_types locals.items) (sequences_of body) m) }
+    ensures run { IfOk result (λ m. (run : Function) × (m.functions.items ≡ run ∷ []) × (run.type_index ≡ 0) × (run.locals ≡ locals) × (run.body ≡ body)) }
 {
     let run = Function {
         type_index: TYPE_INDEX,
@@ -75,8 +82,9 @@ fn module_around(alloc: Global, body: Body, locals: Vec<Locals>) -> Result<Modul
 
 /// The module whose `run` does what a block does: its argument is the first local, the address of the first page, and behind it are
 /// locals of these types, which begin as 0. Of a block whose steps are a typed statement's, it can be run, it has as many instructions
-/// as the statement, with those that it calls too, and each of its runs over a memory that is ready is the statement's run of the first
-/// state.
+/// as the statement, with those that it calls too, its calls nest at most three deep, it never asks for the memory's size, and each of its
+/// runs over a memory that is ready is the statement's run of the first state. Of at most 2^22 instructions and 2^21 locals it is spelled in
+/// at most 64 MiB.
 ///
 /// # Errors
 ///
@@ -87,11 +95,11 @@ pub fn module_of(alloc: Global, block: &Block, locals: &[ValType]) -> Result<Mod
         sum_by (λ (function : Function). weight (code_of_body function.body)) m.functions.items ≡ size s) }
     ensures light { IfOk result (λ m. (s : Statement) → block.now.code.items ≡ steps_of s → (number : ℕ) → IsShaped m number →
         weight_of_function m (length (imported_functions m) + number) ≡ size s) }
-    ensures runs { IfOk result (λ m. (s : Statement) → block.now.code.items ≡ steps_of s →
-        (most fuel number descriptor limit : ℕ) (layout : Layout) (placed : List Placed) (tables : List (List (List Val))) (memory : List ℕ) →
-        IsShaped m number → IsReady layout placed tables descriptor limit memory →
-        RunsAs (meaning most fuel s (first_state layout placed descriptor limit memory (Address (Own 0) 0 ∷ replicate (length locals.now) (Number 0)))) most
-        (beginning m number layout placed descriptor limit memory)) }
+    ensures nests { IfOk result (λ m. (s : Statement) → block.now.code.items ≡ steps_of s → IsTyped (I32 ∷ locals.now) s → CallsNestWithin m 3) }
+    ensures no_size { IfOk result (λ m. (s : Statement) → block.now.code.items ≡ steps_of s → NeverAsksSize m) }
+    ensures spelled { IfOk result (λ m. (s : Statement) → block.now.code.items ≡ steps_of s → IsTyped (I32 ∷ locals.now) s → size s ≤ 2 ^ 22 → length locals.now ≤ 2 ^ 21 →
+        (text : List ℕ) × SpellsModule (contents_of m) text × (length text ≤ 2 ^ 26)) }
+    ensures runs { IfOk result (λ m. (s : Statement) → block.now.code.items ≡ steps_of s → RunsOf m s (length locals.now)) }
 {
     let declared = declared(alloc, locals)?;
     let body = body_of(alloc, &block.code)?;

@@ -4,7 +4,7 @@ use Rattle.std.specs.Prelude.{not, FitsSigned, slice_get}
 use Rattle.std.specs.Int.{cast_signed, cast_unsigned}
 use Rattle.std.specs.List.{AllByRecursion}
 use Rattle.std.proofs.lemmas.Int.{ints, to_z-of_z}
-use Rattle.std.proofs.lemmas.Option.{slice_get_within}
+use Rattle.std.proofs.lemmas.Option.{slice_get_past, slice_get_within}
 use Rattle.std.proofs.Math.Facts.{Fits-of_z}
 use Rattle.std.proofs.Math.Nat.{pow-le-pow_right}
 use Rattle.std.proofs.lemmas.Bool.Decides.{nat_tests}
@@ -22,7 +22,7 @@ use Rattle.qw_types.specs.declared.value.Val.TheVariants as val
 use Rattle.qw_linear.specs.Memory.{SameBelow, number_at}
 use Rattle.qw_linear.proofs.MemoryFacts.{number_at-same}
 use Rattle.qw_map.specs.Areas.{Area}
-use Rattle.qw_map.specs.Columns.{HasOffsets, HoldsColumn, areas_of, blank, column_end, column_values, null_bit, placed_at, stored_at, text_at, value_at}
+use Rattle.qw_map.specs.Columns.{HasOffsets, HoldsColumn, areas_of, blank, column_end, column_values, null_bit, nulls_size, placed_at, stored_at, text_at, value_at}
 use Rattle.qw_map.specs.declared.layout.Placed.{Placed}
 use Rattle.qw_map.proofs.AreaLemmas.{all-weaker}
 use Rattle.qw_map.proofs.ColumnLemmas.{placed-between}
@@ -137,7 +137,7 @@ flag_at values row (suc count) (suc j) lt =
     omega (arith, bit-below (is_null (slice_get values row))) in
     rw (twice, ← div-div-eq-div-mul (bit_of (is_null (slice_get values row)) + 2 * flags_from values (row + 1) count) 2 (2 ^ j), half) (rw there at rest)
 
-pub null_bit_is : (memory : List ℕ) (nulls : ℕ) (values : List Val) (row : ℕ) → row < length values → HasNulls memory nulls values ((length values + 7) / 8)
+pub null_bit_is : (memory : List ℕ) (nulls : ℕ) (values : List Val) (row : ℕ) → row < 8 * ((length values + 7) / 8) → HasNulls memory nulls values ((length values + 7) / 8)
     → null_bit memory nulls row ≡ bit_of (is_null (slice_get values row))
 null_bit_is memory nulls values row lt has =
     let octet = has.each (row / 8) (omega arith) in
@@ -190,10 +190,16 @@ column_held memory ty not_null placed values sized typed is room has nulls = rec
   each = λ row value there.
       let of = typed_at ty not_null values row value there typed in
       value_is memory ty not_null placed row value of (stored_is memory placed not_null values row ty value sized of has there)
-      (λ may. null_bit_is memory placed.nulls values row (slice_get_within values row value there) (nulls may) ∙ ap (λ (v : Option Val). bit_of (is_null v)) there);
+      (λ may. null_bit_is memory placed.nulls values row (let inside = slice_get_within values row value there in omega (arith, inside)) (nulls may) ∙ ap (λ (v : Option Val). bit_of (is_null v)) there);
   blanks = λ row there. stored_is memory placed not_null values row ty val.Null sized (typed_at ty not_null values row val.Null there typed) has there;
   offsets = offsets_are memory ty placed values has;
+  spare = λ row behind within. spare_is not_null nulls row behind (let same = ap (λ (p : Placed). p.rows) is in subst (λ (n : ℕ). row < 8 * nulls_size not_null n) same within);
 }
+  where
+    spare_is : (b : Bool) → (b ≡ false → HasNulls memory placed.nulls values ((length values + 7) / 8)) → (row : ℕ) → length values ≤ row → row < 8 * nulls_size b (length values) → null_bit memory placed.nulls row ≡ 0
+    spare_is true nulls row behind within = absurd (omega (arith, within))
+    spare_is false nulls row behind within =
+        null_bit_is memory placed.nulls values row within (nulls refl) ∙ ap (λ (v : Option Val). bit_of (is_null v)) (slice_get_past values row behind)
 
 -- ---- parts that stand below what is written next
 

@@ -1,9 +1,8 @@
 -- The scan of a specification: its plan, and what is promised of the plan's blocks.
 use Rattle.std.proofs.Common.{◌≡◌, ℕ, zero, suc, ◌+◌, ◌-◌, ◌*◌, ◌^◌, ◌≤◌, nat_le, ◌&&◌, if◌then◌else◌, Bool, true, false, inl, inr, IsUtf8, Ok, sum_by, Option, Some, None, List, [], ◌∷◌, ◌++◌, length, map, take, replicate, slice_get, Contains, refl, sym, ap, ap₂, ◌∙◌, subst, arith}
-use Rattle.std.specs.List.{AllByRecursion, concat}
+use Rattle.std.specs.List.{AllByRecursion, concat, flat_map}
 use Rattle.std.proofs.lemmas.Bool.{and_from, and_parts, le-leb, leb-true}
 use Rattle.std.proofs.lemmas.List.{append-nil, length-map, length-replicate}
-use Rattle.std.proofs.lemmas.List.Sums.{sum_by-cons}
 use Rattle.std.proofs.lemmas.Option.{same_Some, get_or_from_slice_get, slice_get_within}
 use Rattle.qw_types.specs.Kind.{IsOfKind, type_kind}
 use Rattle.qw_types.specs.Value.{IsSized}
@@ -17,14 +16,16 @@ use Rattle.qw_module.specs.declared.instruction.ValType.{ValType}
 use Rattle.qw_module.specs.declared.instruction.ValType.TheVariants.{I32, I64}
 use Rattle.qw_module.specs.Execution.{Returned}
 use Rattle.qw_meaning.specs.Columns.{HasColumns, HaveColumns, HoldsIn}
-use Rattle.qw_meaning.specs.Evaluation.{cell_of, value_of}
+use Rattle.qw_meaning.specs.Evaluation.{cell_of, value_of, at_row}
 use Rattle.qw_meaning.specs.Expression.{Condition, Expression}
-use Rattle.qw_meaning.specs.Flow.{product, rows_of}
+use Rattle.qw_types.specs.Contents.{rows_of}
+use Rattle.qw_meaning.specs.Flow.{kept, product, rows_given}
 use Rattle.qw_meaning.specs.Select.{Parts, specification_of}
 use Rattle.qw_meaning.specs.Typing.{HasKind, IsTyped, kind_of}
 use Rattle.qw_meaning.specs.Units as text
-use Rattle.qw_meaning.specs.Units.{units_of}
+use Rattle.qw_meaning.specs.Units.{units_of, units_of_all, units_of_items}
 use Rattle.qw_meaning.proofs.SelectLemmas.{columns_more, conditions_more}
+use Rattle.qw_meaning.proofs.UnitsLemmas.{most_each}
 use Rattle.qw_map.specs.Areas.{World}
 use Rattle.qw_map.specs.Columns.{column_values, values_size}
 use Rattle.qw_map.specs.Layout.{Layout, HasColumn, IsReady, IsReadyColumn, descriptor_size, entry_offset, first_world, text_areas, text_cell}
@@ -59,10 +60,11 @@ use Rattle.qw_rows.proofs.Several.{known_declared}
 use Rattle.qw_rows.proofs.TextPlaces.{lie_there_kept, lie_there_within, places_same, ready_texts, texts_declared, texts_held}
 use Rattle.qw_rows.proofs.ReadyColumns.{ready_long, ready_stands_at}
 use Rattle.qw_rows.proofs.Elsewhere.{stands_same}
-use Rattle.qw_emit.specs.Compiled.{IsUsedOf, compared_at, page_bound}
+use Rattle.qw_emit.specs.Compiled.{IsUsedOf}
+use Rattle.qw_emit.specs.Queries.{page_bound}
 use Rattle.qw_code.specs.RowCells.{Test, Item, begin_block, kinds_of, outs_of, row_block, scan_block}
 use Rattle.qw_code.proofs.PushRuns.{Never}
-use Rattle.qw_code.proofs.RowRuns.{Kept-less}
+use Rattle.qw_code.proofs.RowRuns.{Kept-less, all_true}
 use Rattle.qw_code.proofs.RunWorlds.{Keeps}
 use Rattle.qw_code.proofs.ScanAnswers.{pages-are, truths_of, values_in}
 use Rattle.qw_code.proofs.ScanCompiled.{Run, Sound, Planned}
@@ -73,6 +75,7 @@ use Rattle.qw_compile.specs.Emitted.{known_after, last_end, ReadsPart, AreDecide
 use Rattle.qw_compile.specs.Readers.{IsRead, readers_from, readers_of, first_text, first_word, first_cell, first_own, base_types, text_types, word_types, cell_types}
 use Rattle.qw_compile.specs.Constants.{constants_from}
 use Rattle.qw_compile.specs.Texts.{literals_from}
+use Rattle.qw_compile.proofs.RowUnits.{all_compared, compared_at, items_within, tests_within}
 use Rattle.qw_compile.proofs.Promised.{held_more, StandsIn, HeldIn, IsTestAt, IsItemAt, shown, all_moved, kinds_moved, AreOwn, tests_promised, items_promised, all_use, items_high, items_kinds, headed, AreHigh, after_append}
 use Rattle.qw_compile.proofs.LeafLemmas.{all_back, all_front}
 use Rattle.qw_compile.proofs.Parts.{all_map_take, bases_there, joined_map, done_below, part_all, part_cells, read_at, read_last, read_past, take_all}
@@ -108,21 +111,10 @@ inside_of base a b tested = let tests = and_parts (nat_le 24 a) (nat_le (a + b) 
 inside_from : (base a b : ℕ) → 24 ≤ a → a + b ≤ base → (nat_le 24 a && nat_le (a + b) base) ≡ true
 inside_from base a b low high = and_from (nat_le 24 a) (nat_le (a + b) base) (le-leb 24 a low) (le-leb (a + b) base high)
 
--- the units of rows
-spend-sum : (f : List Val → ℕ) (rows : List (List Val)) → spend f rows ≡ length rows + sum_by f rows
-spend-sum f [] = refl
-spend-sum f (row ∷ rows) = let rest = spend-sum f rows in omega (arith, rest, sum_by-cons f row rows)
-
+-- the product of one table
 product-one : (rows : List (List Val)) → product (rows ∷ []) ≡ rows
 product-one [] = refl
 product-one (row ∷ rows) = ap₂ (λ (r : List Val) (rest : List (List Val)). r ∷ rest) (append-nil row) (product-one rows)
-
--- each one of those that are added up
-one-below : {X : Type 0} (f : X → ℕ) (xs : List X) → AllByRecursion (λ x. f x ≤ sum_by f xs) xs
-one-below f [] = tt
-one-below f (x ∷ xs) =
-    let all = sum_by-cons f x xs in
-    (omega (arith, all), all_more (λ y. f y ≤ sum_by f xs) (λ y. f y ≤ sum_by f (x ∷ xs)) xs (λ y le. omega (arith, all, le)) (one-below f xs))
 
 column_at : (rows : List (List Val)) (i c : ℕ) (row : List Val) (v : Val) → slice_get rows i ≡ Some row → slice_get row c ≡ Some v → slice_get (column_values rows c) i ≡ Some v
 column_at [] i c row v there held = absurd cc
@@ -151,7 +143,7 @@ row_utf8 row (u ∷ used) all i t (inr read) = row_utf8 row used all.1 i t read
 
 -- a column of the table, of a size that its type may have
 abbrev pub IsColumnIn : Parts → Used → Type 0
-IsColumnIn parts u = (u.table ≡ parts.table) × (slice_get parts.types u.column ≡ Some u.ty) × IsSized u.ty
+IsColumnIn parts u = (u.table ≡ parts.table) × (slice_get parts.columns u.column ≡ Some (record { ty = u.ty; not_null = u.not_null })) × IsSized u.ty
 
 -- a conjunct whose columns are read, and an item whose columns are read and whose texts are UTF-8
 abbrev pub IsReadTest : List Used → Condition → Type 0
@@ -223,6 +215,7 @@ module _ (parts : Parts) (used : List Used) (texts : List (List ℕ)) (words : L
 
   -- what the parts of a scan are
   pub record IsComposed : Type 0 where
+    pub small : descriptor_size layout ≤ page
     pub first_column : Used
     pub first_is : slice_get used 0 ≡ Some first_column
     pub columns : AllByRecursion (IsColumnIn parts) used
@@ -241,10 +234,10 @@ module _ (parts : Parts) (used : List Used) (texts : List (List ℕ)) (words : L
   module _ (h : IsComposed) where
     -- what is seen of memory while rows are worked on
     abbrev pub memory_of : Run → Cells
-    memory_of r = shown (descriptor_size layout) (cells_of layout r.placed r.descriptor r.limit r.memory)
+    memory_of r = shown (descriptor_size layout) (cells_of layout r.tables)
 
     abbrev first : Run → LowState
-    first r = first_state layout r.placed r.descriptor r.limit r.memory (Address (Own 0) 0 ∷ replicate others (Number 0))
+    first r = first_state layout r.tables r.limit (Address (Own 0) 0 ∷ replicate others (Number 0))
 
     -- where a row is worked on, whose columns stand where they stood at first
     pub record IsAt (r : Run) (row : List Val) (s : LowState) : Type 0 where
@@ -271,7 +264,7 @@ module _ (parts : Parts) (used : List Used) (texts : List (List ℕ)) (words : L
 
     -- the octets that are compared at a row
     abbrev each : Run → List Val → ℕ
-    each r row = compared_at (specification_of parts) row
+    each r row = compared_at cs es row
 
     abbrev own : List ValType
     own = ownT ++ ownI
@@ -360,13 +353,13 @@ module _ (parts : Parts) (used : List Used) (texts : List (List ℕ)) (words : L
 
       tests_at : (i : ℕ) (row : List Val) → slice_get rows i ≡ Some row → AllByRecursion (IsTestAt (1 + each r row) row) cs
       tests_at i row there =
-          all_more (λ d. IsReadTest used d × (units_of d (record { row = row }) ≤ sum_by (λ (d : Condition). units_of d (record { row = row })) cs)) (IsTestAt (1 + each r row) row) cs
+          all_more (λ d. IsReadTest used d × (units_of d (at_row row) ≤ each r row)) (IsTestAt (1 + each r row) row) cs
           (λ d x. (conditions_more (IsRead used) (HoldsIn row) (row_has row used (has_all i row there)) d x.0, omega (arith, x.1)))
-          (all_both (IsReadTest used) (λ d. units_of d (record { row = row }) ≤ sum_by (λ (d : Condition). units_of d (record { row = row })) cs) cs h.tests_read (one-below (λ (d : Condition). units_of d (record { row = row })) cs))
+          (all_both (IsReadTest used) (λ d. units_of d (at_row row) ≤ each r row) cs h.tests_read (most_each (λ (d : Condition). units_of d (at_row row)) (each r row) cs (tests_within cs es row)))
 
-      items_at : (i : ℕ) (row : List Val) → slice_get rows i ≡ Some row → AllByRecursion (IsItemAt (1 + each r row) row) es
-      items_at i row there =
-          all_more (λ e. IsReadItem used e × (text.units e (record { row = row }) ≤ sum_by (λ (e : Expression). text.units e (record { row = row })) es)) (IsItemAt (1 + each r row) row) es
+      items_at : (i : ℕ) (row : List Val) → slice_get rows i ≡ Some row → all_true (truths_of cs row) ≡ Ok true → AllByRecursion (IsItemAt (1 + each r row) row) es
+      items_at i row there passed =
+          all_more (λ e. IsReadItem used e × (text.units e (at_row row) ≤ each r row)) (IsItemAt (1 + each r row) row) es
           (λ e x. record {
             typed = x.0.1;
             columns = columns_more (IsRead used) (HoldsIn row) (row_has row used (has_all i row there)) e x.0.3;
@@ -374,7 +367,7 @@ module _ (parts : Parts) (used : List Used) (texts : List (List ℕ)) (words : L
             utf8 = columns_more (IsRead used) (HasUtf8 row) (row_utf8 row used (has_all i row there)) e x.0.3;
             enough = omega (arith, x.1);
           })
-          (all_both (IsReadItem used) (λ e. text.units e (record { row = row }) ≤ sum_by (λ (e : Expression). text.units e (record { row = row })) es) es h.items_read (one-below (λ (e : Expression). text.units e (record { row = row })) es))
+          (all_both (IsReadItem used) (λ e. text.units e (at_row row) ≤ each r row) es h.items_read (most_each (λ (e : Expression). text.units e (at_row row)) (each r row) es (items_within cs es row passed)))
 
       -- ---- before the loop
       entries_at : (s : LowState) → Kept 1 s1 s → AtEach (IsEntered (length rows) s) 0 used
@@ -384,11 +377,11 @@ module _ (parts : Parts) (used : List Used) (texts : List (List ℕ)) (words : L
             subst (λ (c : Cells). KnowsEntry c k u (length (rows_of r.tables u.table))) (sym (ap (λ (x : LowState). x.cells) kept.others))
                 (entries-known layout r.placed r.tables r.descriptor r.limit r.memory ready k u found),
             subst (λ (l : List ℕ). HasOctets l (3 * k) (values_size u.ty (length (rows_of r.tables u.table)))) (sym (ap (λ (x : LowState). x.columns) kept.others))
-                (ready_long layout r.placed r.tables r.descriptor r.limit r.memory ready k u found),
+                (ready_long layout r.placed r.tables r.descriptor r.limit r.memory ready h.small k u found),
           ))
 
       texts_there : LieThere s1 literals texts
-      texts_there = ready_texts layout r.placed r.tables r.descriptor r.limit r.memory (Address (Own 0) 0 ∷ replicate others (Number 0)) ready literals texts refl (texts_from (first_text used) start texts)
+      texts_there = ready_texts layout r.placed r.tables r.descriptor r.limit r.memory (Address (Own 0) 0 ∷ replicate others (Number 0)) ready h.small literals texts refl (texts_from (first_text used) start texts)
 
       leads_end : (s t : LowState) → Kept 1 s1 s → Kept 8 s t → AllByRecursion (λ q. HasBases (length rows) q t) (readers_of used count) → Ends (size (seq leads sets)) (λ u. Kept 8 s u × Bases r u) Never (λ code. ⊥) (meaning most fuel (seq leads sets) t)
       leads_end s t kept begun bases =
@@ -433,7 +426,7 @@ module _ (parts : Parts) (used : List Used) (texts : List (List ℕ)) (words : L
             value_is = has.1;
             stands = subst (λ (l : List ℕ). StandsAt cells l k u.ty u.not_null i has.0) (sym sizes)
                 (stands_same s1.cells cells same k i s1.columns u.ty u.not_null has.0
-                (ready_stands_at layout r.placed r.tables r.descriptor r.limit r.memory ready k i u has.0 found (column_at (rows_of r.tables u.table) i u.column row has.0 (ap (λ (n : ℕ). slice_get (rows_of r.tables n) i) in_table.0 ∙ there) has.1)));
+                (ready_stands_at layout r.placed r.tables r.descriptor r.limit r.memory ready h.small k i u has.0 found (column_at (rows_of r.tables u.table) i u.column row has.0 (ap (λ (n : ℕ). slice_get (rows_of r.tables n) i) in_table.0 ∙ there) has.1)));
             sized = in_table.2;
           }
 
@@ -534,7 +527,7 @@ module _ (parts : Parts) (used : List Used) (texts : List (List ℕ)) (words : L
         -- what was known, and what was read
         all_held : (x t : LowState) → Kept low x t → AreHeld (known_after literals_known readers done) row x → AreHeld (map known_of p.part) row t → AreHeld (known_after literals_known readers upto) row t
         all_held x t kept before part =
-            let IsHeld : Known → Type 0 = λ (k : Known). (v : Val) × (value_of k.expression (record { row = row }) ≡ Ok v) × Holds k.operand v t in
+            let IsHeld : Known → Type 0 = λ (k : Known). (v : Val) × (value_of k.expression (at_row row) ≡ Ok v) × Holds k.operand v t in
             let still : AreHeld (known_after literals_known readers done) row t = held_kept row done x t within_done kept before in
             let joined : map known_of (take done readers) ++ map known_of p.part ≡ map known_of (take upto readers) = sym (joined_map known_of (take done readers) p.part) ∙ ap (map known_of) p.part_is in
             all-append IsHeld literals_known (map known_of (take upto readers)) (all_front IsHeld literals_known (map known_of (take done readers)) still)
@@ -572,7 +565,7 @@ module _ (parts : Parts) (used : List Used) (texts : List (List ℕ)) (words : L
       )
         where
           IsHeld : Known → Type 0
-          IsHeld k = (v : Val) × (value_of k.expression (record { row = row }) ≡ Ok v) × Holds k.operand v (seen c s)
+          IsHeld k = (v : Val) × (value_of k.expression (at_row row) ≡ Ok v) × Holds k.operand v (seen c s)
 
           places : AllByRecursion (HasPlace s) literals
           places =
@@ -630,7 +623,7 @@ module _ (parts : Parts) (used : List Used) (texts : List (List ℕ)) (words : L
         unrefused = ap (λ (x : LowState). x.refused) started.kept.others;
         uses = all_use items high;
         few = few_rows;
-        pages = pages-are parts r.tables layout plan (StandsIn c) (each r) (Held r) most most fuel r.descriptor (record { world = first_world layout r.placed r.descriptor r.limit; state = Returned; memory = r.memory }) kinds-many;
+        pages = pages-are parts r.tables layout plan (StandsIn c) (each r) (Held r) most most most fuel r.descriptor (record { world = first_world layout r.placed r.descriptor r.limit; state = Returned; memory = r.memory }) kinds-many;
         texts_lie = λ p off octets text i octet is.
             shown_later (descriptor_size layout) s1 s0 (λ k a b. ap (λ (x : LowState). x.cells (Column k) a b) started.kept.others) (λ a b low high. ap (λ (x : LowState). x.cells (Own 0) a b) started.kept.others) p (off + i) octet
             (shown_at (descriptor_size layout) p (off + i) octet (text.1 i octet is));
@@ -641,10 +634,10 @@ module _ (parts : Parts) (used : List Used) (texts : List (List ℕ)) (words : L
             (λ e s at. held_more c s (known_after literals_known readers e) row at.0) (kept_at row) (λ done upto a p s at many. part_ends row done upto a p s at many)
             (length readers) stage 0 (first_own used count) 0 ends cs tests ownT (λ j. let place : 0 + j ≡ j = omega arith in ap stage place) (omega arith) (omega arith) h.decided (tests_at i row there);
         reads_end = λ i row s there at many. part_last row s at many;
-        items_are = λ i row there some. let room = room_at rows i row there in
+        items_are = λ i row there passed some. let room = room_at rows i row there in
             items_promised known c row most fuel (1 + each r row) (first_own used count) plan.many some (omega (arith, room)) (Held r (suc (length tests)) row) (λ s at. at_end row s at)
             (λ s t kept at. kept_at row (stage (suc (length tests))) s t kept at) (first_own used count) (first_own used count + length ownT) es items ownI (omega arith) (omega arith) h.computed
-            (items_at i row there) high;
+            (items_at i row there passed) high;
       }
 
       read_back : (w : World) (t : LowState) (memory : List ℕ) → StandsFor w t memory → Keeps (first_world layout r.placed r.descriptor r.limit) w →
@@ -661,14 +654,15 @@ module _ (parts : Parts) (used : List Used) (texts : List (List ℕ)) (words : L
         columns_end = columns_end;
         promises = promised;
         spent =
-            let all = spend-sum (each r) rows in
-            let one = ap (λ (rs : List (List Val)). sum_by (each r) rs) (product-one rows) in
-            omega (arith, all, one);
+            let all = all_compared cs es rows in
+            let tests = ap (λ (rs : List (List Val)). sum_by (λ (row : List Val). units_of_all cs (at_row row)) rs) (product-one rows) in
+            let items = ap (λ (rs : List (List Val)). sum_by (λ (row : List Val). units_of_items es (at_row row)) (flat_map (λ row. rows_given (kept cs row)) rs)) (product-one rows) in
+            omega (arith, all, tests, items);
         texts = read_back;
       }
 
     one_entry : (u : Used) → IsColumnIn parts u → IsUsedOf (specification_of parts).entries u
-    one_entry u in_table = (record { table = parts.table; types = parts.types }, itself (record { table = parts.table; types = parts.types }), sym in_table.0, in_table.1)
+    one_entry u in_table = (record { table = parts.table; columns = parts.columns }, itself (record { table = parts.table; columns = parts.columns }), sym in_table.0, in_table.1)
 
     pub planned : size (scan_block plan.start (row_block plan.tests plan.reads plan.items (8 + 16 * length (kinds_of (outs_of plan.items))))) ≤ 2 ^ 22 →
         Planned parts layout plan firsts others h.first_column (λ q. StandsIn (memory_of q)) each Held Bases
@@ -680,6 +674,7 @@ module _ (parts : Parts) (used : List Used) (texts : List (List ℕ)) (words : L
       first_is = h.first_is;
       table_is = (one_of (IsColumnIn parts) used 0 h.first_column h.columns h.first_is).0;
       kinds_are = kinds-are;
-      goes_with = record { columns = all_more (IsColumnIn parts) (IsUsedOf (specification_of parts).entries) used one_entry h.columns; cells = h.kinds_are };
+      goes_with = record { columns = all_more (IsColumnIn parts) (IsUsedOf (specification_of parts).entries) used one_entry h.columns; cells = h.kinds_are; small = h.small };
       short = short;
+      each_alike = λ r q same. refl;
     }

@@ -1,6 +1,7 @@
 -- The leaves of an expression: those of the trees that stand for it, and what is known of them.
 use Rattle.std.proofs.Common.{◌≡◌, ℕ, ℤ, zero, suc, ◌+◌, ◌<◌, ◌≤◌, IsUtf8, List, [], ◌∷◌, ◌++◌, get_or, take, length, sym, ap, ◌∙◌, subst, append_assoc, append-nil, arith}
 use Rattle.std.specs.List.{AllByRecursion, flat_map}
+use Rattle.qw_types.proofs.KindLemmas.{day_number}
 use Rattle.qw_types.specs.declared.value.Ty.{Ty}
 use Rattle.qw_meaning.specs.declared.expression.Expr.{Expr}
 use Rattle.qw_meaning.specs.declared.expression.Cond.{Cond}
@@ -277,7 +278,7 @@ mutual
   pub typed_leaves : (e : Expression) → IsTyped e → HasLeaves (OfWord IsSmall) e
   typed_leaves null h = tt
   typed_leaves (number v s) h = h.0
-  typed_leaves (date d) h = h
+  typed_leaves (date d) h = day_number d h
   typed_leaves (text t) h = tt
   typed_leaves (column i t) h = tt
   typed_leaves (arithmetic operator a b) h = (typed_leaves a h.0.0, typed_leaves b h.0.1)

@@ -14,6 +14,7 @@ pub mod Parts
 pub mod Promised
 pub mod ReadersLaid
 pub mod RowSteps
+pub mod RowUnits
 pub mod Shortness
 pub mod Sizes
 pub mod TextCells

@@ -3,12 +3,14 @@ use Rattle.std.proofs.Common.{◌≡◌, ℕ, zero, suc, ◌+◌, ◌<◌, ◌�
 use Rattle.std.specs.List.{AllByRecursion, IsDistinct, list_any}
 use Rattle.std.proofs.lemmas.List.{drop_all}
 use Rattle.std.proofs.lemmas.Map.Steps.{length-le_from_distinct_below}
-use Rattle.std.proofs.lemmas.Option.{same_Some, slice_get_within}
+use Rattle.std.specs.Option.{option_map}
+use Rattle.std.proofs.lemmas.Option.{same_Some, slice_get-map, slice_get_within}
+use Rattle.qw_types.specs.declared.schema.ColumnType.{ColumnType}
 use Rattle.qw_types.specs.declared.value.Ty.{Ty}
 use Rattle.qw_map.specs.declared.layout.Used.{Used}
 use Rattle.qw_map.proofs.AreaLemmas.{all-append}
 use Rattle.qw_meaning.specs.Columns.{IsColumnOf}
-use Rattle.qw_meaning.specs.Select.{Parts}
+use Rattle.qw_meaning.specs.Select.{Parts, types_of}
 use Rattle.qw_expr.specs.declared.known.Leaf.{Leaf}
 use Rattle.qw_expr.specs.declared.known.Leaf.TheVariants as leaf
 use Rattle.qw_compile.specs.Leaves.{OfColumn, leaves_of}
@@ -72,18 +74,20 @@ leaf_new used now new u l i ty r is at same tests was added =
     let none : list_any (λ (j : ℕ). j == u.column) (columns_of used) ≡ false = subst (λ (n : ℕ). list_any (λ (j : ℕ). j == n) (columns_of used) ≡ false) (sym at) (tested used now i false r same tests was) in
     ap columns_of added ∙ (named_new used u none ∙ (ap (and_column (columns_of used)) at ∙ sym (ap (λ (x : Leaf). and_named (columns_of used) (x ∷ [])) is)))
 
-flag_there : (b : List Bool) (i : ℕ) (d : Bool) → i < length b → slice_get b i ≡ Some (get_or b i d)
-flag_there [] i d less = absurd (omega (arith, less))
-flag_there (x ∷ b) zero d less = refl
-flag_there (x ∷ b) (suc i) d less = flag_there b i d (omega (arith, less))
+column_there_at : (columns : List ColumnType) (i : ℕ) (d : ColumnType) → i < length columns → slice_get columns i ≡ Some (get_or columns i d)
+column_there_at [] i d less = absurd (omega (arith, less))
+column_there_at (x ∷ columns) zero d less = refl
+column_there_at (x ∷ columns) (suc i) d less = column_there_at columns i d (omega (arith, less))
 
-pub table_new : (table : ℕ) (all : List Ty) (b : List Bool) (used new : List Used) (u : Used) (l : Leaf) (i : ℕ) (ty : Ty) (d : Bool) → l ≡ leaf.Column i ty → u ≡ record { table = table; column = i; ty = ty; not_null = get_or b i d } → i < length b →
-    new ≡ used ++ u ∷ [] → OfColumn (IsColumnOf all) l → AllByRecursion (IsOfTable table all b) used → AllByRecursion (IsOfTable table all b) new
-table_new table all b used new u l i ty d is made less added of old =
-    let of_column : slice_get all i ≡ Some ty = subst (OfColumn (IsColumnOf all)) is of in
-    let it : Used = record { table = table; column = i; ty = ty; not_null = get_or b i d } in
-    let one : IsOfTable table all b u = subst (IsOfTable table all b) (sym made) (record { table_is = refl; type_is = of_column; not_null_is = flag_there b i d less }) in
-    subst (AllByRecursion (IsOfTable table all b)) (sym added) (table_push (IsOfTable table all b) used u old one)
+pub type_at : (columns : List ColumnType) (i : ℕ) (c : ColumnType) → slice_get columns i ≡ Some c → slice_get (types_of columns) i ≡ Some c.ty
+type_at columns i c there = slice_get-map (λ (c : ColumnType). c.ty) columns i ∙ ap (option_map (λ (c : ColumnType). c.ty)) there
+
+pub table_new : (table : ℕ) (columns : List ColumnType) (used new : List Used) (u : Used) (i : ℕ) (d : ColumnType) →
+    u ≡ record { table = table; column = i; ty = (get_or columns i d).ty; not_null = (get_or columns i d).not_null } → i < length columns → new ≡ used ++ u ∷ [] →
+    AllByRecursion (IsOfTable table columns) used → AllByRecursion (IsOfTable table columns) new
+table_new table columns used new u i d made less added old =
+    let one : IsOfTable table columns u = subst (IsOfTable table columns) (sym made) (record { table_is = refl; column_is = column_there_at columns i d less }) in
+    subst (AllByRecursion (IsOfTable table columns)) (sym added) (table_push (IsOfTable table columns) used u old one)
 
 -- in a loop over leaves
 left : (ls : List Leaf) (i : ℕ) (l : Leaf) → i < length ls → l ≡ get_or ls i l → drop i ls ≡ l ∷ drop (i + 1) ls
@@ -144,14 +148,14 @@ unfolding IsDistinct
 first_distinct [] d = (tt, tt)
 first_distinct (x ∷ xs) d = d
 
-below : (table : ℕ) (types : List Ty) (b : List Bool) (used : List Used) → AllByRecursion (IsOfTable table types b) used → (q : ℕ) → list_any (eqb q) (columns_of used) ≡ true → q < length types
-below table types b [] all q any = absurd cc
-below table types b (u ∷ used) all q any = by_test (eqb q u.column) refl any (below table types b used all.1 q)
+below : (table : ℕ) (columns : List ColumnType) (used : List Used) → AllByRecursion (IsOfTable table columns) used → (q : ℕ) → list_any (eqb q) (columns_of used) ≡ true → q < length columns
+below table columns [] all q any = absurd cc
+below table columns (u ∷ used) all q any = by_test (eqb q u.column) refl any (below table columns used all.1 q)
   where
-    by_test : (t : Bool) → eqb q u.column ≡ t → (t || list_any (eqb q) (columns_of used)) ≡ true → (list_any (eqb q) (columns_of used) ≡ true → q < length types) → q < length types
+    by_test : (t : Bool) → eqb q u.column ≡ t → (t || list_any (eqb q) (columns_of used)) ≡ true → (list_any (eqb q) (columns_of used) ≡ true → q < length columns) → q < length columns
     by_test true same h later =
         let at : q ≡ u.column = same_number q u.column same in
-        let inside = slice_get_within types u.column u.ty all.0.type_is in
+        let inside = slice_get_within columns u.column (record { ty = u.ty; not_null = u.not_null }) all.0.column_is in
         omega (arith, at, inside)
     by_test false same h later = later h
 
@@ -189,20 +193,20 @@ first_kept : (xs : List ℕ) (k : ℕ) → list_any (λ (j : ℕ). j == k) xs �
 first_kept [] k h = absurd cc
 first_kept (x ∷ xs) k h = h
 
-module _ (table : ℕ) (types : List Ty) (b : List Bool) where
-  read_at : (used : List Used) (i : ℕ) (t : Ty) → AllByRecursion (IsOfTable table types b) used → list_any (λ (j : ℕ). j == i) (columns_of used) ≡ true → slice_get types i ≡ Some t → IsRead used i t
+module _ (table : ℕ) (columns : List ColumnType) where
+  read_at : (used : List Used) (i : ℕ) (t : Ty) → AllByRecursion (IsOfTable table columns) used → list_any (λ (j : ℕ). j == i) (columns_of used) ≡ true → slice_get (types_of columns) i ≡ Some t → IsRead used i t
   read_at [] i t all any there = absurd cc
   read_at (u ∷ used) i t all any there = by_test (u.column == i) refl any (λ h. read_at used i t all.1 h there)
     where
       by_test : (c : Bool) → (u.column == i) ≡ c → (c || list_any (λ (j : ℕ). j == i) (columns_of used)) ≡ true → (list_any (λ (j : ℕ). j == i) (columns_of used) ≡ true → IsRead used i t) → IsRead (u ∷ used) i t
       by_test true same h later =
           let at : u.column ≡ i = same_number u.column i same in
-          inl (at, same_Some u.ty t (sym all.0.type_is ∙ (ap (λ (n : ℕ). slice_get types n) at ∙ there)))
+          inl (at, same_Some u.ty t (sym (type_at columns u.column (record { ty = u.ty; not_null = u.not_null }) all.0.column_is) ∙ (ap (λ (n : ℕ). slice_get (types_of columns) n) at ∙ there)))
       by_test false same h later = inr (later h)
 
-  module _ (used : List Used) (all : AllByRecursion (IsOfTable table types b) used) where
+  module _ (used : List Used) (all : AllByRecursion (IsOfTable table columns) used) where
     read_from : (seen : List ℕ) (ls : List Leaf) → ((i : ℕ) → list_any (λ (j : ℕ). j == i) (and_named seen ls) ≡ true → list_any (λ (j : ℕ). j == i) (columns_of used) ≡ true) →
-        AllByRecursion (OfColumn (IsColumnOf types)) ls → AllByRecursion (OfColumn (IsRead used)) ls
+        AllByRecursion (OfColumn (IsColumnOf (types_of columns))) ls → AllByRecursion (OfColumn (IsRead used)) ls
     read_from seen [] up over = tt
     read_from seen (leaf.Text t ∷ ls) up over = (tt, read_from seen ls up over.1)
     read_from seen (leaf.Number v s ∷ ls) up over = (tt, read_from seen ls up over.1)
@@ -210,18 +214,18 @@ module _ (table : ℕ) (types : List Ty) (b : List Bool) where
     read_from seen (leaf.Column i ty ∷ ls) up over =
         (read_at used i ty all (up i (named_kept (and_column seen i) ls i (column_there seen i))) over.0, read_from (and_column seen i) ls up over.1)
 
-module _ (parts : Parts) (b : List Bool) (used : List Used) (named : columns_of used ≡ columns_named parts) (all : AllByRecursion (IsOfTable parts.table parts.types b) used) where
+module _ (parts : Parts) (used : List Used) (named : columns_of used ≡ columns_named parts) (all : AllByRecursion (IsOfTable parts.table parts.columns) used) where
   pub used_some : 1 ≤ length used
   used_some = let long = ap (λ (l : List ℕ). length l) named in omega (arith, long, columns_many used, some_first (and_named [] (leaves_of parts)))
 
-  pub used_few : length used ≤ length parts.types
+  pub used_few : length used ≤ length parts.columns
   unfolding IsDistinct
   used_few =
       let distinct : IsDistinct eqb (columns_of used) = subst (IsDistinct eqb) (sym named) (first_distinct (and_named [] (leaves_of parts)) (named_distinct [] (leaves_of parts) tt)) in
-      let few = length-le_from_distinct_below (columns_of used) (length parts.types) distinct (below parts.table parts.types b used all) in
+      let few = length-le_from_distinct_below (columns_of used) (length parts.columns) distinct (below parts.table parts.columns used all) in
       omega (arith, few, columns_many used)
 
-  pub leaves_read : AllByRecursion (OfColumn (IsColumnOf parts.types)) (leaves_of parts) → AllByRecursion (OfColumn (IsRead used)) (leaves_of parts)
+  pub leaves_read : AllByRecursion (OfColumn (IsColumnOf (types_of parts.columns))) (leaves_of parts) → AllByRecursion (OfColumn (IsRead used)) (leaves_of parts)
   leaves_read over =
-      read_from parts.table parts.types b used all [] (leaves_of parts)
+      read_from parts.table parts.columns used all [] (leaves_of parts)
       (λ i there. ap (λ (l : List ℕ). list_any (λ (j : ℕ). j == i) l) named ∙ first_kept (and_named [] (leaves_of parts)) i there) over

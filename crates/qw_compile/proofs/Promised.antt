@@ -10,7 +10,7 @@ use Rattle.qw_types.specs.declared.value.Val.TheVariants as val
 use Rattle.qw_module.specs.declared.instruction.ValType.{ValType}
 use Rattle.qw_module.specs.declared.instruction.ValType.TheVariants.{I32, I64}
 use Rattle.qw_meaning.specs.Columns.{HasColumns, HaveColumns, HoldsIn}
-use Rattle.qw_meaning.specs.Evaluation.{truth_of, value_of}
+use Rattle.qw_meaning.specs.Evaluation.{truth_of, value_of, at_row}
 use Rattle.qw_meaning.specs.Expression.{Condition, Expression}
 use Rattle.qw_meaning.specs.Typing.{HasKind, IsTyped, IsValueOf, kind_of, has_kind}
 use Rattle.qw_meaning.specs.Units.{units, units_of}
@@ -167,14 +167,14 @@ AreHigh (g ∷ gs) = IsHigh g.out × AreHigh gs
 
 -- ---- conjuncts and items at a row, whose units are below a number
 abbrev pub IsTestAt : (N : ℕ) → List Val → Condition → Type 0
-IsTestAt N row c = HaveColumns (HoldsIn row) c × (1 + units_of c (record { row = row }) ≤ N)
+IsTestAt N row c = HaveColumns (HoldsIn row) c × (1 + units_of c (at_row row) ≤ N)
 
 pub record IsItemAt (N : ℕ) (row : List Val) (e : Expression) : Type 0 where
   pub typed : IsTyped e
   pub columns : HasColumns (HoldsIn row) e
   pub texts : HasTexts IsUtf8 e
   pub utf8 : HasColumns (HasUtf8 row) e
-  pub enough : 1 + units e (record { row = row }) ≤ N
+  pub enough : 1 + units e (at_row row) ≤ N
 
 -- `At` says what holds where so many columns are read
 module _ (literals : List Known) (readers : List Reader) (row : List Val) (most fuel N low n many : ℕ) (some : 1 ≤ N) (within : N ≤ fuel) (lower : low ≤ n) (At : ℕ → LowState → Type 0)
@@ -193,9 +193,9 @@ module _ (literals : List Known) (readers : List Reader) (row : List Val) (most 
   decided_left done upto g out s t next high is before at (Err code) u h = h
 
   conjunct_promised : (c : Condition) (next done upto : ℕ) (g : Test) (own : List ValType) → n ≤ next → next + length own ≤ many → IsDecided literals readers next done upto c g own → IsTestAt N row c →
-      (s : LowState) → At done s → many ≤ length s.locals → Ends (size g.block * N) (Leaves (Decided upto g s) (truth_of c (record { row = row }))) Never (Raises (truth_of c (record { row = row }))) (meaning most fuel g.block s)
+      (s : LowState) → At done s → many ≤ length s.locals → Ends (size g.block * N) (Leaves (Decided upto g s) (truth_of c (at_row row))) Never (Raises (truth_of c (at_row row))) (meaning most fuel g.block s)
   conjunct_promised c next done upto g own high room d at s held long =
-      let r : Result Truth Code = truth_of c (record { row = row }) in
+      let r : Result Truth Code = truth_of c (at_row row) in
       let P : LowState → Type 0 = Leaves (Decided upto g s) r in
       let R : ℕ → Type 0 = Raises r in
       let Read : LowState → Type 0 = λ t. Kept low s t × At upto t in
@@ -218,8 +218,8 @@ module _ (literals : List Known) (readers : List Reader) (row : List Val) (most 
       let many_own : length own ≡ length are.0 + length are.1 = ap (λ (o : List ValType). length o) are.2 ∙ length-append are.0 are.1 in
       let here : stage k ≡ done = (let place : k ≡ k + 0 = omega arith in ap stage place) ∙ same 0 in
       let there : stage (suc k) ≡ e = (let place : suc k ≡ k + 1 = omega arith in ap stage place) ∙ same 1 in (
-        subst (λ (d : ℕ). HasTestAt d (stage (suc k)) g (truth_of c (record { row = row }))) (sym here)
-            (subst (λ (u : ℕ). HasTestAt done u g (truth_of c (record { row = row }))) (sym there) (conjunct_promised c next done e g are.0 high (omega (arith, room, many_own)) are.3 at.0)),
+        subst (λ (d : ℕ). HasTestAt d (stage (suc k)) g (truth_of c (at_row row))) (sym here)
+            (subst (λ (u : ℕ). HasTestAt done u g (truth_of c (at_row row))) (sym there) (conjunct_promised c next done e g are.0 high (omega (arith, room, many_own)) are.3 at.0)),
         tests_promised all stage (suc k) (next + length are.0) e ends cs gs are.1 (λ j. (let place : suc k + j ≡ k + suc j = omega arith in ap stage place) ∙ same (suc j)) (omega (arith, high)) (omega (arith, room, many_own)) are.4 at.1,
       )
   tests_promised all stage k next done ends cs gs own same high room are at = absurd are
@@ -257,9 +257,9 @@ module _ (known : List Known) (c : Cells) (row : List Val) (most fuel N n many :
   left from next out s le (Err code) typed utf8 t h = h.0
 
   item_promised : (e : Expression) (from next : ℕ) (out : Operand) (a : Statement) (own : List ValType) → from ≤ next → next + length own ≤ many → Computes known e next out a own → IsItemAt N row e →
-      HasItem most fuel N n many some Held both_kept (StandsIn c) from (record { out = moved (source_of out); block = a }) (value_of e (record { row = row }))
+      HasItem most fuel N n many some Held both_kept (StandsIn c) from (record { out = moved (source_of out); block = a }) (value_of e (at_row row))
   item_promised e from next out a own le room computes at =
-      let r : Result Val Code = value_of e (record { row = row }) in
+      let r : Result Val Code = value_of e (at_row row) in
       let typed : IfOk r (λ v. IsValueOf out.kind v) = subst (λ (k : Option Kind). IfOk r (λ v. IsValueOf k v)) (sym computes.kind_is) (typed_value e row at.typed at.columns) in
       λ s held long.
       Ends-weaker (size a * N) (size a * N) (λ t. Whole next out s r t × Seen next out s r (seen c t)) (Leaves (λ v t. Kept from s t × (Supplies (StandsIn c) t.locals (moved (source_of out)).cell v × IsValueOf out.kind v)) r) Never Never (Raises r) (Raises r)
@@ -282,7 +282,7 @@ module _ (known : List Known) (c : Cells) (row : List Val) (most fuel N n many :
       let cell_is : g.out.cell ≡ are.0.cell = ap (λ (o : Source). o.cell) are.4 in
       let below : IsBelow (next + length are.1) g.out.cell = subst (IsBelow (next + length are.1)) (sym cell_is) are.5.below in
       let later : ℕ = next + length are.1 in (
-        subst (λ (o : Source). HasItem most fuel N n many some Held both_kept (StandsIn c) from (record { out = moved o; block = g.block }) (value_of e (record { row = row }))) (sym are.4)
+        subst (λ (o : Source). HasItem most fuel N n many some Held both_kept (StandsIn c) from (record { out = moved o; block = g.block }) (value_of e (at_row row))) (sym are.4)
             (item_promised e from next are.0 g.block are.1 low (omega (arith, room, all)) are.5 at.0),
         later,
         omega (arith, low),

@@ -16,6 +16,8 @@ use Rattle.qw_meaning.specs.declared.expression.Branches.TheVariants as Branches
 use Rattle.qw_meaning.specs.declared.expression.Matches.TheVariants as Matches
 use Rattle.qw_meaning.specs.Nodes.{nodes, nodes_of, nodes_of_all, nodes_of_branches, nodes_of_matches}
 use Rattle.qw_meaning.specs.Select.{Parts}
+use Rattle.qw_map.specs.declared.layout.Used.{Used}
+use Rattle.qw_module.specs.declared.instruction.ValType.{ValType}
 use Rattle.qw_module.specs.declared.instruction.Op.TheVariants as o
 use Rattle.qw_low.specs.declared.cell.Cell.{Cell}
 use Rattle.qw_low.specs.declared.step.LowStep.{LowStep}
@@ -31,6 +33,7 @@ use Rattle.qw_code.specs.RowCells.{Source, begin_block, cell_block, cells_block,
 use Rattle.qw_compile.specs.Emitted.{sources_of}
 use Rattle.qw_compile.specs.Limits.{all_nodes}
 use Rattle.qw_compile.specs.Constants.{words_of}
+use Rattle.qw_compile.specs.Readers.{base_types, cell_types, scan_locals, text_types, word_types}
 use Rattle.qw_compile.specs.Leaves.{leaves_in, leaves_of, leaves_of_all, leaves_of_branches, leaves_of_matches, leaves_within}
 use Rattle.qw_compile.specs.Texts.{texts_of}
 use Rattle.qw_compile.proofs.LeafLemmas.{texts_less}
@@ -102,8 +105,8 @@ sum_further f (y ∷ xs) (suc i) x less same =
 sum_next : {X : Type 0} (f : X → ℕ) (xs : List X) (i : ℕ) (x : X) → i < length xs → x ≡ get_or xs i x → sum_by f (take (i + 1) xs) ≡ sum_by f (take i xs) + f x
 sum_next f xs i x less same = let at : i + 1 ≡ suc i = omega arith in ap (λ (j : ℕ). sum_by f (take j xs)) at ∙ sum_further f xs i x less same
 
-pub next_test_short : (xs : List Cond) (i : ℕ) (x : Cond) (old now new done upto : ℕ) → i < length xs → x ≡ get_or xs i x → now ≤ old + 117 * done + 304 * sum_by nodes_of (take i xs) → new + 117 * done ≤ now + 117 * upto + 304 * nodes_of x →
-    new ≤ old + 117 * upto + 304 * sum_by nodes_of (take (i + 1) xs)
+pub next_test_short : (xs : List Cond) (i : ℕ) (x : Cond) (old now new done upto : ℕ) → i < length xs → x ≡ get_or xs i x → now ≤ old + 117 * done + 404 * sum_by nodes_of (take i xs) → new + 117 * done ≤ now + 117 * upto + 404 * nodes_of x →
+    new ≤ old + 117 * upto + 404 * sum_by nodes_of (take (i + 1) xs)
 next_test_short xs i x old now new done upto less same before added = let sums = sum_next nodes_of xs i x less same in omega (arith, before, added, sums)
 
 -- a part of a row's reads
@@ -120,10 +123,10 @@ part_short rs part done upto a old new is ahead within short added =
     taken (suc n) [] le = absurd (omega (arith, le))
     taken (suc n) (x ∷ xs) le = ap suc (taken n xs (omega (arith, le)))
 
-pub conjunct_short : (old mid now new : List LowStep) (done upto n : ℕ) → length mid + 117 * done ≤ length old + 117 * upto → length now ≤ length mid + 300 * n → length new ≤ length now + 4 → 1 ≤ n → length new + 117 * done ≤ length old + 117 * upto + 304 * n
-conjunct_short old mid now new done upto n one two three some = omega (arith, one, two, three, some)
+pub conjunct_short : (old mid now new before after done upto n : ℕ) → mid + 117 * done ≤ old + 117 * upto → now + after ≤ mid + before + 400 * n → new ≤ now + 4 → 1 ≤ n → new + after + 117 * done ≤ old + before + 117 * upto + 404 * n
+conjunct_short old mid now new before after done upto n one two three some = omega (arith, one, two, three, some)
 
-pub next_item_short : (xs : List Expr) (i : ℕ) (x : Expr) (old now new : ℕ) → i < length xs → x ≡ get_or xs i x → now ≤ old + 300 * sum_by nodes (take i xs) → new ≤ now + 300 * nodes x → new ≤ old + 300 * sum_by nodes (take (i + 1) xs)
+pub next_item_short : (xs : List Expr) (i : ℕ) (x : Expr) (old now new : ℕ) → i < length xs → x ≡ get_or xs i x → now ≤ old + 400 * sum_by nodes (take i xs) → new ≤ now + 400 * nodes x → new ≤ old + 400 * sum_by nodes (take (i + 1) xs)
 next_item_short xs i x old now new less same before added = let sums = sum_next nodes xs i x less same in omega (arith, before, added, sums)
 
 -- ---- a row
@@ -159,18 +162,18 @@ pub sources_many : (os : List Operand) → length (sources_of os) ≡ length os
 sources_many [] = refl
 sources_many (x ∷ os) = ap suc (sources_many os)
 
--- what the parts of a row's code add up to
-pub row_short : (conjuncts : List Cond) (items : List Expr) (os : List Source) (w done all : ℕ) (old tested read evaluated pushed new : List LowStep) → length os ≡ length items → length tested ≤ length old + 117 * done + 304 * sum_by nodes_of conjuncts →
-    length read + 117 * done ≤ length tested + 117 * all → length evaluated ≤ length read + 300 * sum_by nodes items → pushed ≡ evaluated ++ steps_of (push_block w (cells_block 8 os)) → new ≡ pushed ++ closings (length conjuncts) →
-    length new ≤ length old + (320 * (sum_by nodes_of conjuncts + sum_by nodes items) + 117 * all + 40)
-row_short conjuncts items os w done all old tested read evaluated pushed new many tests reads values push close =
+-- what the parts of a row's code, and the locals of conjuncts and items, add up to
+pub row_short : (conjuncts : List Cond) (items : List Expr) (os : List Source) (w done all first second third : ℕ) (old tested read evaluated pushed new : List LowStep) → length os ≡ length items → length tested + second ≤ length old + first + 117 * done + 404 * sum_by nodes_of conjuncts →
+    length read + 117 * done ≤ length tested + 117 * all → length evaluated + third ≤ length read + second + 400 * sum_by nodes items → pushed ≡ evaluated ++ steps_of (push_block w (cells_block 8 os)) → new ≡ pushed ++ closings (length conjuncts) →
+    length new + third ≤ length old + first + (420 * (sum_by nodes_of conjuncts + sum_by nodes items) + 117 * all + 40)
+row_short conjuncts items os w done all first second third old tested read evaluated pushed new many tests reads values push close =
     let one = ap (λ (l : List LowStep). length l) push ∙ length-append evaluated (steps_of (push_block w (cells_block 8 os))) in
     let two = ap (λ (l : List LowStep). length l) close ∙ length-append pushed (closings (length conjuncts)) in
     omega (arith, many, tests, reads, values, one, two, closings_long (length conjuncts), push_long w (cells_block 8 os), cells_long os 8, many_nodes items, many_nodes_of conjuncts)
 
 -- ---- a scan
 pub scan_short : (base : ℕ) (begins leads sets row : Statement) (code : List LowStep) (texts words : ℕ) → code ≡ steps_of (scan_block (begin_block base (seq begins (seq leads sets))) row) → size begins ≤ 832 → size leads ≤ 6 * texts → texts ≤ 16384 →
-    size sets ≤ 2 * words → words ≤ 16384 → length (steps_of row) ≤ 1287528 → length code ≤ 2097152
+    size sets ≤ 2 * words → words ≤ 16384 → length (steps_of row) ≤ 1687528 → length code ≤ 2097152
 scan_short base begins leads sets row code texts words made b l few c few_words rows =
     let all = ap (λ (c : List LowStep). length c) made in
     let columns : Statement = seq begins (seq leads sets) in
@@ -183,6 +186,31 @@ scan_short base begins leads sets row code texts words made b l few c few_words 
     let six = length-append (steps_of (turn_block row)) (expression_steps more_rows ++ step.Again ∷ step.End ∷ step.End ∷ []) in
     let eight = length-append (steps_of row) (steps_of next_row) in
     omega (arith, all, one, two, three, four, five, half, six, eight, b, l, few, c, few_words, rows, steps_size begins, steps_size leads, steps_size sets)
+
+-- ---- the locals of a scan
+bases_long : (us : List Used) (rest : List ValType) → length (base_types us rest) ≡ 3 * length us + length rest
+bases_long [] rest = omega arith
+bases_long (u ∷ us) rest = let more = bases_long us rest in omega (arith, more)
+
+locals_of_cells : (us : List Used) (rest : List ValType) → length (cell_types us rest) ≡ 3 * length us + length rest
+locals_of_cells [] rest = omega arith
+locals_of_cells (u ∷ us) rest = let more = locals_of_cells us rest in omega (arith, more)
+
+texts_long : (n : ℕ) (rest : List ValType) → length (text_types n rest) ≡ 2 * n + length rest
+texts_long zero rest = omega arith
+texts_long (suc n) rest = let more = texts_long n rest in omega (arith, more)
+
+words_long : (n : ℕ) (rest : List ValType) → length (word_types n rest) ≡ n + length rest
+words_long zero rest = omega arith
+words_long (suc n) rest = let more = words_long n rest in omega (arith, more)
+
+pub locals_long : (used : List Used) (texts words : ℕ) (own : List ValType) → length (scan_locals used texts words own) ≡ 7 + 6 * length used + (2 * texts + words) + length own
+locals_long used texts words own =
+    let one = bases_long used (text_types texts (word_types words (cell_types used own))) in
+    let two = texts_long texts (word_types words (cell_types used own)) in
+    let three = words_long words (cell_types used own) in
+    let four = locals_of_cells used own in
+    omega (arith, one, two, three, four)
 
 -- ---- each leaf is a node
 mutual

@@ -13,7 +13,7 @@ use Rattle.qw_types.specs.Value.{IsOfTypeOrNull}
 use Rattle.qw_meaning.specs.declared.expression.Operator.{Operator}
 use Rattle.qw_meaning.specs.declared.expression.Field.{Field}
 use Rattle.qw_meaning.specs.Columns.{HasColumns}
-use Rattle.qw_meaning.specs.Evaluation.{applied, as_number, cell_of, chosen, combined, extracted, negated, raised, truth_of, value_of}
+use Rattle.qw_meaning.specs.Evaluation.{applied, as_number, cell_of, chosen, combined, extracted, negated, raised, truth_of, value_of, at_row}
 use Rattle.qw_meaning.specs.Expression.{Expression, null, number, date, text, column, arithmetic, negative, extract, brought, choice}
 use Rattle.qw_expr.specs.Bindings.{IsAmong, Knows}
 use Rattle.qw_expr.specs.Computes.{Known}
@@ -115,16 +115,16 @@ chosen_gives True a b x y = x
 chosen_gives False a b x y = y
 chosen_gives Unknown a b x y = y
 
-pub value_utf8 : (e : Expression) (row : List Val) → HasTexts IsUtf8 e → HasColumns (HasUtf8 row) e → IfOk (value_of e (record { row = row })) IsUtf8Value
+pub value_utf8 : (e : Expression) (row : List Val) → HasTexts IsUtf8 e → HasColumns (HasUtf8 row) e → IfOk (value_of e (at_row row)) IsUtf8Value
 value_utf8 null row h c = tt
 value_utf8 (number v s) row h c = tt
 value_utf8 (date d) row h c = tt
 value_utf8 (text t) row h c = h
 value_utf8 (column i t) row h c = c
 value_utf8 (arithmetic operator a b) row h c =
-    then_gives (value_of a (record { row = row })) _ (λ x. then_gives (value_of b (record { row = row })) _ (λ y. combined_gives operator x _ y _))
-value_utf8 (negative a) row h c = then_gives (value_of a (record { row = row })) _ (λ x. negated_gives x)
-value_utf8 (extract field a) row h c = then_gives (value_of a (record { row = row })) _ (λ x. extracted_gives field x)
-value_utf8 (brought a s) row h c = value_gives (value_of a (record { row = row })) _ (value_utf8 a row h c) (λ x hx. raised_gives x _ s hx)
+    then_gives (value_of a (at_row row)) _ (λ x. then_gives (value_of b (at_row row)) _ (λ y. combined_gives operator x _ y _))
+value_utf8 (negative a) row h c = then_gives (value_of a (at_row row)) _ (λ x. negated_gives x)
+value_utf8 (extract field a) row h c = then_gives (value_of a (at_row row)) _ (λ x. extracted_gives field x)
+value_utf8 (brought a s) row h c = value_gives (value_of a (at_row row)) _ (value_utf8 a row h c) (λ x hx. raised_gives x _ s hx)
 value_utf8 (choice d a b) row h c =
-    then_gives (truth_of d (record { row = row })) _ (λ t. chosen_gives t (value_of a (record { row = row })) (value_of b (record { row = row })) (value_utf8 a row h.1.0 c.1.0) (value_utf8 b row h.1.1 c.1.1))
+    then_gives (truth_of d (at_row row)) _ (λ t. chosen_gives t (value_of a (at_row row)) (value_of b (at_row row)) (value_utf8 a row h.1.0 c.1.0) (value_utf8 b row h.1.1 c.1.1))

@@ -9,4 +9,3 @@ pub mod Nesting
 pub mod Readers
 pub mod Sources
 pub mod Texts
-pub mod Worked

@@ -1,7 +1,7 @@
 -- The columns of a table that a specification names.
-use Rattle.std.specs.Prelude.{◌≡◌, ℕ, ◌==◌, if◌then◌else◌, Bool, List, [], ◌∷◌, ◌++◌, Some, map, slice_get}
+use Rattle.std.specs.Prelude.{◌≡◌, ℕ, ◌==◌, if◌then◌else◌, List, [], ◌∷◌, ◌++◌, Some, map, slice_get}
 use Rattle.std.specs.List.{list_any}
-use Rattle.qw_types.specs.declared.value.Ty.{Ty}
+use Rattle.qw_types.specs.declared.schema.ColumnType.{ColumnType}
 use Rattle.qw_map.specs.declared.layout.Used.{Used}
 use Rattle.qw_meaning.specs.Select.{Parts}
 use Rattle.qw_expr.specs.declared.known.Leaf.{Leaf}
@@ -34,8 +34,7 @@ columns_named parts = or_first (and_named [] (leaves_of parts))
 abbrev pub columns_of : List Used → List ℕ
 columns_of used = map (λ (u : Used). u.column) used
 
--- a column of the table: of its type there, and NOT NULL exactly where that is told
-pub record IsOfTable (table : ℕ) (types : List Ty) (not_null : List Bool) (u : Used) : Type 0 where
+-- a column of a table of these columns: of its type there, and NOT NULL exactly where it is
+pub record IsOfTable (table : ℕ) (columns : List ColumnType) (u : Used) : Type 0 where
   pub table_is : u.table ≡ table
-  pub type_is : slice_get types u.column ≡ Some u.ty
-  pub not_null_is : slice_get not_null u.column ≡ Some u.not_null
+  pub column_is : slice_get columns u.column ≡ Some (record { ty = u.ty; not_null = u.not_null })

@@ -6,7 +6,7 @@ ghost use Rattle.qw_meaning.specs.Nodes.{nodes, nodes_of};
 ghost use Rattle.qw_meaning.specs.Tree.{condition_of, expression_of};
 ghost use Rattle.qw_meaning.specs.Typing.{AreTyped, IsTyped};
 ghost use Rattle.qw_expr.specs.Bindings.{known_of, IsServed, TakeKnown, TakesKnown};
-ghost use Rattle.qw_expr.specs.Emits.{free_of};
+ghost use Rattle.qw_expr.specs.Emits.{extent, free_of};
 ghost use Rattle.qw_rows.specs.Reading.{HasNullWord};
 ghost use Rattle.qw_compile.specs.Emitted.{AreOrdered, EmitsConjunct, EmitsTests, EmitsItems};
 
@@ -44,7 +44,7 @@ fn emit_conjunct(
     requires done { done ≤ length readers.now }
     ensures emits { IfOk result (λ upto. EmitsConjunct (take literals (known_of known.now)) readers.now done upto (condition_of conjunct.now) emitter.old emitter.new) }
     ensures within { IfOk result (λ upto. upto ≤ length readers.now) }
-    ensures short { IfOk result (λ upto. length emitter.new.block.code.items + 117 * done ≤ length emitter.old.block.code.items + 117 * upto + 304 * nodes_of conjunct.now) }
+    ensures short { IfOk result (λ upto. extent emitter.new + 117 * done ≤ extent emitter.old + 117 * upto + 404 * nodes_of conjunct.now) }
 {
     let leaves = leaves_within(alloc, conjunct)?;
     let upto = needed_for(readers, &leaves, done);
@@ -76,7 +76,7 @@ pub fn emit_tests(
     requires ordered { AreOrdered literals readers.now known.now }
     ensures emits { IfOk result (λ done. EmitsTests (take literals (known_of known.now)) readers.now (map condition_of conjuncts.now) emitter.old emitter.new done) }
     ensures within { IfOk result (λ done. done ≤ length readers.now) }
-    ensures short { IfOk result (λ done. length emitter.new.block.code.items ≤ length emitter.old.block.code.items + 117 * done + 304 * sum_by nodes_of conjuncts.now) }
+    ensures short { IfOk result (λ done. extent emitter.new ≤ extent emitter.old + 117 * done + 404 * sum_by nodes_of conjuncts.now) }
 {
     let mut done = 0;
     for conjunct in conjuncts {
@@ -100,7 +100,7 @@ pub fn emit_items(
     requires known { All (λ e. TakesKnown (known_of known.now) (expression_of e)) items.now }
     requires served { IsServed (free_of emitter.old) (known_of known.now) }
     ensures emits { IfOk result (λ outs. EmitsItems (known_of known.now) (map expression_of items.now) emitter.old emitter.new outs.items) }
-    ensures short { OnOk result (length emitter.new.block.code.items ≤ length emitter.old.block.code.items + 300 * sum_by nodes items.now) }
+    ensures short { OnOk result (extent emitter.new ≤ extent emitter.old + 400 * sum_by nodes items.now) }
 {
     let mut outs = Vec::new(alloc);
     for item in items {

@@ -2,20 +2,21 @@
 
 ghost use Rattle.std.specs.Prelude.{◌≡◌, ◌≤◌, ◌<◌, ◌==◌, [], ◌∷◌, List, length, IfOk, OnOk};
 ghost use Rattle.std.specs.List.{AllByRecursion, list_any};
-ghost use Rattle.qw_types.specs.declared.value.Ty as types;
-ghost use Rattle.qw_map.specs.declared.layout.Used as columns;
+ghost use Rattle.qw_map.specs.declared.layout.Used as layouts;
 ghost use Rattle.qw_meaning.specs.Columns.{IsColumnOf};
+ghost use Rattle.qw_meaning.specs.Select.{types_of};
 ghost use Rattle.qw_compile.specs.Leaves.{OfColumn};
 ghost use Rattle.qw_compile.specs.Named.{IsOfTable, and_named, columns_of, or_first};
 
 use qw_expr::known::Leaf;
 use qw_map::layout::Used;
-use qw_types::{NoMemory, Ty};
+use qw_types::NoMemory;
+use qw_types::schema::ColumnType;
 use std::alloc::Global;
 
 /// Whether a column is one of these.
 fn is_one_of(used: &[Used], column: usize) -> bool
-    ensures { result ≡ list_any (λ (one : columns.Used). one.column == column) used.now }
+    ensures { result ≡ list_any (λ (one : layouts.Used). one.column == column) used.now }
 {
     used.iter().any(|one| one.column == column)
 }
@@ -24,24 +25,25 @@ fn is_one_of(used: &[Used], column: usize) -> bool
 fn add_named(
     used: &mut Vec<Used>,
     table: usize,
-    not_null: &[bool],
+    columns: &[ColumnType],
     leaf: &Leaf,
 ) -> Result<(), NoMemory>
-    requires { OfColumn (λ column ty. column < length not_null.now) leaf.now }
+    requires { OfColumn (λ column ty. column < length columns.now) leaf.now }
     ensures named { OnOk result (columns_of used.new.items ≡ and_named (columns_of used.old.items) (leaf.now ∷ [])) }
-    ensures of_table { OnOk result ((all : List types.Ty) → OfColumn (IsColumnOf all) leaf.now → AllByRecursion (IsOfTable table all not_null.now) used.old.items → AllByRecursion (IsOfTable table all not_null.now) used.new.items) }
+    ensures of_table { OnOk result (AllByRecursion (IsOfTable table columns.now) used.old.items → AllByRecursion (IsOfTable table columns.now) used.new.items) }
 {
-    let Leaf::Column(column, ty) = leaf else {
+    let Leaf::Column(column, _) = leaf else {
         return Ok(());
     };
     if is_one_of(used, *column) {
         return Ok(());
     }
+    let declared = columns[*column];
     used.push(Used {
         table,
         column: *column,
-        ty: *ty,
-        not_null: not_null[*column],
+        ty: declared.ty,
+        not_null: declared.not_null,
     })?;
     Ok(())
 }
@@ -54,26 +56,24 @@ fn add_named(
 pub fn used_of(
     alloc: Global,
     table: usize,
-    types: &[Ty],
-    not_null: &[bool],
+    columns: &[ColumnType],
     leaves: &[Leaf],
 ) -> Result<Vec<Used>, NoMemory>
-    requires columns { length not_null.now ≡ length types.now }
-    requires some { 1 ≤ length types.now }
-    requires over { AllByRecursion (OfColumn (IsColumnOf types.now)) leaves.now }
+    requires some { 1 ≤ length columns.now }
+    requires over { AllByRecursion (OfColumn (IsColumnOf (types_of columns.now))) leaves.now }
     ensures named { IfOk result (λ used. columns_of used.items ≡ or_first (and_named [] leaves.now)) }
-    ensures of_table { IfOk result (λ used. AllByRecursion (IsOfTable table types.now not_null.now) used.items) }
+    ensures of_table { IfOk result (λ used. AllByRecursion (IsOfTable table columns.now) used.items) }
 {
     let mut used = Vec::new(alloc);
     for leaf in leaves {
-        add_named(&mut used, table, not_null, leaf)?;
+        add_named(&mut used, table, columns, leaf)?;
     }
     if used.is_empty() {
         used.push(Used {
             table,
             column: 0,
-            ty: types[0],
-            not_null: not_null[0],
+            ty: columns[0].ty,
+            not_null: columns[0].not_null,
         })?;
     }
     Ok(used)

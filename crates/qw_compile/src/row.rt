@@ -6,7 +6,7 @@ ghost use Rattle.qw_meaning.specs.Nodes.{nodes, nodes_of};
 ghost use Rattle.qw_meaning.specs.Tree.{condition_of, expression_of};
 ghost use Rattle.qw_meaning.specs.Typing.{AreTyped, IsTyped};
 ghost use Rattle.qw_expr.specs.Bindings.{known_of, IsServed, TakeKnown, TakesKnown};
-ghost use Rattle.qw_expr.specs.Emits.{free_of};
+ghost use Rattle.qw_expr.specs.Emits.{extent, free_of};
 ghost use Rattle.qw_rows.specs.Reading.{HasNullWord};
 ghost use Rattle.qw_compile.specs.Emitted.{AreOrdered, EmitsRow};
 
@@ -50,7 +50,7 @@ pub fn emit_row(
     requires words { AllByRecursion (λ r. HasNullWord r.not_null r.cell.null) readers.now }
     requires ordered { AreOrdered literals readers.now known.now }
     ensures emits { IfOk result (λ outs. EmitsRow (take literals (known_of known.now)) readers.now (map condition_of conjuncts.now) (map expression_of items.now) emitter.old emitter.new outs.items) }
-    ensures short { OnOk result (length emitter.new.block.code.items ≤ length emitter.old.block.code.items + (320 * (sum_by nodes_of conjuncts.now + sum_by nodes items.now) + 117 * length readers.now + 40)) }
+    ensures short { OnOk result (extent emitter.new ≤ extent emitter.old + (420 * (sum_by nodes_of conjuncts.now + sum_by nodes items.now) + 117 * length readers.now + 40)) }
 {
     let done = emit_tests(alloc, emitter, conjuncts, readers, literals, known)?;
     emit_reads(&mut emitter.block, &readers[done..])?;

@@ -1,18 +1,7 @@
 //! Worked cases of the definitions, with numbers: stated as contracts. No function here computes anything.
 
 ghost use Rattle.std.specs.Prelude.{◌≡◌, [], ◌∷◌, None};
-ghost use Rattle.qw_types.specs.declared.value.Val.TheVariants.{Text};
-ghost use Rattle.qw_emit.specs.Compiled.{compared_at, units};
 ghost use Rattle.qw_compile.specs.Texts.{literals_from};
-ghost use Rattle.qw_compile.specs.Worked.{pens, same_pens};
-
-/// Of the rows 'pen' and 'm', a query that asks for those that are 'm' compares 3 + 1 octets and 1 + 1. Its units are these six, the two rows
-/// that it scans, and the one that it finds.
-pub fn units_of_texts()
-    ensures first { compared_at same_pens (Text (112 ∷ 101 ∷ 110 ∷ []) ∷ []) ≡ 4 }
-    ensures second { compared_at same_pens (Text (109 ∷ []) ∷ []) ≡ 2 }
-    ensures all { units same_pens pens ≡ 9 }
-{}
 
 /// The texts 'pen' and 'm' lie one behind another: with locals from 11 on and octets from 80 on, the second one's locals are 13 and 14, and its
 /// octet is at 83.

@@ -6,6 +6,7 @@ use Rattle.qw_types.specs.Kind.{IsRowOf, type_kind}
 use Rattle.qw_types.specs.Schema.{AreColumns}
 use Rattle.qw_types.specs.Value.{IsOfType, IsOfTypeOrNull, IsSized}
 use Rattle.qw_types.specs.declared.schema.Column.{Column}
+use Rattle.qw_types.specs.declared.schema.Table.{Table}
 use Rattle.qw_types.specs.declared.value.Ty.TheVariants.{Integer}
 use Rattle.qw_types.specs.declared.value.Val.{Val}
 use Rattle.qw_types.specs.declared.value.Val.TheVariants as val
@@ -13,6 +14,8 @@ use Rattle.qw_types.proofs.KindLemmas.{column_of_kind}
 use Rattle.qw_types.specs.Contents.{AreLoaded, Contents, IsOfColumnType, column_type}
 use Rattle.qw_csv.specs.Contents.{AreIntegerColumns, AreIntegers, IsIntegerRow, integer_column}
 use Rattle.qw_types.specs.declared.schema.ColumnType.{ColumnType}
+use Rattle.qw_csv.specs.Loading.{AreRecordsOf, IsRecordOf, Loads}
+use Rattle.qw_csv.proofs.PushLemmas.{field_of_column}
 
 -- each of them
 pub column_there : (columns : List ColumnType) (index : ℕ) → AreIntegerColumns columns → index < length columns → slice_get columns index ≡ Some integer_column
@@ -62,3 +65,21 @@ pub loaded_of_kinds : (columns : List Column) (contents : Contents) → AreColum
     → AllByRecursion (IsRowOf (map (λ (c : Column). type_kind c.ty) columns)) contents.rows
 loaded_of_kinds columns contents are is loaded =
     loaded_rows columns contents.rows are.sized (subst (λ (types : List ColumnType). AllByRecursion (AllZip IsOfColumnType types) contents.rows) is loaded.typed)
+
+-- a row that a file stands for has a value of each column
+read_row : (columns : List Column) (fields : List (List ℕ)) (row : List Val) → IsRecordOf columns fields row → AllZip IsOfColumnType (map column_type columns) row
+read_row [] [] [] is = tt
+read_row [] [] (value ∷ row) is = absurd is
+read_row [] (field ∷ fields) row is = absurd is
+read_row (column ∷ columns) [] row is = absurd is
+read_row (column ∷ columns) (field ∷ fields) [] is = absurd is
+read_row (column ∷ columns) (field ∷ fields) (value ∷ row) is = (field_of_column column field value is.0, read_row columns fields row is.1)
+
+read_rows : (columns : List Column) (records : List (List (List ℕ))) (rows : List (List Val)) → AreRecordsOf columns records rows → AllByRecursion (AllZip IsOfColumnType (map column_type columns)) rows
+read_rows columns [] [] are = tt
+read_rows columns [] (row ∷ rows) are = absurd are
+read_rows columns (fields ∷ records) [] are = absurd are
+read_rows columns (fields ∷ records) (row ∷ rows) are = (read_row columns fields row are.0, read_rows columns records rows are.1)
+
+pub loaded_of_columns : (table : Table) (bytes : List ℕ) (rows : List (List Val)) → Loads table bytes rows → AllByRecursion (AllZip IsOfColumnType (map column_type table.columns)) rows
+loaded_of_columns table bytes rows loads = read_rows table.columns loads.records rows loads.each

@@ -1,15 +1,18 @@
 //! A table of rows in memory.
 
-ghost use Rattle.std.specs.Prelude.{◌≡◌, ◌<◌, ◌↔◌, List, [], length, map, IsTrue, Some, slice_get};
-ghost use Rattle.std.specs.List.{AllByRecursion};
+ghost use Rattle.std.specs.Prelude.{◌≡◌, ◌<◌, ◌↔◌, ℕ, List, [], length, map, IsTrue, Some, slice_get};
+ghost use Rattle.std.specs.List.{AllByRecursion, AllZip};
 ghost use Rattle.qw_types.specs.Kind.{IsRowOf, type_kind};
 ghost use Rattle.qw_types.specs.Schema.{AreColumns};
 ghost use Rattle.qw_types.specs.Value.{value_of};
 ghost use Rattle.qw_types.specs.declared.schema.Column.{Column};
+ghost use Rattle.qw_types.specs.declared.schema.Table.{Table};
+ghost use Rattle.qw_types.specs.declared.value.Val.{Val};
 ghost use Rattle.qw_types.specs.declared.value.Val.TheVariants.{Num};
-ghost use Rattle.qw_types.specs.Contents.{AreLoaded, Contents, column_type};
+ghost use Rattle.qw_types.specs.Contents.{AreLoaded, Contents, IsOfColumnType, column_type};
 ghost use Rattle.qw_csv.specs.Contents.{integer_column};
 ghost use Rattle.qw_csv.specs.Field.{val_of};
+ghost use Rattle.qw_csv.specs.Loading.{Loads};
 ghost use Rattle.qw_csv.specs.Inner.Rows.{AreStored, rows_in};
 
 use crate::cell::Cell;
@@ -29,6 +32,7 @@ pub struct Loaded {
 impl Model for Loaded {
     ghost use Rattle.qw_types.specs.Contents.{Contents};
     ghost use Rattle.qw_csv.specs.Field.{val_of};
+    ghost use Rattle.qw_csv.specs.Loading.{Loads};
     ghost use Rattle.qw_csv.specs.Inner.Rows.{AreStored, rows_in};
 
     ghost Value = { Contents };
@@ -105,4 +109,11 @@ impl Loaded {
 pub fn rows_are_of_their_kinds()
     ensures { (columns : List Column) (contents : Contents) → AreColumns columns → contents.columns ≡ map column_type columns → AreLoaded contents
         → AllByRecursion (IsRowOf (map (λ (c : Column). type_kind c.ty) columns)) contents.rows }
+{}
+
+/// The rows that a table's file stands for are rows of the table's columns: a value of each, in their order, which is null only where the
+/// column isn't NOT NULL.
+pub fn rows_are_of_their_columns()
+    ensures { (table : Table) (bytes : List ℕ) (rows : List (List Val)) → Loads table bytes rows
+        → AllByRecursion (AllZip IsOfColumnType (map column_type table.columns)) rows }
 {}

@@ -1,5 +1,5 @@
--- When a module is the compiled form of a query specification: what its runs do, whatever shares the memory with them.
-use Rattle.std.specs.Prelude.{◌≡◌, ℕ, ◌+◌, ◌-◌, ◌*◌, ◌/◌, ◌^◌, ◌<◌, ◌≤◌, List, length, map, Option, Some, None, Contains, slice_get, sum_by}
+-- When a module is a compiled form of what a query promises: what its runs do, whatever shares the memory with them.
+use Rattle.std.specs.Prelude.{◌≡◌, ℕ, ◌+◌, ◌*◌, ◌^◌, ◌<◌, ◌≤◌, List, length, map, Some, None, Contains, slice_get, sum_by}
 use Rattle.std.specs.List.{AllByRecursion}
 use Rattle.qw_types.specs.declared.code.Code.{Code}
 use Rattle.qw_types.specs.declared.code.Code.TheVariants.{DivZero, OutOfRange}
@@ -7,37 +7,24 @@ use Rattle.qw_types.specs.declared.value.Val.{Val}
 use Rattle.qw_linear.specs.Memory.{page}
 use Rattle.qw_module.specs.declared.module.Function.{Function}
 use Rattle.qw_module.specs.declared.module.Module.{Module}
-use Rattle.qw_module.specs.Execution.{State, Running, Returned, Raised, Trapped}
-use Rattle.qw_module.specs.Validity.{IsShaped, imported_functions, code_of_body}
+use Rattle.qw_module.specs.Form.{CallsNestWithin, NeverAsksSize}
 use Rattle.qw_module.specs.Start.{weight, weight_of_function}
-use Rattle.qw_meaning.specs.Expression.{Condition, Expression}
-use Rattle.qw_meaning.specs.Flow.{flow, from_entries, rows_of}
-use Rattle.qw_meaning.specs.Outcome.{Outcome, Rows, Raises, outcome}
-use Rattle.qw_meaning.specs.Select.{Entry, Specification}
-use Rattle.qw_meaning.specs.Typing.{kind_of}
-use Rattle.qw_meaning.specs.Units as text
+use Rattle.qw_module.specs.Validity.{IsShaped, imported_functions, code_of_body}
+use Rattle.qw_binary.specs.Contents.{contents_of}
+use Rattle.qw_binary.specs.Modules.{SpellsModule}
+use Rattle.qw_meaning.specs.Outcome.{IsSameOutcome, Outcome, Rows, Raises}
+use Rattle.qw_meaning.specs.Select.{AreOfEntries, Entry}
 use Rattle.qw_map.specs.Areas.{World}
-use Rattle.qw_map.specs.Behaving.{IsRunnable, beginning}
-use Rattle.qw_map.specs.Layout.{Layout, IsReady, row_size, rows_at}
-use Rattle.qw_map.specs.Runs.{Moment, Behaves}
-use Rattle.qw_map.specs.Turns.{End, Done, Exception, Pages, Steps, Trap, end_of_raise}
+use Rattle.qw_map.specs.Behaving.{BehavesWith, IsRunnable, beginning}
+use Rattle.qw_map.specs.Layout.{Layout, IsReady, descriptor_size, rows_at}
+use Rattle.qw_map.specs.Runs.{Moment, BehavesWithin, most_run}
+use Rattle.qw_map.specs.Seen.{IsSteady, ended_at}
+use Rattle.qw_map.specs.Turns.{End, Done, Exception, Pages, Steps, Trap}
 use Rattle.qw_map.specs.declared.layout.Placed.{Placed}
 use Rattle.qw_map.specs.declared.layout.Used.{Used}
+use Rattle.qw_emit.specs.Promise.{Promise}
 
 -- ---- bounds
-
--- The octets of the texts that are compared at a row of FROM, where all conjuncts and all items are evaluated at it.
-abbrev pub compared_at : Specification → List Val → ℕ
-compared_at query row =
-    sum_by (λ (c : Condition). text.units_of c (record { row = row })) query.conjuncts
-    + sum_by (λ (e : Expression). text.units e (record { row = row })) query.items
-
--- The units of a run: the rows that it scans, its result rows, those made of rows that raise nothing, and the octets of the texts that
--- are compared at each row of FROM.
-abbrev pub units : Specification → List (List (List Val)) → ℕ
-units query tables =
-    sum_by (λ (entry : Entry). length (rows_of tables entry.table)) query.entries + length (flow query tables).rows
-    + sum_by (compared_at query) (from_entries query.entries tables).rows
 
 -- how many instructions a module has, in all functions of its own
 abbrev pub module_weight : Module → ℕ
@@ -48,16 +35,8 @@ abbrev pub weight_of : Module → (number : ℕ) → ℕ
 weight_of m number = weight_of_function m (length (imported_functions m) + number)
 
 -- the most instructions that a run of it executes over tables
-abbrev pub bound : Specification → List (List (List Val)) → Module → (number : ℕ) → ℕ
-bound query tables m number = weight_of m number * (1 + units query tables)
-
--- The most pages that a run holds, or asks for with those held. A row that doesn't fit the rest of a page begins another, and
--- the rest, which is smaller than the row, is given up: so each page but the first and the last has more than a page less a
--- row of result rows.
-abbrev pub page_bound : Specification → List (List (List Val)) → ℕ
-page_bound query tables =
-    let size = row_size (length query.items) in
-    2 + length (flow query tables).rows * size / (page - size)
+abbrev pub bound : Promise → List (List (List Val)) → Module → (number : ℕ) → ℕ
+bound promise tables m number = weight_of m number * (1 + promise.units tables)
 
 -- ---- how a run ends
 
@@ -67,54 +46,59 @@ raised_for DivZero = 1
 raised_for OutOfRange = 2
 
 -- How an end answers, of an instance with these bounds on its instructions and its pages. At a return no request was refused, and
--- the result rows are the bag of the outcome, here in the order of the list. At an exception the outcome has it. A request that was
--- refused was past the limit of pages, which so is below their bound. And a limit of instructions that was met is below theirs.
+-- the result rows are the bag of the outcome, in any order. At an exception no request was refused either, and the outcome has it. A
+-- request that was refused was past the limit of pages, which so is below their bound. And a limit of instructions that was met is
+-- below theirs.
 abbrev pub Answers : Outcome → Layout → (most pages : ℕ) → (descriptor : ℕ) → World → List ℕ → End → Type 0
 Answers out layout most pages descriptor w memory Done =
-    (w.refused ≡ None) × ((bag : List (List Val)) × (out ≡ Rows bag) × (rows_at layout w memory descriptor ≡ Some bag))
+    (w.refused ≡ None) × ((bag : List (List Val)) × IsSameOutcome out (Rows bag) × (rows_at layout w memory descriptor ≡ Some bag))
 Answers out layout most pages descriptor w memory (Exception code) =
-    (codes : List Code) × (one : Code) × (out ≡ Raises codes) × Contains codes one × (code ≡ raised_for one)
+    (w.refused ≡ None) × ((codes : List Code) × (one : Code) × (out ≡ Raises codes) × Contains codes one × (code ≡ raised_for one))
 Answers out layout most pages descriptor w memory (Pages held asked limit) =
     (held ≡ w.held) × (limit ≡ w.limit) × (limit < held + asked) × (held + asked ≤ pages)
 Answers out layout most pages descriptor w memory (Steps limit) = limit < most
 Answers out layout most pages descriptor w memory Trap = ⊥
 
--- the end of a run that is over, where it has one
-abbrev pub end_at_state : State → World → Option End
-end_at_state (Running c) w = None
-end_at_state Returned w = Some Done
-end_at_state (Raised code) w = end_of_raise code w
-end_at_state (Trapped why) w = Some Trap
-
 -- a run that is over answers
 abbrev pub AnswersAt : Outcome → Layout → (most pages : ℕ) → (descriptor : ℕ) → Moment → Type 0
 AnswersAt out layout most pages descriptor b =
-    (end : End) × (end_at_state b.state b.world ≡ Some end) × Answers out layout most pages descriptor b.world b.memory end
+    (end : End) × (ended_at b.state b.world ≡ Some end) × Answers out layout most pages descriptor b.world b.memory end
 
 -- ---- compiled modules
 
--- a column of the layout is one of an entry of FROM
+-- a column of the layout is one of an entry, of its type and NOT NULL where it is
 abbrev pub IsUsedOf : List Entry → Used → Type 0
-IsUsedOf entries used = (entry : Entry) × Contains entries entry × (entry.table ≡ used.table) × (slice_get entry.types used.column ≡ Some used.ty)
+IsUsedOf entries used =
+    (entry : Entry) × Contains entries entry × (entry.table ≡ used.table)
+    × (slice_get entry.columns used.column ≡ Some (record { ty = used.ty; not_null = used.not_null }))
 
--- The layout goes with the query: its columns are columns of the entries of FROM, and the cells of result rows are of the kinds of
--- the select list's items.
-pub record GoesWith (query : Specification) (layout : Layout) : Type 0 where
-  pub columns : AllByRecursion (IsUsedOf query.entries) layout.columns
-  pub cells : map kind_of query.items ≡ map Some layout.cells
+-- The layout goes with what is promised: its columns are columns of the entries, the cells of result rows are of the kinds that are
+-- promised, and the descriptor fits a page.
+pub record GoesWith (promise : Promise) (layout : Layout) : Type 0 where
+  pub columns : AllByRecursion (IsUsedOf promise.entries) layout.columns
+  pub cells : promise.cells ≡ map Some layout.cells
+  pub small : descriptor_size layout ≤ page
 
--- The module, with a layout that goes with the query, is its compiled form: it can be run; all functions of its own have at most
--- 2^22 instructions together, and its `run` at most 2^24 with all that it calls; and over any tables, wherever the layout's
--- columns lie from octet 64 on and the first page behind them, every open run behaves: its loads lie in the columns and its own
--- areas, its stores in its own areas, it doesn't trap, its requests stay within the page bound, it ends within its bound, and then
--- answers.
-pub record IsCompiled (query : Specification) (layout : Layout) (m : Module) : Type 0 where
+-- The module, with a layout that goes with the promise, is a compiled form of it.
+pub record IsCompiled (promise : Promise) (layout : Layout) (m : Module) : Type 0 where
+  -- it can be run, and over any memory that is ready for its layout it keeps what is asked of a job
   pub runnable : IsRunnable m
-  pub goes_with : GoesWith query layout
+  pub is_job : BehavesWith layout m
+  pub goes_with : GoesWith promise layout
+  -- its functions call at most three deep, and never ask for the memory's size
+  pub nests : CallsNestWithin m 3
+  pub no_size : NeverAsksSize m
+  -- it is spelled in at most 64 MiB
+  pub spelled : (text : List ℕ) × SpellsModule (contents_of m) text × (length text ≤ 2 ^ 26)
+  -- all functions of its own have at most 2^22 instructions together, and its `run` at most 2^24 with all that it calls
   pub short : module_weight m ≤ 2 ^ 22
   pub light : (number : ℕ) → IsShaped m number → weight_of m number ≤ 2 ^ 24
+  -- Over any tables of the entries, wherever the layout's columns lie from octet 64 on and the first page behind them, every open run
+  -- behaves within the bounds of its instructions and pages, and answers at its end.
   pub behaves : (number descriptor limit : ℕ) (placed : List Placed) (tables : List (List (List Val))) (memory : List ℕ) →
-      IsShaped m number → IsReady layout placed tables descriptor limit memory →
-      Behaves (bound query tables m number) (page_bound query tables)
-      (AnswersAt (outcome query tables) layout (bound query tables m number) (page_bound query tables) descriptor)
+      AreOfEntries promise.entries tables → IsShaped m number → IsReady layout placed tables descriptor limit memory →
+      BehavesWithin (bound promise tables m number) (promise.pages tables) most_run
+      (AnswersAt (promise.outcome tables) layout (bound promise tables m number) (promise.pages tables) descriptor)
       (beginning m number layout placed descriptor limit memory)
+  -- what is seen of a run depends on the values of tables and the limit of pages alone
+  pub steady : IsSteady layout m

@@ -1,3 +1,5 @@
+pub mod Promise
+pub mod Queries
 pub mod Compiled
 pub mod WorkedQueries
 pub use Rattle.qw_module.specs.Execution

@@ -1,8 +1,9 @@
 //! Worked cases of the definitions, with numbers, stated as contracts: `SELECT A FROM T WHERE A > 5` over the rows (4), (1), (7),
 //! weights of modules, and ends. No function here computes anything.
 
-ghost use Rattle.std.specs.Prelude.{◌≡◌, ◌≤◌, ℕ, pos, true, List, [], ◌∷◌, replicate, Some, None};
+ghost use Rattle.std.specs.Prelude.{◌≡◌, ◌≤◌, ℕ, pos, true, false, List, [], ◌∷◌, length, replicate, Some, None};
 ghost use Rattle.qw_types.specs.declared.code.Code.TheVariants.{DivZero, OutOfRange};
+ghost use Rattle.qw_types.specs.declared.kind.Kind.{Kind};
 ghost use Rattle.qw_types.specs.declared.kind.Kind.TheVariants as kind;
 ghost use Rattle.qw_types.specs.declared.value.Ty.TheVariants.{Integer, Date};
 ghost use Rattle.qw_types.specs.declared.value.Val.{Val};
@@ -18,78 +19,89 @@ ghost use Rattle.qw_module.specs.Start.{weight};
 ghost use Rattle.qw_module.specs.Syntax.{done, op, call};
 ghost use Rattle.qw_module.specs.Validity.{code_of_body, sequences_of};
 ghost use Rattle.qw_meaning.specs.declared.expression.Operator.TheVariants as operator;
-ghost use Rattle.qw_meaning.specs.Expression.{arithmetic, column, number};
+ghost use Rattle.qw_meaning.specs.declared.comparison.Comparison.TheVariants.{Equal};
+ghost use Rattle.qw_meaning.specs.Expression.{arithmetic, case, coalesced, column, comparison, last, more, number};
 ghost use Rattle.qw_meaning.specs.Outcome.{Outcome, Rows, Raises};
 ghost use Rattle.qw_map.specs.Areas.{World};
 ghost use Rattle.qw_map.specs.Layout.{Layout, rows_at};
 ghost use Rattle.qw_map.specs.Runs.{Moment};
 ghost use Rattle.qw_map.specs.Turns as turns;
 ghost use Rattle.qw_map.specs.Turns.{Done, Exception, Pages, Steps};
-ghost use Rattle.qw_emit.specs.Compiled.{units, module_weight, weight_of, bound, page_bound, raised_for, Answers, AnswersAt, GoesWith};
-ghost use Rattle.qw_emit.specs.WorkedQueries.{above, three_rows};
+ghost use Rattle.qw_emit.specs.Compiled.{module_weight, weight_of, bound, raised_for, Answers, AnswersAt, GoesWith};
+ghost use Rattle.qw_emit.specs.Promise.{Promise};
+ghost use Rattle.qw_emit.specs.Queries.{page_bound, promise_of, units};
+ghost use Rattle.qw_emit.specs.WorkedQueries.{above, from_words, integers, is_pen, m, of_integers, pen, three_rows, two_words, word};
 
 /// With `SELECT A FROM T WHERE A > 5`, T being table 0, goes a layout of its column A and one whole number, and one that uses no column;
-/// not one with a column of another table, of another type, or that T hasn't, nor one whose cells are a date, two numbers or a number of
-/// another scale.
+/// not one with a column of another table, of another type, that may be null, or that T hasn't, nor one whose cells are a date, two
+/// numbers or a number of another scale. A layout of 65,472 octets of texts has a descriptor of a page, and goes with it; one of an octet
+/// more doesn't, nor with anything else.
 pub fn layouts_that_go_with_a_query()
-    ensures goes { GoesWith (above (0 ∷ []) (pos 5)) (record { columns = record { table = 0; column = 0; ty = Integer; not_null = true } ∷ []; literals = []; cells = kind.Number 0 ∷ [] }) }
-    ensures no_column { GoesWith (above (0 ∷ []) (pos 5)) (record { columns = []; literals = []; cells = kind.Number 0 ∷ [] }) }
-    ensures other_table { GoesWith (above (0 ∷ []) (pos 5)) (record { columns = record { table = 1; column = 0; ty = Integer; not_null = true } ∷ []; literals = []; cells = kind.Number 0 ∷ [] }) → ⊥ }
-    ensures other_type { GoesWith (above (0 ∷ []) (pos 5)) (record { columns = record { table = 0; column = 0; ty = Date; not_null = true } ∷ []; literals = []; cells = kind.Number 0 ∷ [] }) → ⊥ }
-    ensures past_the_table { GoesWith (above (0 ∷ []) (pos 5)) (record { columns = record { table = 0; column = 1; ty = Integer; not_null = true } ∷ []; literals = []; cells = kind.Number 0 ∷ [] }) → ⊥ }
-    ensures other_kind { GoesWith (above (0 ∷ []) (pos 5)) (record { columns = []; literals = []; cells = kind.Date ∷ [] }) → ⊥ }
-    ensures two_cells { GoesWith (above (0 ∷ []) (pos 5)) (record { columns = []; literals = []; cells = kind.Number 0 ∷ kind.Number 0 ∷ [] }) → ⊥ }
-    ensures other_scale { GoesWith (above (0 ∷ []) (pos 5)) (record { columns = []; literals = []; cells = kind.Number 2 ∷ [] }) → ⊥ }
+    ensures goes { GoesWith (promise_of (above 1 (pos 5))) of_integers }
+    ensures no_column { GoesWith (promise_of (above 1 (pos 5))) (record of_integers { columns = [] }) }
+    ensures other_table { GoesWith (promise_of (above 1 (pos 5))) (record of_integers { columns = record { table = 1; column = 0; ty = Integer; not_null = true } ∷ [] }) → ⊥ }
+    ensures other_type { GoesWith (promise_of (above 1 (pos 5))) (record of_integers { columns = record { table = 0; column = 0; ty = Date; not_null = true } ∷ [] }) → ⊥ }
+    ensures nullable { GoesWith (promise_of (above 1 (pos 5))) (record of_integers { columns = record { table = 0; column = 0; ty = Integer; not_null = false } ∷ [] }) → ⊥ }
+    ensures past_the_table { GoesWith (promise_of (above 1 (pos 5))) (record of_integers { columns = record { table = 0; column = 1; ty = Integer; not_null = true } ∷ [] }) → ⊥ }
+    ensures other_kind { GoesWith (promise_of (above 1 (pos 5))) (record of_integers { cells = kind.Date ∷ [] }) → ⊥ }
+    ensures two_cells { GoesWith (promise_of (above 1 (pos 5))) (record of_integers { cells = kind.Number 0 ∷ kind.Number 0 ∷ [] }) → ⊥ }
+    ensures other_scale { GoesWith (promise_of (above 1 (pos 5))) (record of_integers { cells = kind.Number 2 ∷ [] }) → ⊥ }
+    ensures page_of_texts { (literals : List ℕ) → length literals ≡ 65472 → GoesWith (promise_of (above 1 (pos 5))) (record of_integers { columns = []; literals = literals }) }
+    ensures past_a_page { (promise : Promise) (literals : List ℕ) (cells : List Kind) → length literals ≡ 65473 → GoesWith promise (record { columns = []; literals = literals; cells = cells }) → ⊥ }
 {}
 
 /// Three rows and the one that is kept are 4 units; where all three are kept there are 6, and of no rows none. Two tables of 2 and 3 rows
 /// without a WHERE have 5 rows and 6 result rows, a row that raises makes none, and a table that comes twice counts twice.
 pub fn units_of_tables()
-    ensures one_kept { units (above (0 ∷ []) (pos 5)) three_rows ≡ 4 }
-    ensures all_kept { units (above (0 ∷ []) (pos 0)) three_rows ≡ 6 }
-    ensures no_rows { units (above (0 ∷ []) (pos 5)) ([] ∷ []) ≡ 0 }
-    ensures no_table { units (above (0 ∷ []) (pos 5)) [] ≡ 0 }
-    ensures two_tables { (a b c d e : Val) → units (record {
-      entries = record { table = 0; types = Integer ∷ [] } ∷ record { table = 1; types = Integer ∷ [] } ∷ [];
-      conjuncts = [];
-      items = column 0 Integer ∷ [];
-    })
+    ensures one_kept { units (above 1 (pos 5)) three_rows ≡ 4 }
+    ensures all_kept { units (above 1 (pos 0)) three_rows ≡ 6 }
+    ensures no_rows { units (above 1 (pos 5)) ([] ∷ []) ≡ 0 }
+    ensures no_table { units (above 1 (pos 5)) [] ≡ 0 }
+    ensures two_tables { (a b c d e : Val) → units (record { entries = integers 0 ∷ integers 1 ∷ []; conjuncts = []; items = column 0 Integer ∷ [] })
         (((a ∷ []) ∷ (b ∷ []) ∷ []) ∷ ((c ∷ []) ∷ (d ∷ []) ∷ (e ∷ []) ∷ []) ∷ []) ≡ 11 }
-    ensures twice { (a b : Val) → units (record {
-      entries = record { table = 0; types = Integer ∷ [] } ∷ record { table = 0; types = Integer ∷ [] } ∷ [];
-      conjuncts = [];
-      items = column 0 Integer ∷ [];
-    })
+    ensures twice { (a b : Val) → units (record { entries = integers 0 ∷ integers 0 ∷ []; conjuncts = []; items = column 0 Integer ∷ [] })
         (((a ∷ []) ∷ (b ∷ []) ∷ []) ∷ []) ≡ 8 }
     ensures raises { units (record {
-      entries = record { table = 0; types = Integer ∷ [] } ∷ [];
+      entries = integers 0 ∷ [];
       conjuncts = [];
       items = arithmetic operator.Divide (number (pos 8) 0) (arithmetic operator.Subtract (column 0 Integer) (number (pos 1) 0)) ∷ [];
     }) three_rows ≡ 5 }
 {}
 
+/// Of the rows 'pen' and 'm', `WHERE L = 'm'` compares 3 + 1 octets and 1 + 1: with the two rows, and the one that is found, these are 9
+/// units. Of `L = 'pen' AND L = 'm'` the greater counts at each row, 6 and 4 octets, so with the two rows 12 units. An item that compares
+/// L with 'pen' counts at the rows that reach it: with `WHERE 1 = 2` at none, so the 2 rows are all; without a WHERE at both, 6 and 4
+/// octets, which with two rows and two result rows are 14; and twice in a COALESCE no more than once.
+pub fn units_of_texts()
+    ensures found { units (from_words (comparison Equal word m ∷ []) (word ∷ [])) two_words ≡ 9 }
+    ensures greater { units (from_words (comparison Equal word pen ∷ comparison Equal word m ∷ []) (word ∷ [])) two_words ≡ 12 }
+    ensures dropped { units (from_words (comparison Equal (number (pos 1) 0) (number (pos 2) 0) ∷ []) (is_pen ∷ [])) two_words ≡ 2 }
+    ensures kept { units (from_words [] (is_pen ∷ [])) two_words ≡ 14 }
+    ensures once { units (from_words [] (case (coalesced (more is_pen (last is_pen))) ∷ [])) two_words ≡ 14 }
+{}
+
 /// A function of 87 instructions executes at most 87 * (1 + 4) = 435 over these rows, 87 * (1 + 6) = 609 where all are kept,
 /// and 87 over none.
 pub fn bound_of_three_rows()
-    ensures one_kept { (m : Module) (number : ℕ) → weight_of m number ≡ 87 → bound (above (0 ∷ []) (pos 5)) three_rows m number ≡ 435 }
-    ensures all_kept { (m : Module) (number : ℕ) → weight_of m number ≡ 87 → bound (above (0 ∷ []) (pos 0)) three_rows m number ≡ 609 }
-    ensures no_rows { (m : Module) (number : ℕ) → weight_of m number ≡ 87 → bound (above (0 ∷ []) (pos 5)) [] m number ≡ 87 }
+    ensures one_kept { (m : Module) (number : ℕ) → weight_of m number ≡ 87 → bound (promise_of (above 1 (pos 5))) three_rows m number ≡ 435 }
+    ensures all_kept { (m : Module) (number : ℕ) → weight_of m number ≡ 87 → bound (promise_of (above 1 (pos 0))) three_rows m number ≡ 609 }
+    ensures no_rows { (m : Module) (number : ℕ) → weight_of m number ≡ 87 → bound (promise_of (above 1 (pos 5))) [] m number ≡ 87 }
 {}
 
 /// A result row of one cell has 24 octets, so the bound is 2 + N * 24 / 65,512 pages for N result rows: 2 for one row, for 2,728
 /// and for 2,729, and 3 for 2,730. Rows that are rejected don't count.
 pub fn page_bound_of_narrow_rows()
-    ensures one { page_bound (above (0 ∷ []) (pos 5)) three_rows ≡ 2 }
-    ensures past_the_first_page { page_bound (above (0 ∷ []) (pos 5)) (replicate 2728 (Num (pos 7) ∷ []) ∷ []) ≡ 2 }
-    ensures last_of_two { page_bound (above (0 ∷ []) (pos 5)) (replicate 2729 (Num (pos 7) ∷ []) ∷ []) ≡ 2 }
-    ensures first_of_three { page_bound (above (0 ∷ []) (pos 5)) (replicate 2730 (Num (pos 7) ∷ []) ∷ []) ≡ 3 }
-    ensures rejected { page_bound (above (0 ∷ []) (pos 5)) (replicate 2730 (Num (pos 5) ∷ []) ∷ []) ≡ 2 }
+    ensures one { page_bound (above 1 (pos 5)) three_rows ≡ 2 }
+    ensures past_the_first_page { page_bound (above 1 (pos 5)) (replicate 2728 (Num (pos 7) ∷ []) ∷ []) ≡ 2 }
+    ensures last_of_two { page_bound (above 1 (pos 5)) (replicate 2729 (Num (pos 7) ∷ []) ∷ []) ≡ 2 }
+    ensures first_of_three { page_bound (above 1 (pos 5)) (replicate 2730 (Num (pos 7) ∷ []) ∷ []) ≡ 3 }
+    ensures rejected { page_bound (above 1 (pos 5)) (replicate 2730 (Num (pos 5) ∷ []) ∷ []) ≡ 2 }
 {}
 
 /// A result row of 64 cells has 1,032 octets, so the bound is 2 + N * 1,032 / 64,504 pages: 2 for 62 rows, and 3 for 63.
 pub fn page_bound_of_wide_rows()
-    ensures last_of_two { page_bound (above (replicate 64 0) (pos 5)) (replicate 62 (Num (pos 7) ∷ []) ∷ []) ≡ 2 }
-    ensures first_of_three { page_bound (above (replicate 64 0) (pos 5)) (replicate 63 (Num (pos 7) ∷ []) ∷ []) ≡ 3 }
+    ensures last_of_two { page_bound (above 64 (pos 5)) (replicate 62 (Num (pos 7) ∷ []) ∷ []) ≡ 2 }
+    ensures first_of_three { page_bound (above 64 (pos 5)) (replicate 63 (Num (pos 7) ∷ []) ∷ []) ≡ 3 }
 {}
 
 /// A numbered body counts as the code that it stands for: a block around a loop of two instructions, and a branch, are 5; a
@@ -147,9 +159,9 @@ pub fn returns_that_answer()
 
 /// An exception answers where the outcome has it, whichever it is of several; not another one, and not where the outcome is rows.
 pub fn exceptions_that_answer()
-    ensures first { (layout : Layout) (most pages descriptor : ℕ) (w : World) (memory : List ℕ) →
+    ensures first { (layout : Layout) (most pages descriptor : ℕ) (w : World) (memory : List ℕ) → w.refused ≡ None →
         Answers (Raises (DivZero ∷ OutOfRange ∷ [])) layout most pages descriptor w memory (Exception 1) }
-    ensures second { (layout : Layout) (most pages descriptor : ℕ) (w : World) (memory : List ℕ) →
+    ensures second { (layout : Layout) (most pages descriptor : ℕ) (w : World) (memory : List ℕ) → w.refused ≡ None →
         Answers (Raises (DivZero ∷ OutOfRange ∷ [])) layout most pages descriptor w memory (Exception 2) }
     ensures other { (layout : Layout) (most pages descriptor : ℕ) (w : World) (memory : List ℕ) →
         Answers (Raises (DivZero ∷ [])) layout most pages descriptor w memory (Exception 2) → ⊥ }
@@ -157,6 +169,8 @@ pub fn exceptions_that_answer()
         Answers (Raises []) layout most pages descriptor w memory (Exception 1) → ⊥ }
     ensures no_code { (layout : Layout) (most pages descriptor code : ℕ) (w : World) (memory : List ℕ) → 3 ≤ code →
         Answers (Raises (DivZero ∷ OutOfRange ∷ [])) layout most pages descriptor w memory (Exception code) → ⊥ }
+    ensures refused { (out : Outcome) (layout : Layout) (most pages descriptor code asked : ℕ) (w : World) (memory : List ℕ) → w.refused ≡ Some asked →
+        Answers out layout most pages descriptor w memory (Exception code) → ⊥ }
     ensures rows { (layout : Layout) (most pages descriptor code : ℕ) (w : World) (memory : List ℕ) (bag : List (List Val)) →
         Answers (Rows bag) layout most pages descriptor w memory (Exception code) → ⊥ }
 {}
@@ -190,7 +204,7 @@ pub fn states_that_answer()
         b.world.held ≡ 1 → b.world.limit ≡ 1 → AnswersAt out layout most 2 descriptor b }
     ensures not_asked { (out : Outcome) (layout : Layout) (most pages descriptor : ℕ) (b : Moment) → b.state ≡ Raised 3 → b.world.refused ≡ None →
         AnswersAt out layout most pages descriptor b → ⊥ }
-    ensures raised { (layout : Layout) (most pages descriptor : ℕ) (b : Moment) → b.state ≡ Raised 2 →
+    ensures raised { (layout : Layout) (most pages descriptor : ℕ) (b : Moment) → b.state ≡ Raised 2 → b.world.refused ≡ None →
         AnswersAt (Raises (OutOfRange ∷ [])) layout most pages descriptor b }
     ensures other_code { (out : Outcome) (layout : Layout) (most pages descriptor : ℕ) (b : Moment) → b.state ≡ Raised 4 →
         AnswersAt out layout most pages descriptor b → ⊥ }

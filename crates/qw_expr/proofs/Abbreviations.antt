@@ -2,7 +2,7 @@
 use Rattle.std.proofs.Common.{◌≡◌, ℕ, ◌≤◌, List, Err, ◌∙◌, refl, arith}
 use Rattle.qw_types.specs.declared.code.Code.{Code}
 use Rattle.qw_types.specs.declared.value.Val.{Val}
-use Rattle.qw_meaning.specs.declared.query.Comparison.{Comparison}
+use Rattle.qw_meaning.specs.declared.comparison.Comparison.{Comparison}
 use Rattle.qw_meaning.specs.declared.expression.Matches.{Matches}
 use Rattle.qw_meaning.specs.declared.expression.Matches.TheVariants as Matches
 use Rattle.qw_meaning.specs.Columns.{HasColumns, HaveColumns, HoldsIn}

@@ -8,7 +8,7 @@ use Rattle.qw_types.specs.declared.value.Val.{Val}
 use Rattle.qw_types.specs.declared.value.Val.TheVariants as val
 use Rattle.qw_meaning.specs.declared.expression.Operator.{Operator}
 use Rattle.qw_meaning.specs.Columns.{HasColumns, HoldsIn}
-use Rattle.qw_meaning.specs.Evaluation.{Environment, applied, as_number, combined, value_of}
+use Rattle.qw_meaning.specs.Evaluation.{Environment, applied, as_number, combined, value_of, at_row}
 use Rattle.qw_meaning.specs.Expression.{Expression, arithmetic, scale_of, scale_after}
 use Rattle.qw_meaning.specs.Typing.{IsTyped, IsValueOf, is_number, kind_of}
 use Rattle.qw_meaning.proofs.TypingLemmas.{typed_value}
@@ -57,8 +57,8 @@ number_or_null (Some kind.Text) (val.Text t) is of = absurd cc
 pub if_ok_is : {A : Type 0} (P : A → Type 0) (r : Result A Code) (v : A) → r ≡ Ok v → IfOk r P → P v
 if_ok_is P r v is h = subst (λ (q : Result _ Code). IfOk q P) is h
 
-pub number_of_typed : (e : Expression) (row : List Val) (v : Val) → IsTyped e → IsTrue (is_number (kind_of e)) → HasColumns (HoldsIn row) e → value_of e (record { row = row }) ≡ Ok v → NumberOrNull v
-number_of_typed e row v typed is columns here = number_or_null (kind_of e) v is (if_ok_is (IsValueOf (kind_of e)) (value_of e (record { row = row })) v here (typed_value e row typed columns))
+pub number_of_typed : (e : Expression) (row : List Val) (v : Val) → IsTyped e → IsTrue (is_number (kind_of e)) → HasColumns (HoldsIn row) e → value_of e (at_row row) ≡ Ok v → NumberOrNull v
+number_of_typed e row v typed is columns here = number_or_null (kind_of e) v is (if_ok_is (IsValueOf (kind_of e)) (value_of e (at_row row)) v here (typed_value e row typed columns))
 
 pub joined_below : (m n : ℕ) (a b : Option ℕ) → m ≤ n → IsBelowNull m a → IsBelowNull m b → IsBelowNull (n + 1) (joined_null m a b)
 joined_below m n None None le low_a low_b = tt
@@ -203,11 +203,11 @@ module _ (known : List Known) (next : ℕ) (low : AreBelow next known) (operator
     abbrev pub own : List ValType
     own = owna ++ (ownb ++ (I32 ∷ I64 ∷ I64 ∷ []))
 
-    runs : (pages fuel more : ℕ) (row : List Val) (s : LowState) → 1 + units (arithmetic operator a b) (record { row = row }) ≤ more → more ≤ fuel → AreHeld known row s → HasColumns (HoldsIn row) (arithmetic operator a b) →
+    runs : (pages fuel more : ℕ) (row : List Val) (s : LowState) → 1 + units (arithmetic operator a b) (at_row row) ≤ more → more ≤ fuel → AreHeld known row s → HasColumns (HoldsIn row) (arithmetic operator a b) →
         next + length own ≤ length s.locals →
-        Comes pages fuel more (λ v t. Kept next s t × Holds result v t) (value_of (arithmetic operator a b) (record { row = row })) block s
+        Comes pages fuel more (λ v t. Kept next s t × Holds result v t) (value_of (arithmetic operator a b) (at_row row)) block s
     runs pages fuel more row s enough within held columns room =
-        let env : Environment = record { row = row } in
+        let env : Environment = at_row row in
         let some : 1 ≤ more = omega (arith, enough) in
         let long = three_long owna ownb I32 I64 I64 in
         comes_then pages fuel more (λ v t. Kept next s t × Holds oa v t) (λ v t. Kept next s t × Holds result v t) (value_of a env) (λ x. value_of b env >>= (λ y. combined operator x (scale_of a) y (scale_of b))) sa
@@ -263,7 +263,7 @@ pub value_or_null : (known : List Known) (next : ℕ) → AreBelow next known �
     result.cell.null ≡ o.cell.null → result.kind ≡ kind_of e → result.scale ≡ scale_of e → result.cell.value ≤ next + length owna → result.cell.length ≤ next + length owna → (g val.Null ≡ Ok val.Null) →
     ((env : Environment) → (value_of e env ≡ (value_of a env >>= g)) × (units e env ≡ units a env)) → ((row : List Val) → HasColumns (HoldsIn row) e → HasColumns (HoldsIn row) a) →
     Computes known a next o sa owna →
-    ((pages fuel more : ℕ) (row : List Val) (v : Val) (t : LowState) → 1 ≤ more → HasColumns (HoldsIn row) e → value_of a (record { row = row }) ≡ Ok v → (v ≡ val.Null → ⊥) → Holds o v t → next + length owna < length t.locals →
+    ((pages fuel more : ℕ) (row : List Val) (v : Val) (t : LowState) → 1 ≤ more → HasColumns (HoldsIn row) e → value_of a (at_row row) ≡ Ok v → (v ≡ val.Null → ⊥) → Holds o v t → next + length owna < length t.locals →
     Comes pages fuel more (λ w u. Kept (next + length owna) t u × Holds result w u) (g v) f t) →
     ((types : List ValType) → DeclaresValue types o → slice_get types (next + length owna) ≡ Some I64 → low.IsTyped types f × DeclaresKind types result.cell result.kind) →
     Computes known e next result (seq sa (unless_null o.cell.null f)) (owna ++ I64 ∷ [])
@@ -277,7 +277,7 @@ value_or_null known next low e a g o result sa f owna null_is kind_is scale_is l
         subst (λ (n : Option ℕ). IsBelowNull (next + length (owna ++ I64 ∷ [])) n) (sym null_is) (below_more (next + length owna) (next + length (owna ++ I64 ∷ [])) o.cell (omega (arith, long)) ca.below).2,
       );
   runs = λ pages fuel more row s enough within held has room.
-      let env : Environment = record { row = row } in
+      let env : Environment = at_row row in
       let some : 1 ≤ more = omega (arith, enough) in
       let long = one_long owna I64 in
       let same = means env in
@@ -296,7 +296,7 @@ value_or_null known next low e a g o result sa f owna null_is kind_is scale_is l
     further pages fuel more s v t kept h = comes_weaker pages fuel more (λ w u. Kept (next + length owna) t u × Holds result w u) (λ w u. Kept next s u × Holds result w u) (g v) f t
         (λ w u is left. (Kept-then next (next + length owna) s t u (omega arith) kept left.0, left.1)) h
 
-    after : (pages fuel more : ℕ) (row : List Val) (s : LowState) (v : Val) (t : LowState) → 1 ≤ more → HasColumns (HoldsIn row) e → value_of a (record { row = row }) ≡ Ok v → Kept next s t × Holds o v t → next + length owna < length t.locals →
+    after : (pages fuel more : ℕ) (row : List Val) (s : LowState) (v : Val) (t : LowState) → 1 ≤ more → HasColumns (HoldsIn row) e → value_of a (at_row row) ≡ Ok v → Kept next s t × Holds o v t → next + length owna < length t.locals →
         Comes pages fuel more (λ w u. Kept next s u × Holds result w u) (g v) (unless_null o.cell.null f) t
     after pages fuel more row s val.Null t some has is_v left room =
         rw at_null (unless pages fuel more some (λ w u. Kept next s u × Holds result w u) (Ok val.Null) o.cell.null true f t left.1.0

@@ -9,7 +9,7 @@ use Rattle.qw_types.specs.declared.truth.Truth.TheVariants.{True, False, Unknown
 use Rattle.qw_types.specs.declared.value.Val.{Val}
 use Rattle.qw_types.specs.declared.value.Val.TheVariants as val
 use Rattle.qw_meaning.specs.Columns.{HasColumns, HoldsIn}
-use Rattle.qw_meaning.specs.Evaluation.{Environment, chosen, same_truth, truth_of, value_of}
+use Rattle.qw_meaning.specs.Evaluation.{Environment, chosen, same_truth, truth_of, value_of, at_row}
 use Rattle.qw_meaning.specs.Expression.{Expression, Condition, choice}
 use Rattle.qw_meaning.specs.Typing.{IsTyped, IsValueOf, agree, joined, kind_of}
 use Rattle.qw_meaning.proofs.TypingLemmas.{typed_value}
@@ -66,7 +66,7 @@ not_there c (val.Text o) x t there holds = (
 )
 
 pub apart : (known : List Known) (low next : ℕ) (e : Expression) (o : Operand) (a : Statement) (own : List ValType) → AreBelow low known → Computes known e next o a own → (pages fuel more : ℕ) (row : List Val) (s : LowState) (v : Val) (x : ℕ) →
-    1 + units e (record { row = row }) ≤ more → more ≤ fuel → AreHeld known row s → HasColumns (HoldsIn row) e → next + length own ≤ length s.locals → value_of e (record { row = row }) ≡ Ok v → low ≤ x → x < next → IsApart o.cell v x
+    1 + units e (at_row row) ≤ more → more ≤ fuel → AreHeld known row s → HasColumns (HoldsIn row) e → next + length own ≤ length s.locals → value_of e (at_row row) ≡ Ok v → low ≤ x → x < next → IsApart o.cell v x
 apart known low next e o a own below ca pages fuel more row s v x enough within held has room is_v past before =
     let u : LowState = record s { locals = slice_set s.locals x (Address (Own 0) 0) } in
     let long : length u.locals ≡ length s.locals = length-set s.locals x (Address (Own 0) 0) in
@@ -202,18 +202,18 @@ module _ (known : List Known) (next : ℕ) (low_known : AreBelow next known) (c 
   -- one of the results, in its place
   module _ (pages fuel more : ℕ) (row : List Val) (s u : LowState) (within : more ≤ fuel) (some : 1 ≤ more) (kept : Kept next s u) (held : AreHeld known row u) (room : next + length own ≤ length u.locals) where
     placed : (e : Expression) (o : Operand) (at : ℕ) (body : Statement) (mine : List ValType) → Computes known e at o body mine → IsTyped e → HasColumns (HoldsIn row) e → Suits text (kind_of e) → m + length (place_types text) ≤ at → at + length mine ≤ length u.locals →
-        1 + units e (record { row = row }) ≤ more → o.most ≤ out.most → (out.cell.null ≡ Some to.null) ⊎ ((out.cell.null ≡ None) × (o.cell.null ≡ None)) →
-        Comes pages fuel more (λ v w. Kept next s w × Holds out v w) (value_of e (record { row = row })) (seq body (copy_block o.kind to o.cell)) u
+        1 + units e (at_row row) ≤ more → o.most ≤ out.most → (out.cell.null ≡ Some to.null) ⊎ ((out.cell.null ≡ None) × (o.cell.null ≡ None)) →
+        Comes pages fuel more (λ v w. Kept next s w × Holds out v w) (value_of e (at_row row)) (seq body (copy_block o.kind to o.cell)) u
     placed e o at body mine ce typed_e has suits_e past room_e enough most nulls =
-        let right : value_of e (record { row = row }) ≡ (value_of e (record { row = row }) >>= (λ v. Ok v)) = unit (value_of e (record { row = row })) in
+        let right : value_of e (at_row row) ≡ (value_of e (at_row row) >>= (λ v. Ok v)) = unit (value_of e (at_row row)) in
         subst (λ (r : Result Val Code). Comes pages fuel more (λ v w. Kept next s w × Holds out v w) r (seq body (copy_block o.kind to o.cell)) u) (sym right)
-        (comes_then pages fuel more (λ v w. Kept at u w × Holds o v w) (λ v w. Kept next s w × Holds out v w) (value_of e (record { row = row })) (λ v. Ok v) body (copy_block o.kind to o.cell) u
+        (comes_then pages fuel more (λ v w. Kept at u w × Holds o v w) (λ v w. Kept next s w × Holds out v w) (value_of e (at_row row)) (λ v. Ok v) body (copy_block o.kind to o.cell) u
         (ce.runs pages fuel more row u enough within held has room_e)
         (λ v w is_v left.
         comes_weaker pages fuel more (λ z t. Kept m w t × HoldsValue out.cell z t) (λ z t. Kept next s t × Holds out z t) (Ok v) (copy_block o.kind to o.cell) w
         (λ z t is_z done. (Kept-then next m s w t (omega arith) (Kept-then next at s u w (omega (arith, past)) kept left.0) done.0, (done.1, within_more o.most out.most z most (subst (IsWithin o.most) (same_value v z is_z) left.1.1))))
         (copied pages fuel more some text o.kind m w o.cell v out.cell.null (subst (Suits text) (sym ce.kind_is) suits_e)
-        (subst (λ (k : Option Kind). IsValueOf k v) (sym ce.kind_is) (if_ok_is (IsValueOf (kind_of e)) (value_of e (record { row = row })) v is_v (typed_value e row typed_e has)))
+        (subst (λ (k : Option Kind). IsValueOf k v) (sym ce.kind_is) (if_ok_is (IsValueOf (kind_of e)) (value_of e (at_row row)) v is_v (typed_value e row typed_e has)))
         left.1.0 (below_more (at + length mine) (length w.locals) o.cell (omega (arith, room_e, left.0.many)) ce.below) (omega (arith, past, room_e, left.0.many)) nulls
         (λ x past_x before_x. apart known next at e o body mine low_known ce pages fuel more row u v x enough within held has room_e is_v (omega (arith, past_x)) (omega (arith, before_x, past))))))
       where
@@ -241,10 +241,10 @@ module _ (known : List Known) (next : ℕ) (low_known : AreBelow next known) (c 
   abbrev pub block : Statement
   block = seq sc (conditional (local test.value) first second)
 
-  runs : (pages fuel more : ℕ) (row : List Val) (s : LowState) → 1 + units (choice c a b) (record { row = row }) ≤ more → more ≤ fuel → AreHeld known row s → HasColumns (HoldsIn row) (choice c a b) → next + length own ≤ length s.locals →
-      Comes pages fuel more (λ v t. Kept next s t × Holds out v t) (value_of (choice c a b) (record { row = row })) block s
+  runs : (pages fuel more : ℕ) (row : List Val) (s : LowState) → 1 + units (choice c a b) (at_row row) ≤ more → more ≤ fuel → AreHeld known row s → HasColumns (HoldsIn row) (choice c a b) → next + length own ≤ length s.locals →
+      Comes pages fuel more (λ v t. Kept next s t × Holds out v t) (value_of (choice c a b) (at_row row)) block s
   runs pages fuel more row s enough within held has room =
-      let env : Environment = record { row = row } in
+      let env : Environment = at_row row in
       let some : 1 ≤ more = omega (arith, enough) in
       comes_then pages fuel more (λ t u. Kept next s u × HoldsTruth test t u) (λ v t. Kept next s t × Holds out v t) (truth_of c env) (λ t. chosen t (value_of a env) (value_of b env)) sc (conditional (local test.value) first second) s
       (dc.runs pages fuel more row s (omega (arith, enough)) within held has.0 (omega (arith, room, long)))

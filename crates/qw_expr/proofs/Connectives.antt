@@ -7,7 +7,7 @@ use Rattle.qw_types.specs.declared.truth.Truth.{Truth}
 use Rattle.qw_types.specs.declared.truth.Truth.TheVariants.{True, False, Unknown}
 use Rattle.qw_types.specs.declared.value.Val.{Val}
 use Rattle.qw_meaning.specs.Columns.{HaveColumns, HoldsIn}
-use Rattle.qw_meaning.specs.Evaluation.{Environment, same_truth, truth_if, truth_of}
+use Rattle.qw_meaning.specs.Evaluation.{Environment, same_truth, truth_if, truth_of, at_row}
 use Rattle.qw_meaning.specs.Expression.{Condition, negation_of, is}
 use Rattle.qw_map.proofs.TurnFacts.{slice_get-set_same}
 use Rattle.qw_module.specs.declared.instruction.ValType.{ValType}
@@ -73,7 +73,7 @@ module _ (known : List Known) (next : ℕ) (c : Condition) (cell : Cell) (sc : S
           let long = one_long ownc I32 in
           (omega (arith, long), omega (arith, long), null_low null_is);
       runs = λ pages fuel more row s enough within held has room.
-          let env : Environment = record { row = row } in
+          let env : Environment = at_row row in
           let long = one_long ownc I32 in
           let same = means env in
           subst (λ (r : Result Truth Code). Comes pages fuel more (λ t w. Kept next s w × HoldsTruth (record { value = m; length = m; null = null }) t w) r (seq sc (assign m (is_false cell.value cell.null))) s) (sym same.0)
@@ -125,7 +125,7 @@ module _ (known : List Known) (next : ℕ) (c : Condition) (cell : Cell) (sc : S
   is_true_decides = record {
     below = (dc.below.0, dc.below.0, tt);
     runs = λ pages fuel more row s enough within held has room.
-        let env : Environment = record { row = row } in
+        let env : Environment = at_row row in
         true_comes pages fuel more (truth_of c env) s (dc.runs pages fuel more row s enough within held has room);
     typed = λ types declared declares. let done = dc.typed types declared declares in (done.0, (done.1.0, tt));
   }

@@ -7,7 +7,7 @@ use Rattle.qw_types.specs.declared.kind.Kind.TheVariants as kind
 use Rattle.qw_types.specs.declared.value.Val.{Val}
 use Rattle.qw_types.specs.declared.value.Val.TheVariants as val
 use Rattle.qw_meaning.specs.declared.expression.Field.{Field}
-use Rattle.qw_meaning.specs.Evaluation.{raised, value_of}
+use Rattle.qw_meaning.specs.Evaluation.{raised, value_of, at_row}
 use Rattle.qw_meaning.specs.Expression.{Expression, null, extract, brought, scale_of}
 use Rattle.qw_meaning.specs.Typing.{IsTyped, IsValueOf, at_scale, is_number, kind_of}
 use Rattle.qw_meaning.proofs.TypingLemmas.{typed_value}
@@ -87,8 +87,8 @@ unscaled_emits known a scale start old operand typed other ea =
         scale_is = refl;
         below = ea.computes.below;
         runs = λ pages fuel more row s enough within held has room.
-            comes_same pages fuel more (λ v t. Kept (free_of start) s t × Holds operand v t) (value_of a (record { row = row })) (λ v. raised v (scale_of a) scale) ea.statement s
-            (λ v is_v. raised_same (kind_of a) v (scale_of a) scale none (if_ok_is (IsValueOf (kind_of a)) (value_of a (record { row = row })) v is_v (typed_value a row typed.0 has)))
+            comes_same pages fuel more (λ v t. Kept (free_of start) s t × Holds operand v t) (value_of a (at_row row)) (λ v. raised v (scale_of a) scale) ea.statement s
+            (λ v is_v. raised_same (kind_of a) v (scale_of a) scale none (if_ok_is (IsValueOf (kind_of a)) (value_of a (at_row row)) v is_v (typed_value a row typed.0 has)))
             (ea.computes.runs pages fuel more row s enough within held has room);
         typed = ea.computes.typed;
       };

@@ -7,9 +7,9 @@ use Rattle.qw_types.specs.declared.truth.Truth.{Truth}
 use Rattle.qw_types.specs.declared.truth.Truth.TheVariants.{Unknown}
 use Rattle.qw_types.specs.declared.value.Val.{Val}
 use Rattle.qw_types.specs.declared.value.Val.TheVariants as val
-use Rattle.qw_meaning.specs.declared.query.Comparison.{Comparison}
+use Rattle.qw_meaning.specs.declared.comparison.Comparison.{Comparison}
 use Rattle.qw_meaning.specs.Columns.{HasColumns, HaveColumns, HoldsIn}
-use Rattle.qw_meaning.specs.Evaluation.{Environment, answers, compared, truth_if, value_of, truth_of}
+use Rattle.qw_meaning.specs.Evaluation.{Environment, answers, compared, truth_if, value_of, truth_of, at_row}
 use Rattle.qw_meaning.specs.Expression.{Expression, comparison, scale_of}
 use Rattle.qw_meaning.specs.Typing.{AreTyped, IsTyped, IsValueOf, is_date, is_number, kind_of}
 use Rattle.qw_meaning.proofs.TypingLemmas.{typed_value}
@@ -67,7 +67,7 @@ module _ (known : List Known) (next : ℕ) (low_known : AreBelow next known) (o 
   cell = record { value = m + 1; length = m + 1; null = null }
 
   module _ (body : Statement) (mine : List ValType)
-      (does : (pages fuel more : ℕ) (row : List Val) (x y : Val) (u t : LowState) → 1 + octets_in x y ≤ more → more ≤ fuel → HaveColumns (HoldsIn row) (comparison o a b) → value_of a (record { row = row }) ≡ Ok x → value_of b (record { row = row }) ≡ Ok y →
+      (does : (pages fuel more : ℕ) (row : List Val) (x y : Val) (u t : LowState) → 1 + octets_in x y ≤ more → more ≤ fuel → HaveColumns (HoldsIn row) (comparison o a b) → value_of a (at_row row) ≡ Ok x → value_of b (at_row row) ≡ Ok y →
       Holds oa x u → Holds ob y u → (x ≡ val.Null → ⊥) → (y ≡ val.Null → ⊥) → Kept m u t → SaysValue t null → m + 2 + length mine ≤ length u.locals →
       Comes pages fuel more (λ v w. Kept m u w × HoldsTruth cell v w) (Ok (compared o x (scale_of a) y (scale_of b))) body t)
       (typed_body : (types : List ValType) → DeclaresValue types oa → DeclaresValue types ob → slice_get types (m + 1) ≡ Some I32 → Declares types (m + 2) mine → low.IsTyped types body) where
@@ -80,10 +80,10 @@ module _ (known : List Known) (next : ℕ) (low_known : AreBelow next known) (o 
     long : length own ≡ length owna + length ownb + (2 + length mine)
     long = omega (arith, length-append owna (ownb ++ (I32 ∷ I32 ∷ mine)), length-append ownb (I32 ∷ I32 ∷ mine))
 
-    runs : (pages fuel more : ℕ) (row : List Val) (s : LowState) → 1 + units_of (comparison o a b) (record { row = row }) ≤ more → more ≤ fuel → AreHeld known row s → HaveColumns (HoldsIn row) (comparison o a b) →
-        next + length own ≤ length s.locals → Comes pages fuel more (λ v t. Kept next s t × HoldsTruth cell v t) (truth_of (comparison o a b) (record { row = row })) (seq sa (seq sb tail)) s
+    runs : (pages fuel more : ℕ) (row : List Val) (s : LowState) → 1 + units_of (comparison o a b) (at_row row) ≤ more → more ≤ fuel → AreHeld known row s → HaveColumns (HoldsIn row) (comparison o a b) →
+        next + length own ≤ length s.locals → Comes pages fuel more (λ v t. Kept next s t × HoldsTruth cell v t) (truth_of (comparison o a b) (at_row row)) (seq sa (seq sb tail)) s
     runs pages fuel more row s enough within held columns room =
-        let env : Environment = record { row = row } in
+        let env : Environment = at_row row in
         let some : 1 ≤ more = omega (arith, enough) in
         comes_then pages fuel more (λ v t. Kept next s t × Holds oa v t) (λ v t. Kept next s t × HoldsTruth cell v t) (value_of a env) (λ x. value_of b env >>= (λ y. Ok (compared o x (scale_of a) y (scale_of b)))) sa (seq sb tail) s
         (ca.runs pages fuel more row s (omega (arith, enough)) within held columns.0 (omega (arith, room, long)))
@@ -123,7 +123,7 @@ module _ (known : List Known) (next : ℕ) (low_known : AreBelow next known) (o 
 
   -- by the order of two numbers
   module _ (order : ℤ → ℤ → Ordering) (f : Statement) (ma mb : ℕ) (tests : Tests o order oa.cell.value ma ob.cell.value mb (m + 2) (m + 1) f)
-      (numbers : (row : List Val) (x y : Val) (u : LowState) → HaveColumns (HoldsIn row) (comparison o a b) → value_of a (record { row = row }) ≡ Ok x → value_of b (record { row = row }) ≡ Ok y → Holds oa x u → Holds ob y u → (x ≡ val.Null → ⊥) → (y ≡ val.Null → ⊥) →
+      (numbers : (row : List Val) (x y : Val) (u : LowState) → HaveColumns (HoldsIn row) (comparison o a b) → value_of a (at_row row) ≡ Ok x → value_of b (at_row row) ≡ Ok y → Holds oa x u → Holds ob y u → (x ≡ val.Null → ⊥) → (y ≡ val.Null → ⊥) →
       (v w : ℤ) × HasNumber oa.cell.value ma v u × HasNumber ob.cell.value mb w u × (compared o x (scale_of a) y (scale_of b) ≡ truth_if (answers o (order v w))))
       (declared_a : (types : List ValType) → DeclaresValue types oa → slice_get types oa.cell.value ≡ Some I64) (declared_b : (types : List ValType) → DeclaresValue types ob → slice_get types ob.cell.value ≡ Some I64) where
     pub order_decides : Decides known (comparison o a b) next cell (seq sa (seq sb (seq (join_block m oa.cell.null ob.cell.null) (zero_if_null null (m + 1) f)))) (owna ++ (ownb ++ (I32 ∷ I32 ∷ I64 ∷ [])))
@@ -136,7 +136,7 @@ module _ (known : List Known) (next : ℕ) (low_known : AreBelow next known) (o 
         tests.typed types (declared_a types da) (declared_b types db) word (first_declared types (m + 2) I64 declares))
 
 -- ---- numbers and dates
-pub number_in : (known : List Known) (e : Expression) (row : List Val) (x : Val) (o : Operand) (u : LowState) → IsTyped e → IsTrue (is_number (kind_of e)) → HasColumns (HoldsIn row) e → value_of e (record { row = row }) ≡ Ok x → Holds o x u → (x ≡ val.Null → ⊥) →
+pub number_in : (known : List Known) (e : Expression) (row : List Val) (x : Val) (o : Operand) (u : LowState) → IsTyped e → IsTrue (is_number (kind_of e)) → HasColumns (HoldsIn row) e → value_of e (at_row row) ≡ Ok x → Holds o x u → (x ≡ val.Null → ⊥) →
     (v : ℤ) × (x ≡ val.Num v) × HasNumber o.cell.value o.most v u
 number_in known e row x o u typed numeric columns is holds other = by_value x (number_of_typed e row x typed numeric columns is) holds other
   where
@@ -163,9 +163,9 @@ numbers_decide known next low_known o a b oa ob sa sb f owna ownb typed na nb ca
     (λ types declared. operand_declared types oa a ca.kind_is na declared) (λ types declared. operand_declared types ob b cb.kind_is nb declared)
 
 -- the greatest date, as a number
-pub date_in : (e : Expression) (row : List Val) (x : Val) (o : Operand) (u : LowState) → IsTyped e → IsTrue (is_date (kind_of e)) → HasColumns (HoldsIn row) e → value_of e (record { row = row }) ≡ Ok x → Holds o x u → (x ≡ val.Null → ⊥) →
+pub date_in : (e : Expression) (row : List Val) (x : Val) (o : Operand) (u : LowState) → IsTyped e → IsTrue (is_date (kind_of e)) → HasColumns (HoldsIn row) e → value_of e (at_row row) ≡ Ok x → Holds o x u → (x ≡ val.Null → ⊥) →
     (v : ℤ) × (x ≡ val.Date v) × HasNumber o.cell.value 99991231 v u
-date_in e row x o u typed dated columns is holds other = by_value x (if_ok_is (IsValueOf (kind_of e)) (value_of e (record { row = row })) x is (typed_value e row typed columns)) holds other
+date_in e row x o u typed dated columns is holds other = by_value x (if_ok_is (IsValueOf (kind_of e)) (value_of e (at_row row)) x is (typed_value e row typed columns)) holds other
   where
     within : (d : ℤ) → IsDateNumber d → unsigned_abs d ≤ 99991231
     within (pos n) is = omega (arith, ints, is.1)

@@ -1,5 +1,5 @@
 -- The blocks of AND and OR decide.
-use Rattle.std.proofs.Common.{◌≡◌, ℕ, ◌+◌, ◌<◌, ◌≤◌, true, false, not, List, [], ◌∷◌, ◌++◌, length, length-append, Option, Some, None, Result, Ok, slice_get, refl, sym, subst, inl, inr, ◌⊎◌, arith}
+use Rattle.std.proofs.Common.{◌≡◌, ℕ, ◌+◌, ◌<◌, ◌≤◌, max, true, false, not, List, [], ◌∷◌, ◌++◌, length, length-append, Option, Some, None, Result, Ok, slice_get, refl, sym, subst, inl, inr, ◌⊎◌, arith}
 use Rattle.qw_types.specs.Arithmetic.{◌>>=◌}
 use Rattle.qw_types.specs.Truth.{conjunction, disjunction}
 use Rattle.qw_types.specs.declared.code.Code.{Code}
@@ -7,7 +7,7 @@ use Rattle.qw_types.specs.declared.truth.Truth.{Truth}
 use Rattle.qw_types.specs.declared.truth.Truth.TheVariants.{True, False, Unknown}
 use Rattle.qw_types.specs.declared.value.Val.{Val}
 use Rattle.qw_meaning.specs.Columns.{HaveColumns, HoldsIn}
-use Rattle.qw_meaning.specs.Evaluation.{Environment, and_then, or_else, same_truth, truth_of}
+use Rattle.qw_meaning.specs.Evaluation.{Environment, and_then, or_else, same_truth, truth_of, at_row}
 use Rattle.qw_meaning.specs.Expression.{Condition, both, either}
 use Rattle.qw_module.specs.declared.instruction.ValType.{ValType}
 use Rattle.qw_module.specs.declared.instruction.ValType.TheVariants.{I32}
@@ -106,10 +106,10 @@ module _ (known : List Known) (next : ℕ) (low_known : AreBelow next known) (c 
           let long = two_long ownc ownd in
           subst (IsBelowNull (next + length own)) (sym there) (omega (arith, long))
 
-  module _ (pages fuel more : ℕ) (row : List Val) (s : LowState) (enough : 1 + (units_of c (record { row = row }) + units_of d (record { row = row })) ≤ more) (within : more ≤ fuel) (held : AreHeld known row s)
+  module _ (pages fuel more : ℕ) (row : List Val) (s : LowState) (enough : 1 + max (units_of c (at_row row)) (units_of d (at_row row)) ≤ more) (within : more ≤ fuel) (held : AreHeld known row s)
       (has : HaveColumns (HoldsIn row) c × HaveColumns (HoldsIn row) d) (room : next + length own ≤ length s.locals) where
     abbrev env : Environment
-    env = record { row = row }
+    env = at_row row
 
     abbrev Post : Truth → LowState → Type 0
     Post v w = Kept next s w × HoldsTruth cell v w

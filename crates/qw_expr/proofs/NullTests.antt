@@ -6,7 +6,7 @@ use Rattle.qw_types.specs.declared.truth.Truth.{Truth}
 use Rattle.qw_types.specs.declared.truth.Truth.TheVariants.{True, False, Unknown}
 use Rattle.qw_types.specs.declared.value.Val.{Val}
 use Rattle.qw_types.specs.declared.value.Val.TheVariants as val
-use Rattle.qw_meaning.specs.Evaluation.{same_truth, tested_null, truth_if, truth_of, value_of}
+use Rattle.qw_meaning.specs.Evaluation.{same_truth, tested_null, truth_if, truth_of, value_of, at_row}
 use Rattle.qw_meaning.specs.Expression.{Expression, Condition, is_null, is}
 use Rattle.qw_map.proofs.TurnFacts.{slice_get-set_same}
 use Rattle.qw_module.specs.declared.instruction.ValType.{ValType}
@@ -60,7 +60,7 @@ module _ (known : List Known) (next : ℕ) (a : Expression) (o : Operand) (sa : 
         let low : n < next + length owna = subst (IsBelowNull (next + length owna)) there ca.below.2 in
         (low, low, tt);
     runs = λ pages fuel more row s enough within held has room.
-        comes_map pages fuel more (λ v u. Kept next s u × Holds o v u) (λ t u. Kept next s u × HoldsTruth (sure n) t u) (value_of a (record { row = row })) tested_null sa s
+        comes_map pages fuel more (λ v u. Kept next s u × Holds o v u) (λ t u. Kept next s u × HoldsTruth (sure n) t u) (value_of a (at_row row)) tested_null sa s
         (λ v u left. (left.0, tested o n v u there left.1)) (ca.runs pages fuel more row s enough within held has room);
     typed = λ types declared declares.
         let done = ca.typed types declared declares in
@@ -77,7 +77,7 @@ module _ (known : List Known) (next : ℕ) (a : Expression) (o : Operand) (sa : 
         (omega (arith, long), omega (arith, long), tt);
     runs = λ pages fuel more row s enough within held has room.
         let long = one_long owna I32 in
-        comes_then pages fuel more (λ v u. Kept next s u × Holds o v u) (λ t u. Kept next s u × HoldsTruth (sure m) t u) (value_of a (record { row = row })) (λ v. Ok (tested_null v)) sa (assign m (i32 0)) s
+        comes_then pages fuel more (λ v u. Kept next s u × Holds o v u) (λ t u. Kept next s u × HoldsTruth (sure m) t u) (value_of a (at_row row)) (λ v. Ok (tested_null v)) sa (assign m (i32 0)) s
         (ca.runs pages fuel more row s enough within held has (omega (arith, room, long)))
         (λ v u found left.
         comes_assign pages fuel more (omega (arith, enough)) (λ t w. Kept next s w × HoldsTruth (sure m) t w) (tested_null v) m (i32 0) (Number 0) u refl (omega (arith, room, long, left.0.many)) (
@@ -132,7 +132,7 @@ module _ (known : List Known) (next : ℕ) (c : Condition) (cell : Cell) (sc : S
         let low : n < next + length ownc = subst (IsBelowNull (next + length ownc)) there dc.below.2 in
         (low, low, tt);
     runs = λ pages fuel more row s enough within held has room.
-        comes_map pages fuel more (λ t u. Kept next s u × HoldsTruth cell t u) (λ t u. Kept next s u × HoldsTruth (sure n) t u) (truth_of c (record { row = row })) (λ t. truth_if (same_truth t Unknown)) sc s
+        comes_map pages fuel more (λ t u. Kept next s u × HoldsTruth cell t u) (λ t u. Kept next s u × HoldsTruth (sure n) t u) (truth_of c (at_row row)) (λ t. truth_if (same_truth t Unknown)) sc s
         (λ t u left. (left.0, unknown_tested cell n t u there left.1)) (dc.runs pages fuel more row s enough within held has room);
     typed = λ types declared declares.
         let done = dc.typed types declared declares in
@@ -149,7 +149,7 @@ module _ (known : List Known) (next : ℕ) (c : Condition) (cell : Cell) (sc : S
         (omega (arith, long), omega (arith, long), tt);
     runs = λ pages fuel more row s enough within held has room.
         let long = one_long ownc I32 in
-        comes_then pages fuel more (λ t u. Kept next s u × HoldsTruth cell t u) (λ t u. Kept next s u × HoldsTruth (sure at) t u) (truth_of c (record { row = row })) (λ t. Ok (truth_if (same_truth t Unknown))) sc (assign at (i32 0)) s
+        comes_then pages fuel more (λ t u. Kept next s u × HoldsTruth cell t u) (λ t u. Kept next s u × HoldsTruth (sure at) t u) (truth_of c (at_row row)) (λ t. Ok (truth_if (same_truth t Unknown))) sc (assign at (i32 0)) s
         (dc.runs pages fuel more row s enough within held has (omega (arith, room, long)))
         (λ v u found left.
         comes_assign pages fuel more (omega (arith, enough)) (λ t w. Kept next s w × HoldsTruth (sure at) t w) (truth_if (same_truth v Unknown)) at (i32 0) (Number 0) u refl (omega (arith, room, long, left.0.many)) (

@@ -4,7 +4,7 @@ use Rattle.qw_types.specs.Arithmetic.{◌>>=◌}
 use Rattle.qw_types.specs.declared.code.Code.{Code}
 use Rattle.qw_types.specs.declared.value.Val.{Val}
 use Rattle.qw_meaning.specs.Columns.{HasColumns, HaveColumns, HoldsIn}
-use Rattle.qw_meaning.specs.Evaluation.{Environment, truth_of, value_of}
+use Rattle.qw_meaning.specs.Evaluation.{Environment, truth_of, value_of, at_row}
 use Rattle.qw_meaning.specs.Expression.{Expression, Condition, scale_of}
 use Rattle.qw_meaning.specs.Typing.{kind_of}
 use Rattle.qw_module.specs.declared.instruction.ValType.{ValType}
@@ -32,9 +32,9 @@ below_of n [] k all among = absurd among
 below_of n (first ∷ known) k all (inl same) = subst (λ (x : Known). IsBelow n x.operand.cell) (sym same) (all.0)
 below_of n (first ∷ known) k all (inr among) = below_of n known k all.1 among
 
-held_of : (known : List Known) (row : List Val) (s : LowState) (k : Known) → AreHeld known row s → IsAmong k known → (v : Val) × (value_of k.expression (record { row = row }) ≡ Ok v) × Holds k.operand v s
+held_of : (known : List Known) (row : List Val) (s : LowState) (k : Known) → AreHeld known row s → IsAmong k known → (v : Val) × (value_of k.expression (at_row row) ≡ Ok v) × Holds k.operand v s
 held_of [] row s k all among = absurd among
-held_of (first ∷ known) row s k all (inl same) = subst (λ (x : Known). (v : Val) × (value_of x.expression (record { row = row }) ≡ Ok v) × Holds x.operand v s) (sym same) (all.0)
+held_of (first ∷ known) row s k all (inl same) = subst (λ (x : Known). (v : Val) × (value_of x.expression (at_row row) ≡ Ok v) × Holds x.operand v s) (sym same) (all.0)
 held_of (first ∷ known) row s k all (inr among) = held_of known row s k all.1 among
 
 declared_of : (types : List ValType) (known : List Known) (k : Known) → AreDeclared types known → IsAmong k known → DeclaresValue types k.operand
@@ -78,12 +78,12 @@ module _ (known : List Known) (next : ℕ) (low : AreBelow next known) (x : Expr
 
   module _ {A : Type 0} (post : A → LowState → Type 0) (result : Environment → Result A Code) (count : Environment → ℕ) (needs : (env : Environment) (code : Code) → value_of x env ≡ Err code → result env ≡ Err code) (weighs : (env : Environment) → units x env ≤ count env)
       (own : List ValType) (b : Statement) (has_of : List Val → Type 0) (columns : (row : List Val) → has_of row → HasColumns (HoldsIn row) x)
-      (does : (pages fuel more : ℕ) (row : List Val) (s : LowState) → 1 + count (record { row = row }) ≤ more → more ≤ fuel → AreHeld known_more row s → has_of row → next + length ownx + length own ≤ length s.locals →
-      Comes pages fuel more (λ v t. Kept (next + length ownx) s t × post v t) (result (record { row = row })) b s) where
-    both_run : (pages fuel more : ℕ) (row : List Val) (s : LowState) → 1 + count (record { row = row }) ≤ more → more ≤ fuel → AreHeld known row s → has_of row → next + length (ownx ++ own) ≤ length s.locals →
-        Comes pages fuel more (λ v t. Kept next s t × post v t) (result (record { row = row })) (seq sx b) s
+      (does : (pages fuel more : ℕ) (row : List Val) (s : LowState) → 1 + count (at_row row) ≤ more → more ≤ fuel → AreHeld known_more row s → has_of row → next + length ownx + length own ≤ length s.locals →
+      Comes pages fuel more (λ v t. Kept (next + length ownx) s t × post v t) (result (at_row row)) b s) where
+    both_run : (pages fuel more : ℕ) (row : List Val) (s : LowState) → 1 + count (at_row row) ≤ more → more ≤ fuel → AreHeld known row s → has_of row → next + length (ownx ++ own) ≤ length s.locals →
+        Comes pages fuel more (λ v t. Kept next s t × post v t) (result (at_row row)) (seq sx b) s
     both_run pages fuel more row s enough within held has room =
-        let env : Environment = record { row = row } in
+        let env : Environment = at_row row in
         let size_is = long own in
         subst (λ (r : Result A Code). Comes pages fuel more (λ v t. Kept next s t × post v t) r (seq sx b) s) (sym (through (value_of x env) (result env) (needs env)))
         (comes_then pages fuel more (λ v t. Kept next s t × Holds ox v t) (λ v t. Kept next s t × post v t) (value_of x env) (λ v. result env) sx b s

@@ -10,9 +10,9 @@ use Rattle.qw_types.specs.declared.truth.Truth.{Truth}
 use Rattle.qw_types.specs.declared.truth.Truth.TheVariants.{True, False, Unknown}
 use Rattle.qw_types.specs.declared.value.Val.{Val}
 use Rattle.qw_types.specs.declared.value.Val.TheVariants as val
-use Rattle.qw_meaning.specs.declared.query.Comparison.{Comparison}
+use Rattle.qw_meaning.specs.declared.comparison.Comparison.{Comparison}
 use Rattle.qw_meaning.specs.Columns.{HaveColumns, HoldsIn}
-use Rattle.qw_meaning.specs.Evaluation.{Environment, answers, compared, truth_if, truth_of, value_of}
+use Rattle.qw_meaning.specs.Evaluation.{Environment, answers, compared, truth_if, truth_of, value_of, at_row}
 use Rattle.qw_meaning.specs.Expression.{Expression, Condition, comparison, negation_of, scale_of}
 use Rattle.qw_meaning.specs.Typing.{AreTyped, IsTyped, kind_of}
 use Rattle.qw_module.specs.declared.instruction.ValType.{ValType}
@@ -80,7 +80,7 @@ truth_tests known c old new cell ec = record {
   decides = record {
     below = ec.decides.below.0;
     runs = λ pages fuel more row s enough within held has room.
-        comes_weaker pages fuel more (λ v t. Kept (free_of old) s t × HoldsTruth cell v t) (λ v t. Kept (free_of old) s t × (value t (local cell.value) ≡ Some (Number (truth_word v)))) (truth_of c (record { row = row })) ec.statement s
+        comes_weaker pages fuel more (λ v t. Kept (free_of old) s t × HoldsTruth cell v t) (λ v t. Kept (free_of old) s t × (value t (local cell.value) ≡ Some (Number (truth_word v)))) (truth_of c (at_row row)) ec.statement s
         (λ v t is left. (left.0, told cell v t left.1)) (ec.decides.runs pages fuel more row s enough within held has room);
     typed = λ types declared declares.
         let done = ec.decides.typed types declared declares in
@@ -98,7 +98,7 @@ zero_tests known c old new cell none ec = record {
   decides = record {
     below = ec.decides.below.0;
     runs = λ pages fuel more row s enough within held has room.
-        comes_made pages fuel more (λ v t. Kept (free_of old) s t × HoldsTruth cell v t) (λ v t. Kept (free_of old) s t × (value t (is_zero I32 (local cell.value)) ≡ Some (Number (truth_word v)))) (truth_of c (record { row = row })) negation ec.statement s
+        comes_made pages fuel more (λ v t. Kept (free_of old) s t × HoldsTruth cell v t) (λ v t. Kept (free_of old) s t × (value t (is_zero I32 (local cell.value)) ≡ Some (Number (truth_word v)))) (truth_of c (at_row row)) negation ec.statement s
         (λ v t is left. (left.0, turned cell v t none left.1)) (ec.decides.runs pages fuel more row s enough within held has room);
     typed = λ types declared declares.
         let done = ec.decides.typed types declared declares in
@@ -116,13 +116,13 @@ word_if false = refl
 
 module _ (known : List Known) (next : ℕ) (low_known : AreBelow next known) (o : Comparison) (a b : Expression) (oa ob : Operand) (sa sb : Statement) (owna ownb : List ValType)
     (ca : Computes known a next oa sa owna) (cb : Computes known b (next + length owna) ob sb ownb) (ma mb : ℕ)
-    (numbers : (row : List Val) (x y : Val) (u : LowState) → HaveColumns (HoldsIn row) (comparison o a b) → value_of a (record { row = row }) ≡ Ok x → value_of b (record { row = row }) ≡ Ok y → Holds oa x u → Holds ob y u →
+    (numbers : (row : List Val) (x y : Val) (u : LowState) → HaveColumns (HoldsIn row) (comparison o a b) → value_of a (at_row row) ≡ Ok x → value_of b (at_row row) ≡ Ok y → Holds oa x u → Holds ob y u →
     (v w : ℤ) × HasNumber oa.cell.value ma v u × HasNumber ob.cell.value mb w u × (compared o x (scale_of a) y (scale_of b) ≡ truth_if (answers o (int_cmp v w))))
     (declared_a : (types : List ValType) → DeclaresValue types oa → slice_get types oa.cell.value ≡ Some I64) (declared_b : (types : List ValType) → DeclaresValue types ob → slice_get types ob.cell.value ≡ Some I64) where
   long : length (owna ++ ownb) ≡ length owna + length ownb
   long = length-append owna ownb
 
-  word_is : (row : List Val) (x y : Val) (u : LowState) → HaveColumns (HoldsIn row) (comparison o a b) → value_of a (record { row = row }) ≡ Ok x → value_of b (record { row = row }) ≡ Ok y → Holds oa x u → Holds ob y u →
+  word_is : (row : List Val) (x y : Val) (u : LowState) → HaveColumns (HoldsIn row) (comparison o a b) → value_of a (at_row row) ≡ Ok x → value_of b (at_row row) ≡ Ok y → Holds oa x u → Holds ob y u →
       value u (relop I64 (relation_of o) (local oa.cell.value) (local ob.cell.value)) ≡ Some (Number (truth_word (compared o x (scale_of a) y (scale_of b))))
   word_is row x y u columns is_x is_y one other =
       let found = numbers row x y u columns is_x is_y one other in
@@ -133,7 +133,7 @@ module _ (known : List Known) (next : ℕ) (low_known : AreBelow next known) (o 
   related_decides = record {
     below = (omega (arith, ca.below.0, long), omega (arith, cb.below.0, long));
     runs = λ pages fuel more row s enough within held columns room.
-        let env : Environment = record { row = row } in
+        let env : Environment = at_row row in
         let Q : Truth → LowState → Type 0 = λ v t. Kept next s t × (value t (relop I64 (relation_of o) (local oa.cell.value) (local ob.cell.value)) ≡ Some (Number (truth_word v))) in
         comes_then pages fuel more (λ v t. Kept next s t × Holds oa v t) Q (value_of a env) (λ x. value_of b env >>= (λ y. Ok (compared o x (scale_of a) y (scale_of b)))) sa sb s
         (ca.runs pages fuel more row s (omega (arith, enough)) within held columns.0 (omega (arith, room, long)))

@@ -7,10 +7,10 @@ use Rattle.qw_types.specs.declared.kind.Kind.TheVariants as kind
 use Rattle.qw_types.specs.declared.truth.Truth.{Truth}
 use Rattle.qw_types.specs.declared.value.Val.{Val}
 use Rattle.qw_types.specs.declared.value.Val.TheVariants as val
-use Rattle.qw_meaning.specs.declared.query.Comparison.{Comparison}
-use Rattle.qw_meaning.specs.declared.query.Comparison.TheVariants as op
+use Rattle.qw_meaning.specs.declared.comparison.Comparison.{Comparison}
+use Rattle.qw_meaning.specs.declared.comparison.Comparison.TheVariants as op
 use Rattle.qw_meaning.specs.Columns.{HasColumns, HoldsIn}
-use Rattle.qw_meaning.specs.Evaluation.{answers, compared, truth_if, value_of}
+use Rattle.qw_meaning.specs.Evaluation.{answers, compared, truth_if, value_of, at_row}
 use Rattle.qw_meaning.specs.Expression.{Expression, comparison, scale_of}
 use Rattle.qw_meaning.specs.Typing.{AreTyped, IsTyped, IsValueOf, kind_of}
 use Rattle.qw_meaning.proofs.TypingLemmas.{typed_value}
@@ -93,10 +93,10 @@ tests_order operator left right free t out a place compares =
     (λ types declares. (subst (λ k. slice_get types k ≡ Some I64) (sym place) (declares 2 I64 refl), (omega arith, refl), refl))
 
 -- ---- two texts
-text_in : (e : Expression) (row : List Val) (x : Val) (o : Operand) (u : LowState) → IsTyped e → kind_of e ≡ Some kind.Text → HasColumns (HoldsIn row) e → value_of e (record { row = row }) ≡ Ok x → Holds o x u → (x ≡ val.Null → ⊥) →
+text_in : (e : Expression) (row : List Val) (x : Val) (o : Operand) (u : LowState) → IsTyped e → kind_of e ≡ Some kind.Text → HasColumns (HoldsIn row) e → value_of e (at_row row) ≡ Ok x → Holds o x u → (x ≡ val.Null → ⊥) →
     (t : List ℕ) × (x ≡ val.Text t) × HoldsText u o.cell.value o.cell.length t
 text_in e row x o u typed textual columns is holds other =
-    by_value x (subst (λ (k : Option Kind). IsValueOf k x) textual (if_ok_is (IsValueOf (kind_of e)) (value_of e (record { row = row })) x is (typed_value e row typed columns))) holds other
+    by_value x (subst (λ (k : Option Kind). IsValueOf k x) textual (if_ok_is (IsValueOf (kind_of e)) (value_of e (at_row row)) x is (typed_value e row typed columns))) holds other
   where
     by_value : (x : Val) → IsValueOf (Some kind.Text) x → Holds o x u → (x ≡ val.Null → ⊥) → (t : List ℕ) × (x ≡ val.Text t) × HoldsText u o.cell.value o.cell.length t
     by_value val.Null of holds other = absurd (other refl)

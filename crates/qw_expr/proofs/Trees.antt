@@ -4,7 +4,7 @@ use Rattle.qw_types.specs.declared.code.Code.{Code}
 use Rattle.qw_types.specs.declared.value.Val.{Val}
 use Rattle.qw_meaning.specs.declared.expression.Operator.{Operator}
 use Rattle.qw_meaning.specs.declared.expression.Operator.TheVariants as op
-use Rattle.qw_meaning.specs.declared.query.Comparison.{Comparison}
+use Rattle.qw_meaning.specs.declared.comparison.Comparison.{Comparison}
 use Rattle.qw_meaning.specs.Columns.{HasColumns, HaveColumns, HoldsIn}
 use Rattle.qw_meaning.specs.Evaluation.{Environment, truth_of, value_of}
 use Rattle.qw_meaning.specs.Expression.{Expression, Condition, null, number, date, text, column, arithmetic, negative, extract, brought, choice, comparison, scale_after, scale_of}

@@ -1,7 +1,7 @@
 -- Conditions that are emitted.
 use Rattle.std.proofs.Common.{◌≡◌, ℕ, ℤ, ◌+◌, List, [], ◌∷◌, ◌++◌, length, length-append, IsTrue, Ordering, Option, Some, None, refl, sym, ap, ◌∙◌, subst, arith}
 use Rattle.qw_types.specs.Arithmetic.{order_of}
-use Rattle.qw_meaning.specs.declared.query.Comparison.{Comparison}
+use Rattle.qw_meaning.specs.declared.comparison.Comparison.{Comparison}
 use Rattle.qw_meaning.specs.Expression.{Expression, Condition, comparison, negation_of, is, scale_of}
 use Rattle.qw_meaning.specs.Typing.{AreTyped, is_date, is_number, kind_of}
 use Rattle.qw_module.specs.declared.instruction.ValType.{ValType}

@@ -3,6 +3,7 @@ use Rattle.std.proofs.Common.{◌≡◌, ℕ, ℤ, pos, negsuc, neg_ℤ, int_div
 use Rattle.std.proofs.lemmas.Int.{ints}
 use Rattle.qw_types.specs.Arithmetic.{◌>>=◌, bring}
 use Rattle.qw_types.specs.Kind.{IsDateNumber}
+use Rattle.qw_types.proofs.KindLemmas.{day_number}
 use Rattle.qw_types.specs.declared.code.Code.{Code}
 use Rattle.qw_types.specs.declared.kind.Kind.{Kind}
 use Rattle.qw_types.specs.declared.kind.Kind.TheVariants as kind
@@ -11,7 +12,7 @@ use Rattle.qw_types.specs.declared.value.Val.TheVariants as val
 use Rattle.qw_meaning.specs.declared.expression.Field.{Field}
 use Rattle.qw_meaning.specs.declared.expression.Field.TheVariants.{Year, Month, Day}
 use Rattle.qw_meaning.specs.Columns.{HasColumns, HoldsIn}
-use Rattle.qw_meaning.specs.Evaluation.{Environment, as_number, negated, extracted, field_of, raised, value_of}
+use Rattle.qw_meaning.specs.Evaluation.{Environment, as_number, negated, extracted, field_of, raised, value_of, at_row}
 use Rattle.qw_meaning.specs.Expression.{Expression, negative, extract, brought, scale_of}
 use Rattle.qw_meaning.specs.Typing.{IsTyped, IsValueOf, at_scale, is_date, is_number, kind_of}
 use Rattle.qw_meaning.proofs.TypingLemmas.{typed_value}
@@ -47,7 +48,7 @@ module _ (known : List Known) (next : ℕ) (low_known : AreBelow next known) (e 
   abbrev result : Operand
   result = number_at out o.cell.null (scale_of e) limit
 
-  does : (pages fuel more : ℕ) (row : List Val) (v : Val) (t : LowState) → 1 ≤ more → HasColumns (HoldsIn row) e → value_of a (record { row = row }) ≡ Ok v → (v ≡ val.Null → ⊥) → Holds o v t → next + length owna < length t.locals →
+  does : (pages fuel more : ℕ) (row : List Val) (v : Val) (t : LowState) → 1 ≤ more → HasColumns (HoldsIn row) e → value_of a (at_row row) ≡ Ok v → (v ≡ val.Null → ⊥) → Holds o v t → next + length owna < length t.locals →
       Comes pages fuel more (λ w u. Kept (next + length owna) t u × Holds result w u) (g v) f t
   does pages fuel more row v t some has is_v other holds room = by_value v (number_of_typed a row v typed numeric (columns row has) is_v) other holds
     where
@@ -116,7 +117,7 @@ date_declared types c (Some kind.Text) is declared = absurd cc
 pub date_of : (k : Option Kind) (d : ℤ) → IsTrue (is_date k) → IsValueOf k (val.Date d) → IsDateNumber d
 date_of None d is of = absurd cc
 date_of (Some (kind.Number s)) d is of = absurd of
-date_of (Some kind.Date) d is of = of
+date_of (Some kind.Date) d is of = day_number d of
 date_of (Some kind.Text) d is of = absurd of
 
 pub no_number : (k : Option Kind) (v : ℤ) → IsTrue (is_date k) → IsValueOf k (val.Num v) → ⊥
@@ -138,9 +139,9 @@ module _ (known : List Known) (next : ℕ) (low_known : AreBelow next known) (fi
   abbrev field_result : Operand
   field_result = number_at n o.cell.null 0 (limit_of field)
 
-  gives : (pages fuel more : ℕ) (row : List Val) (v : Val) (t : LowState) → 1 ≤ more → HasColumns (HoldsIn row) (extract field a) → value_of a (record { row = row }) ≡ Ok v → (v ≡ val.Null → ⊥) → Holds o v t → n < length t.locals →
+  gives : (pages fuel more : ℕ) (row : List Val) (v : Val) (t : LowState) → 1 ≤ more → HasColumns (HoldsIn row) (extract field a) → value_of a (at_row row) ≡ Ok v → (v ≡ val.Null → ⊥) → Holds o v t → n < length t.locals →
       Comes pages fuel more (λ w u. Kept n t u × Holds field_result w u) (Ok (extracted field v)) (field_block field n o.cell.value) t
-  gives pages fuel more row v t some has is_v other holds room = by_value v (if_ok_is (IsValueOf (kind_of a)) (value_of a (record { row = row })) v is_v (typed_value a row typed.0 has)) other holds
+  gives pages fuel more row v t some has is_v other holds room = by_value v (if_ok_is (IsValueOf (kind_of a)) (value_of a (at_row row)) v is_v (typed_value a row typed.0 has)) other holds
     where
       limit_small : (field : Field) → limit_of field ≤ 9999
       limit_small Year = omega arith

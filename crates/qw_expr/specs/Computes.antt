@@ -4,7 +4,7 @@ use Rattle.std.specs.List.{AllByRecursion}
 use Rattle.qw_types.specs.declared.value.Val.{Val}
 use Rattle.qw_module.specs.declared.instruction.ValType.{ValType}
 use Rattle.qw_meaning.specs.Columns.{HasColumns, HaveColumns, HoldsIn}
-use Rattle.qw_meaning.specs.Evaluation.{value_of, truth_of}
+use Rattle.qw_meaning.specs.Evaluation.{value_of, truth_of, at_row}
 use Rattle.qw_meaning.specs.Expression.{Expression, Condition, scale_of}
 use Rattle.qw_meaning.specs.Typing.{kind_of}
 use Rattle.qw_low.specs.declared.cell.Cell.{Cell}
@@ -26,7 +26,7 @@ pub record Known : Type 0 where
 
 -- at a row the locals hold the values of what is known
 abbrev pub AreHeld : List Known → List Val → LowState → Type 0
-AreHeld known row s = AllByRecursion (λ (k : Known). (v : Val) × (value_of k.expression (record { row = row }) ≡ Ok v) × Holds k.operand v s) known
+AreHeld known row s = AllByRecursion (λ (k : Known). (v : Val) × (value_of k.expression (at_row row) ≡ Ok v) × Holds k.operand v s) known
 
 abbrev pub AreBelow : ℕ → List Known → Type 0
 AreBelow n known = AllByRecursion (λ (k : Known). IsBelow n k.operand.cell) known
@@ -40,15 +40,15 @@ pub record Computes (known : List Known) (e : Expression) (next : ℕ) (out : Op
   pub kind_is : out.kind ≡ kind_of e
   pub scale_is : out.scale ≡ scale_of e
   pub below : IsBelow (next + length own) out.cell
-  pub runs : (pages fuel more : ℕ) (row : List Val) (s : LowState) → 1 + units e (record { row = row }) ≤ more → more ≤ fuel → AreHeld known row s → HasColumns (HoldsIn row) e →
+  pub runs : (pages fuel more : ℕ) (row : List Val) (s : LowState) → 1 + units e (at_row row) ≤ more → more ≤ fuel → AreHeld known row s → HasColumns (HoldsIn row) e →
       next + length own ≤ length s.locals →
-      Ends (size a * more) (Leaves (λ v t. Kept next s t × Holds out v t) (value_of e (record { row = row }))) (λ t. ⊥) (Raises (value_of e (record { row = row }))) (meaning pages fuel a s)
+      Ends (size a * more) (Leaves (λ v t. Kept next s t × Holds out v t) (value_of e (at_row row))) (λ t. ⊥) (Raises (value_of e (at_row row))) (meaning pages fuel a s)
   pub typed : (types : List ValType) → AreDeclared types known → Declares types next own → IsTyped types a × DeclaresValue types out
 
 -- the same of a condition and its truth
 pub record Decides (known : List Known) (c : Condition) (next : ℕ) (out : Cell) (a : Statement) (own : List ValType) : Type 0 where
   pub below : IsBelow (next + length own) out
-  pub runs : (pages fuel more : ℕ) (row : List Val) (s : LowState) → 1 + units_of c (record { row = row }) ≤ more → more ≤ fuel → AreHeld known row s → HaveColumns (HoldsIn row) c →
+  pub runs : (pages fuel more : ℕ) (row : List Val) (s : LowState) → 1 + units_of c (at_row row) ≤ more → more ≤ fuel → AreHeld known row s → HaveColumns (HoldsIn row) c →
       next + length own ≤ length s.locals →
-      Ends (size a * more) (Leaves (λ v t. Kept next s t × HoldsTruth out v t) (truth_of c (record { row = row }))) (λ t. ⊥) (Raises (truth_of c (record { row = row }))) (meaning pages fuel a s)
+      Ends (size a * more) (Leaves (λ v t. Kept next s t × HoldsTruth out v t) (truth_of c (at_row row))) (λ t. ⊥) (Raises (truth_of c (at_row row))) (meaning pages fuel a s)
   pub typed : (types : List ValType) → AreDeclared types known → Declares types next own → IsTyped types a × DeclaresTruth types out

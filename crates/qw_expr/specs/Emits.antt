@@ -13,6 +13,10 @@ use Rattle.qw_expr.specs.Computes.{Known, Computes, Decides}
 abbrev pub free_of : Emitter → ℕ
 free_of emitter = emitter.first + length emitter.own.items
 
+-- how much was emitted: the steps of the block, and the locals of its own, each of which the module declares
+abbrev pub extent : Emitter → ℕ
+extent emitter = length emitter.block.code.items + length emitter.own.items
+
 -- From one state of an emitter to another the steps of a block were added, and the types of its own locals, which computes the expression.
 pub record Emits (known : List Known) (e : Expression) (old new : Emitter) (out : Operand) : Type 0 where
   pub first_is : new.first ≡ old.first

@@ -6,7 +6,7 @@ use Rattle.qw_types.specs.declared.value.Val.{Val}
 use Rattle.qw_module.specs.declared.instruction.ValType.{ValType}
 use Rattle.qw_module.specs.declared.instruction.ValType.TheVariants.{I32, I64}
 use Rattle.qw_meaning.specs.Columns.{HaveColumns, HoldsIn}
-use Rattle.qw_meaning.specs.Evaluation.{truth_of}
+use Rattle.qw_meaning.specs.Evaluation.{truth_of, at_row}
 use Rattle.qw_meaning.specs.Expression.{Condition}
 use Rattle.qw_meaning.specs.Units.{units_of}
 use Rattle.qw_low.specs.Syntax.{Expression, local, is_zero, relop, Statement}
@@ -47,9 +47,9 @@ IsTestBelow n (test.Related r x y) = (x < n) × (y < n)
 -- than the units. Nothing else is changed.
 pub record DecidesTest (known : List Known) (c : Condition) (next : ℕ) (out : Test) (a : Statement) (own : List ValType) : Type 0 where
   pub below : IsTestBelow (next + length own) out
-  pub runs : (pages fuel more : ℕ) (row : List Val) (s : LowState) → 1 + units_of c (record { row = row }) ≤ more → more ≤ fuel → AreHeld known row s → HaveColumns (HoldsIn row) c →
+  pub runs : (pages fuel more : ℕ) (row : List Val) (s : LowState) → 1 + units_of c (at_row row) ≤ more → more ≤ fuel → AreHeld known row s → HaveColumns (HoldsIn row) c →
       next + length own ≤ length s.locals →
-      Ends (size a * more) (Leaves (λ v t. Kept next s t × (value t (tested out) ≡ Some (Number (truth_word v)))) (truth_of c (record { row = row }))) (λ t. ⊥) (Raises (truth_of c (record { row = row }))) (meaning pages fuel a s)
+      Ends (size a * more) (Leaves (λ v t. Kept next s t × (value t (tested out) ≡ Some (Number (truth_word v)))) (truth_of c (at_row row))) (λ t. ⊥) (Raises (truth_of c (at_row row))) (meaning pages fuel a s)
   pub typed : (types : List ValType) → AreDeclared types known → Declares types next own → IsTyped types a × HasType types (tested out) I32
 
 -- From one state of an emitter to another the steps of a block were added, and the types of its own locals, which decides the test.

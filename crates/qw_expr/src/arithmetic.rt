@@ -11,7 +11,7 @@ ghost use Rattle.qw_wide.specs.Numbers.{Operates};
 ghost use Rattle.qw_expr.specs.Inner.Operated.{number_at, AddsOperator, AddsOperation};
 ghost use Rattle.qw_expr.specs.declared.emitter.Emitter.{Emitter};
 ghost use Rattle.qw_expr.specs.Computes.{Known, AreBelow};
-ghost use Rattle.qw_expr.specs.Emits.{Emits, free_of};
+ghost use Rattle.qw_expr.specs.Emits.{Emits, extent, free_of};
 
 use crate::emitter::Emitter;
 use crate::operand::Operand;
@@ -88,7 +88,7 @@ impl Emitter {
         requires allowed { ScalesAllowed operator left.scale right.scale }
         requires below { (left.cell.value < free_of self.old) × (right.cell.value < free_of self.old) }
         ensures emits { IfOk result (λ out. AddsOperator operator left right self.old self.new out) }
-        ensures short { OnOk result (length self.new.block.code.items ≤ length self.old.block.code.items + 70) }
+        ensures short { OnOk result (extent self.new ≤ extent self.old + 75) }
     {
         let p = self.fresh(ValType::I32)?;
         let free = self.fresh(ValType::I64)?;
@@ -118,7 +118,7 @@ impl Emitter {
         requires below { (left.cell.value < free_of self.old) × (right.cell.value < free_of self.old) }
         ensures emits { IfOk result (λ out. (known : List Known) (a b : Expression) (start mid : Emitter) → IsTyped (arithmetic operator a b) → AreBelow (free_of start) known →
             Emits known a start mid left → Emits known b mid self.old right → Emits known (arithmetic operator a b) start self.new out) }
-        ensures short { OnOk result (length self.new.block.code.items ≤ length self.old.block.code.items + 70) }
+        ensures short { OnOk result (extent self.new ≤ extent self.old + 75) }
     {
         self.operated(operator, left, right)
     }
@@ -126,7 +126,7 @@ impl Emitter {
     /// Adds the opposite of a number, unless it is null.
     fn opposite(&mut self, operand: Operand) -> Result<Operand, NoMemory>
         ensures emits { IfOk result (λ out. AddsOperation (λ v. Ok (neg_ℤ v)) operand.scale operand self.old self.new out) }
-        ensures short { OnOk result (length self.new.block.code.items ≤ length self.old.block.code.items + 70) }
+        ensures short { OnOk result (extent self.new ≤ extent self.old + 75) }
     {
         let free = self.fresh(ValType::I64)?;
         self.begin_unless(operand.cell.null)?;
@@ -139,7 +139,7 @@ impl Emitter {
     pub fn negative(&mut self, operand: Operand) -> Result<Operand, NoMemory>
         ensures emits { IfOk result (λ out. (known : List Known) (a : Expression) (start : Emitter) → IsTyped (negative a) → AreBelow (free_of start) known →
             Emits known a start self.old operand → Emits known (negative a) start self.new out) }
-        ensures short { OnOk result (length self.new.block.code.items ≤ length self.old.block.code.items + 70) }
+        ensures short { OnOk result (extent self.new ≤ extent self.old + 75) }
     {
         self.opposite(operand)
     }
@@ -149,7 +149,7 @@ impl Emitter {
         requires scales { (operand.scale ≤ scale) × (scale ≤ 18) }
         requires below { operand.cell.value < free_of self.old }
         ensures emits { IfOk result (λ out. AddsOperation (λ v. bring v operand.scale scale) scale operand self.old self.new out) }
-        ensures short { OnOk result (length self.new.block.code.items ≤ length self.old.block.code.items + 80) }
+        ensures short { OnOk result (extent self.new ≤ extent self.old + 85) }
     {
         let free = self.fresh(ValType::I64)?;
         self.begin_unless(operand.cell.null)?;

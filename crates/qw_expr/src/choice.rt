@@ -7,7 +7,7 @@ ghost use Rattle.qw_low.specs.declared.cell.Cell.{Cell};
 ghost use Rattle.qw_low.specs.Steps.{steps_of};
 ghost use Rattle.qw_expr.specs.declared.emitter.Emitter.{Emitter};
 ghost use Rattle.qw_expr.specs.Computes.{Known, AreBelow};
-ghost use Rattle.qw_expr.specs.Emits.{Emits, EmitsTruth, free_of};
+ghost use Rattle.qw_expr.specs.Emits.{Emits, EmitsTruth, extent, free_of};
 ghost use Rattle.qw_expr.specs.Inner.Choices.{Suits, TakesPlace, BeginsChoice, HasFirst, copy_block, chosen_at};
 ghost use Rattle.qw_expr.specs.Inner.Truths.{junction_null};
 
@@ -57,7 +57,8 @@ pub(crate) fn either_null(word: Local, first: Option<Local>, second: Option<Loca
 impl Emitter {
     /// Takes locals for a place.
     fn place(&mut self, text: bool) -> Result<Place, NoMemory>
-        ensures { IfOk result (λ to. TakesPlace text self.old self.new to) }
+        ensures place { IfOk result (λ to. TakesPlace text self.old self.new to) }
+        ensures short { OnOk result (extent self.new ≤ extent self.old + 3) }
     {
         if text {
             let value = self.fresh(ValType::I32)?;
@@ -82,7 +83,7 @@ impl Emitter {
     /// Begins what is done where a truth is true.
     pub(crate) fn begin_choice(&mut self, test: Cell, text: bool) -> Result<Place, NoMemory>
         ensures emits { IfOk result (λ to. BeginsChoice test.value text self.old self.new to) }
-        ensures short { OnOk result (length self.new.block.code.items ≤ length self.old.block.code.items + 2) }
+        ensures short { OnOk result (extent self.new ≤ extent self.old + 5) }
     {
         let to = self.place(text)?;
         self.block
@@ -95,7 +96,7 @@ impl Emitter {
     fn copy(&mut self, to: Place, from: Operand) -> Result<(), NoMemory>
         ensures code { OnOk result (self.new.block.code.items ≡ self.old.block.code.items ++ steps_of (copy_block from.kind to from.cell)) }
         ensures same { OnOk result ((self.new.first ≡ self.old.first) × (self.new.own.items ≡ self.old.own.items)) }
-        ensures short { OnOk result (length self.new.block.code.items ≤ length self.old.block.code.items + 6) }
+        ensures short { OnOk result (extent self.new ≤ extent self.old + 6) }
     {
         match from.kind {
             None => {}
@@ -119,7 +120,7 @@ impl Emitter {
         ensures same { OnOk result ((self.new.first ≡ self.old.first) × (self.new.own.items ≡ self.old.own.items)) }
         ensures first { OnOk result ((known : List Known) (c : Condition) (a : Expression) (text : Bool) (start mid begun : Emitter) (test : Cell) →
             EmitsTruth known c start mid test → BeginsChoice test.value text mid begun to → Emits known a begun self.old first → HasFirst known c a text start self.new to first) }
-        ensures short { OnOk result (length self.new.block.code.items ≤ length self.old.block.code.items + 7) }
+        ensures short { OnOk result (extent self.new ≤ extent self.old + 7) }
     {
         self.copy(to, first)?;
         self.block.push(LowStep::Else)
@@ -136,7 +137,7 @@ impl Emitter {
         requires below { operand.cell.value < free_of self.old }
         ensures emits { IfOk result (λ out. (known : List Known) (c : Condition) (a : Expression) (text : Bool) (start mid begun : Emitter) (test : Cell) → IsTyped (brought a scale) → AreBelow (free_of begun) known →
             EmitsTruth known c start mid test → BeginsChoice test.value text mid begun to → Emits known a begun self.old operand → HasFirst known c (brought a scale) text start self.new to out) }
-        ensures short { OnOk result (length self.new.block.code.items ≤ length self.old.block.code.items + 90) }
+        ensures short { OnOk result (extent self.new ≤ extent self.old + 95) }
     {
         let first = self.brought(operand, scale)?;
         self.begin_other(to, first)?;
@@ -152,7 +153,7 @@ impl Emitter {
     ) -> Result<Operand, NoMemory>
         ensures emits { IfOk result (λ out. (known : List Known) (c : Condition) (e : Expression) (start : Emitter) → IsTyped (choice c null e) → Suits text (kind_of (choice c null e)) → AreBelow (free_of start) known →
             EmitsTruth known c start self.old test → ((now : Emitter) → free_of start ≤ free_of now → Emits known e now now operand) → Emits known (choice c null e) start self.new out) }
-        ensures short { OnOk result (length self.new.block.code.items ≤ length self.old.block.code.items + 20) }
+        ensures short { OnOk result (extent self.new ≤ extent self.old + 25) }
     {
         let place = self.begin_choice(test, text)?;
         let first = self.null()?;
@@ -169,7 +170,7 @@ impl Emitter {
     ) -> Result<Operand, NoMemory>
         ensures emits { IfOk result (λ out. (known : List Known) (c : Condition) (a b : Expression) (text : Bool) (start mid : Emitter) → IsTyped (choice c a b) → Suits text (kind_of (choice c a b)) →
             AreBelow (free_of start) known → HasFirst known c a text start mid to first → Emits known b mid self.old second → Emits known (choice c a b) start self.new out) }
-        ensures short { OnOk result (length self.new.block.code.items ≤ length self.old.block.code.items + 7) }
+        ensures short { OnOk result (extent self.new ≤ extent self.old + 7) }
     {
         self.copy(to, second)?;
         self.block.push(LowStep::End)?;

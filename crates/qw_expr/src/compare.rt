@@ -7,7 +7,7 @@ ghost use Rattle.qw_meaning.specs.Typing.{AreTyped, are_comparable, is_date, is_
 ghost use Rattle.qw_expr.specs.Cells.{IsBelow};
 ghost use Rattle.qw_expr.specs.declared.emitter.Emitter.{Emitter};
 ghost use Rattle.qw_expr.specs.Computes.{Known, AreBelow};
-ghost use Rattle.qw_expr.specs.Emits.{Emits, EmitsTruth, free_of};
+ghost use Rattle.qw_expr.specs.Emits.{Emits, EmitsTruth, extent, free_of};
 ghost use Rattle.qw_expr.specs.Inner.Operated.{AddsComparison};
 ghost use Rattle.qw_expr.specs.Inner.Truths.{before_zero};
 
@@ -15,7 +15,7 @@ use crate::emitter::Emitter;
 use crate::operand::Operand;
 use qw_low::cell::{Cell, Local};
 use qw_low::step::LowStep;
-use qw_meaning::query::Comparison;
+use qw_meaning::comparison::Comparison;
 use qw_module::instruction::{Const, Op, ValType};
 use qw_types::{Kind, NoMemory};
 use qw_wide::arithmetic::Scaled;
@@ -42,7 +42,7 @@ impl Emitter {
     pub(crate) fn begin_zero(&mut self, null: Option<Local>, t: Local) -> Result<(), NoMemory>
         ensures code { OnOk result (self.new.block.code.items ≡ self.old.block.code.items ++ before_zero null t) }
         ensures same { OnOk result ((self.new.first ≡ self.old.first) × (self.new.own.items ≡ self.old.own.items)) }
-        ensures short { OnOk result (length self.new.block.code.items ≤ length self.old.block.code.items + 5) }
+        ensures short { OnOk result (extent self.new ≤ extent self.old + 5) }
     {
         if let Some(n) = null {
             self.block.code.extend_from_slice(&[
@@ -68,7 +68,7 @@ impl Emitter {
         requires scales { (left.scale ≤ 18) × (right.scale ≤ 18) }
         requires below { (left.local < free_of self.old) × (right.local < free_of self.old) }
         ensures emits { IfOk result (λ out. AddsComparison operator (λ v w. order_of v left.scale w right.scale) left.local left.most right.local right.most left_null right_null self.old self.new out) }
-        ensures short { OnOk result (length self.new.block.code.items ≤ length self.old.block.code.items + 40) }
+        ensures short { OnOk result (extent self.new ≤ extent self.old + 45) }
     {
         let p = self.fresh(ValType::I32)?;
         let t = self.fresh(ValType::I32)?;
@@ -95,7 +95,7 @@ impl Emitter {
         requires below { (left.cell.value < free_of self.old) × (right.cell.value < free_of self.old) }
         ensures emits { IfOk result (λ out. (known : List Known) (a b : Expression) (start mid : Emitter) → AreTyped (comparison operator a b) → IsTrue (is_number (kind_of a)) → IsTrue (is_number (kind_of b)) →
             AreBelow (free_of start) known → Emits known a start mid left → Emits known b mid self.old right → EmitsTruth known (comparison operator a b) start self.new out) }
-        ensures short { OnOk result (length self.new.block.code.items ≤ length self.old.block.code.items + 40) }
+        ensures short { OnOk result (extent self.new ≤ extent self.old + 45) }
     {
         self.compared(
             operator,
@@ -116,7 +116,7 @@ impl Emitter {
         requires below { (left.cell.value < free_of self.old) × (right.cell.value < free_of self.old) }
         ensures emits { IfOk result (λ out. (known : List Known) (a b : Expression) (start mid : Emitter) → AreTyped (comparison operator a b) → IsTrue (is_date (kind_of a)) → IsTrue (is_date (kind_of b)) →
             AreBelow (free_of start) known → Emits known a start mid left → Emits known b mid self.old right → EmitsTruth known (comparison operator a b) start self.new out) }
-        ensures short { OnOk result (length self.new.block.code.items ≤ length self.old.block.code.items + 40) }
+        ensures short { OnOk result (extent self.new ≤ extent self.old + 45) }
     {
         self.compared(
             operator,
@@ -139,7 +139,7 @@ impl Emitter {
         requires below { IsBelow (free_of self.old) left.cell × IsBelow (free_of self.old) right.cell }
         ensures emits { IfOk result (λ out. (known : List Known) (a b : Expression) (start mid : Emitter) → AreTyped (comparison operator a b) →
             AreBelow (free_of start) known → Emits known a start mid left → Emits known b mid self.old right → EmitsTruth known (comparison operator a b) start self.new out) }
-        ensures short { OnOk result (length self.new.block.code.items ≤ length self.old.block.code.items + 120) }
+        ensures short { OnOk result (extent self.new ≤ extent self.old + 130) }
     {
         match left.kind {
             Some(Kind::Date) => self.compare_dates(operator, left, right),

@@ -3,6 +3,7 @@
 ghost use Rattle.std.specs.Prelude.{◌≡◌, ◌+◌, ◌<◌, ◌^◌, [], ◌∷◌, ◌++◌, length, OnOk, IfOk, ◌≤◌};
 ghost use Rattle.qw_expr.specs.Inner.Nulls.{join_block, joined_null, before_unless, after_unless};
 ghost use Rattle.qw_low.specs.Steps.{steps_of};
+ghost use Rattle.qw_expr.specs.Emits.{extent};
 ghost use Rattle.qw_module.specs.declared.instruction.ValType.TheVariants.{I32, I64};
 
 use qw_low::block::Block;
@@ -37,6 +38,7 @@ impl Emitter {
         ensures local { IfOk result (λ x. (x ≡ self.old.first + length self.old.own.items) × (x < 2 ^ 32)) }
         ensures own { OnOk result (self.new.own.items ≡ self.old.own.items ++ ty ∷ []) }
         ensures same { OnOk result ((self.new.first ≡ self.old.first) × (self.new.block.code.items ≡ self.old.block.code.items)) }
+        ensures short { OnOk result (extent self.new ≡ extent self.old + 1) }
     {
         let Ok(count) = u32::try_from(self.own.len()) else {
             return Err(NoMemory);
@@ -58,7 +60,7 @@ impl Emitter {
         ensures null { IfOk result (λ null. null ≡ joined_null p left right) }
         ensures code { OnOk result (self.new.block.code.items ≡ self.old.block.code.items ++ steps_of (join_block p left right)) }
         ensures same { OnOk result ((self.new.first ≡ self.old.first) × (self.new.own.items ≡ self.old.own.items)) }
-        ensures short { OnOk result (length self.new.block.code.items ≤ length self.old.block.code.items + 4) }
+        ensures short { OnOk result (extent self.new ≤ extent self.old + 4) }
     {
         match (left, right) {
             (None, null) => Ok(null),
@@ -79,7 +81,7 @@ impl Emitter {
     pub(crate) fn begin_unless(&mut self, null: Option<Local>) -> Result<(), NoMemory>
         ensures code { OnOk result (self.new.block.code.items ≡ self.old.block.code.items ++ before_unless null) }
         ensures same { OnOk result ((self.new.first ≡ self.old.first) × (self.new.own.items ≡ self.old.own.items)) }
-        ensures short { OnOk result (length self.new.block.code.items ≤ length self.old.block.code.items + 3) }
+        ensures short { OnOk result (extent self.new ≤ extent self.old + 3) }
     {
         if let Some(n) = null {
             self.block.code.extend_from_slice(&[
@@ -95,7 +97,7 @@ impl Emitter {
     pub(crate) fn end_unless(&mut self, null: Option<Local>) -> Result<(), NoMemory>
         ensures code { OnOk result (self.new.block.code.items ≡ self.old.block.code.items ++ after_unless null) }
         ensures same { OnOk result ((self.new.first ≡ self.old.first) × (self.new.own.items ≡ self.old.own.items)) }
-        ensures short { OnOk result (length self.new.block.code.items ≤ length self.old.block.code.items + 1) }
+        ensures short { OnOk result (extent self.new ≤ extent self.old + 1) }
     {
         if null.is_some() {
             self.block.push(LowStep::End)?;

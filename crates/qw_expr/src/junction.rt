@@ -8,7 +8,7 @@ ghost use Rattle.qw_low.specs.Syntax.{local, binop, is_zero};
 ghost use Rattle.qw_low.specs.Steps.{expression_steps, steps_of};
 ghost use Rattle.qw_expr.specs.declared.emitter.Emitter.{Emitter};
 ghost use Rattle.qw_expr.specs.Computes.{Known, AreBelow};
-ghost use Rattle.qw_expr.specs.Emits.{EmitsTruth, free_of};
+ghost use Rattle.qw_expr.specs.Emits.{EmitsTruth, extent, free_of};
 ghost use Rattle.qw_expr.specs.Inner.Junctions.{Begins, TakesCell, and_truth, and_unknown, or_unknown};
 ghost use Rattle.qw_expr.specs.Inner.Truths.{i32, may_hold, unknown_word, set_truth};
 
@@ -24,7 +24,7 @@ impl Emitter {
     pub(crate) fn unknown_steps(&mut self, null: Option<Local>) -> Result<(), NoMemory>
         ensures code { OnOk result (self.new.block.code.items ≡ self.old.block.code.items ++ expression_steps (unknown_word null)) }
         ensures same { OnOk result ((self.new.first ≡ self.old.first) × (self.new.own.items ≡ self.old.own.items)) }
-        ensures short { OnOk result (length self.new.block.code.items ≤ length self.old.block.code.items + 1) }
+        ensures short { OnOk result (extent self.new ≤ extent self.old + 1) }
     {
         self.block.push(LowStep::Op(match null {
             None => Op::Const(Const::I32(0)),
@@ -36,7 +36,7 @@ impl Emitter {
     fn may_steps(&mut self, operand: Cell) -> Result<(), NoMemory>
         ensures code { OnOk result (self.new.block.code.items ≡ self.old.block.code.items ++ expression_steps (may_hold operand.value operand.null)) }
         ensures same { OnOk result ((self.new.first ≡ self.old.first) × (self.new.own.items ≡ self.old.own.items)) }
-        ensures short { OnOk result (length self.new.block.code.items ≤ length self.old.block.code.items + 3) }
+        ensures short { OnOk result (extent self.new ≤ extent self.old + 3) }
     {
         match operand.null {
             None => self
@@ -54,7 +54,8 @@ impl Emitter {
 
     /// Takes locals for the truth of two conditions, which is unknown only where one may be.
     fn junction_cell(&mut self, left: Cell, right: Cell) -> Result<Cell, NoMemory>
-        ensures { IfOk result (λ out. TakesCell left right self.old self.new out) }
+        ensures cell { IfOk result (λ out. TakesCell left right self.old self.new out) }
+        ensures short { OnOk result (extent self.new ≤ extent self.old + 2) }
     {
         let value = self.fresh(ValType::I32)?;
         let word = self.fresh(ValType::I32)?;
@@ -69,7 +70,7 @@ impl Emitter {
     fn either_unknown(&mut self, left: Cell, right: Cell) -> Result<(), NoMemory>
         ensures code { OnOk result (self.new.block.code.items ≡ self.old.block.code.items ++ expression_steps (binop I32 Or (unknown_word left.null) (unknown_word right.null))) }
         ensures same { OnOk result ((self.new.first ≡ self.old.first) × (self.new.own.items ≡ self.old.own.items)) }
-        ensures short { OnOk result (length self.new.block.code.items ≤ length self.old.block.code.items + 3) }
+        ensures short { OnOk result (extent self.new ≤ extent self.old + 3) }
     {
         self.unknown_steps(left.null)?;
         self.unknown_steps(right.null)?;
@@ -81,7 +82,7 @@ impl Emitter {
     fn both_steps(&mut self, left: Cell, right: Cell, out: Cell) -> Result<(), NoMemory>
         ensures code { OnOk result (self.new.block.code.items ≡ self.old.block.code.items ++ steps_of (set_truth out.null out.value (and_truth left right) (and_unknown left right))) }
         ensures same { OnOk result ((self.new.first ≡ self.old.first) × (self.new.own.items ≡ self.old.own.items)) }
-        ensures short { OnOk result (length self.new.block.code.items ≤ length self.old.block.code.items + 12) }
+        ensures short { OnOk result (extent self.new ≤ extent self.old + 12) }
     {
         self.block.code.extend_from_slice(&[
             LowStep::Op(Op::LocalGet(left.value)),
@@ -104,7 +105,7 @@ impl Emitter {
     fn either_steps(&mut self, left: Cell, right: Cell, out: Cell) -> Result<(), NoMemory>
         ensures code { OnOk result (self.new.block.code.items ≡ self.old.block.code.items ++ steps_of (set_truth out.null out.value (local right.value) (or_unknown left right))) }
         ensures same { OnOk result ((self.new.first ≡ self.old.first) × (self.new.own.items ≡ self.old.own.items)) }
-        ensures short { OnOk result (length self.new.block.code.items ≤ length self.old.block.code.items + 9) }
+        ensures short { OnOk result (extent self.new ≤ extent self.old + 9) }
     {
         self.block.code.extend_from_slice(&[
             LowStep::Op(Op::LocalGet(right.value)),
@@ -126,7 +127,7 @@ impl Emitter {
     fn decided_steps(&mut self, out: Cell, decided: u32) -> Result<(), NoMemory>
         ensures code { OnOk result (self.new.block.code.items ≡ self.old.block.code.items ++ steps_of (set_truth out.null out.value (i32 decided) (i32 0))) }
         ensures same { OnOk result ((self.new.first ≡ self.old.first) × (self.new.own.items ≡ self.old.own.items)) }
-        ensures short { OnOk result (length self.new.block.code.items ≤ length self.old.block.code.items + 4) }
+        ensures short { OnOk result (extent self.new ≤ extent self.old + 4) }
     {
         self.block.code.extend_from_slice(&[
             LowStep::Op(Op::Const(Const::I32(decided))),
@@ -144,7 +145,7 @@ impl Emitter {
     /// Begins the right side of AND, which is done unless the left one is false.
     pub(crate) fn begin_and(&mut self, left: Cell) -> Result<(), NoMemory>
         ensures emits { OnOk result (Begins (may_hold left.value left.null) self.old self.new) }
-        ensures short { OnOk result (length self.new.block.code.items ≤ length self.old.block.code.items + 4) }
+        ensures short { OnOk result (extent self.new ≤ extent self.old + 4) }
     {
         self.may_steps(left)?;
         self.block.push(LowStep::If)
@@ -154,7 +155,7 @@ impl Emitter {
     pub(crate) fn end_and(&mut self, left: Cell, right: Cell) -> Result<Cell, NoMemory>
         ensures emits { IfOk result (λ out. (known : List Known) (c d : Condition) (start mid begun : Emitter) → AreBelow (free_of start) known → EmitsTruth known c start mid left →
             Begins (may_hold left.value left.null) mid begun → EmitsTruth known d begun self.old right → EmitsTruth known (both c d) start self.new out) }
-        ensures short { OnOk result (length self.new.block.code.items ≤ length self.old.block.code.items + 18) }
+        ensures short { OnOk result (extent self.new ≤ extent self.old + 20) }
     {
         let out = self.junction_cell(left, right)?;
         self.both_steps(left, right, out)?;
@@ -167,7 +168,7 @@ impl Emitter {
     /// Begins the right side of OR, which is done unless the left one is true.
     pub(crate) fn begin_or(&mut self, left: Cell) -> Result<(), NoMemory>
         ensures emits { OnOk result (Begins (is_zero I32 (local left.value)) self.old self.new) }
-        ensures short { OnOk result (length self.new.block.code.items ≤ length self.old.block.code.items + 3) }
+        ensures short { OnOk result (extent self.new ≤ extent self.old + 3) }
     {
         self.block.code.extend_from_slice(&[
             LowStep::Op(Op::LocalGet(left.value)),
@@ -181,7 +182,7 @@ impl Emitter {
     pub(crate) fn end_or(&mut self, left: Cell, right: Cell) -> Result<Cell, NoMemory>
         ensures emits { IfOk result (λ out. (known : List Known) (c d : Condition) (start mid begun : Emitter) → AreBelow (free_of start) known → EmitsTruth known c start mid left →
             Begins (is_zero I32 (local left.value)) mid begun → EmitsTruth known d begun self.old right → EmitsTruth known (either c d) start self.new out) }
-        ensures short { OnOk result (length self.new.block.code.items ≤ length self.old.block.code.items + 15) }
+        ensures short { OnOk result (extent self.new ≤ extent self.old + 17) }
     {
         let out = self.junction_cell(left, right)?;
         self.either_steps(left, right, out)?;

@@ -5,7 +5,7 @@ ghost use Rattle.qw_meaning.specs.Expression.{Expression, null, extract, brought
 ghost use Rattle.qw_meaning.specs.Typing.{IsTyped, is_number};
 ghost use Rattle.qw_low.specs.Steps.{steps_of};
 ghost use Rattle.qw_expr.specs.Computes.{Known, AreBelow};
-ghost use Rattle.qw_expr.specs.Emits.{Emits, free_of};
+ghost use Rattle.qw_expr.specs.Emits.{Emits, extent, free_of};
 ghost use Rattle.qw_expr.specs.declared.emitter.Emitter.{Emitter};
 ghost use Rattle.qw_expr.specs.Inner.Fields.{field_block};
 ghost use Rattle.qw_expr.specs.Inner.Literals.{AddsField};
@@ -62,7 +62,7 @@ impl Emitter {
     /// Adds the null value.
     pub fn null(&mut self) -> Result<Operand, NoMemory>
         ensures emits { IfOk result (λ out. (known : List Known) → Emits known null self.old self.new out) }
-        ensures short { OnOk result (length self.new.block.code.items ≤ length self.old.block.code.items + 2) }
+        ensures short { OnOk result (extent self.new ≤ extent self.old + 3) }
     {
         let n = self.flag(1)?;
         Ok(Operand {
@@ -81,7 +81,7 @@ impl Emitter {
     fn field_steps(&mut self, field: Field, n: Local, x: Local) -> Result<(), NoMemory>
         ensures code { OnOk result (self.new.block.code.items ≡ self.old.block.code.items ++ steps_of (field_block field n x)) }
         ensures same { OnOk result ((self.new.first ≡ self.old.first) × (self.new.own.items ≡ self.old.own.items)) }
-        ensures short { OnOk result (length self.new.block.code.items ≤ length self.old.block.code.items + 6) }
+        ensures short { OnOk result (extent self.new ≤ extent self.old + 6) }
     {
         match field {
             Field::Year => self.block.code.extend_from_slice(&[
@@ -111,7 +111,7 @@ impl Emitter {
     /// Adds a field of a date, unless it is null.
     fn field(&mut self, field: Field, operand: Operand) -> Result<Operand, NoMemory>
         ensures emits { IfOk result (λ out. AddsField field operand self.old self.new out) }
-        ensures short { OnOk result (length self.new.block.code.items ≤ length self.old.block.code.items + 10) }
+        ensures short { OnOk result (extent self.new ≤ extent self.old + 11) }
     {
         let n = self.fresh(ValType::I64)?;
         self.begin_unless(operand.cell.null)?;
@@ -136,7 +136,7 @@ impl Emitter {
     pub fn extract(&mut self, field: Field, operand: Operand) -> Result<Operand, NoMemory>
         ensures emits { IfOk result (λ out. (known : List Known) (a : Expression) (start : Emitter) → IsTyped (extract field a) → AreBelow (free_of start) known →
             Emits known a start self.old operand → Emits known (extract field a) start self.new out) }
-        ensures short { OnOk result (length self.new.block.code.items ≤ length self.old.block.code.items + 10) }
+        ensures short { OnOk result (extent self.new ≤ extent self.old + 11) }
     {
         self.field(field, operand)
     }
@@ -147,7 +147,7 @@ impl Emitter {
         requires below { operand.cell.value < free_of self.old }
         ensures emits { IfOk result (λ out. (known : List Known) (a : Expression) (start : Emitter) → IsTyped (brought a scale) → AreBelow (free_of start) known →
             Emits known a start self.old operand → Emits known (brought a scale) start self.new out) }
-        ensures short { OnOk result (length self.new.block.code.items ≤ length self.old.block.code.items + 80) }
+        ensures short { OnOk result (extent self.new ≤ extent self.old + 85) }
     {
         if is_number(operand.kind) {
             self.scaled_to(operand, scale)

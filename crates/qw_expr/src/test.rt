@@ -11,7 +11,7 @@ ghost use Rattle.qw_expr.specs.declared.emitter.Emitter.{Emitter};
 ghost use Rattle.qw_expr.specs.Bindings.{IsServed, TakeKnown, known_of};
 ghost use Rattle.qw_expr.specs.Cells.{IsBelow};
 ghost use Rattle.qw_expr.specs.Computes.{Known, AreBelow};
-ghost use Rattle.qw_expr.specs.Emits.{Emits, EmitsTruth, free_of};
+ghost use Rattle.qw_expr.specs.Emits.{Emits, EmitsTruth, extent, free_of};
 ghost use Rattle.qw_expr.specs.Tests.{EmitsTest, tested};
 ghost use Rattle.qw_expr.specs.Inner.Tests.{is_one_relation};
 
@@ -22,8 +22,8 @@ use crate::tree::{emit_expr, emit_truth};
 use qw_low::block::Block;
 use qw_low::cell::{Cell, Local};
 use qw_low::step::LowStep;
+use qw_meaning::comparison::Comparison;
 use qw_meaning::expression::Cond;
-use qw_meaning::query::Comparison;
 use qw_module::instruction::{Op, Relation, ValType};
 use qw_types::{Kind, NoMemory};
 use qw_wide::order::relation_of;
@@ -89,7 +89,7 @@ impl Emitter {
         requires below { IsBelow (free_of self.old) left.cell × IsBelow (free_of self.old) right.cell }
         ensures emits { IfOk result (λ out. (known : List Known) (a b : Expression) (start mid : Emitter) → AreTyped (comparison operator a b) →
             AreBelow (free_of start) known → Emits known a start mid left → Emits known b mid self.old right → EmitsTest known (comparison operator a b) start self.new out) }
-        ensures short { OnOk result (length self.new.block.code.items ≤ length self.old.block.code.items + 120) }
+        ensures short { OnOk result (extent self.new ≤ extent self.old + 130) }
     {
         if is_one_relation(left, right) {
             return Ok(Test::Related(relation_of(operator), left.cell.value, right.cell.value));
@@ -101,7 +101,7 @@ impl Emitter {
     /// Adds the test of NOT of a condition that was emitted before.
     fn test_negation(&mut self, operand: Cell) -> Result<Test, NoMemory>
         ensures emits { IfOk result (λ out. (known : List Known) (c : Condition) (start : Emitter) → EmitsTruth known c start self.old operand → EmitsTest known (negation_of c) start self.new out) }
-        ensures short { OnOk result (length self.new.block.code.items ≤ length self.old.block.code.items + 5) }
+        ensures short { OnOk result (extent self.new ≤ extent self.old + 6) }
     {
         match operand.null {
             None => Ok(Test::Zero(operand.value)),
@@ -123,7 +123,7 @@ pub fn emit_test(emitter: &mut Emitter, cond: &Cond, known: &[Binding]) -> Resul
     requires known { TakeKnown (known_of known.now) (condition_of cond.now) }
     requires served { IsServed (free_of emitter.old) (known_of known.now) }
     ensures emits { IfOk result (λ out. EmitsTest (known_of known.now) (condition_of cond.now) emitter.old emitter.new out) }
-    ensures short { OnOk result (length emitter.new.block.code.items ≤ length emitter.old.block.code.items + 300 * nodes_of cond.now) }
+    ensures short { OnOk result (extent emitter.new ≤ extent emitter.old + 400 * nodes_of cond.now) }
 {
     match cond {
         Cond::Compare(operator, left, right) => {

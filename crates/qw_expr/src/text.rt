@@ -11,14 +11,14 @@ ghost use Rattle.qw_wide.specs.Inner.Blocks.{zero_test};
 ghost use Rattle.qw_expr.specs.declared.emitter.Emitter.{Emitter};
 ghost use Rattle.qw_expr.specs.Cells.{IsBelow};
 ghost use Rattle.qw_expr.specs.Computes.{Known, AreBelow};
-ghost use Rattle.qw_expr.specs.Emits.{Emits, EmitsTruth, free_of};
+ghost use Rattle.qw_expr.specs.Emits.{Emits, EmitsTruth, extent, free_of};
 ghost use Rattle.qw_expr.specs.Inner.Texts.{AddsTexts, TakesTexts, TestsTexts};
 
 use crate::emitter::Emitter;
 use crate::operand::Operand;
 use qw_low::cell::{Cell, Local};
 use qw_low::step::LowStep;
-use qw_meaning::query::Comparison;
+use qw_meaning::comparison::Comparison;
 use qw_module::instruction::{Const, Op, ValType};
 use qw_text::equality::emit_text_eq;
 use qw_text::order::emit_text_order;
@@ -36,7 +36,8 @@ struct TextLocals {
 impl Emitter {
     /// Takes them: the block's own ones begin at `free`.
     fn text_locals(&mut self) -> Result<TextLocals, NoMemory>
-        ensures { IfOk result (λ locals. TakesTexts self.old self.new locals) }
+        ensures locals { IfOk result (λ locals. TakesTexts self.old self.new locals) }
+        ensures short { OnOk result (extent self.new ≤ extent self.old + 6) }
     {
         let null = self.fresh(ValType::I32)?;
         let truth = self.fresh(ValType::I32)?;
@@ -51,7 +52,7 @@ impl Emitter {
     fn test_zero(&mut self, operator: Comparison, n: Local, t: Local) -> Result<(), NoMemory>
         ensures code { OnOk result (self.new.block.code.items ≡ self.old.block.code.items ++ steps_of (assign t (zero_test operator n))) }
         ensures same { OnOk result ((self.new.first ≡ self.old.first) × (self.new.own.items ≡ self.old.own.items)) }
-        ensures short { OnOk result (length self.new.block.code.items ≤ length self.old.block.code.items + 4) }
+        ensures short { OnOk result (extent self.new ≤ extent self.old + 4) }
     {
         self.block.code.extend_from_slice(&[
             LowStep::Op(Op::LocalGet(n)),
@@ -75,7 +76,7 @@ impl Emitter {
         requires room { to.free + 3 < 2 ^ 32 }
         ensures code { OnOk result ((f : Statement) × (self.new.block.code.items ≡ self.old.block.code.items ++ steps_of f) × TestsTexts operator left right to.free to.truth f) }
         ensures same { OnOk result ((self.new.first ≡ self.old.first) × (self.new.own.items ≡ self.old.own.items)) }
-        ensures short { OnOk result (length self.new.block.code.items ≤ length self.old.block.code.items + 110) }
+        ensures short { OnOk result (extent self.new ≤ extent self.old + 110) }
     {
         match operator {
             Comparison::Equal => {
@@ -113,7 +114,7 @@ impl Emitter {
     ) -> Result<Cell, NoMemory>
         requires below { IsBelow (free_of self.old) left × IsBelow (free_of self.old) right }
         ensures emits { IfOk result (λ out. AddsTexts operator left right self.old self.new out) }
-        ensures short { OnOk result (length self.new.block.code.items ≤ length self.old.block.code.items + 120) }
+        ensures short { OnOk result (extent self.new ≤ extent self.old + 130) }
     {
         let to = self.text_locals()?;
         let null = self.join_nulls(to.null, left.null, right.null)?;
@@ -137,7 +138,7 @@ impl Emitter {
         requires below { IsBelow (free_of self.old) left.cell × IsBelow (free_of self.old) right.cell }
         ensures emits { IfOk result (λ out. (known : List Known) (a b : Expression) (start mid : Emitter) → AreTyped (comparison operator a b) → kind_of a ≡ Some kind.Text → kind_of b ≡ Some kind.Text →
             AreBelow (free_of start) known → Emits known a start mid left → Emits known b mid self.old right → EmitsTruth known (comparison operator a b) start self.new out) }
-        ensures short { OnOk result (length self.new.block.code.items ≤ length self.old.block.code.items + 120) }
+        ensures short { OnOk result (extent self.new ≤ extent self.old + 130) }
     {
         self.text_compared(operator, left.cell, right.cell)
     }

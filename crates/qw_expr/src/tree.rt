@@ -9,7 +9,7 @@ ghost use Rattle.qw_meaning.specs.Tree.{choices_of, condition_of, expression_of,
 ghost use Rattle.qw_meaning.specs.Typing.{AreTyped, IsTyped, kind_of};
 ghost use Rattle.qw_expr.specs.Cells.{IsBelow};
 ghost use Rattle.qw_expr.specs.Bindings.{IsServed, TakeKnown, TakesKnown, known_of};
-ghost use Rattle.qw_expr.specs.Emits.{Emits, EmitsTruth, free_of};
+ghost use Rattle.qw_expr.specs.Emits.{Emits, EmitsTruth, extent, free_of};
 ghost use Rattle.qw_expr.specs.Inner.Choices.{Suits};
 ghost use Rattle.qw_expr.specs.Inner.Made.{Made, MadeTruth, StartsUnlessNull, with_operand};
 
@@ -18,10 +18,10 @@ use crate::emitter::Emitter;
 use crate::known::{Binding, column_of, date_of, number_of, text_of};
 use crate::operand::Operand;
 use qw_low::cell::Cell;
+use qw_meaning::comparison::Comparison;
 use qw_meaning::evaluate::scale;
 use qw_meaning::expression::{Branches, Cond, Expr, Exprs, Matches};
 use qw_meaning::kind::of_expression;
-use qw_meaning::query::Comparison;
 use qw_types::{Kind, NoMemory};
 
 /// What a choice leaves: the scale that its results are brought to, and whether they are texts.
@@ -38,7 +38,7 @@ fn expression(emitter: &mut Emitter, expr: &Expr, known: &[Binding]) -> Result<O
     requires known { TakesKnown (known_of known.now) (expression_of expr.now) }
     requires served { IsServed (free_of emitter.old) (known_of known.now) }
     ensures emits { IfOk result (λ out. Made (known_of known.now) (expression_of expr.now) emitter.old emitter.new out) }
-    ensures short { OnOk result (length emitter.new.block.code.items ≤ length emitter.old.block.code.items + 300 * nodes expr.now) }
+    ensures short { OnOk result (extent emitter.new ≤ extent emitter.old + 400 * nodes expr.now) }
 {
     match expr {
         Expr::Null => emitter.null(),
@@ -86,7 +86,7 @@ fn branch(
     requires served { IsServed (free_of emitter.old) (known_of known.now) }
     requires suits { Suits form.text (kind_of (cases form.scale (choices_of branches.now))) }
     ensures emits { IfOk result (λ out. Made (known_of known.now) (cases form.scale (choices_of branches.now)) emitter.old emitter.new out) }
-    ensures short { OnOk result (length emitter.new.block.code.items ≤ length emitter.old.block.code.items + 300 * nodes_of_branches branches.now) }
+    ensures short { OnOk result (extent emitter.new ≤ extent emitter.old + 400 * nodes_of_branches branches.now) }
 {
     match branches {
         Branches::Else(result) => {
@@ -119,7 +119,7 @@ fn matched(
     requires served { IsServed (free_of emitter.old) (with_operand (expression_of operand.now) x (known_of known.now)) }
     requires suits { Suits form.text (kind_of (cases form.scale (matches_of matches.now (expression_of operand.now)))) }
     ensures emits { IfOk result (λ out. Made (with_operand (expression_of operand.now) x (known_of known.now)) (cases form.scale (matches_of matches.now (expression_of operand.now))) emitter.old emitter.new out) }
-    ensures short { OnOk result (length emitter.new.block.code.items ≤ length emitter.old.block.code.items + 300 * nodes_of_matches matches.now) }
+    ensures short { OnOk result (extent emitter.new ≤ extent emitter.old + 400 * nodes_of_matches matches.now) }
 {
     match matches {
         Matches::Last(wanted, result, other) => {
@@ -155,7 +155,7 @@ fn coalesce(
     requires served { IsServed (free_of emitter.old) (known_of known.now) }
     requires suits { Suits form.text (kind_of (cases form.scale (coalesced (expressions_of arguments.now)))) }
     ensures emits { IfOk result (λ out. Made (known_of known.now) (cases form.scale (coalesced (expressions_of arguments.now))) emitter.old emitter.new out) }
-    ensures short { OnOk result (length emitter.new.block.code.items ≤ length emitter.old.block.code.items + 300 * nodes_of_all arguments.now) }
+    ensures short { OnOk result (extent emitter.new ≤ extent emitter.old + 400 * nodes_of_all arguments.now) }
 {
     match arguments {
         Exprs::Last(argument) => {
@@ -178,7 +178,7 @@ fn condition(emitter: &mut Emitter, cond: &Cond, known: &[Binding]) -> Result<Ce
     requires known { TakeKnown (known_of known.now) (condition_of cond.now) }
     requires served { IsServed (free_of emitter.old) (known_of known.now) }
     ensures emits { IfOk result (λ out. MadeTruth (known_of known.now) (condition_of cond.now) emitter.old emitter.new out) }
-    ensures short { OnOk result (length emitter.new.block.code.items ≤ length emitter.old.block.code.items + 300 * nodes_of cond.now) }
+    ensures short { OnOk result (extent emitter.new ≤ extent emitter.old + 400 * nodes_of cond.now) }
 {
     match cond {
         Cond::Compare(operator, left, right) => {
@@ -251,7 +251,7 @@ fn against(
     requires known { TakeKnown (known_of known.now) (comparison operator (expression_of operand.now) (expression_of right.now)) }
     requires served { IsServed (free_of emitter.old) (with_operand (expression_of operand.now) x (known_of known.now)) }
     ensures emits { IfOk result (λ out. MadeTruth (with_operand (expression_of operand.now) x (known_of known.now)) (comparison operator (expression_of operand.now) (expression_of right.now)) emitter.old emitter.new out) }
-    ensures short { OnOk result (length emitter.new.block.code.items ≤ length emitter.old.block.code.items + (300 * nodes right.now + 120)) }
+    ensures short { OnOk result (extent emitter.new ≤ extent emitter.old + (400 * nodes right.now + 130)) }
 {
     let y = expression(emitter, right, known)?;
     emitter.compare(operator, x, y)
@@ -270,7 +270,7 @@ fn among(
     requires known { TakeKnown (known_of known.now) (among (expression_of operand.now) (expressions_of values.now)) }
     requires served { IsServed (free_of emitter.old) (with_operand (expression_of operand.now) x (known_of known.now)) }
     ensures emits { IfOk result (λ out. MadeTruth (with_operand (expression_of operand.now) x (known_of known.now)) (among (expression_of operand.now) (expressions_of values.now)) emitter.old emitter.new out) }
-    ensures short { OnOk result (length emitter.new.block.code.items ≤ length emitter.old.block.code.items + 300 * nodes_of_all values.now) }
+    ensures short { OnOk result (extent emitter.new ≤ extent emitter.old + 400 * nodes_of_all values.now) }
 {
     match values {
         Exprs::Last(wanted) => against(emitter, Comparison::Equal, wanted, operand, x, known),
@@ -294,7 +294,7 @@ fn unless_null(
     requires typed { IsTyped (brought (expression_of operand.now) form.scale) }
     requires served { IsServed (free_of emitter.old) (with_operand (expression_of operand.now) x (known_of known.now)) }
     ensures emits { IfOk result (λ begun. StartsUnlessNull (known_of known.now) (expression_of operand.now) x form.scale form.text emitter.old emitter.new begun) }
-    ensures short { OnOk result (length emitter.new.block.code.items ≤ length emitter.old.block.code.items + 100) }
+    ensures short { OnOk result (extent emitter.new ≤ extent emitter.old + 110) }
 {
     let null = emitter.is_null(x)?;
     let t = emitter.negation(null)?;
@@ -328,7 +328,7 @@ pub fn emit_expr(emitter: &mut Emitter, expr: &Expr, known: &[Binding]) -> Resul
     requires known { TakesKnown (known_of known.now) (expression_of expr.now) }
     requires served { IsServed (free_of emitter.old) (known_of known.now) }
     ensures emits { IfOk result (λ out. Emits (known_of known.now) (expression_of expr.now) emitter.old emitter.new out) }
-    ensures short { OnOk result (length emitter.new.block.code.items ≤ length emitter.old.block.code.items + 300 * nodes expr.now) }
+    ensures short { OnOk result (extent emitter.new ≤ extent emitter.old + 400 * nodes expr.now) }
 {
     expression(emitter, expr, known)
 }
@@ -343,7 +343,7 @@ pub fn emit_truth(emitter: &mut Emitter, cond: &Cond, known: &[Binding]) -> Resu
     requires known { TakeKnown (known_of known.now) (condition_of cond.now) }
     requires served { IsServed (free_of emitter.old) (known_of known.now) }
     ensures emits { IfOk result (λ out. EmitsTruth (known_of known.now) (condition_of cond.now) emitter.old emitter.new out) }
-    ensures short { OnOk result (length emitter.new.block.code.items ≤ length emitter.old.block.code.items + 300 * nodes_of cond.now) }
+    ensures short { OnOk result (extent emitter.new ≤ extent emitter.old + 400 * nodes_of cond.now) }
 {
     condition(emitter, cond, known)
 }

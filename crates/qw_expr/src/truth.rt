@@ -7,7 +7,7 @@ ghost use Rattle.qw_low.specs.Syntax.{assign};
 ghost use Rattle.qw_low.specs.Steps.{steps_of};
 ghost use Rattle.qw_expr.specs.declared.emitter.Emitter.{Emitter};
 ghost use Rattle.qw_expr.specs.Computes.{Known};
-ghost use Rattle.qw_expr.specs.Emits.{Emits, EmitsTruth};
+ghost use Rattle.qw_expr.specs.Emits.{Emits, EmitsTruth, extent};
 ghost use Rattle.qw_expr.specs.Inner.Truths.{i32, is_false, AddsTest};
 
 use crate::emitter::Emitter;
@@ -39,7 +39,7 @@ impl Emitter {
     /// Adds whether a truth is false.
     fn test_false(&mut self, operand: Cell) -> Result<Local, NoMemory>
         ensures emits { IfOk result (λ t. AddsTest (is_false operand.value operand.null) self.old self.new t) }
-        ensures short { OnOk result (length self.new.block.code.items ≤ length self.old.block.code.items + 5) }
+        ensures short { OnOk result (extent self.new ≤ extent self.old + 6) }
     {
         let t = self.fresh(ValType::I32)?;
         self.false_steps(operand, t)?;
@@ -50,7 +50,7 @@ impl Emitter {
     fn false_steps(&mut self, operand: Cell, t: Local) -> Result<(), NoMemory>
         ensures code { OnOk result (self.new.block.code.items ≡ self.old.block.code.items ++ steps_of (assign t (is_false operand.value operand.null))) }
         ensures same { OnOk result ((self.new.first ≡ self.old.first) × (self.new.own.items ≡ self.old.own.items)) }
-        ensures short { OnOk result (length self.new.block.code.items ≤ length self.old.block.code.items + 5) }
+        ensures short { OnOk result (extent self.new ≤ extent self.old + 5) }
     {
         match operand.null {
             None => self.block.code.extend_from_slice(&[
@@ -72,7 +72,7 @@ impl Emitter {
     /// Adds NOT of a condition that was emitted before: unknown stays unknown.
     pub fn negation(&mut self, operand: Cell) -> Result<Cell, NoMemory>
         ensures emits { IfOk result (λ out. (known : List Known) (c : Condition) (start : Emitter) → EmitsTruth known c start self.old operand → EmitsTruth known (negation_of c) start self.new out) }
-        ensures short { OnOk result (length self.new.block.code.items ≤ length self.old.block.code.items + 5) }
+        ensures short { OnOk result (extent self.new ≤ extent self.old + 6) }
     {
         let t = self.test_false(operand)?;
         Ok(Cell {
@@ -85,7 +85,7 @@ impl Emitter {
     /// Adds IS FALSE of a condition that was emitted before.
     pub fn is_false(&mut self, operand: Cell) -> Result<Cell, NoMemory>
         ensures emits { IfOk result (λ out. (known : List Known) (c : Condition) (start : Emitter) → EmitsTruth known c start self.old operand → EmitsTruth known (is c False) start self.new out) }
-        ensures short { OnOk result (length self.new.block.code.items ≤ length self.old.block.code.items + 5) }
+        ensures short { OnOk result (extent self.new ≤ extent self.old + 6) }
     {
         let t = self.test_false(operand)?;
         Ok(sure(t))
@@ -94,7 +94,7 @@ impl Emitter {
     /// Adds a number of 32 bits in a local of its own.
     pub(crate) fn flag(&mut self, value: u32) -> Result<Local, NoMemory>
         ensures emits { IfOk result (λ t. AddsTest (i32 value) self.old self.new t) }
-        ensures short { OnOk result (length self.new.block.code.items ≤ length self.old.block.code.items + 2) }
+        ensures short { OnOk result (extent self.new ≤ extent self.old + 3) }
     {
         let t = self.fresh(ValType::I32)?;
         self.block.code.extend_from_slice(&[
@@ -107,7 +107,7 @@ impl Emitter {
     /// Adds IS NULL of an expression that was emitted before (8.6): its null word, and 0 where it has none.
     pub fn is_null(&mut self, operand: Operand) -> Result<Cell, NoMemory>
         ensures emits { IfOk result (λ out. (known : List Known) (a : Expression) (start : Emitter) → Emits known a start self.old operand → EmitsTruth known (is_null a) start self.new out) }
-        ensures short { OnOk result (length self.new.block.code.items ≤ length self.old.block.code.items + 2) }
+        ensures short { OnOk result (extent self.new ≤ extent self.old + 3) }
     {
         match operand.cell.null {
             Some(n) => Ok(sure(n)),
@@ -121,7 +121,7 @@ impl Emitter {
     /// Adds IS UNKNOWN of a condition that was emitted before: the word that says so, and 0 where it has none.
     pub fn is_unknown(&mut self, operand: Cell) -> Result<Cell, NoMemory>
         ensures emits { IfOk result (λ out. (known : List Known) (c : Condition) (start : Emitter) → EmitsTruth known c start self.old operand → EmitsTruth known (is c Unknown) start self.new out) }
-        ensures short { OnOk result (length self.new.block.code.items ≤ length self.old.block.code.items + 2) }
+        ensures short { OnOk result (extent self.new ≤ extent self.old + 3) }
     {
         match operand.null {
             Some(n) => Ok(sure(n)),
@@ -135,7 +135,7 @@ impl Emitter {
     /// Adds IS of a truth, of a condition that was emitted before.
     pub fn is_truth(&mut self, operand: Cell, wanted: Truth) -> Result<Cell, NoMemory>
         ensures emits { IfOk result (λ out. (known : List Known) (c : Condition) (start : Emitter) → EmitsTruth known c start self.old operand → EmitsTruth known (is c wanted) start self.new out) }
-        ensures short { OnOk result (length self.new.block.code.items ≤ length self.old.block.code.items + 5) }
+        ensures short { OnOk result (extent self.new ≤ extent self.old + 6) }
     {
         match wanted {
             Truth::True => Ok(is_true(operand)),

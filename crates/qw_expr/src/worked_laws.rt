@@ -1,9 +1,10 @@
 //! Worked cases of the definitions, with numbers: stated as contracts. No function here computes anything.
 
-ghost use Rattle.std.specs.Prelude.{◌≡◌, pos, negsuc, [], ◌∷◌, Some, None};
+ghost use Rattle.std.specs.Prelude.{◌≡◌, pos, negsuc, [], ◌∷◌, length, Some, None};
 ghost use Rattle.qw_types.specs.declared.truth.Truth.TheVariants.{True, False, Unknown};
 ghost use Rattle.qw_types.specs.declared.value.Val.TheVariants.{Null, Num, Date};
-ghost use Rattle.qw_meaning.specs.declared.query.Comparison.TheVariants.{Equal};
+ghost use Rattle.qw_meaning.specs.Evaluation.{at_row};
+ghost use Rattle.qw_meaning.specs.declared.comparison.Comparison.TheVariants.{Equal};
 ghost use Rattle.qw_meaning.specs.Expression.{number, text, comparison, negation_of};
 ghost use Rattle.qw_module.specs.declared.instruction.Sign.TheVariants.{Signed};
 ghost use Rattle.qw_module.specs.declared.instruction.Relation.TheVariants.{Lt};
@@ -11,8 +12,10 @@ ghost use Rattle.qw_low.specs.State.{Number};
 ghost use Rattle.qw_low.specs.Meaning.{value};
 ghost use Rattle.qw_low.specs.Worked.{state};
 ghost use Rattle.qw_expr.specs.Cells.{HoldsTruth, HoldsValue};
+ghost use Rattle.qw_expr.specs.Emits.{extent};
 ghost use Rattle.qw_expr.specs.Literals.{number_operand};
 ghost use Rattle.qw_expr.specs.Tests.{tested, truth_word};
+ghost use Rattle.qw_expr.specs.declared.emitter.Emitter.{Emitter};
 ghost use Rattle.qw_expr.specs.declared.test.Test.TheVariants as test;
 ghost use Rattle.qw_meaning.specs.Units.{units_of};
 
@@ -29,9 +32,9 @@ pub fn values_in_locals()
 
 /// The units of `'pen' = 'm'` are its 4 octets; NOT adds none, and a comparison of numbers has none.
 pub fn units_of_comparisons()
-    ensures { (units_of (comparison Equal (text (112 ∷ 101 ∷ 110 ∷ [])) (text (109 ∷ []))) (record { row = [] }) ≡ 4)
-        × (units_of (negation_of (comparison Equal (text (112 ∷ 101 ∷ 110 ∷ [])) (text (109 ∷ [])))) (record { row = [] }) ≡ 4)
-        × (units_of (comparison Equal (number (pos 1) 0) (number (pos 10) 1)) (record { row = [] }) ≡ 0) }
+    ensures { (units_of (comparison Equal (text (112 ∷ 101 ∷ 110 ∷ [])) (text (109 ∷ []))) (at_row []) ≡ 4)
+        × (units_of (negation_of (comparison Equal (text (112 ∷ 101 ∷ 110 ∷ [])) (text (109 ∷ [])))) (at_row []) ≡ 4)
+        × (units_of (comparison Equal (number (pos 1) 0) (number (pos 10) 1)) (at_row []) ≡ 0) }
 {}
 
 /// The literal -0.5, of scale 1, whose word is in local 3: its magnitude is 5, and it has no null word.
@@ -44,4 +47,9 @@ pub fn tests_of_locals()
     ensures related { value (record state { locals = Number 18446744073709551611 ∷ Number 3 ∷ [] }) (tested (test.Related (Lt Signed) 0 1)) ≡ Some (Number 1) }
     ensures zero { value (record state { locals = Number 0 ∷ [] }) (tested (test.Zero 0)) ≡ Some (Number 1) }
     ensures word { (truth_word True ≡ 1) × (truth_word False ≡ 0) × (truth_word Unknown ≡ 0) }
+{}
+
+/// Three steps and two locals of its own are an extent of 5, wherever the locals begin.
+pub fn extents()
+    ensures { (emitter : Emitter) → length emitter.block.code.items ≡ 3 → length emitter.own.items ≡ 2 → extent emitter ≡ 5 }
 {}

@@ -3,7 +3,7 @@ use Rattle.std.proofs.Common.{ℕ, refl, ◌∙◌}
 use Rattle.qw_types.specs.declared.truth.Truth.{Truth}
 use Rattle.qw_meaning.specs.declared.expression.Operator.{Operator}
 use Rattle.qw_meaning.specs.declared.expression.Field.{Field}
-use Rattle.qw_meaning.specs.declared.query.Comparison.{Comparison}
+use Rattle.qw_meaning.specs.declared.comparison.Comparison.{Comparison}
 use Rattle.qw_meaning.specs.Expression.{Condition, Expression, arithmetic, negative, extract, brought, choice, comparison, is_null, both, either, negation_of, is}
 use Rattle.qw_fold.specs.Inner.Made.{Follows, FollowsTruth}
 

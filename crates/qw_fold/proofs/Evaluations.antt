@@ -11,7 +11,7 @@ use Rattle.qw_meaning.specs.declared.expression.Field.{Field}
 use Rattle.qw_meaning.specs.declared.expression.Operator.{Operator}
 use Rattle.qw_meaning.specs.declared.expression.Operator.TheVariants as op
 use Rattle.qw_meaning.specs.Columns.{HasColumns, HoldsIn}
-use Rattle.qw_meaning.specs.Evaluation.{Environment, applied, as_number, field_of, value_of}
+use Rattle.qw_meaning.specs.Evaluation.{Environment, applied, as_number, field_of, value_of, at_row}
 use Rattle.qw_meaning.specs.Expression.{Expression, arithmetic, date, extract, negative, number, scale_after, scale_of}
 use Rattle.qw_meaning.specs.Nodes.{nodes}
 use Rattle.qw_meaning.specs.Tree.{expression_of}
@@ -83,7 +83,7 @@ pub record IsOperation (operator : Operator) (a b tree : Expr) : Type 0 where
   pub folded : IsLeft operator a b → IsFolded tree
 
 both_evaluated : (operator : Operator) (a b tree made : Expr) → is_number a ≡ true → is_number b ≡ true → IsTyped (arithmetic operator (expression_of a) (expression_of b)) →
-    MatchOption (number_in (value_of (expression_of tree) (record { row = [] }))) (made ≡ tree) (λ v. (made ≡ Number v (scale_of (expression_of tree))) × IsTrue (fits v)) →
+    MatchOption (number_in (value_of (expression_of tree) (at_row []))) (made ≡ tree) (λ v. (made ≡ Number v (scale_of (expression_of tree))) × IsTrue (fits v)) →
     IsOperation operator a b tree → IsFoldOf (arithmetic operator (expression_of a) (expression_of b)) (1 + nodes a + nodes b) (texts_in a ++ texts_in b) made
 both_evaluated operator (Number x s) (Number y t) tree made na nb typed h is =
     operation_result operator x y s t tree made (applied operator x s y t) refl (allowed_scale operator s t typed.0.0.1 typed.0.1.1 typed.1.1) (rw is.built.means at h)
@@ -92,7 +92,7 @@ both_evaluated operator (Number x s) _ tree made na nb typed h is = absurd cc
 both_evaluated operator _ b tree made na nb typed h is = absurd cc
 
 pub operation_evaluated : (operator : Operator) (a b tree made : Expr) → (is_number a && is_number b) ≡ true → IsTyped (arithmetic operator (expression_of a) (expression_of b)) →
-    MatchOption (number_in (value_of (expression_of tree) (record { row = [] }))) (made ≡ tree) (λ v. (made ≡ Number v (scale_of (expression_of tree))) × IsTrue (fits v)) →
+    MatchOption (number_in (value_of (expression_of tree) (at_row []))) (made ≡ tree) (λ v. (made ≡ Number v (scale_of (expression_of tree))) × IsTrue (fits v)) →
     IsOperation operator a b tree → IsFoldOf (arithmetic operator (expression_of a) (expression_of b)) (1 + nodes a + nodes b) (texts_in a ++ texts_in b) made
 operation_evaluated operator a b tree made h typed is built =
     both_evaluated operator a b tree made (both_numbers a b h).0 (both_numbers a b h).1 typed is built
@@ -108,7 +108,7 @@ operation_stays operator a b tree h is =
     stays (arithmetic operator (expression_of a) (expression_of b)) _ _ tree tree refl is.built.means (is.folded (left_beside operator a b h)) is.built.counted is.built.same_texts
 
 pub negative_evaluated : (a tree made : Expr) → is_number a ≡ true → IsTyped (negative (expression_of a)) → expression_of tree ≡ negative (expression_of a) →
-    MatchOption (number_in (value_of (expression_of tree) (record { row = [] }))) (made ≡ tree) (λ v. (made ≡ Number v (scale_of (expression_of tree))) × IsTrue (fits v)) →
+    MatchOption (number_in (value_of (expression_of tree) (at_row []))) (made ≡ tree) (λ v. (made ≡ Number v (scale_of (expression_of tree))) × IsTrue (fits v)) →
     IsFoldOf (negative (expression_of a)) (1 + nodes a) (texts_in a) made
 negative_evaluated (Number x s) tree made na typed means h =
     let h' = rw means at h in
@@ -116,7 +116,7 @@ negative_evaluated (Number x s) tree made na typed means h =
 negative_evaluated _ tree made na typed means h = absurd cc
 
 pub extract_evaluated : (field : Field) (a tree made : Expr) → is_date a ≡ true → IsTyped (extract field (expression_of a)) → expression_of tree ≡ extract field (expression_of a) →
-    MatchOption (number_in (value_of (expression_of tree) (record { row = [] }))) (made ≡ tree) (λ v. (made ≡ Number v (scale_of (expression_of tree))) × IsTrue (fits v)) →
+    MatchOption (number_in (value_of (expression_of tree) (at_row []))) (made ≡ tree) (λ v. (made ≡ Number v (scale_of (expression_of tree))) × IsTrue (fits v)) →
     IsFoldOf (extract field (expression_of a)) (1 + nodes a) (texts_in a) made
 extract_evaluated field (Date d) tree made na typed means h =
     let h' = rw means at h in

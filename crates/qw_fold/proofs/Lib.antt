@@ -4,5 +4,4 @@ mod Constructs
 mod Evaluations
 mod Lists
 mod Literals
-pub mod SameLemmas
 mod Trees

@@ -10,7 +10,7 @@ use Rattle.qw_meaning.specs.Nodes.{nodes, nodes_of}
 use Rattle.qw_meaning.specs.Select.{IsConditionOver, IsItemOver, IsSpecification, Parts, row_types, specification_of}
 use Rattle.qw_meaning.specs.Tree.{condition_of, expression_of}
 use Rattle.qw_fold.specs.Folded.{AreFolded, IsFolded}
-use Rattle.qw_fold.specs.Same.{AreSame, IsSame, MeansTheSame}
+use Rattle.qw_meaning.specs.Same.{AreSame, IsSame, MeansTheSame}
 use Rattle.qw_fold.specs.Texts.{texts_in, texts_within}
 use Rattle.qw_fold.specs.Inner.Made.{AreFoldOf, ConjunctsFold, IsFoldOf, ItemsFold}
 
@@ -73,12 +73,12 @@ items_promise types (e ∷ es) (f ∷ fs) h =
 -- the parts of a specification, and those that are made of them
 pub record FoldsTo (old new : Parts) : Type 0 where
   pub table : new.table ≡ old.table
-  pub types : new.types ≡ old.types
+  pub columns : new.columns ≡ old.columns
   pub conjuncts : ConjunctsFold old.conjuncts new.conjuncts
   pub items : ItemsFold old.items new.items
 
 over_types : Parts → List Ty
-over_types parts = row_types (record { table = parts.table; types = parts.types } ∷ [])
+over_types parts = row_types (record { table = parts.table; columns = parts.columns } ∷ [])
 
 pub specification_made : (old new : Parts) → FoldsTo old new → IsSpecification (specification_of old) → IsSpecification (specification_of new)
 unfolding over_types
@@ -93,13 +93,13 @@ specification_made old new f h =
       few_conjuncts = omega (arith, h.few_conjuncts);
       some_item = omega (arith, h.some_item);
       few_items = omega (arith, h.few_items);
-      conjuncts = rw f.types (a.over h.conjuncts);
-      items = rw f.types (b.over h.items);
+      conjuncts = rw f.columns (a.over h.conjuncts);
+      items = rw f.columns (b.over h.items);
     }
 
 pub same_made : (old new : Parts) → FoldsTo old new → MeansTheSame (specification_of old) (specification_of new)
 same_made old new f = record {
-  entries = rw (f.table, f.types) refl;
+  entries = rw (f.table, f.columns) refl;
   conjuncts = (conjuncts_promise [] old.conjuncts new.conjuncts f.conjuncts).same;
   items = (items_promise [] old.items new.items f.items).same;
 }

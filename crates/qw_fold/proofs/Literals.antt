@@ -9,7 +9,7 @@ use Rattle.qw_types.specs.declared.value.Val.{Val}
 use Rattle.qw_types.specs.declared.value.Val.TheVariants as val
 use Rattle.qw_meaning.specs.declared.expression.Operator.{Operator}
 use Rattle.qw_meaning.specs.declared.expression.Operator.TheVariants.{Add, Subtract}
-use Rattle.qw_meaning.specs.declared.query.Comparison.{Comparison}
+use Rattle.qw_meaning.specs.declared.comparison.Comparison.{Comparison}
 use Rattle.qw_meaning.specs.Evaluation.{as_number, combined, compared, value_of}
 use Rattle.qw_meaning.specs.Expression.{Expression, number, arithmetic, brought, comparison, is_null, scale_after, scale_of}
 use Rattle.qw_meaning.specs.Typing.{IsTyped, ScalesAllowed, are_comparable, kind_of}

@@ -8,8 +8,8 @@ use Rattle.qw_meaning.specs.declared.expression.Branches.{Branches}
 use Rattle.qw_meaning.specs.declared.expression.Matches.{Matches}
 use Rattle.qw_meaning.specs.declared.expression.Matches.TheVariants as Matches
 use Rattle.qw_meaning.specs.declared.expression.Operator.{Operator}
-use Rattle.qw_meaning.specs.declared.query.Comparison.{Comparison}
-use Rattle.qw_meaning.specs.declared.query.Comparison.TheVariants.{Equal}
+use Rattle.qw_meaning.specs.declared.comparison.Comparison.{Comparison}
+use Rattle.qw_meaning.specs.declared.comparison.Comparison.TheVariants.{Equal}
 use Rattle.qw_meaning.specs.Expression.{Choices, Condition, Expression, Expressions, last, more, otherwise, when, among, arithmetic, between, both, case, cases, coalesced, comparison, either, largest_result, null_if, scale_of}
 use Rattle.qw_meaning.specs.Nodes.{nodes, nodes_of, nodes_of_all, nodes_of_branches, nodes_of_matches}
 use Rattle.qw_meaning.specs.Tree.{choices_of, condition_of, expression_of, expressions_of, matches_of}

@@ -1,4 +1,4 @@
 pub mod Folded
 pub mod Inner
-pub mod Same
 pub mod Texts
+pub use Rattle.qw_meaning.specs.Same

@@ -7,14 +7,14 @@ ghost use Rattle.qw_meaning.specs.Select.{IsSpecification, specification_of};
 ghost use Rattle.qw_meaning.specs.Tree.{condition_of, expression_of};
 ghost use Rattle.qw_meaning.specs.Typing.{AreTyped, IsTyped};
 ghost use Rattle.qw_fold.specs.Folded.{AreFolded, IsFolded};
-ghost use Rattle.qw_fold.specs.Same.{MeansTheSame};
+ghost use Rattle.qw_meaning.specs.Same.{MeansTheSame};
 ghost use Rattle.qw_fold.specs.Texts.{texts_in, texts_within};
 ghost use Rattle.qw_fold.specs.Inner.Made.{ConjunctsFold, ItemsFold};
 
 use crate::tree::{condition, expression};
 use qw_meaning::expression::{Cond, Expr};
 use qw_meaning::select::Select;
-use qw_types::{NoMemory, Ty};
+use qw_types::{ColumnType, NoMemory};
 use std::alloc::Global;
 
 /// A specification that means the same, conjunct by conjunct and item by item, of trees that are no larger, with the same texts
@@ -26,25 +26,25 @@ use std::alloc::Global;
 ///
 /// [`NoMemory`] where memory does not suffice.
 pub fn fold(alloc: Global, select: &Select) -> Result<Select, NoMemory>
-    ensures from { IfOk result (λ folded. (folded.table ≡ select.now.table) × (folded.types ≡ select.now.types)) }
+    ensures from { IfOk result (λ folded. (folded.table ≡ select.now.table) × (folded.columns ≡ select.now.columns)) }
     ensures specification { IfOk result (λ folded. IsSpecification (specification_of folded)) }
     ensures same { IfOk result (λ folded. MeansTheSame (specification_of select.now) (specification_of folded)) }
     ensures folded { IfOk result (λ folded. AllByRecursion AreFolded folded.conjuncts × AllByRecursion IsFolded folded.items) }
     ensures short { IfOk result (λ folded. (sum_by nodes_of folded.conjuncts ≤ sum_by nodes_of select.now.conjuncts) × (sum_by nodes folded.items ≤ sum_by nodes select.now.items)) }
     ensures texts { IfOk result (λ folded. (flat_map texts_within folded.conjuncts ≡ flat_map texts_within select.now.conjuncts) × (flat_map texts_in folded.items ≡ flat_map texts_in select.now.items)) }
 {
-    let types = types_of(alloc, select.types())?;
+    let columns = columns_of(alloc, select.columns())?;
     let conjuncts = conjuncts_of(alloc, select.conjuncts())?;
     let items = items_of(alloc, select.items())?;
-    Ok(Select::new(select.table(), types, conjuncts, items))
+    Ok(Select::new(select.table(), columns, conjuncts, items))
 }
 
-/// The same types.
-fn types_of(alloc: Global, types: &[Ty]) -> Result<Vec<Ty>, NoMemory>
-    ensures { IfOk result (λ made. made.items ≡ types.now) }
+/// The same columns.
+fn columns_of(alloc: Global, columns: &[ColumnType]) -> Result<Vec<ColumnType>, NoMemory>
+    ensures { IfOk result (λ made. made.items ≡ columns.now) }
 {
     let mut made = Vec::new(alloc);
-    made.extend_from_slice(types)?;
+    made.extend_from_slice(columns)?;
     Ok(made)
 }
 

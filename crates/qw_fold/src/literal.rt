@@ -3,7 +3,7 @@
 ghost use Rattle.std.specs.Prelude.{◌≡◌, ◌≤◌, [], ℕ, IfOk, IsTrue, List, MatchOption, Option};
 ghost use Rattle.qw_types.specs.Arithmetic.{fits};
 ghost use Rattle.qw_meaning.specs.Columns.{HasColumns, HoldsIn};
-ghost use Rattle.qw_meaning.specs.Evaluation.{value_of};
+ghost use Rattle.qw_meaning.specs.Evaluation.{value_of, at_row};
 ghost use Rattle.qw_meaning.specs.Expression.{Expression, scale_of};
 ghost use Rattle.qw_meaning.specs.Nodes.{nodes};
 ghost use Rattle.qw_meaning.specs.Tree.{expression_of};
@@ -63,7 +63,7 @@ pub(crate) fn at_scale(expr: Expr, to: u8) -> Expr
 fn number_of(expr: &Expr) -> Option<i64>
     requires typed { IsTyped (expression_of expr.now) }
     requires constant { HasColumns (HoldsIn []) (expression_of expr.now) }
-    ensures number { result ≡ number_in (value_of (expression_of expr.now) (record { row = [] })) }
+    ensures number { result ≡ number_in (value_of (expression_of expr.now) (at_row [])) }
     ensures fits { MatchOption result (Unit {0}) (λ v. IsTrue (fits v)) }
 {
     match value(expr, &[]) {
@@ -76,7 +76,7 @@ fn number_of(expr: &Expr) -> Option<i64>
 pub(crate) fn evaluated(expr: Expr) -> Expr
     requires typed { IsTyped (expression_of expr) }
     requires constant { HasColumns (HoldsIn []) (expression_of expr) }
-    ensures { MatchOption (number_in (value_of (expression_of expr) (record { row = [] }))) (result ≡ expr)
+    ensures { MatchOption (number_in (value_of (expression_of expr) (at_row []))) (result ≡ expr)
         (λ v. (result ≡ Number v (scale_of (expression_of expr))) × IsTrue (fits v)) }
 {
     match number_of(&expr) {

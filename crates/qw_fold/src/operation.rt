@@ -11,9 +11,9 @@ ghost use Rattle.qw_fold.specs.Inner.Made.{AreFoldOf, BroughtTogether, IsBuilt, 
 
 use crate::construct::{arithmetic_tree, compare_tree, extract_tree, negative_tree};
 use crate::literal::{at_scale, evaluated, is_date, is_number};
+use qw_meaning::comparison::Comparison;
 use qw_meaning::evaluate::scale;
 use qw_meaning::expression::{Cond, Expr, Field, Operator};
-use qw_meaning::query::Comparison;
 use qw_types::NoMemory;
 use std::alloc::Global;
 

@@ -1,3 +1,5 @@
+pub mod Calls
 pub mod Faults
 pub mod Files
+pub mod Inner
 pub mod Memory

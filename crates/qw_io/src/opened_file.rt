@@ -1,24 +1,24 @@
-ghost use Rattle.std.specs.Prelude.{◌≡◌, ◌↔◌, ◌+◌, ◌-◌, ◌^◌, ◌≤◌, IfOk, IsTrue, length, min};
-ghost use Rattle.std.specs.Io.KnownBytes.{ReadConsumes};
+ghost use Rattle.std.specs.Prelude.{◌≡◌, ◌↔◌, ◌+◌, ◌≤◌, IfOk, IsTrue, length};
 ghost use Rattle.std.specs.String.{string_bytes};
+ghost use Rattle.qw_io.specs.Inner.Opened.{ReadsAt};
 
+use crate::file_system::FileSystem;
 use std::io;
-use std::io::{Read, Seek, SeekFrom};
 
 /// A file that was opened, with the name that it was opened by and the offset at which the last reading ended.
 #[derive(Drop)]
-pub struct OpenedFile<F> {
+pub struct OpenedFile<S: FileSystem> {
     /// The name that it was opened by.
     pub name: String,
     /// The file.
-    pub file: F,
+    pub file: S::File,
     /// The offset at which the last reading ended, in octets.
-    pub offset: u64,
+    pub offset: u128,
 }
 
-impl<F: Read + Seek> OpenedFile<F> {
+impl<S: FileSystem> OpenedFile<S> {
     /// A file that nothing was read of.
-    pub fn new(name: String, file: F) -> Self
+    pub fn new(name: String, file: S::File) -> Self
         ensures name { result.name ≡ name }
         ensures file { result.file ≡ file }
         ensures offset { result.offset ≡ 0 }
@@ -42,15 +42,14 @@ impl<F: Read + Seek> OpenedFile<F> {
     pub fn read_at(&mut self, at: u64, into: &mut [u8]) -> io::Result<usize>
         ensures within { IfOk result (λ n. n ≤ length into.old) }
         ensures name { self.new.name ≡ self.old.name }
-        ensures offset { IfOk result (λ n. self.new.offset ≡ min (at + n) (2 ^ 64 - 1)) }
-        ensures in_order { at ≡ self.old.offset
-            → ReadConsumes (F.Read.remaining self.old.file) (F.Read.remaining self.new.file) result into.new }
+        ensures offset { IfOk result (λ n. self.new.offset ≡ at + n) }
+        ensures read { ReadsAt S.seeks S.reads self.old.offset at self.old.file self.new.file result into.new }
     {
-        if at != self.offset {
-            self.file.seek(SeekFrom::Start(at))?;
+        if at as u128 != self.offset {
+            S::seek_front(&mut self.file, at)?;
         }
-        let count = self.file.read(into)?;
-        self.offset = at.saturating_add(count as u64);
+        let count = S::read_piece(&mut self.file, into)?;
+        self.offset = at as u128 + count as u128;
         Ok(count)
     }
 }

@@ -1,6 +1,7 @@
-ghost use Rattle.std.specs.Prelude.{◌≡◌, ◌↔◌, ◌⊎◌, ℕ, ◌≤◌, Bool, true, List, Option, length, take, drop, IfOk, IfSome, None, OnOk, IsErrOf, IsTrue, ⊤};
+ghost use Rattle.std.specs.Prelude.{◌≡◌, ◌↔◌, ◌⊎◌, ℕ, ◌+◌, ◌≤◌, Bool, true, List, Option, length, take, drop, IfOk, IfSome, None, OnOk, IsErrOf, IsTrue, ⊤};
 ghost use Rattle.qw_io.specs.Faults.{IsCounted};
-ghost use Rattle.qw_io.specs.Files.{OfFile};
+ghost use Rattle.std.specs.Option.{option_map};
+ghost use Rattle.qw_io.specs.Files.{OfFile, Watched, watched_after};
 
 use crate::fault::IoFault;
 
@@ -14,6 +15,9 @@ pub trait Shelf {
 
     /// The name of the file that the last counted fault was at, where it is told.
     ghost fault_name: { Self → Option (List ℕ) } = { λ _. None };
+
+    /// One file's name, and how far calls asked for the file, where that is told.
+    ghost watched: { Self → Option Watched } = { λ _. None };
 
     /// Whether a call may take memory. Only then may it answer want of memory.
     ghost takes_memory: { Bool } = { true };
@@ -37,6 +41,8 @@ pub trait Shelf {
         ensures failed_name { IsErrOf result IoFault.Failed → IfSome (fault_name self.new) (λ of. of ≡ name.now) }
         ensures no_memory_keeps { IsErrOf result IoFault.NoMemory → fault_name self.new ≡ fault_name self.old }
         ensures ok_keeps { OnOk result (fault_name self.new ≡ fault_name self.old) }
+
+        ensures watched { watched self.new ≡ option_map (watched_after name.now (at + length into.old)) (watched self.old) }
 
         ensures same_files { files self.new ≡ files self.old }
         ensures within { IfOk result (λ n. n ≤ length into.old) }

@@ -2,11 +2,10 @@ ghost use Rattle.std.specs.Prelude.{◌≡◌};
 
 use crate::fault::{FaultCount, IoFault};
 use crate::sink::Sink;
-use std::io::Write;
+use crate::stream::Stream;
 
-/// A stream of the system, as standard output or standard error. As a sink it tells nothing of what it took; of
-/// a writer that tells its contents, as a vector, the clauses of `put` say it. A write that takes no octet is a
-/// fault, as is every error of the stream.
+/// A stream of the system, as standard output or standard error. As a sink it tells nothing of what it took, but each answer is that
+/// of one write to the stream. A write that takes no octet is a fault, as is every error of the stream.
 #[derive(Drop)]
 pub struct StdSink<W> {
     /// The stream.
@@ -14,7 +13,7 @@ pub struct StdSink<W> {
     faults: FaultCount,
 }
 
-impl<W: Write> StdSink<W> {
+impl<W: Stream> StdSink<W> {
     /// A sink that writes to the stream, with no fault counted yet.
     pub fn new(stream: W) -> Self
         ensures stream { result.stream ≡ stream }
@@ -27,9 +26,9 @@ impl<W: Write> StdSink<W> {
     }
 }
 
-impl<W: Write> Sink for StdSink<W> {
-    ghost use Rattle.std.specs.Prelude.{◌≡◌, ◌≤◌, ◌<◌, None, false, length, take, IfErr, IfOk, OnOk, OnErr, IsErrOf};
-    ghost use Rattle.std.specs.Io.KnownBytes.{Appends, Keeps};
+impl<W: Stream> Sink for StdSink<W> {
+    ghost use Rattle.std.specs.Prelude.{◌≡◌, ◌≤◌, ◌<◌, None, false, length, IfErr, IfOk, OnOk, OnErr, IsErrOf};
+    ghost use Rattle.qw_io.specs.Calls.{TakesNone};
     ghost use Rattle.qw_io.specs.Faults.{IsCounted};
 
     ghost taken = { λ _. None };
@@ -46,14 +45,14 @@ impl<W: Write> Sink for StdSink<W> {
 
         ensures within { IfOk result (λ n. n ≤ length piece.now) }
         ensures some { IfOk result (λ n. 0 < length piece.now → 1 ≤ n) }
-        ensures stream_took { IfOk result (λ n. 0 < length piece.now
-            → Appends (W.contents self.old.stream) (W.contents self.new.stream) (take n piece.now)) }
-        ensures fault_took_none { OnErr result (Keeps (W.contents self.old.stream) (W.contents self.new.stream)) }
+        ensures takes { IfOk result (λ n. 0 < length piece.now → W.writes self.old.stream piece.now (Ok n) self.new.stream) }
+        ensures nothing { length piece.now ≡ 0 → (result ≡ Ok 0) × (self.new.stream ≡ self.old.stream) }
+        ensures takes_none { OnErr result (TakesNone W.writes self.old.stream piece.now self.new.stream) }
     {
         if piece.is_empty() {
             return Ok(0);
         }
-        match self.stream.write(piece) {
+        match self.stream.write_piece(piece) {
             Ok(0) | Err(_) => Err(self.faults.failed()),
             Ok(count) => Ok(count),
         }

@@ -1,14 +1,14 @@
-ghost use Rattle.std.specs.Prelude.{◌≡◌, negsuc, [], ◌∷◌, IfOk};
+ghost use Rattle.std.specs.Prelude.{◌≡◌, negsuc, [], ◌∷◌, IfOk, true, false};
 ghost use Rattle.qw_types.specs.declared.value.Ty.TheVariants as type;
-ghost use Rattle.qw_meaning.specs.declared.query.Comparison.TheVariants.{NotEqual};
+ghost use Rattle.qw_meaning.specs.declared.comparison.Comparison.TheVariants.{NotEqual};
 ghost use Rattle.qw_meaning.specs.Expression.{column, comparison, number};
 ghost use Rattle.qw_meaning.specs.Tree.{condition_of};
 
 use qw_compile::compile::compile;
+use qw_meaning::comparison::Comparison;
 use qw_meaning::expression::{Cond, Expr};
-use qw_meaning::query::Comparison;
 use qw_meaning::select::Select;
-use qw_types::{NoMemory, Ty};
+use qw_types::{ColumnType, NoMemory, Ty};
 use std::alloc::Global;
 use std::test::Fail;
 
@@ -21,25 +21,35 @@ fn conjunct(alloc: Global) -> Result<Cond, NoMemory>
     Ok(Cond::Compare(Comparison::NotEqual, tested, literal))
 }
 
+/// An INTEGER column.
+fn integer(not_null: bool) -> ColumnType
+    ensures { result ≡ record { ty = type.Integer; not_null = not_null } }
+{
+    ColumnType {
+        ty: Ty::Integer,
+        not_null,
+    }
+}
+
 /// Of three columns the third, the first and the third again, where the second is not -5.
 fn selection(alloc: Global) -> Result<Select, NoMemory>
-    ensures { IfOk result (λ select. select.types ≡ type.Integer ∷ type.Integer ∷ type.Integer ∷ []) }
+    ensures { IfOk result (λ select. select.columns ≡ record { ty = type.Integer; not_null = true } ∷ record { ty = type.Integer; not_null = false } ∷ record { ty = type.Integer; not_null = true } ∷ []) }
 {
-    let types = vec![in alloc; Ty::Integer, Ty::Integer, Ty::Integer]?;
+    let columns = vec![in alloc; integer(true), integer(false), integer(true)]?;
     let conjuncts = vec![in alloc; conjunct(alloc)?]?;
     let items = vec![in alloc;
         Expr::Column(2, Ty::Integer),
         Expr::Column(0, Ty::Integer),
         Expr::Column(2, Ty::Integer),
     ]?;
-    Ok(Select::new(5, types, conjuncts, items))
+    Ok(Select::new(5, columns, conjuncts, items))
 }
 
 // No clause refuses a body that always wants memory, or says that the module would be too long: this test does.
 #[test]
 fn a_module_is_made(rt: HostRuntime) -> Result<(), Fail> {
     let select = selection(rt.alloc())?;
-    let compiled = compile(rt.alloc(), &select, &[true, false, true])?;
+    let compiled = compile(rt.alloc(), &select)?;
     let (module, layout) = (&compiled.module, &compiled.layout);
     let parts = [
         module.imports.len(),

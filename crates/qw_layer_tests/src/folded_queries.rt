@@ -3,17 +3,18 @@
 ghost use Rattle.std.specs.Prelude.{◌≡◌, pos, [], ◌∷◌, IfOk};
 ghost use Rattle.qw_types.specs.declared.value.Ty.TheVariants as type;
 ghost use Rattle.qw_meaning.specs.declared.expression.Operator.TheVariants.{Add, Divide, Multiply, Subtract};
-ghost use Rattle.qw_meaning.specs.declared.query.Comparison.TheVariants.{Less};
+ghost use Rattle.qw_meaning.specs.declared.comparison.Comparison.TheVariants.{Less};
 ghost use Rattle.qw_meaning.specs.Expression.{arithmetic, between, column, comparison, number};
 ghost use Rattle.qw_meaning.specs.Select.{IsSpecification, specification_of};
 ghost use Rattle.qw_meaning.specs.Tree.{condition_of, expression_of};
+ghost use Rattle.qw_meaning.specs.WorkedRows.{nullable};
 
 use crate::assertions::assert_text;
 use qw_fold::fold::fold;
 use qw_meaning::Select;
+use qw_meaning::comparison::Comparison;
 use qw_meaning::expression::{Cond, Expr, Operator};
-use qw_meaning::query::Comparison;
-use qw_types::{NoMemory, Ty};
+use qw_types::{ColumnType, NoMemory, Ty};
 use std::alloc::{AllocError, Global};
 use std::test::Fail;
 
@@ -46,15 +47,19 @@ fn seven(alloc: Global) -> Result<Expr, NoMemory>
 
 /// What a specification over the table of PRICE becomes.
 fn folded(alloc: Global, conjuncts: Vec<Cond>, list: Vec<Expr>) -> Result<Select, NoMemory>
-    requires { IsSpecification (specification_of (record { table = 0; types = type.Decimal 9 2 ∷ []; conjuncts = conjuncts.items; items = list.items })) }
+    requires { IsSpecification (specification_of (record { table = 0; columns = nullable (type.Decimal 9 2) ∷ []; conjuncts = conjuncts.items; items = list.items })) }
 {
-    let types = vec![in alloc;
-        Ty::Decimal {
+    let price = ColumnType {
+        ty: Ty::Decimal {
             precision: 9,
             scale: 2,
         },
-    ]?;
-    fold(alloc, &Select::new(0, types, conjuncts, list))
+        not_null: false,
+    };
+    fold(
+        alloc,
+        &Select::new(0, vec![in alloc; price]?, conjuncts, list),
+    )
 }
 
 /// `PRICE < 10`.

@@ -15,8 +15,6 @@ mod folded_queries;
 #[cfg(test)]
 mod linear_memory;
 #[cfg(test)]
-mod plain_rows;
-#[cfg(test)]
 mod scripts;
 #[cfg(test)]
 mod sources_and_sinks;

@@ -545,7 +545,7 @@ const FIRST_FAULTS: [Case; 10] = [
 fn lines(alloc: Global, text: &str) -> Result<Vec<u8>, Fail> {
     let script = script_of(alloc, text.as_bytes())?;
     let mut lines = Vec::new(alloc);
-    for statement in &script.statements {
+    for statement in script.as_slice() {
         if !lines.is_empty() {
             lines.push(b'\n')?;
         }
@@ -601,7 +601,7 @@ fn numbers_of_statements(rt: HostRuntime) -> Result<(), Fail> {
     assert_faults(&rt, rt.alloc(), &STATEMENTS)?;
     let most = joined(rt.alloc(), &[("SELECT a FROM t;", 64)])?;
     let script = script_of(rt.alloc(), most.as_bytes())?;
-    assert_eq!(rt; script.statements.len(), 64);
+    assert_eq!(rt; script.as_slice().len(), 64);
     Ok(())
 }
 

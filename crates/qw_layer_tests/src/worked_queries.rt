@@ -7,17 +7,18 @@ ghost use Rattle.qw_types.specs.Kind.{IsOfKind, IsRowOf, type_kind};
 ghost use Rattle.qw_types.specs.declared.kind.Kind.TheVariants as kind;
 ghost use Rattle.qw_types.specs.declared.value.Ty.TheVariants as type;
 ghost use Rattle.qw_meaning.specs.declared.expression.Operator.TheVariants.{Divide, Subtract};
-ghost use Rattle.qw_meaning.specs.declared.query.Comparison.TheVariants.{Equal, Greater};
+ghost use Rattle.qw_meaning.specs.declared.comparison.Comparison.TheVariants.{Equal, Greater};
 ghost use Rattle.qw_meaning.specs.Expression.{arithmetic, case, coalesced, column, comparison, last, more, negative, null_if, number, otherwise, text, when};
 ghost use Rattle.qw_meaning.specs.Select.{IsSpecification, specification_of};
 ghost use Rattle.qw_meaning.specs.Tree.{condition_of, expression_of};
+ghost use Rattle.qw_meaning.specs.WorkedRows.{item_entry};
 
 use crate::assertions::assert_text;
 use qw_meaning::Select;
+use qw_meaning::comparison::Comparison;
 use qw_meaning::expression::{Branches, Cond, Expr, Exprs, Operator};
 use qw_meaning::outcome::{Answer, plain_outcome};
-use qw_meaning::query::Comparison;
-use qw_types::{NoMemory, Row, Text, Ty, Val};
+use qw_types::{ColumnType, NoMemory, Row, Text, Ty, Val};
 use std::alloc::Global;
 use std::process::Abort;
 use std::test::Fail;
@@ -28,18 +29,31 @@ fn named(alloc: Global, text: &str) -> Result<Val, NoMemory>
     Ok(Val::Text(Text::new(String::from_str(alloc, text)?)))
 }
 
-/// The columns of ITEM: ID INTEGER, PRICE DECIMAL(9,2), SOLD DATE, LABEL VARCHAR(20).
-fn item_types(alloc: Global) -> Result<Vec<Ty>, NoMemory>
-    ensures { IfOk result (λ types. types.items ≡ type.Integer ∷ type.Decimal 9 2 ∷ type.Date ∷ type.Varchar 20 ∷ []) }
+/// A column that may be null.
+fn nullable(ty: Ty) -> ColumnType
+    ensures { result ≡ Rattle.qw_meaning.specs.WorkedRows.nullable ty }
+{
+    ColumnType {
+        ty,
+        not_null: false,
+    }
+}
+
+/// The columns of ITEM: ID INTEGER NOT NULL, PRICE DECIMAL(9,2), SOLD DATE, LABEL VARCHAR(20).
+fn item_columns(alloc: Global) -> Result<Vec<ColumnType>, NoMemory>
+    ensures { IfOk result (λ columns. columns.items ≡ item_entry.columns) }
 {
     Ok(vec![in alloc;
-        Ty::Integer,
-        Ty::Decimal {
+        ColumnType {
+            ty: Ty::Integer,
+            not_null: true,
+        },
+        nullable(Ty::Decimal {
             precision: 9,
             scale: 2,
-        },
-        Ty::Date,
-        Ty::Varchar { length: 20 },
+        }),
+        nullable(Ty::Date),
+        nullable(Ty::Varchar { length: 20 }),
     ]?)
 }
 
@@ -52,6 +66,7 @@ fn item(alloc: Global, id: i64, price: Val, sold: Val, label: &str) -> Result<Ro
 }
 
 /// The rows of ITEM.
+#[tactic(auto, using(qw_types::proofs::DayLemmas::day_is))]
 fn items(alloc: Global) -> Result<Vec<Row>, NoMemory>
     ensures { IfOk result (λ rows. AllByRecursion (IsRowOf (map type_kind (type.Integer ∷ type.Decimal 9 2 ∷ type.Date ∷ type.Varchar 20 ∷ []))) rows.items) }
 {
@@ -63,9 +78,9 @@ fn items(alloc: Global) -> Result<Vec<Row>, NoMemory>
 
 /// What a query over ITEM answers.
 fn of_items(alloc: Global, conjuncts: Vec<Cond>, list: Vec<Expr>) -> Result<Answer, NoMemory>
-    requires { IsSpecification (specification_of (record { table = 0; types = type.Integer ∷ type.Decimal 9 2 ∷ type.Date ∷ type.Varchar 20 ∷ []; conjuncts = conjuncts.items; items = list.items })) }
+    requires { IsSpecification (specification_of (record { table = 0; columns = item_entry.columns; conjuncts = conjuncts.items; items = list.items })) }
 {
-    let select = Select::new(0, item_types(alloc)?, conjuncts, list);
+    let select = Select::new(0, item_columns(alloc)?, conjuncts, list);
     let tables = vec![in alloc; items(alloc)?]?;
     plain_outcome(alloc, &select, &tables)
 }
@@ -188,7 +203,7 @@ fn of_nothing(alloc: Global) -> Result<Answer, NoMemory> {
     let quotient = Expr::Arithmetic(Operator::Divide, integer(alloc, 1)?, integer(alloc, 0)?);
     let select = Select::new(
         0,
-        vec![in alloc; Ty::Integer]?,
+        vec![in alloc; nullable(Ty::Integer)]?,
         vec![in alloc;]?,
         vec![in alloc; quotient]?,
     );
@@ -254,6 +269,7 @@ fn three_quotients(alloc: Global) -> Result<Answer, NoMemory> {
 }
 
 /// `SELECT ID FROM ITEM WHERE SOLD <= DATE '1998-12-01' - INTERVAL '90' DAY`, the interval folded.
+#[tactic(auto, using(qw_types::proofs::DayLemmas::day_is))]
 fn sold_before(alloc: Global) -> Result<Answer, NoMemory> {
     let sold = Box::new(alloc, Expr::Column(2, Ty::Date))?;
     let day = Box::new(alloc, Expr::Date(19_980_902))?;

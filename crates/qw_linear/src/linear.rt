@@ -2,7 +2,7 @@ ghost use Rattle.std.specs.Prelude.{◌≡◌, ◌+◌, ◌*◌, ◌^◌, ◌<�
 ghost use Rattle.qw_linear.specs.Linear.{IsLinear};
 ghost use Rattle.qw_linear.specs.Memory.{page, loaded, stored, grown_by, pages_of, AreOctets};
 
-use qw_types::NoMemory;
+use qw_base::NoMemory;
 use std::alloc::Global;
 use std::marker::Model;
 

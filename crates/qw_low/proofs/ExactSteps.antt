@@ -1,28 +1,27 @@
 -- Rules for code that takes exactly so many steps, over any memory of which M holds, where M speaks only of what others keep.
-use Rattle.std.proofs.Common.{◌≡◌, ℕ, zero, suc, ◌+◌, ◌-◌, ◌*◌, ◌/◌, ◌≤◌, true, false, nat_le, List, ◌++◌, length, Option, Some, None, subst, inr, arith}
+use Rattle.std.proofs.Common.{◌≡◌, ℕ, suc, ◌+◌, ◌-◌, ◌*◌, ◌/◌, ◌≤◌, true, false, nat_le, List, ◌++◌, length, refl, subst, arith}
 use Rattle.std.proofs.lemmas.Bool.{le-leb, and_from, and_left}
-use Rattle.qw_module.specs.Execution.{Config, State, Running, Returned, Raised, Trapped, Raises, refusal}
+use Rattle.qw_module.specs.Execution.{Config, State, Running, Raised, Raises, refusal}
 use Rattle.qw_linear.specs.Memory.{page, most_pages, number_at, with_number, grown_by, pages_of}
-use Rattle.qw_module.specs.Step.{Goes, Asks, Puts, AsksPages, Signals, wants, Next, next}
+use Rattle.qw_module.specs.Step.{Goes, Asks, Puts, AsksPages, Signals, wants}
 use Rattle.qw_map.specs.Areas.{World, are_covered, IsFine, GoesOn, grants}
 use Rattle.qw_map.specs.Runs.{Moment}
-use Rattle.qw_map.specs.Inner.Steps.{OnStep, OnRunning, Within}
 use Rattle.qw_map.proofs.OpenRuns.{room-granted}
 use Rattle.qw_map.proofs.RunRules.{IsKept, with_granted, with_refused}
-use Rattle.qw_low.specs.Inner.Exact.{Exactly}
+use Rattle.qw_low.specs.Inner.Exact.{Exactly, Rest, asks, Then}
 
 -- From a state, over any memory of which M holds, exactly n steps lead to Q.
-pub record Comes (pages : ℕ) (Q : Moment → Type 0) (w : World) (M : List ℕ → Type 0) (n : ℕ) (s : State) : Type 0 where
-  pub steps : (memory : List ℕ) → M memory → Exactly pages Q n (record { world = w; state = s; memory = memory })
+pub record Comes (Q : Moment → Type 0) (w : World) (M : List ℕ → Type 0) (n : ℕ) (s : State) : Type 0 where
+  pub steps : (memory : List ℕ) → M memory → Exactly Q n (record { world = w; state = s; memory = memory })
 
-module _ (pages : ℕ) (Q : Moment → Type 0) (w : World) (M : List ℕ → Type 0) where
-  pub counted : (m n : ℕ) (s : State) → m ≡ n → Comes pages Q w M m s → Comes pages Q w M n s
-  counted m n s same comes = subst (λ (k : ℕ). Comes pages Q w M k s) same comes
+module _ (Q : Moment → Type 0) (w : World) (M : List ℕ → Type 0) where
+  pub counted : (m n : ℕ) (s : State) → m ≡ n → Comes Q w M m s → Comes Q w M n s
+  counted m n s same comes = subst (λ (k : ℕ). Comes Q w M k s) same comes
 
-  pub there : (s : State) → ((memory : List ℕ) → M memory → Q (record { world = w; state = s; memory = memory })) → Comes pages Q w M 0 s
+  pub there : (s : State) → ((memory : List ℕ) → M memory → Q (record { world = w; state = s; memory = memory })) → Comes Q w M 0 s
   there s holds = record { steps = holds }
 
-  pub goes : IsKept w M → (n : ℕ) (c : Config) (s : State) → wants c ≡ Goes s → Comes pages Q w M n s → Comes pages Q w M (suc n) (Running c)
+  pub goes : IsKept w M → (n : ℕ) (c : Config) (s : State) → wants c ≡ Goes s → Comes Q w M n s → Comes Q w M (suc n) (Running c)
   goes kept n c s wanted comes = record {
     steps = λ memory h before others. rw wanted (tt, comes.steps before (kept.keeps memory before others h));
   }
@@ -30,7 +29,7 @@ module _ (pages : ℕ) (Q : Moment → Type 0) (w : World) (M : List ℕ → Typ
   pub loads : IsKept w M → (P : ℕ → Type 0) (n : ℕ) (c : Config) (address width : ℕ) (make : ℕ → State) →
       wants c ≡ Asks address width make → are_covered (w.mapped ++ w.own) address width ≡ true →
       ((memory : List ℕ) → M memory → (address + width ≤ length memory) × P (number_at memory address width)) →
-      ((found : ℕ) → P found → Comes pages Q w M n (make found)) → Comes pages Q w M (suc n) (Running c)
+      ((found : ℕ) → P found → Comes Q w M n (make found)) → Comes Q w M (suc n) (Running c)
   loads kept P n c address width make wanted inside found comes = record {
     steps = λ memory h before others.
         let now = kept.keeps memory before others h in
@@ -41,7 +40,7 @@ module _ (pages : ℕ) (Q : Moment → Type 0) (w : World) (M : List ℕ → Typ
   pub stores : IsKept w M → (M' : List ℕ → Type 0) (n : ℕ) (c : Config) (address width value : ℕ) (s : State) →
       wants c ≡ Puts address width value s → are_covered w.own address width ≡ true →
       ((memory : List ℕ) → M memory → (address + width ≤ length memory) × M' (with_number memory address width value)) →
-      Comes pages Q w M' n s → Comes pages Q w M (suc n) (Running c)
+      Comes Q w M' n s → Comes Q w M (suc n) (Running c)
   stores kept M' n c address width value s wanted inside put comes = record {
     steps = λ memory h before others.
         let after = put before (kept.keeps memory before others h) in
@@ -49,16 +48,18 @@ module _ (pages : ℕ) (Q : Moment → Type 0) (w : World) (M : List ℕ → Typ
   }
 
   pub raises : IsKept w M → (n : ℕ) (c : Config) (code : ℕ) → wants c ≡ Signals code → IsFine w (Raises code) →
-      Comes pages Q w M n (Raised code) → Comes pages Q w M (suc n) (Running c)
+      Comes Q w M n (Raised code) → Comes Q w M (suc n) (Running c)
   raises kept n c code wanted fine comes = record {
     steps = λ memory h before others. rw wanted (fine, comes.steps before (kept.keeps memory before others h));
   }
 
+module _ (pages : ℕ) (Q : Moment → Type 0) (rest : Rest) (w : World) (M : List ℕ → Type 0) where
+  -- a request, and what comes then
   pub grow_granted : IsKept w M → (S : ℕ → Type 0) (M' : ℕ → List ℕ → Type 0) (n : ℕ) (c : Config) (asked : ℕ) (make : ℕ → State) →
       wants c ≡ AsksPages asked make → w.held + asked ≤ pages → ((found : ℕ) → GoesOn (make found)) → w.held + asked ≤ w.limit →
       ((memory : List ℕ) → M memory → length memory + asked * page ≤ most_pages * page → S (length memory) × M' (length memory) (grown_by asked memory)) →
-      ((start : ℕ) → S start → Comes pages Q (with_granted w start asked) (M' start) n (make (start / page))) →
-      Comes pages Q w M (suc n) (Running c)
+      ((start : ℕ) → S start → Comes (Then pages Q rest) (with_granted w start asked) (M' start) n (make (start / page))) →
+      Comes (Then pages Q (asks asked true n rest)) w M 0 (Running c)
   grow_granted kept S M' n c asked make wanted within on fits grown comes = record {
     steps = λ memory h before others.
         let now = kept.keeps memory before others h in
@@ -67,40 +68,22 @@ module _ (pages : ℕ) (Q : Moment → Type 0) (w : World) (M : List ℕ → Typ
         let both = and_from (grants w asked) (nat_le (pages_of before + asked) most_pages) is room in
         let space : length before + (w.limit - w.held) * page ≤ most_pages * page = others.room in
         let after = grown before now (omega arith) in
-        rw (wanted, both) ((within, on (pages_of before)), (comes (length before) after.0).steps (grown_by asked before) after.1);
+        rw (wanted, both) (refl, (within, on (pages_of before)), (comes (length before) after.0).steps (grown_by asked before) after.1);
   }
 
   pub grow_refused : IsKept w M → (n : ℕ) (c : Config) (asked : ℕ) (make : ℕ → State) →
       wants c ≡ AsksPages asked make → w.held + asked ≤ pages → ((found : ℕ) → GoesOn (make found)) → (nat_le (w.held + asked) w.limit ≡ false) →
-      Comes pages Q (with_refused w asked) M n (make refusal) → Comes pages Q w M (suc n) (Running c)
+      Comes (Then pages Q rest) (with_refused w asked) M n (make refusal) → Comes (Then pages Q (asks asked false n rest)) w M 0 (Running c)
   grow_refused kept n c asked make wanted within on is_not comes = record {
     steps = λ memory h before others.
         rw (wanted, and_left (grants w asked) (nat_le (pages_of before + asked) most_pages) is_not)
-        ((within, on refusal), comes.steps before (kept.keeps memory before others h));
+        (refl, (within, on refusal), comes.steps before (kept.keeps memory before others h));
   }
 
--- ---- what it says of open runs
-OnRunning-more : (P P' : Config → Type 0) (s : State) → ((c : Config) → P c → P' c) → OnRunning s P → OnRunning s P'
-OnRunning-more P P' (Running c) weaker h = weaker c h
-OnRunning-more P P' Returned weaker h = h
-OnRunning-more P P' (Raised code) weaker h = h
-OnRunning-more P P' (Trapped why) weaker h = h
-
-OnStep-more : (pages : ℕ) (P P' : Moment → Type 0) (w : World) (before : List ℕ) (made : Option Next) → ((b : Moment) → P b → P' b) →
-    OnStep pages w before P made → OnStep pages w before P' made
-OnStep-more pages P P' w before None weaker h = h
-OnStep-more pages P P' w before (Some t) weaker h = (h.0, weaker _ h.1)
-
-pub Exactly-within : (pages : ℕ) (Q : Moment → Type 0) (n : ℕ) (a : Moment) → Exactly pages Q n a → Within pages Q n a
-Exactly-within pages Q zero a h = h
-Exactly-within pages Q (suc n) a h = inr (OnRunning-more _ _ a.state
-    (λ c steps before others. OnStep-more pages (Exactly pages Q n) (Within pages Q n) a.world before (next (grants a.world) c before)
-    (Exactly-within pages Q n) (steps before others)) h)
-
-module _ (pages : ℕ) (Q : Moment → Type 0) (w : World) where
-  pub weaker : (M M' : List ℕ → Type 0) (n : ℕ) (s : State) → ((memory : List ℕ) → M memory → M' memory) → Comes pages Q w M' n s → Comes pages Q w M n s
+module _ (Q : Moment → Type 0) (w : World) where
+  pub weaker : (M M' : List ℕ → Type 0) (n : ℕ) (s : State) → ((memory : List ℕ) → M memory → M' memory) → Comes Q w M' n s → Comes Q w M n s
   weaker M M' n s less comes = record { steps = λ memory h. comes.steps memory (less memory h) }
 
   -- what a memory says of which M holds may be used
-  pub knowing : (M : List ℕ → Type 0) (n : ℕ) (s : State) → ((memory : List ℕ) → M memory → Comes pages Q w M n s) → Comes pages Q w M n s
+  pub knowing : (M : List ℕ → Type 0) (n : ℕ) (s : State) → ((memory : List ℕ) → M memory → Comes Q w M n s) → Comes Q w M n s
   knowing M n s of = record { steps = λ memory h. (of memory h).steps memory h }

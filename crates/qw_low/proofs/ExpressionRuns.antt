@@ -33,16 +33,16 @@ standing store code operands locals contexts = settled store contexts code opera
 abbrev pub config : Store → Code → List ℕ → List ℕ → List Context → Config
 config store code operands locals contexts = record { store = store; code = code; operands = operands; locals = locals; contexts = contexts }
 
-module _ (pages : ℕ) (Q : Moment → Type 0) (store : Store) (contexts : List Context) (w : World) (s : LowState) (xs : List ℕ) where
+module _ (Q : Moment → Type 0) (store : Store) (contexts : List Context) (w : World) (s : LowState) (xs : List ℕ) where
   abbrev pub Has : ℕ → State → Type 0
-  Has n state = Comes pages Q w (StandsFor w s) n state
+  Has n state = Comes Q w (StandsFor w s) n state
 
   -- an operator that leaves operands and locals
   pub op_goes : (operator : Op) (k : Code) (operands operands' locals' : List ℕ) (n : ℕ) → op_wants operator store.globals operands xs ≡ Leaves operands' locals' →
       Has n (standing store k operands' locals' contexts) → Has (suc n) (standing store (op operator k) operands xs contexts)
   op_goes operator k operands operands' locals' n wanted has =
       subst (λ (state : State). Has (suc n) state) (sym (settled-unfinished store contexts (op operator k) operands xs (λ e. cc)))
-      (goes pages Q w (StandsFor w s) (stable w s) n (config store (op operator k) operands xs contexts) (standing store k operands' locals' contexts)
+      (goes Q w (StandsFor w s) (stable w s) n (config store (op operator k) operands xs contexts) (standing store k operands' locals' contexts)
       (ap (λ (t : OpWant). then_wants t (config store (op operator k) operands xs contexts) k) wanted) has)
 
 -- the operands of an operator on two numbers
@@ -134,14 +134,14 @@ tested-is w s memory stands I64 (Some (Address p off)) v is = absurd (none-some 
 tested-is w s memory stands I32 None v is = absurd (none-some v is)
 tested-is w s memory stands I64 None v is = absurd (none-some v is)
 
-module _ (pages : ℕ) (Q : Moment → Type 0) (store : Store) (contexts : List Context) (w : World) (s : LowState) (xs : List ℕ)
+module _ (Q : Moment → Type 0) (store : Store) (contexts : List Context) (w : World) (s : LowState) (xs : List ℕ)
     (memory : List ℕ) (stands : StandsFor w s memory) (are : AreMeant w s.locals xs) where
   abbrev Exact : ℕ → State → Type 0
-  Exact n state = Comes pages Q w (StandsFor w s) n state
+  Exact n state = Comes Q w (StandsFor w s) n state
 
   -- the code after it, over a word that stands for a value
   abbrev pub Onward : Code → List ℕ → Value → ℕ → Type 0
-  Onward k operands v n = (x : ℕ) → Means w v x → Comes pages Q w (StandsFor w s) n (standing store k (x ∷ operands) xs contexts)
+  Onward k operands v n = (x : ℕ) → Means w v x → Comes Q w (StandsFor w s) n (standing store k (x ∷ operands) xs contexts)
 
   onward-num : (k : Code) (operands : List ℕ) (n m : ℕ) (v : Value) → v ≡ Number n → Onward k operands v m → Exact m (standing store k (n ∷ operands) xs contexts)
   onward-num k operands n m v is onward = onward n (subst (λ (u : Value). Means w u n) (sym is) refl)
@@ -149,7 +149,7 @@ module _ (pages : ℕ) (Q : Moment → Type 0) (store : Store) (contexts : List 
   -- what an expression's code does
   abbrev pub ExpressionRuns : Expression → Type 0
   ExpressionRuns e = (v : Value) → value s e ≡ Some v → (k : Code) (operands : List ℕ) (n : ℕ) → Onward k operands v n →
-      Comes pages Q w (StandsFor w s) (cost e + n) (standing store (expression_code e k) operands xs contexts)
+      Comes Q w (StandsFor w s) (cost e + n) (standing store (expression_code e k) operands xs contexts)
 
   on_numbers : (operator : Op) (f : ℕ → ℕ → Option ℕ) (l r : Expression) → ExpressionRuns l → ExpressionRuns r → (v : Value) → of_numbers f (value s l) (value s r) ≡ Some v →
       ((x y m : ℕ) (operands : List ℕ) → f x y ≡ Some m → op_wants operator store.globals (y ∷ x ∷ operands) xs ≡ Leaves (m ∷ operands) xs) →
@@ -157,10 +157,10 @@ module _ (pages : ℕ) (Q : Moment → Type 0) (store : Store) (contexts : List 
       Exact (cost l + cost r + 1 + n) (standing store (expression_code l (expression_code r (op operator k))) operands xs contexts)
   on_numbers operator f l r left right v is leaves k operands n onward =
       let parts = numbers-are f (value s l) (value s r) v is in
-      counted pages Q w (StandsFor w s) (cost l + (cost r + suc n)) (cost l + cost r + 1 + n) _ (omega arith)
+      counted Q w (StandsFor w s) (cost l + (cost r + suc n)) (cost l + cost r + 1 + n) _ (omega arith)
       (left (Number parts.0) parts.3 (expression_code r (op operator k)) operands (cost r + suc n)
       (λ x x_is. right (Number parts.1) parts.4 (op operator k) (x ∷ operands) (suc n)
-      (λ y y_is. op_goes pages Q store contexts w s xs operator k (y ∷ x ∷ operands) (parts.2 ∷ operands) xs n
+      (λ y y_is. op_goes Q store contexts w s xs operator k (y ∷ x ∷ operands) (parts.2 ∷ operands) xs n
       (rw (x_is, y_is) (leaves parts.0 parts.1 parts.2 operands parts.5))
       (onward-num k operands parts.2 n v parts.6 onward))))
 
@@ -171,20 +171,20 @@ module _ (pages : ℕ) (Q : Moment → Type 0) (store : Store) (contexts : List 
       Exact (cost e + 1 + n) (standing store (expression_code e (op operator k)) operands xs contexts)
   on_number operator f e runs v is leaves k operands n onward =
       let part = number-is f (value s e) v is in
-      counted pages Q w (StandsFor w s) (cost e + suc n) (cost e + 1 + n) _ (omega arith)
+      counted Q w (StandsFor w s) (cost e + suc n) (cost e + 1 + n) _ (omega arith)
       (runs (Number part.0) part.1 (op operator k) operands (suc n)
-      (λ x x_is. op_goes pages Q store contexts w s xs operator k (x ∷ operands) (f part.0 ∷ operands) xs n
+      (λ x x_is. op_goes Q store contexts w s xs operator k (x ∷ operands) (f part.0 ∷ operands) xs n
       (rw x_is (leaves part.0 operands))
       (onward-num k operands (f part.0) n v part.2 onward)))
 
   pub expression_runs : (e : Expression) → ExpressionRuns e
-  expression_runs (constant_of c) v is k operands n onward = counted pages Q w (StandsFor w s) (suc n) (1 + n) _ (omega arith)
-      (op_goes pages Q store contexts w s xs (o.Const c) k operands (constant c ∷ operands) xs n refl
+  expression_runs (constant_of c) v is k operands n onward = counted Q w (StandsFor w s) (suc n) (1 + n) _ (omega arith)
+      (op_goes Q store contexts w s xs (o.Const c) k operands (constant c ∷ operands) xs n refl
       (onward-num k operands (constant c) n v (sym (same_Some (Number (constant c)) v is)) onward))
   expression_runs (local i) v is k operands n onward =
       let found = get-meant w s.locals xs are i v is in
-      counted pages Q w (StandsFor w s) (suc n) (1 + n) _ (omega arith)
-      (op_goes pages Q store contexts w s xs (o.LocalGet i) k operands (found.0 ∷ operands) xs n (rw found.1 refl) (onward found.0 found.2))
+      counted Q w (StandsFor w s) (suc n) (1 + n) _ (omega arith)
+      (op_goes Q store contexts w s xs (o.LocalGet i) k operands (found.0 ∷ operands) xs n (rw found.1 refl) (onward found.0 found.2))
   expression_runs (unop t u e) v is k operands n onward =
       on_number (o.Unary t u) (unary t u) e (expression_runs e) v is (λ x below. refl) k operands n onward
   expression_runs (binop t b l r) v is k operands n onward =
@@ -195,9 +195,9 @@ module _ (pages : ℕ) (Q : Moment → Type 0) (store : Store) (contexts : List 
       (λ x y m below made. rw (defined-is (division t d x y) m made) refl) k operands n onward
   expression_runs (is_zero t e) v is k operands n onward =
       let part = tested-is w s memory stands t (value s e) v is in
-      counted pages Q w (StandsFor w s) (cost e + suc n) (cost e + 1 + n) _ (omega arith)
+      counted Q w (StandsFor w s) (cost e + suc n) (cost e + 1 + n) _ (omega arith)
       (expression_runs e part.0 part.1 (op (o.Eqz t) k) operands (suc n)
-      (λ x means. op_goes pages Q store contexts w s xs (o.Eqz t) k (x ∷ operands) (truth (x == 0) ∷ operands) xs n refl
+      (λ x means. op_goes Q store contexts w s xs (o.Eqz t) k (x ∷ operands) (truth (x == 0) ∷ operands) xs n refl
       (onward (truth (x == 0)) (part.2 x means))))
   expression_runs (relop t r left right) v is k operands n onward =
       on_numbers (o.Relation t r) (λ x y. Some (relation t r x y)) left right (expression_runs left) (expression_runs right) v is
@@ -206,17 +206,17 @@ module _ (pages : ℕ) (Q : Moment → Type 0) (store : Store) (contexts : List 
       on_number (o.Convert c) (converted c) e (expression_runs e) v is (λ x below. refl) k operands n onward
   expression_runs (advance a e) v is k operands n onward =
       let parts = advanced-is s (value s a) (value s e) v is in
-      counted pages Q w (StandsFor w s) (cost a + (cost e + suc n)) (cost a + cost e + 1 + n) _ (omega arith)
+      counted Q w (StandsFor w s) (cost a + (cost e + suc n)) (cost a + cost e + 1 + n) _ (omega arith)
       (expression_runs a (Address parts.0 parts.1) parts.3 (expression_code e (op (o.Binary I32 Add) k)) operands (cost e + suc n)
       (λ x means. expression_runs e (Number parts.2) parts.4 (op (o.Binary I32 Add) k) (x ∷ operands) (suc n)
-      (λ y is_number. op_goes pages Q store contexts w s xs (o.Binary I32 Add) k (y ∷ x ∷ operands) (binary I32 Add x y ∷ operands) xs n refl
+      (λ y is_number. op_goes Q store contexts w s xs (o.Binary I32 Add) k (y ∷ x ∷ operands) (binary I32 Add x y ∷ operands) xs n refl
       (onward (binary I32 Add x y) (subst (λ (u : Value). Means w u (binary I32 Add x y)) (sym parts.6)
       (subst (λ (m : ℕ). Means w (Address parts.0 (parts.1 + parts.2)) (binary I32 Add x m)) (sym is_number) (moved w s memory stands parts.0 parts.1 parts.2 parts.5 x means)))))))
   expression_runs (retreat a e) v is k operands n onward =
       let parts = retreated-is (value s a) (value s e) v is in
-      counted pages Q w (StandsFor w s) (cost a + (cost e + suc n)) (cost a + cost e + 1 + n) _ (omega arith)
+      counted Q w (StandsFor w s) (cost a + (cost e + suc n)) (cost a + cost e + 1 + n) _ (omega arith)
       (expression_runs a (Address parts.0 parts.1) parts.3 (expression_code e (op (o.Binary I32 Sub) k)) operands (cost e + suc n)
       (λ x means. expression_runs e (Number parts.2) parts.4 (op (o.Binary I32 Sub) k) (x ∷ operands) (suc n)
-      (λ y is_number. op_goes pages Q store contexts w s xs (o.Binary I32 Sub) k (y ∷ x ∷ operands) (binary I32 Sub x y ∷ operands) xs n refl
+      (λ y is_number. op_goes Q store contexts w s xs (o.Binary I32 Sub) k (y ∷ x ∷ operands) (binary I32 Sub x y ∷ operands) xs n refl
       (onward (binary I32 Sub x y) (subst (λ (u : Value). Means w u (binary I32 Sub x y)) (sym parts.6)
       (subst (λ (m : ℕ). Means w (Address parts.0 (parts.1 - parts.2)) (binary I32 Sub x m)) (sym is_number) (moved_back w s memory stands parts.0 parts.1 parts.2 parts.5 x means)))))))

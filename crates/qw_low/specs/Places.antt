@@ -4,7 +4,7 @@ use Rattle.qw_linear.specs.Memory.{page, most_pages, pages_of, number_at, AreOct
 use Rattle.qw_module.specs.Execution.{host_raise, Store, Returned, Raised, IsOver, label, settled}
 use Rattle.qw_module.specs.Syntax.{done}
 use Rattle.qw_map.specs.Areas.{Area, World}
-use Rattle.qw_map.specs.Runs.{Moment, OpenRun, Behaves}
+use Rattle.qw_map.specs.Runs.{Moment, OpenRun, BehavesWithin}
 use Rattle.qw_map.specs.Turns.{AreApart}
 use Rattle.qw_low.specs.Syntax.{Statement}
 use Rattle.qw_low.specs.State.{Part, Column, Own, Value, Number, Address, LowState}
@@ -65,7 +65,7 @@ IsOutcome Unfinished b = ⊥
 -- The instance behaves from a moment on, with at most n instructions and so many pages, and in each open run that is over exactly
 -- n have run, and P holds.
 pub record EndsAfter (n pages : ℕ) (P : Moment → Type 0) (a : Moment) : Type 0 where
-  pub behaves : Behaves n pages P a
+  pub behaves : BehavesWithin n pages n P a
   pub exactly : (k : ℕ) (b : Moment) → OpenRun k a b → IsOver b.state → k ≡ n
 
 -- What an outcome says of the open runs from a moment on: they come to it after exactly its count. Of what is wrong or unfinished
@@ -84,3 +84,11 @@ HasRaise store = slice_get store.functions 0 ≡ Some host_raise
 -- a function without results begins: its body is the statement's code, over these locals
 abbrev pub beginning : Store → World → Statement → (locals memory : List ℕ) → Moment
 beginning store w a locals memory = record { world = w; state = settled store (label done 0 [] done ∷ []) (statement_code a done) [] locals; memory = memory }
+
+-- an outcome that is neither wrong nor unfinished
+abbrev pub IsDone : Outcome → Type 0
+IsDone (Completed n s) = Unit {0}
+IsDone (Exited n s) = Unit {0}
+IsDone (Stopped code n s) = Unit {0}
+IsDone Wrong = ⊥
+IsDone Unfinished = ⊥

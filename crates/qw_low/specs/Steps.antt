@@ -9,6 +9,7 @@ use Rattle.qw_module.specs.Execution.{refusal}
 use Rattle.qw_linear.specs.Memory.{page}
 use Rattle.qw_low.specs.declared.step.LowStep.{LowStep}
 use Rattle.qw_low.specs.declared.step.LowStep.TheVariants as step
+use Rattle.qw_module.specs.Offsets.{FitsOffset}
 use Rattle.qw_low.specs.Syntax.{Expression, constant_of, local, unop, binop, divop, is_zero, relop, cvtop, advance, retreat, Statement, skip, seq, assign, load, store, conditional, while, request, raise, exit}
 use Rattle.qw_low.specs.Translation.{unaligned}
 
@@ -43,3 +44,8 @@ steps_of (while e a) =
 steps_of (request e x) = expression_steps e ++ request_steps x
 steps_of (raise code) = step.Raise code ∷ []
 steps_of exit = step.Exit ∷ []
+
+-- the offset of an access has 32 bits
+abbrev pub FitsStep : LowStep → Type 0
+FitsStep (step.Op operator) = FitsOffset operator
+FitsStep _ = Unit {0}

@@ -4,8 +4,10 @@ ghost use Rattle.std.specs.Prelude.{◌≡◌, [], ◌∷◌, length, OnOk, IfOk
 ghost use Rattle.std.specs.List.{AllByRecursion};
 ghost use Rattle.qw_module.specs.Syntax.{done, IsNumbered};
 ghost use Rattle.qw_module.specs.Validity.{CallsBelow, code_of_body, items_of, sequences_of};
+ghost use Rattle.qw_module.specs.Numbering.{IsInOrder};
+ghost use Rattle.qw_module.specs.Offsets.{FitOffsets};
 ghost use Rattle.qw_low.specs.Inner.Writing.{writing_of, adds, opens, finishes, all_written, written};
-ghost use Rattle.qw_low.specs.Steps.{steps_of};
+ghost use Rattle.qw_low.specs.Steps.{FitsStep, steps_of};
 ghost use Rattle.qw_low.specs.Syntax.{Statement};
 ghost use Rattle.qw_low.specs.Translation.{statement_code};
 
@@ -126,11 +128,27 @@ impl Writer {
     }
 }
 
-/// The body of these steps. Where they are those of a statement, it is the statement's code. It calls no function but the first.
+/// Reads the offset of an access, which so has 32 bits.
+fn read_offset(step: LowStep)
+    ensures { FitsStep step }
+{
+    match step {
+        LowStep::Op(Op::Load(_, arg) | Op::Store(_, arg)) => {
+            let _offset = arg.offset;
+        }
+        _ => {}
+    }
+}
+
+/// The body of these steps. Where they are those of a statement, it is the statement's code, its sequences stand in the order in which
+/// they are read, and the offsets of its accesses have 32 bits. It calls no function but the first.
 pub fn body_of(alloc: Global, code: &[LowStep]) -> Result<Body, NoMemory>
     ensures code { IfOk result (λ b. (s : Statement) → code.now ≡ steps_of s → code_of_body b ≡ statement_code s done) }
     ensures numbered { IfOk result (λ b. (s : Statement) → code.now ≡ steps_of s → IsNumbered (sequences_of b)) }
     ensures calls { IfOk result (λ b. AllByRecursion (AllByRecursion (CallsBelow 1)) (items_of b.sequences.items)) }
+    ensures order { IfOk result (λ b. (s : Statement) → code.now ≡ steps_of s → IsInOrder (sequences_of b)) }
+    ensures labels { IfOk result (λ b. b.labels.items ≡ []) }
+    ensures offsets { IfOk result (λ b. (s : Statement) → code.now ≡ steps_of s → FitOffsets (code_of_body b)) }
 {
     let mut writer = Writer {
         finished: Vec::new(alloc),
@@ -138,6 +156,7 @@ pub fn body_of(alloc: Global, code: &[LowStep]) -> Result<Body, NoMemory>
         waiting: Vec::new(alloc),
     };
     for step in code {
+        read_offset(*step);
         writer.write(alloc, *step)?;
     }
     writer.finish(alloc)?;

@@ -3,10 +3,12 @@
 ghost use Rattle.std.specs.Prelude.{◌≡◌, ◌≢◌, ℕ, ◌+◌, List};
 ghost use Rattle.qw_module.specs.Execution.{Store};
 ghost use Rattle.qw_map.specs.Areas.{World};
+ghost use Rattle.qw_map.specs.Runs.{Moment, OpenRun};
+ghost use Rattle.qw_map.specs.Seen.{Seen, seen};
 ghost use Rattle.qw_low.specs.Syntax.{Statement};
 ghost use Rattle.qw_low.specs.State.{LowState};
 ghost use Rattle.qw_low.specs.Meaning.{Unfinished, meaning};
-ghost use Rattle.qw_low.specs.Places.{AreMeant, StandsFor, RunsAs, HasRaise, beginning};
+ghost use Rattle.qw_low.specs.Places.{AreMeant, StandsFor, RunsAs, HasRaise, IsDone, beginning};
 
 /// Every open run of a statement's code, over any memory that stands for a state, is the statement's run of the state, with its
 /// count exactly.
@@ -14,6 +16,14 @@ pub fn open_runs_are_low_runs()
     ensures { (most fuel : ℕ) (a : Statement) (s : LowState) (store : Store) (w : World) (memory locals : List ℕ) →
         HasRaise store → StandsFor w s memory → AreMeant w s.locals locals →
         RunsAs (meaning most fuel a s) most (beginning store w a locals memory) }
+{}
+
+/// All open runs of a statement's code, over memories that stand for one state, keep step: after as many instructions each holds as many
+/// pages, had as many refused last, and ended alike or goes on.
+pub fn open_runs_keep_step()
+    ensures { (most fuel : ℕ) (a : Statement) (s : LowState) (store : Store) → HasRaise store →
+        (course : ℕ → Seen) × (IsDone (meaning most fuel a s) → (w : World) (memory locals : List ℕ) → StandsFor w s memory → AreMeant w s.locals locals → (k : ℕ) (b : Moment) →
+        OpenRun k (beginning store w a locals memory) b → seen b ≡ course k) }
 {}
 
 /// Where so many turns of each loop suffice, more that are allowed change nothing.

@@ -13,12 +13,15 @@ ghost use Rattle.qw_linear.specs.Memory.{number_at, AreOctets};
 ghost use Rattle.qw_module.specs.Execution.{Store};
 ghost use Rattle.qw_module.specs.Syntax.{done, op, loop, if_then, br_if, return};
 ghost use Rattle.qw_map.specs.Areas.{World};
+ghost use Rattle.qw_map.specs.Runs.{Moment, OpenRun};
+ghost use Rattle.qw_map.specs.Seen.{seen};
+ghost use Rattle.qw_map.specs.Turns.{Done, Pages};
 ghost use Rattle.qw_low.specs.Syntax.{constant_of, local, binop, divop, is_zero, advance, retreat, skip, seq, assign, load, store, conditional, while, request, raise, exit};
 ghost use Rattle.qw_low.specs.State.{Column, Own, Value, Number, Address, with_cell, with_pages};
 ghost use Rattle.qw_low.specs.Meaning.{value, Completed, Exited, Stopped, Wrong, Unfinished, meaning};
 ghost use Rattle.qw_low.specs.Translation.{statement_code};
 ghost use Rattle.qw_low.specs.Places.{Means, AreMeant, Holds, Fits, StandsFor, IsOutcome, EndsAfter, HasRaise, beginning};
-ghost use Rattle.qw_low.specs.Begin.{descriptor_address};
+ghost use Rattle.qw_low.specs.Begin.{descriptor_word};
 ghost use Rattle.qw_low.specs.Worked.{i32, state, nearly_full, world, two_columns};
 
 /// Addresses stay within their part, and a number is no address.
@@ -141,14 +144,29 @@ pub fn open_runs_of_a_choice()
         EndsAfter 4 128 (IsOutcome (Stopped 1 4 state)) (beginning store world (conditional (local 0) (raise 1) skip) locals memory) }
 {}
 
-/// Where the descriptor of a layout of two columns has addresses, the second column a VARCHAR that may be null: the first free address,
-/// the end of the page, and of each column the parts that it has.
-pub fn addresses_of_a_descriptor()
-    ensures head { (descriptor_address two_columns 0 ≡ Some (Address (Own 0) 96)) × (descriptor_address two_columns 4 ≡ Some (Address (Own 0) 65536))
-        × (descriptor_address two_columns 8 ≡ None) × (descriptor_address two_columns 16 ≡ None) }
-    ensures first { (descriptor_address two_columns 64 ≡ Some (Address (Column 0) 0)) × (descriptor_address two_columns 68 ≡ None)
-        × (descriptor_address two_columns 72 ≡ None) × (descriptor_address two_columns 76 ≡ None) }
-    ensures second { (descriptor_address two_columns 80 ≡ Some (Address (Column 3) 0)) × (descriptor_address two_columns 84 ≡ Some (Address (Column 5) 0))
-        × (descriptor_address two_columns 88 ≡ Some (Address (Column 4) 0)) × (descriptor_address two_columns 92 ≡ None) }
-    ensures behind { (descriptor_address two_columns 96 ≡ None) × (descriptor_address two_columns 82 ≡ None) }
+/// With 127 of 128 pages held, each open run of a request for one page holds 128 after its second instruction, and has ended after 10. One of two
+/// pages has been refused them after its second instruction, and has ended after 8, with these numbers.
+pub fn open_runs_of_requests()
+    ensures before { (store : Store) (w : World) (memory locals : List ℕ) (b : Moment) → HasRaise store → StandsFor w nearly_full memory → AreMeant w nearly_full.locals locals →
+        OpenRun 1 (beginning store w (request (i32 1) 2) locals memory) b → seen b ≡ record { held = 127; refused = None; end = None } }
+    ensures granted { (store : Store) (w : World) (memory locals : List ℕ) (b : Moment) → HasRaise store → StandsFor w nearly_full memory → AreMeant w nearly_full.locals locals →
+        OpenRun 2 (beginning store w (request (i32 1) 2) locals memory) b → seen b ≡ record { held = 128; refused = None; end = None } }
+    ensures done { (store : Store) (w : World) (memory locals : List ℕ) (b : Moment) → HasRaise store → StandsFor w nearly_full memory → AreMeant w nearly_full.locals locals →
+        OpenRun 10 (beginning store w (request (i32 1) 2) locals memory) b → seen b ≡ record { held = 128; refused = None; end = Some Done } }
+    ensures refused { (store : Store) (w : World) (memory locals : List ℕ) (b : Moment) → HasRaise store → StandsFor w nearly_full memory → AreMeant w nearly_full.locals locals →
+        OpenRun 2 (beginning store w (request (i32 2) 2) locals memory) b → seen b ≡ record { held = 127; refused = Some 2; end = None } }
+    ensures stopped { (store : Store) (w : World) (memory locals : List ℕ) (b : Moment) → HasRaise store → StandsFor w nearly_full memory → AreMeant w nearly_full.locals locals →
+        OpenRun 8 (beginning store w (request (i32 2) 2) locals memory) b → seen b ≡ record { held = 127; refused = Some 2; end = Some (Pages 127 2 128) } }
+{}
+
+/// The words of the descriptor of a layout of two columns, the second column a VARCHAR that may be null, over a table without rows: the first
+/// free address, the end of the page, and of each column the parts that it has, 0 for those that it hasn't, and its rows.
+pub fn words_of_a_descriptor()
+    ensures head { (descriptor_word two_columns [] 0 ≡ Some (Address (Own 0) 96)) × (descriptor_word two_columns [] 4 ≡ Some (Address (Own 0) 65536))
+        × (descriptor_word two_columns [] 8 ≡ None) × (descriptor_word two_columns [] 16 ≡ None) }
+    ensures first { (descriptor_word two_columns [] 64 ≡ Some (Address (Column 0) 0)) × (descriptor_word two_columns [] 68 ≡ Some (Number 0))
+        × (descriptor_word two_columns [] 72 ≡ Some (Number 0)) × (descriptor_word two_columns [] 76 ≡ Some (Number 0)) }
+    ensures second { (descriptor_word two_columns [] 80 ≡ Some (Address (Column 3) 0)) × (descriptor_word two_columns [] 84 ≡ Some (Address (Column 5) 0))
+        × (descriptor_word two_columns [] 88 ≡ Some (Address (Column 4) 0)) × (descriptor_word two_columns [] 92 ≡ Some (Number 0)) }
+    ensures behind { (descriptor_word two_columns [] 96 ≡ None) × (descriptor_word two_columns [] 82 ≡ None) }
 {}

@@ -11,11 +11,10 @@ use Rattle.qw_module.specs.declared.module.Global.{Global}
 use Rattle.qw_module.specs.declared.module.Import.{Import}
 use Rattle.qw_module.specs.declared.module.Import.TheVariants as import
 use Rattle.qw_module.specs.declared.module.Module.{Module}
-use Rattle.qw_module.specs.Numbers.{constant}
 use Rattle.qw_module.specs.Typing.{Signature, Typed}
 use Rattle.qw_module.specs.Execution.{Callee, own}
 use Rattle.qw_module.specs.Soundness.{raise_signature, IsClosureOf, AreCalleesOf, AreGlobalsOf, IsStoreOf, IsTypedState}
-use Rattle.qw_module.specs.Start.{host_of, closure_of, callees_of, first_store, begun}
+use Rattle.qw_module.specs.Start.{host_of, closure_of, callees_of, initial_value, first_store, begun}
 use Rattle.qw_module.specs.Validity.{code_of_body, declared_types, imported_function, imported_functions, signature_of, signature_in, global_type, outside_of, function_scope, IsTypedFunction, IsValidFunction, IsValidGlobal, IsValid, TakesOneI32, IsOneI32, IsShaped}
 use Rattle.qw_module.proofs.Sound.{AreOf-zeros}
 use Rattle.qw_module.proofs.TypedOperands.{start-typed}
@@ -54,12 +53,12 @@ with_hosts m (import.Memory limits ∷ imports) callees types each are = with_ho
 with_hosts m (import.Raise type ∷ imports) callees types each are =
     (one_type m type (slice_get m.types.items type) refl each.0, with_hosts m imports callees types each.1 are)
 
-globals_are : (globals : List Global) → AllByRecursion IsValidGlobal globals → AreGlobalsOf (map (λ (g : Global). constant g.init) globals) (map global_type globals)
+globals_are : (globals : List Global) → AllByRecursion IsValidGlobal globals → AreGlobalsOf (map (λ (g : Global). initial_value (code_of_body g.init)) globals) (map global_type globals)
 globals_are [] all = tt
-globals_are (g ∷ globals) all = (all.0.1, globals_are globals all.1)
+globals_are (g ∷ globals) all = (rw all.0.alone all.0.below, globals_are globals all.1)
 
 -- the globals begin as values of their types
-pub first_globals-are : (m : Module) → IsValid m → AreGlobalsOf (map (λ (g : Global). constant g.init) m.globals.items) ((outside_of m).globals)
+pub first_globals-are : (m : Module) → IsValid m → AreGlobalsOf (map (λ (g : Global). initial_value (code_of_body g.init)) m.globals.items) ((outside_of m).globals)
 first_globals-are m valid = globals_are m.globals.items (recursion_from_All IsValidGlobal m.globals.items valid.globals)
 
 -- all functions are of their types

@@ -1,23 +1,24 @@
 -- A body that is entered, in the label of the whole body: by the first call, and by a call within a function.
-use Rattle.std.proofs.Common.{◌≡◌, ℕ, zero, suc, ◌+◌, ◌-◌, ◌<◌, ◌≤◌, nat_lt, [], ◌∷◌, ◌++◌, length, take, drop, reverse, Some, slice_get, refl, sym, ap, subst, ◌∙◌, ⊎_elim, arith, append-nil}
-use Rattle.std.proofs.lemmas.Bool.{cases_eq}
+use Rattle.std.proofs.Common.{◌≡◌, ℕ, zero, suc, ◌+◌, ◌-◌, ◌<◌, ◌≤◌, nat_lt, List, [], ◌∷◌, ◌++◌, length, take, drop, reverse, Some, slice_get, refl, sym, ap, subst, ◌∙◌, arith, append-nil}
 use Rattle.std.proofs.lemmas.List.{length-reverse}
 use Rattle.std.proofs.lemmas.Option.{slice_get_within, get_or_from_slice_get}
 use Rattle.qw_module.specs.declared.module.FuncType.{FuncType}
 use Rattle.qw_module.specs.declared.module.Function.{Function}
 use Rattle.qw_module.specs.declared.module.Module.{Module}
+use Rattle.qw_valid.specs.declared.heights.Heights.{Heights}
+use Rattle.qw_valid.specs.ModuleHeights.{HaveHeights}
 use Rattle.qw_machine.specs.declared.room.Rooms.{Rooms}
 use Rattle.qw_module.specs.Numbers.{truth}
 use Rattle.qw_module.specs.Syntax.{Code, done, code_of, IsNumbered}
 use Rattle.qw_module.specs.Execution.{label, settled}
 use Rattle.qw_module.specs.Typing.{Signature, Scope, scope_of, Typed, typed-done}
+use Rattle.qw_valid.specs.Heights.{StaysWithin, AreHeightsOf}
 use Rattle.qw_module.specs.Soundness.{AreOf, AreGlobalsOf, IsClosureOf}
 use Rattle.qw_module.specs.Start.{closure_of, body_of}
 use Rattle.qw_module.specs.Validity.{outside_of, function_scope, IsValidType, IsValid}
-use Rattle.qw_module.proofs.Sound.{done_types}
 use Rattle.qw_machine.specs.Inner.Points.{code_at, instructions_at, Point, base_of, floor_of, contexts_of, store_with, state_at, in_body, has_result}
-use Rattle.qw_machine.specs.Inner.Rooms.{instructions_below, locals_of, needed_below, HasRoom}
-use Rattle.qw_machine.specs.Inner.Placed.{IsExecuted, AreAwaiting, IsPoint}
+use Rattle.qw_machine.specs.Inner.Rooms.{bounds_of, locals_of, needed_below, HasRoom}
+use Rattle.qw_machine.specs.Inner.Placed.{IsExecuted, AreAwaiting, StaysAt, IsPoint}
 use Rattle.qw_machine.proofs.Begins.{signature_is}
 use Rattle.qw_machine.proofs.Functions.{typed_function, body_is, numbered-of}
 use Rattle.qw_machine.proofs.ListFacts.{above-append, under-append}
@@ -47,21 +48,20 @@ pub leaves-are : (m : Module) (number : ℕ) (function : Function) → IsValid m
 leaves-are m number function valid found = truth_positive (closure_of m function).results (few_results m number function valid found)
 
 -- where there is room for all that a function needs, there is room for its body in the label of the whole body
-pub body-room : (m : Module) (rooms : Rooms) (number below depth first_local : ℕ) → IsValid m → number < length m.functions.items →
-    below + (needed_below m (suc number)).operands ≤ rooms.operands →
-    suc depth + length (body_of m number).each + (needed_below m number).awaiting ≤ rooms.awaiting →
-    first_local + (needed_below m (suc number)).locals ≤ rooms.locals →
-    HasRoom m rooms number (length (body_of m number).each - 1) below (suc depth) first_local
-body-room m rooms number below depth first_local valid inside operands awaiting locals =
+pub body-room : (m : Module) (rooms : Rooms) (heights : List Heights) (number below depth first_local : ℕ) → HaveHeights m heights → IsValid m → number < length m.functions.items →
+    below + (needed_below m heights (suc number)).operands ≤ rooms.operands →
+    suc depth + (bounds_of heights number).labels + (needed_below m heights number).awaiting ≤ rooms.awaiting →
+    first_local + (needed_below m heights (suc number)).locals ≤ rooms.locals →
+    HasRoom m rooms number (length (body_of m number).each - 1) (below + (bounds_of heights number).operands) (suc depth + (bounds_of heights number).labels) first_local
+body-room m rooms heights number below depth first_local have valid inside operands awaiting locals =
     let some = (numbered-of m valid number inside).some in
-    let all : suc (length (body_of m number).each - 1) ≡ length (body_of m number).each = omega (arith, some) in
-    let instructions : instructions_below m number (suc (length (body_of m number).each - 1)) ≡ instructions_below m number (length (body_of m number).each) =
-    ap (instructions_below m number) all in
     record {
+      heights = heights;
+      bounds = have;
       own = inside;
       numbered = omega (arith, some);
-      operands = omega (arith, instructions, operands);
-      awaiting = omega (arith, all, awaiting);
+      operands = omega (arith, operands);
+      awaiting = omega (arith, awaiting);
       locals = omega (arith, locals);
     }
 
@@ -73,7 +73,10 @@ pub record IsBegun (m : Module) (rooms : Rooms) (q : Point) (number : ℕ) (func
   pub globals_are : AreGlobalsOf q.globals ((outside_of m).globals)
   pub floor_is : q.floor ≡ floor_of q.awaiting
   pub base_is : length q.operands ≡ base_of q.awaiting
-  pub room : HasRoom m rooms number (length (body_of m number).each - 1) (length q.operands) (suc (length q.awaiting)) q.first_local
+  pub operands_most : ℕ
+  pub labels_most : ℕ
+  pub needs_are : AreHeightsOf m function operands_most labels_most
+  pub room : HasRoom m rooms number (length (body_of m number).each - 1) (length q.operands + operands_most) (suc (length q.awaiting) + labels_most) q.first_local
   pub awaiting : AreAwaiting m rooms number q.first_local (signature.params ++ closure.declared) (reverse signature.results) [] (reverse signature.results) q.awaiting q.operands
       (take q.first_local q.locals)
 
@@ -100,21 +103,6 @@ module _ (m : Module) (executed : IsExecuted m) (rooms : Rooms) (q : Point) (num
   body_typed : Typed (function_scope (outside_of m) signature closure.declared) (code_at m number last 0) [] (reverse signature.results)
   body_typed = subst (λ (code : Code). Typed (function_scope (outside_of m) signature closure.declared) code [] (reverse signature.results)) body_code closure.typed
 
-  results_few : length (reverse signature.results) ≤ 1
-  results_few = omega (arith, length-reverse signature.results, closure.results_are, few_results m number function executed.valid found)
-
-  -- a body that leaves a result has an instruction
-  results_fit : length (reverse signature.results) ≤ end
-  results_fit = ⊎_elim
-      (λ (e : end ≡ 0).
-      let empty : code_at m number last 0 ≡ done =
-      code_in-end (body_of m number) last 0 (sym e) in
-      let finished = subst (λ (code : Code). Typed (function_scope (outside_of m) signature closure.declared) code [] (reverse signature.results)) empty body_typed in
-      let none : [] ≡ reverse signature.results = done_types (function_scope (outside_of m) signature closure.declared) [] (reverse signature.results) finished in
-      omega (arith, ap length none))
-      (λ some. omega (arith, results_few))
-      (cases_eq end 0)
-
   leaves_are : truth (has_result m function) ≡ (closure_of m function).results
   leaves_are = leaves-are m number function executed.valid found
 
@@ -123,6 +111,12 @@ module _ (m : Module) (executed : IsExecuted m) (rooms : Rooms) (q : Point) (num
   end_typed =
       let scope : Scope = scope_of (outside_of m) (signature.params ++ closure.declared) (reverse signature.results) [] in
       rw (end_code, append-nil (reverse signature.results)) (typed-done scope (reverse signature.results))
+
+  -- its results are as many as there may be
+  end_stays : (is : IsBegun m rooms q number function signature closure) → StaysAt m number last end is.operands_most is.labels_most (0 + length (reverse signature.results))
+  end_stays is =
+      let within : (closure_of m function).results ≤ is.operands_most = is.needs_are.results_within in
+      rw end_code (omega (arith, within, length-reverse signature.results, closure.results_are))
 
   pub begun-point : IsBegun m rooms q number function signature closure → IsPoint m rooms (in_body m q number (has_result m function))
   begun-point is = record {
@@ -143,7 +137,9 @@ module _ (m : Module) (executed : IsExecuted m) (rooms : Rooms) (q : Point) (num
     floor_is = is.floor_is;
     typed = body_typed;
     index_in = omega arith;
-    fits = omega arith;
+    operands_most = is.operands_most;
+    labels_most = is.labels_most;
+    stays = subst (λ (code : Code). StaysWithin ((outside_of m).functions) is.operands_most is.labels_most code 0) body_code is.needs_are.body_within;
     room = is.room;
     awaiting = (
       record {
@@ -162,9 +158,19 @@ module _ (m : Module) (executed : IsExecuted m) (rooms : Rooms) (q : Point) (num
         after_typed = end_typed;
         target_in = omega arith;
         after_in = omega arith;
-        target_fits = omega (arith, results_fit);
-        after_fits = omega (arith, results_fit);
-        room = record { own = is.room.own; numbered = is.room.numbered; operands = is.room.operands; awaiting = omega (arith, is.room.awaiting); locals = is.room.locals };
+        operands_most = is.operands_most;
+        labels_most = is.labels_most;
+        target_within = end_stays is;
+        after_within = end_stays is;
+        room = record {
+          heights = is.room.heights;
+          bounds = is.room.bounds;
+          own = is.room.own;
+          numbered = is.room.numbered;
+          operands = is.room.operands;
+          awaiting = omega (arith, is.room.awaiting);
+          locals = is.room.locals;
+        };
       },
       is.awaiting,
     );

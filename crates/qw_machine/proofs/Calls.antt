@@ -13,6 +13,7 @@ use Rattle.qw_module.specs.declared.module.Function.{Function}
 use Rattle.qw_module.specs.declared.module.Import.{Import}
 use Rattle.qw_module.specs.declared.module.Import.TheVariants as import
 use Rattle.qw_module.specs.declared.module.Module.{Module}
+use Rattle.qw_valid.specs.declared.heights.Heights.{Heights}
 use Rattle.qw_machine.specs.declared.room.Rooms.{Rooms}
 use Rattle.qw_machine.specs.declared.stepped.Stepped.TheVariants.{Ran}
 use Rattle.qw_machine.specs.declared.stepped.Stepped.TheVariants as stepped
@@ -21,21 +22,24 @@ use Rattle.qw_module.specs.Execution.{Callee, host_raise, own, Config, Silent, R
 use Rattle.qw_module.specs.Step.{Goes, Signals, wants, answered}
 use Rattle.qw_module.specs.Typing.{Signature, Outside, Scope, scope_of, Typed}
 use Rattle.qw_module.specs.Soundness.{AreOf, raise_signature, IsClosureOf, IsCalleeOf}
+use Rattle.qw_valid.specs.Heights.{parameters_at, results_at, StaysWithin}
 use Rattle.qw_module.specs.Start.{host_of, closure_of, callees_of, body_of}
 use Rattle.qw_module.specs.Validity.{imported_function, imported_functions, functions_of, signature_in, outside_of, CallsBelow}
 use Rattle.qw_module.proofs.Sound.{AreOf-length, AreOf-append, AreOf-take, AreOf-drop, AreOf-reverse, AreOf-zeros, callee_there}
 use Rattle.qw_module.proofs.TypedOperands.{first_of_types}
 use Rattle.qw_module.proofs.TypedParts.{Parts, parts}
 use Rattle.qw_machine.specs.Inner.Points.{code_at, instructions_at, Point, base_of, contexts_of, store_with, state_at, config_at, in_body, called_at, has_result}
-use Rattle.qw_machine.specs.Inner.Rooms.{instructions_below, locals_of, needed_below, HasRoom}
+use Rattle.qw_machine.specs.Inner.Rooms.{bounds_of, locals_of, needed_below, HasRoom}
 use Rattle.qw_machine.specs.Inner.Placed.{IsExecuted, AreAwaiting, IsPoint}
 use Rattle.qw_machine.specs.Inner.Activities.{IsDoneAt}
 use Rattle.qw_machine.proofs.Begins.{callees_are}
-use Rattle.qw_machine.proofs.Bodies.{few_results, leaves-are, body-room, IsBegun, begun-point, begun-state}
+use Rattle.qw_machine.proofs.Around.{own_fits}
+use Rattle.qw_machine.proofs.Bodies.{leaves-are, body-room, IsBegun, begun-point, begun-state}
 use Rattle.qw_machine.proofs.Functions.{element_there, body_is}
 use Rattle.qw_machine.proofs.ListFacts.{all-at, get-first, get-second, above-append, under-append}
 use Rattle.qw_machine.proofs.Points.{code_in-instruction, config_at-split}
 use Rattle.qw_machine.proofs.Rooms.{IsWithin, needed_below-mono}
+use Rattle.qw_machine.proofs.Stays.{bounds-are, parameters-are, results-are, stays-on}
 
 -- ---- which function an index names: the imported ones are the host's
 hosts-length : (imports : List Import) → length (filter_map host_of imports) ≡ length (filter_map imported_function imports)
@@ -91,6 +95,9 @@ module _ (m : Module) (executed : IsExecuted m) {rooms : Rooms} {p : Point} (is 
 
   called : Parts scope (call index rest) is.before is.ends
   called = parts scope (call index rest) is.before is.ends (subst (λ (code : Code). Typed scope code is.before is.ends) call_code is.typed)
+
+  stays_called : StaysWithin ((outside_of m).functions) is.operands_most is.labels_most (call index rest) (length is.own)
+  stays_called = subst (λ (code : Code). StaysWithin ((outside_of m).functions) is.operands_most is.labels_most code (length is.own)) call_code is.stays
 
   abbrev signature : Signature
   signature = called.0
@@ -185,8 +192,11 @@ module _ (m : Module) (executed : IsExecuted m) {rooms : Rooms} {p : Point} (is 
         all-at (CallsBelow (length (imported_functions m) + p.function)) sequence.0 p.index (i.Call index) calls (subst (λ (xs : List Instr). slice_get xs p.index ≡ Some (i.Call index)) here found) in
         omega (arith, less, own_is)
 
-    needs : IsWithin (needed_below m (suc number)) (needed_below m p.function)
-    needs = needed_below-mono m number p.function own-below
+    abbrev heights : List Heights
+    heights = is.room.heights
+
+    needs : IsWithin (needed_below m heights (suc number)) (needed_below m heights p.function)
+    needs = needed_below-mono m heights number p.function own-below
 
     pub own-awaiting : length p.awaiting + 2 ≤ rooms.awaiting
     own-awaiting = omega (arith, needs.awaiting, is.room.awaiting)
@@ -263,11 +273,11 @@ module _ (m : Module) (executed : IsExecuted m) {rooms : Rooms} {p : Point} (is 
           rw (new_locals, closure_is.declared_are)
           (AreOf-append (reverse (take params is.own)) (replicate (length closure_is.declared) 0) signature.params closure_is.declared first (AreOf-zeros closure_is.declared))
 
-      entered_room : HasRoom m rooms number (length (body_of m number).each - 1) (length q.operands) (suc (length q.awaiting)) q.first_local
+      entered_room : HasRoom m rooms number (length (body_of m number).each - 1) (length q.operands + (bounds_of heights number).operands)
+          (suc (length q.awaiting) + (bounds_of heights number).labels) q.first_local
       entered_room =
-          let fewer : length is.own ≤ instructions_below m p.function (suc p.sequence) = omega (arith, is.fits, inside) in
-          body-room m rooms number (length q.operands) (length q.awaiting) q.first_local executed.valid own-there
-          (omega (arith, fewer, needs.operands, is.room.operands, ap length left_operands, length-append (drop params is.own) is.below, length-drop params is.own))
+          body-room m rooms heights number (length q.operands) (length q.awaiting) q.first_local is.room.bounds executed.valid own-there
+          (omega (arith, own_fits is inside, needs.operands, is.room.operands, ap length left_operands, length-append (drop params is.own) is.below, length-drop params is.own))
           (omega (arith, needs.awaiting, is.room.awaiting))
           (omega (arith, needs.locals, is.room.locals, locals-long))
 
@@ -293,7 +303,20 @@ module _ (m : Module) (executed : IsExecuted m) {rooms : Rooms} {p : Point} (is 
           floor_is = is.floor_is;
           after_typed = called.4;
           after_in = omega (arith, inside);
-          after_fits = omega (arith, is.fits, length-drop params is.own, length-reverse signature.results, closure_is.results_are, few_results m number function executed.valid there);
+          operands_most = is.operands_most;
+          labels_most = is.labels_most;
+          after_within = stays-on ((outside_of m).functions) rest is.operands_most is.labels_most
+              (length is.own - parameters_at ((outside_of m).functions) index + results_at ((outside_of m).functions) index)
+              (length (drop params is.own) + length (reverse signature.results))
+              (omega (
+                arith,
+                parameters-are ((outside_of m).functions) index signature called.2,
+                results-are ((outside_of m).functions) index signature called.2,
+                length-drop params is.own,
+                closure_is.params_are,
+                length-reverse signature.results,
+              ))
+              stays_called.1;
           room = is.room;
         },
         is.awaiting,
@@ -307,6 +330,9 @@ module _ (m : Module) (executed : IsExecuted m) {rooms : Rooms} {p : Point} (is 
         globals_are = is.globals_are;
         floor_is = refl;
         base_is = refl;
+        operands_most = (bounds_of heights number).operands;
+        labels_most = (bounds_of heights number).labels;
+        needs_are = bounds-are m heights number function is.room.bounds there;
         room = entered_room;
         awaiting = rw old_locals caller-awaits;
       }

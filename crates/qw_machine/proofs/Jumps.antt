@@ -15,7 +15,7 @@ use Rattle.qw_module.specs.Validity.{outside_of}
 use Rattle.qw_machine.specs.Inner.Points.{code_at, instructions_at, Point, base_of, floor_of, under, contexts_of, store_with, state_at}
 use Rattle.qw_machine.specs.declared.room.Rooms.{Rooms}
 use Rattle.qw_machine.specs.Inner.Rooms.{HasRoom}
-use Rattle.qw_machine.specs.Inner.Placed.{AreAwaiting, IsPoint}
+use Rattle.qw_machine.specs.Inner.Placed.{AreAwaiting, StaysAt, IsPoint}
 use Rattle.qw_machine.specs.Inner.Activities.{CanJump, IsJump}
 use Rattle.qw_module.proofs.Sound.{AreOf-append, AreOf-length, AreOf-take}
 use Rattle.qw_machine.proofs.ListFacts.{above-append, under-append, kept-append}
@@ -40,8 +40,10 @@ module _ (m : Module) (rooms : Rooms) (function first_local : ℕ) (locals resul
     pub own_are : AreOf own types
     pub target_typed : Typed (scope_of (outside_of m) locals results outer) (code_at m function entry.sequence entry.target) (taken ++ types) next
     pub target_in : entry.target ≤ length (instructions_at m function entry.sequence)
-    pub target_fits : length own + length taken ≤ entry.target
-    pub room : HasRoom m rooms function entry.sequence (length lower) (length rest) first_local
+    pub operands_most : ℕ
+    pub labels_most : ℕ
+    pub target_within : StaysAt m function entry.sequence entry.target operands_most labels_most (length own + length taken)
+    pub room : HasRoom m rooms function entry.sequence (length lower + operands_most) (length rest + labels_most) first_local
     pub awaiting_are : AreAwaiting m rooms function first_local locals results outer next rest lower values
     pub cut : drop index awaiting ≡ Label entry ∷ rest
     pub floor_is : floor_of awaiting ≡ floor_of rest
@@ -72,7 +74,9 @@ module _ (m : Module) (rooms : Rooms) (function first_local : ℕ) (locals resul
         own_are = e.own_are;
         target_typed = rw (← same) e.target_typed;
         target_in = e.target_in;
-        target_fits = rw (← same) e.target_fits;
+        operands_most = e.operands_most;
+        labels_most = e.labels_most;
+        target_within = subst (λ (ts : List ValType). StaysAt m function entry.sequence entry.target e.operands_most e.labels_most (length e.own + length ts)) same e.target_within;
         room = e.room;
         awaiting_are = are;
         cut = refl;
@@ -104,7 +108,9 @@ module _ (m : Module) (rooms : Rooms) (function first_local : ℕ) (locals resul
         own_are = f.own_are;
         target_typed = f.target_typed;
         target_in = f.target_in;
-        target_fits = f.target_fits;
+        operands_most = f.operands_most;
+        labels_most = f.labels_most;
+        target_within = f.target_within;
         room = f.room;
         awaiting_are = f.awaiting_are;
         cut = f.cut;
@@ -114,7 +120,7 @@ module _ (m : Module) (rooms : Rooms) (function first_local : ℕ) (locals resul
       }
 
 module _ {m : Module} {rooms : Rooms} {p : Point} {own below : List ℕ} {locals results : List ValType} {labels : List (List ValType)} {types ends : List ValType}
-    (around : IsAround m rooms p own below locals results labels types ends) (taken more : List ValType) (types_are : types ≡ taken ++ more)
+    {operands_most labels_most : ℕ} (around : IsAround m rooms p own below locals results labels types ends operands_most labels_most) (taken more : List ValType) (types_are : types ≡ taken ++ more)
     (index : ℕ) (found : slice_get labels index ≡ Some taken) where
   abbrev outer_values : List ℕ
   outer_values = take p.first_local p.locals
@@ -163,6 +169,8 @@ module _ {m : Module} {rooms : Rooms} {p : Point} {own below : List ℕ} {locals
   target_point-is =
       let f = found_label in
       let kept : AreOf (take (length taken) own) taken = AreOf-take own taken more own_are in
+      let many : length f.own + length taken ≡ length (take (length taken) own ++ f.own) =
+      omega (arith, length-append (take (length taken) own) f.own, AreOf-length (take (length taken) own) taken kept) in
       record {
         own = take (length taken) own ++ f.own;
         below = f.lower;
@@ -181,7 +189,9 @@ module _ {m : Module} {rooms : Rooms} {p : Point} {own below : List ℕ} {locals
         floor_is = around.floor_is ∙ f.floor_is;
         typed = f.target_typed;
         index_in = f.target_in;
-        fits = omega (arith, length-append (take (length taken) own) f.own, AreOf-length (take (length taken) own) taken kept, f.target_fits);
+        operands_most = f.operands_most;
+        labels_most = f.labels_most;
+        stays = subst (λ (n : ℕ). StaysAt m p.function f.entry.sequence f.entry.target f.operands_most f.labels_most n) many f.target_within;
         room = f.room;
         awaiting = f.awaiting_are;
       }

@@ -1,5 +1,5 @@
 -- A finished label or frame is left, as the configuration's is that this stands for.
-use Rattle.std.proofs.Common.{◌≡◌, ℕ, List, [], ◌∷◌, ◌++◌, length, take, drop, refl, sym, ap, subst, ◌∙◌, arith, length-append, append_assoc}
+use Rattle.std.proofs.Common.{◌≡◌, ℕ, ◌+◌, List, [], ◌∷◌, ◌++◌, length, take, drop, refl, sym, ap, subst, ◌∙◌, arith, length-append, append_assoc}
 use Rattle.qw_module.specs.declared.instruction.ValType.{ValType}
 use Rattle.qw_module.specs.declared.module.Module.{Module}
 use Rattle.qw_machine.specs.declared.activity.Entry.{Entry}
@@ -14,7 +14,7 @@ use Rattle.qw_module.specs.Typing.{scope_of, Typed}
 use Rattle.qw_module.specs.Soundness.{AreOf}
 use Rattle.qw_module.specs.Validity.{outside_of}
 use Rattle.qw_machine.specs.Inner.Points.{Point, code_at, instructions_at, base_of, contexts_of, store_with, state_at, after_label, after_call}
-use Rattle.qw_machine.specs.Inner.Placed.{IsPoint}
+use Rattle.qw_machine.specs.Inner.Placed.{StaysAt, IsPoint}
 use Rattle.qw_module.proofs.Sound.{AreOf-append, AreOf-length, done_types}
 use Rattle.qw_machine.proofs.ListFacts.{above-append, under-append}
 use Rattle.qw_machine.proofs.Points.{code_in-end, state_at-split}
@@ -39,6 +39,7 @@ module _ (m : Module) (rooms : Rooms) (p : Point) (entry : Entry) (rest : List A
   after_label-point =
       let e = is.awaiting.0 in
       let left = leaves m rooms (record p { awaiting = Label entry ∷ rest }) ended is in
+      let many : length e.own + length is.ends ≡ length (is.own ++ e.own) = omega (arith, length-append is.own e.own, AreOf-length is.own is.ends left) in
       record {
         own = is.own ++ e.own;
         below = e.below;
@@ -57,7 +58,9 @@ module _ (m : Module) (rooms : Rooms) (p : Point) (entry : Entry) (rest : List A
         floor_is = is.floor_is;
         typed = e.after_typed;
         index_in = e.after_in;
-        fits = omega (arith, length-append is.own e.own, AreOf-length is.own is.ends left, e.after_fits);
+        operands_most = e.operands_most;
+        labels_most = e.labels_most;
+        stays = subst (λ (n : ℕ). StaysAt m p.function entry.sequence entry.after e.operands_most e.labels_most n) many e.after_within;
         room = e.room;
         awaiting = is.awaiting.1;
       }
@@ -93,6 +96,7 @@ module _ (m : Module) (rooms : Rooms) (p : Point) (caller : Frame) (rest : List 
       let f = is.awaiting.2 in
       let ends : is.ends ≡ is.results = is.awaiting.1 in
       let left : AreOf is.own is.results = subst (λ (types : List ValType). AreOf is.own types) ends (leaves m rooms (record p { awaiting = Call caller ∷ rest }) ended is) in
+      let many : length f.own + length is.results ≡ length (is.own ++ f.own) = omega (arith, length-append is.own f.own, AreOf-length is.own is.results left) in
       record {
         own = is.own ++ f.own;
         below = f.below;
@@ -111,7 +115,9 @@ module _ (m : Module) (rooms : Rooms) (p : Point) (caller : Frame) (rest : List 
         floor_is = f.floor_is;
         typed = f.after_typed;
         index_in = f.after_in;
-        fits = omega (arith, length-append is.own f.own, AreOf-length is.own is.results left, f.after_fits);
+        operands_most = f.operands_most;
+        labels_most = f.labels_most;
+        stays = subst (λ (n : ℕ). StaysAt m caller.function caller.sequence caller.after f.operands_most f.labels_most n) many f.after_within;
         room = f.room;
         awaiting = is.awaiting.3;
       }

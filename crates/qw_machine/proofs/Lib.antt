@@ -9,6 +9,7 @@ mod Entering
 mod Followed
 mod Functions
 mod Imported
+mod InitialValues
 mod Instances
 mod Jumps
 mod Leaving
@@ -22,5 +23,6 @@ mod Rooms
 mod Runs
 mod ShapeFacts
 mod StackFacts
+mod Stays
 mod Starts
 mod Steps

@@ -1,5 +1,5 @@
 -- An instruction that holds no other, done over all operands, against the configuration's step over its own.
-use Rattle.std.proofs.Common.{◌≡◌, ℕ, suc, ◌+◌, ◌^◌, ◌<◌, ◌≤◌, nat_le, List, ◌++◌, length, drop, take, Option, Some, None, Result, Ok, Err, slice_get, true, false, refl, ap, subst, ◌∙◌, ⊎_elim, arith, length-append}
+use Rattle.std.proofs.Common.{◌≡◌, ℕ, ◌+◌, ◌-◌, ◌^◌, ◌<◌, nat_le, List, ◌++◌, length, drop, take, Option, Some, None, Result, Ok, Err, slice_get, true, false, refl, ap, subst, ◌∙◌, ⊎_elim, arith, length-append}
 use Rattle.std.proofs.lemmas.Bool.{cases_Bool, le-leb, lt-ltb}
 use Rattle.std.proofs.lemmas.List.{length-take-le}
 use Rattle.std.proofs.lemmas.Option.{slice_get_within}
@@ -18,7 +18,8 @@ use Rattle.qw_module.specs.Numbers.{division}
 use Rattle.qw_module.specs.Syntax.{Code, op}
 use Rattle.qw_module.specs.Execution.{Config, Silent, Loads, Stores, Grows, Traps, settled, refusal}
 use Rattle.qw_module.specs.Step.{OpWant, Stuck', Leaves, Sets, Reads, Writes, Sizes, Requests, Fails', pushes_if_some, leaves_or_fails, op_wants, then_wants, answered, next}
-use Rattle.qw_module.specs.Typing.{Scope, scope_of, OpTyped, typed-nop, typed-drop, typed-select, typed-local_get, typed-local_set, typed-local_tee, typed-global_get, typed-global_set, typed-const, typed-unary, typed-binary, typed-division, typed-eqz, typed-relation, typed-convert, typed-load, typed-store, typed-size, typed-grow, Typed}
+use Rattle.qw_module.specs.Typing.{Scope, scope_of, OpTyped, Typed}
+use Rattle.qw_valid.specs.Heights.{taken_by, left_by, StaysWithin}
 use Rattle.qw_module.specs.Soundness.{AreOf, AreGlobalsOf}
 use Rattle.qw_module.specs.Validity.{outside_of}
 use Rattle.qw_machine.specs.Inner.Points.{code_at, instructions_at, Point, contexts_of, store_with, state_at, config_at}
@@ -33,6 +34,7 @@ use Rattle.qw_module.proofs.TypedParts.{parts}
 use Rattle.qw_machine.proofs.ListFacts.{take-front, drop-front}
 use Rattle.qw_machine.proofs.Points.{state_at-split, code_in-instruction}
 use Rattle.qw_machine.proofs.Around.{config-over}
+use Rattle.qw_machine.proofs.Stays.{length-op_typed, stays-on}
 
 -- what an instruction has among its own operands, it has among all
 ready : (operator : Op) (globals own below values : List ℕ) → HasFor operator globals own values → CanOperate operator globals (own ++ below) values
@@ -97,28 +99,6 @@ wants-over (o.Store s arg) globals own below values has = rw (has.3) refl
 wants-over MemorySize globals own below values has = refl
 wants-over MemoryGrow globals own below values has = rw (has.2) refl
 
--- at most one operand is added
-length-op_typed : (scope : Scope) (operator : Op) (before after : List ValType) → OpTyped scope operator before after → length after ≤ suc (length before)
-length-op_typed _ _ _ _ (typed-nop scope types) = omega arith
-length-op_typed _ _ _ _ (typed-drop scope types t) = omega arith
-length-op_typed _ _ _ _ (typed-select scope types t) = omega arith
-length-op_typed _ _ _ _ (typed-local_get scope types x t found) = omega arith
-length-op_typed _ _ _ _ (typed-local_set scope types x t found) = omega arith
-length-op_typed _ _ _ _ (typed-local_tee scope types x t found) = omega arith
-length-op_typed _ _ _ _ (typed-global_get scope types x g found) = omega arith
-length-op_typed _ _ _ _ (typed-global_set scope types x g found mutable) = omega arith
-length-op_typed _ _ _ _ (typed-const scope types k value) = omega arith
-length-op_typed _ _ _ _ (typed-unary scope types t u) = omega arith
-length-op_typed _ _ _ _ (typed-binary scope types t b) = omega arith
-length-op_typed _ _ _ _ (typed-division scope types t d) = omega arith
-length-op_typed _ _ _ _ (typed-eqz scope types t) = omega arith
-length-op_typed _ _ _ _ (typed-relation scope types t r) = omega arith
-length-op_typed _ _ _ _ (typed-convert scope types v) = omega arith
-length-op_typed _ _ _ _ (typed-load scope types l arg memory aligned) = omega arith
-length-op_typed _ _ _ _ (typed-store scope types s arg memory aligned) = omega arith
-length-op_typed _ _ _ _ (typed-size scope types memory) = omega arith
-length-op_typed _ _ _ _ (typed-grow scope types memory) = omega arith
-
 -- a point whose code begins with such an instruction
 module _ {m : Module} {rooms : Rooms} (spare : ℕ) {p : Point} (is : IsPoint m rooms p) {operator : Op}
     (found : slice_get (instructions_at m p.function p.sequence) p.index ≡ Some (i.Op operator)) where
@@ -169,6 +149,10 @@ module _ {m : Module} {rooms : Rooms} (spare : ℕ) {p : Point} (is : IsPoint m 
       IsPoint m rooms (after_it operands globals locals)
   after_it-is operands globals locals are are_globals are_locals =
       let outer : take p.first_local (take p.first_local p.locals ++ locals) ≡ take p.first_local p.locals = take-front p.first_local p.locals locals is.first_in in
+      let within_code : StaysWithin ((outside_of m).functions) is.operands_most is.labels_most (op operator rest) (length is.own) =
+      subst (λ (x : Code). StaysWithin ((outside_of m).functions) is.operands_most is.labels_most x (length is.own)) code is.stays in
+      let many : length is.own - taken_by operator + left_by operator ≡ length operands =
+      omega (arith, AreOf-length operands op_is.0 are, AreOf-length is.own is.before is.own_are, length-op_typed scope operator is.before op_is.0 op_is.1) in
       let inner : drop p.first_local (take p.first_local p.locals ++ locals) ≡ locals = drop-front p.first_local p.locals locals is.first_in in
       record {
         own = operands;
@@ -188,7 +172,9 @@ module _ {m : Module} {rooms : Rooms} (spare : ℕ) {p : Point} (is : IsPoint m 
         floor_is = is.floor_is;
         typed = op_is.2;
         index_in = omega (arith, within);
-        fits = omega (arith, AreOf-length operands op_is.0 are, AreOf-length is.own is.before is.own_are, is.fits, length-op_typed scope operator is.before op_is.0 op_is.1);
+        operands_most = is.operands_most;
+        labels_most = is.labels_most;
+        stays = stays-on ((outside_of m).functions) rest is.operands_most is.labels_most (length is.own - taken_by operator + left_by operator) (length operands) many within_code.1;
         room = is.room;
         awaiting = rw outer is.awaiting;
       }

@@ -14,7 +14,7 @@ use Rattle.qw_module.specs.Validity.{outside_of}
 use Rattle.qw_machine.specs.Inner.Points.{code_at, instructions_at, Point, base_of, floor_of, under, contexts_of, store_with, state_at, resumed}
 use Rattle.qw_machine.specs.declared.room.Rooms.{Rooms}
 use Rattle.qw_machine.specs.Inner.Rooms.{locals_of, HasRoom}
-use Rattle.qw_machine.specs.Inner.Placed.{AreAwaiting, IsPoint}
+use Rattle.qw_machine.specs.Inner.Placed.{AreAwaiting, StaysAt, IsPoint}
 use Rattle.qw_machine.specs.Inner.Activities.{CanLeave, IsReturn}
 use Rattle.qw_module.proofs.Sound.{AreOf-append, AreOf-length, AreOf-take}
 use Rattle.qw_machine.proofs.ListFacts.{above-append, under-append, kept-append}
@@ -51,8 +51,10 @@ module _ (m : Module) (rooms : Rooms) where
     pub floor_is : caller.floor ≡ floor_of rest
     pub after_typed : Typed (scope_of (outside_of m) locals outer_results labels) (code_at m caller.function caller.sequence caller.after) (results ++ types) next
     pub after_in : caller.after ≤ length (instructions_at m caller.function caller.sequence)
-    pub after_fits : length own + length results ≤ caller.after
-    pub room : HasRoom m rooms caller.function caller.sequence (length lower) (length rest) caller.first_local
+    pub operands_most : ℕ
+    pub labels_most : ℕ
+    pub after_within : StaysAt m caller.function caller.sequence caller.after operands_most labels_most (length own + length results)
+    pub room : HasRoom m rooms caller.function caller.sequence (length lower + operands_most) (length rest + labels_most) caller.first_local
     pub awaiting_are : AreAwaiting m rooms caller.function caller.first_local locals outer_results labels next rest lower (take caller.first_local values)
     pub leads : (store : Store) (operands : List ℕ) → truth caller.leaves ≤ length operands →
         left store (contexts_of m function awaiting below values) operands
@@ -88,7 +90,9 @@ module _ (m : Module) (rooms : Rooms) where
         floor_is = f.floor_is;
         after_typed = f.after_typed;
         after_in = f.after_in;
-        after_fits = f.after_fits;
+        operands_most = f.operands_most;
+        labels_most = f.labels_most;
+        after_within = f.after_within;
         room = f.room;
         awaiting_are = are;
         leads = λ store operands enough.
@@ -126,7 +130,9 @@ module _ (m : Module) (rooms : Rooms) where
         floor_is = f.floor_is;
         after_typed = f.after_typed;
         after_in = f.after_in;
-        after_fits = f.after_fits;
+        operands_most = f.operands_most;
+        labels_most = f.labels_most;
+        after_within = f.after_within;
         room = f.room;
         awaiting_are = f.awaiting_are;
         leads = λ store operands enough. rw (e.operands_are, under-append (base_of rest) e.own e.below e.below_are) (f.leads store operands enough);
@@ -140,7 +146,7 @@ module _ (m : Module) (rooms : Rooms) where
   left-outermost function (Call caller ∷ rest) below values store operands none = absurd (omega (arith, none))
 
 module _ {m : Module} {rooms : Rooms} {p : Point} {own below : List ℕ} {locals results : List ValType} {labels : List (List ValType)} {types ends : List ValType}
-    (around : IsAround m rooms p own below locals results labels types ends) (more : List ValType) (types_are : types ≡ results ++ more) (inner : p.floor ≢ 0) where
+    {operands_most labels_most : ℕ} (around : IsAround m rooms p own below locals results labels types ends operands_most labels_most) (more : List ValType) (types_are : types ≡ results ++ more) (inner : p.floor ≢ 0) where
   abbrev outer_values : List ℕ
   outer_values = take p.first_local p.locals
 
@@ -189,6 +195,8 @@ module _ {m : Module} {rooms : Rooms} {p : Point} {own below : List ℕ} {locals
   target_point-is =
       let f = frame in
       let kept : AreOf (take (length results) own) results = AreOf-take own results more own_are in
+      let many : length f.own + length results ≡ length (take (length results) own ++ f.own) =
+      omega (arith, length-append (take (length results) own) f.own, AreOf-length (take (length results) own) results kept) in
       record {
         own = take (length results) own ++ f.own;
         below = f.lower;
@@ -207,7 +215,9 @@ module _ {m : Module} {rooms : Rooms} {p : Point} {own below : List ℕ} {locals
         floor_is = f.floor_is;
         typed = f.after_typed;
         index_in = f.after_in;
-        fits = omega (arith, length-append (take (length results) own) f.own, AreOf-length (take (length results) own) results kept, f.after_fits);
+        operands_most = f.operands_most;
+        labels_most = f.labels_most;
+        stays = subst (λ (n : ℕ). StaysAt m f.caller.function f.caller.sequence f.caller.after f.operands_most f.labels_most n) many f.after_within;
         room = f.room;
         awaiting = f.awaiting_are;
       }

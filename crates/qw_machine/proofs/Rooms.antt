@@ -1,21 +1,13 @@
--- How much room functions need: sums that the code takes, and that a function called needs no more than its caller reserves.
+-- How much room functions need: that a function called needs no more than its caller reserves.
 use Rattle.std.proofs.Common.{◌≡◌, ℕ, zero, suc, ◌+◌, ◌<◌, ◌≤◌, List, length, get_or, drop, replicate, ◌++◌, ap, sym, subst, ◌∙◌, ⊎_elim, arith, append_assoc, length-append}
 use Rattle.std.proofs.lemmas.Bool.{cases_eq}
 use Rattle.std.proofs.lemmas.List.{at_drop_more, length-replicate, replicate-append-replicate}
-use Rattle.qw_module.specs.declared.instruction.Instr.{Instr}
 use Rattle.qw_module.specs.declared.module.Locals.{Locals}
 use Rattle.qw_module.specs.declared.module.Module.{Module}
 use Rattle.qw_module.specs.Validity.{declared_types}
+use Rattle.qw_valid.specs.declared.heights.Heights.{Heights}
 use Rattle.qw_machine.specs.declared.room.Rooms.{Rooms}
-use Rattle.qw_machine.specs.Inner.Rooms.{instructions_in, needed_below}
-
--- sequences of more numbers have no fewer instructions
-pub instructions_in-mono : (each : List (List Instr)) (k n : ℕ) → k ≤ n → instructions_in each k ≤ instructions_in each n
-instructions_in-mono each k zero h = let e : k ≡ 0 = omega arith in subst (λ (j : ℕ). instructions_in each j ≤ 0) (sym e) (omega arith)
-instructions_in-mono each k (suc n) h = ⊎_elim
-    (λ (e : k ≡ suc n). subst (λ (j : ℕ). instructions_in each j ≤ instructions_in each (suc n)) (sym e) (omega arith))
-    (λ ne. let less : k ≤ n = omega arith in omega (arith, instructions_in-mono each k n less))
-    (cases_eq k (suc n))
+use Rattle.qw_machine.specs.Inner.Rooms.{needed_below}
 
 -- what one of the functions below a number needs, with those below it
 pub record IsWithin (one all : Rooms) : Type 0 where
@@ -23,13 +15,13 @@ pub record IsWithin (one all : Rooms) : Type 0 where
   pub awaiting : one.awaiting ≤ all.awaiting
   pub locals : one.locals ≤ all.locals
 
-pub needed_below-mono : (m : Module) (g f : ℕ) → g < f → IsWithin (needed_below m (suc g)) (needed_below m f)
-needed_below-mono m g zero h = absurd (omega arith)
-needed_below-mono m g (suc f) h = ⊎_elim
-    (λ (e : g ≡ f). subst (λ (k : ℕ). IsWithin (needed_below m (suc k)) (needed_below m (suc f))) (sym e)
+pub needed_below-mono : (m : Module) (heights : List Heights) (g f : ℕ) → g < f → IsWithin (needed_below m heights (suc g)) (needed_below m heights f)
+needed_below-mono m heights g zero h = absurd (omega arith)
+needed_below-mono m heights g (suc f) h = ⊎_elim
+    (λ (e : g ≡ f). subst (λ (k : ℕ). IsWithin (needed_below m heights (suc k)) (needed_below m heights (suc f))) (sym e)
     (record { operands = omega arith; awaiting = omega arith; locals = omega arith }))
     (λ ne. let less : g < f = omega arith in
-    let before = needed_below-mono m g f less in
+    let before = needed_below-mono m heights g f less in
     record {
       operands = omega (arith, before.operands);
       awaiting = omega (arith, before.awaiting);

@@ -7,17 +7,18 @@ use Rattle.qw_module.specs.declared.module.Function.{Function}
 use Rattle.qw_module.specs.declared.module.Global.{Global}
 use Rattle.qw_machine.specs.declared.activity.Activity.{Activity}
 use Rattle.qw_machine.specs.declared.machine.Instance.TheInside.{Inside}
+use Rattle.qw_valid.specs.declared.heights.Heights.{Heights}
+use Rattle.qw_valid.specs.ModuleHeights.{HaveHeights}
 use Rattle.qw_machine.specs.declared.room.Rooms.{Rooms}
 use Rattle.qw_machine.specs.declared.stepped.RunEnd.{RunEnd}
 use Rattle.qw_machine.specs.declared.stepped.RunEnd.TheVariants as end
-use Rattle.qw_module.specs.Numbers.{constant}
 use Rattle.qw_module.specs.Typing.{Signature}
 use Rattle.qw_module.specs.Soundness.{AreOf, raise_signature, IsClosureOf}
-use Rattle.qw_module.specs.Start.{closure_of, body_of, begun}
-use Rattle.qw_module.specs.Validity.{declared_types, imported_functions, signature_in, outside_of, IsValid, IsOneI32, IsShaped, IsDescending}
+use Rattle.qw_module.specs.Start.{closure_of, body_of, begun, initial_value}
+use Rattle.qw_module.specs.Validity.{code_of_body, declared_types, imported_functions, signature_in, outside_of, IsValid, IsOneI32, IsShaped, IsDescending}
 use Rattle.qw_module.proofs.Sound.{AreOf-zeros}
 use Rattle.qw_machine.specs.Inner.Points.{Point, state_at, in_body, first_point, has_result, point_of}
-use Rattle.qw_machine.specs.Inner.Rooms.{locals_of, needed_below, needed, HasRoom, rooms_of}
+use Rattle.qw_machine.specs.Inner.Rooms.{bounds_of, locals_of, needed_below, needed, HasRoom, rooms_of}
 use Rattle.qw_machine.specs.Inner.Placed.{IsExecuted, IsPoint, IsRunning}
 use Rattle.qw_machine.specs.Inner.Activities.{IsLeft}
 use Rattle.qw_machine.specs.Inner.Held.{state_of, IsHeld}
@@ -25,11 +26,15 @@ use Rattle.qw_machine.proofs.Begins.{one_type, closure_is, first_globals-are}
 use Rattle.qw_machine.proofs.Bodies.{body-room, IsBegun, begun-point, begun-state}
 use Rattle.qw_machine.proofs.Functions.{valid_function}
 use Rattle.qw_machine.proofs.Rooms.{IsWithin, needed_below-mono}
+use Rattle.qw_machine.proofs.Stays.{bounds-are}
 
 -- what is known of a module that is executed, read from where it is held
 pub executed-shaped : (m held : Module) (number : ℕ) → held ≡ m → IsValid m → IsShaped m number → IsDescending m → IsExecuted held
 executed-shaped m held number same valid shaped descends =
     subst IsExecuted (sym same) (record { valid = valid; linked = shaped.linked; descends = descends })
+
+pub heights-are : (heights : List Heights) (m held : Module) → held ≡ m → HaveHeights m heights → HaveHeights held heights
+heights-are heights m held same have = subst (λ (x : Module). HaveHeights x heights) (sym same) have
 
 -- `run` is one of the module's own functions
 pub run-there : (m : Module) (number : ℕ) → IsShaped m number → (function : Function) × (slice_get m.functions.items number ≡ Some function)
@@ -46,10 +51,11 @@ first_end false = Some end.Returned
 
 -- the values that globals begin with
 abbrev pub first_globals : Module → List ℕ
-first_globals m = map (λ (global : Global). constant global.init) m.globals.items
+first_globals m = map (λ (global : Global). initial_value (code_of_body global.init)) m.globals.items
 
 -- the `run` of a valid and shaped module
-module _ (m : Module) (number : ℕ) (function : Function) (executed : IsExecuted m) (shaped : IsShaped m number) (found : slice_get m.functions.items number ≡ Some function) where
+module _ (m : Module) (number : ℕ) (function : Function) (executed : IsExecuted m) (shaped : IsShaped m number) (found : slice_get m.functions.items number ≡ Some function)
+    (heights : List Heights) (have : HaveHeights m heights) where
   run_type : signature_in m function.type_index ≡ raise_signature
   run_type =
       let one : IsOneI32 m function.type_index =
@@ -69,13 +75,13 @@ module _ (m : Module) (number : ℕ) (function : Function) (executed : IsExecute
   run_in : number < length m.functions.items
   run_in = slice_get_within m.functions.items number function found
 
-  run_needs : IsWithin (needed_below m (suc number)) (needed m)
-  run_needs = needed_below-mono m number (length m.functions.items) run_in
+  run_needs : IsWithin (needed_below m heights (suc number)) (needed m heights)
+  run_needs = needed_below-mono m heights number (length m.functions.items) run_in
 
   run_locals : locals_of m number ≡ 1 + length (declared_types function.locals.items)
   run_locals = rw found (omega (arith, closure.params_are))
 
-  module _ (rooms : Rooms) (enough : rooms ≡ needed m) where
+  module _ (rooms : Rooms) (enough : rooms ≡ needed m heights) where
     pub started-awaiting : 1 ≤ rooms.awaiting
     started-awaiting = omega (arith, ap (λ (r : Rooms). r.awaiting) enough, run_needs.awaiting)
 
@@ -103,8 +109,8 @@ module _ (m : Module) (number : ℕ) (function : Function) (executed : IsExecute
       first_is : in_body m before number (has_result m function) ≡ first
       first_is = ap (in_body m before number) leaves_none
 
-      first_room : HasRoom m rooms number (length (body_of m number).each - 1) 0 1 0
-      first_room = body-room m rooms number 0 0 0 executed.valid run_in
+      first_room : HasRoom m rooms number (length (body_of m number).each - 1) (0 + (bounds_of heights number).operands) (1 + (bounds_of heights number).labels) 0
+      first_room = body-room m rooms heights number 0 0 0 have executed.valid run_in
           (omega (arith, run_needs.operands, ap (λ (r : Rooms). r.operands) enough))
           (omega (arith, run_needs.awaiting, ap (λ (r : Rooms). r.awaiting) enough))
           (omega (arith, run_needs.locals, ap (λ (r : Rooms). r.locals) enough))
@@ -120,6 +126,9 @@ module _ (m : Module) (number : ℕ) (function : Function) (executed : IsExecute
         globals_are = first_globals-are m executed.valid;
         floor_is = refl;
         base_is = refl;
+        operands_most = (bounds_of heights number).operands;
+        labels_most = (bounds_of heights number).labels;
+        needs_are = bounds-are m heights number function have found;
         room = first_room;
         awaiting = (refl, refl);
       }

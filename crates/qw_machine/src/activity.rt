@@ -1,12 +1,12 @@
 //! Where the execution of a call is, and its steps (WebAssembly Core Specification 1.0, 4.2.12 and 4.4).
 
-ghost use Rattle.std.specs.Prelude.{◌≡◌, ℕ, ◌++◌, ◌+◌, ◌*◌, ◌<◌, ◌≤◌, ◌^◌, map, length, replicate, take, ◌-◌, drop, IfOk, Some, slice_get, vec_capacity};
+ghost use Rattle.std.specs.Prelude.{◌≡◌, ℕ, ◌++◌, ◌+◌, ◌*◌, ◌<◌, ◌≤◌, ◌^◌, map, length, replicate, take, ◌-◌, drop, IfOk, Some, slice_get, vec_capacity, All};
 ghost use Rattle.qw_linear.specs.Memory.{page};
-ghost use Rattle.qw_module.specs.Numbers.{constant, truth};
-ghost use Rattle.qw_module.specs.Syntax.{labels_in};
+ghost use Rattle.qw_module.specs.Numbers.{truth};
+ghost use Rattle.qw_module.specs.Syntax.{labels_in, IsNumbered};
 ghost use Rattle.qw_module.specs.Execution.{chosen};
-ghost use Rattle.qw_module.specs.Start.{body_of, closure_of};
-ghost use Rattle.qw_module.specs.Validity.{declared_types, imported_functions};
+ghost use Rattle.qw_module.specs.Start.{body_of, closure_of, initial_value};
+ghost use Rattle.qw_module.specs.Validity.{sequences_of, code_of_body, declared_types, imported_functions, IsValidGlobal};
 ghost use Rattle.qw_machine.specs.Inner.Points.{at_index, called_at, entered, first_point, has_result, in_body, instructions_at, point_of, resumed, under};
 ghost use Rattle.qw_machine.specs.Inner.Ended.{answer_of};
 ghost use Rattle.qw_machine.specs.Inner.Rooms.{rooms_of};
@@ -21,11 +21,12 @@ use crate::operators::{Operated, operate};
 use crate::room::Rooms;
 use crate::stack::Stack;
 use crate::stepped::{Run, Stepped, operated};
+use qw_base::NoMemory;
 use qw_linear::linear::Linear;
 use qw_module::instruction::{Instr, Op};
-use qw_module::module::{self, Function, Locals, Module};
+use qw_module::module::{self, Body, Function, Locals, Module};
 use qw_module::trap::Trap;
-use qw_types::NoMemory;
+use qw_valid::initial::constant_of;
 use std::alloc::Global;
 
 /// A label that the instance is in (4.2.12).
@@ -100,7 +101,7 @@ impl Activity {
         requires awaiting { 1 ≤ rooms.awaiting }
         requires locals { (function : Function) → slice_get program.now.functions.items number ≡ Some function → 1 + length (declared_types function.locals.items) ≤ rooms.locals }
         ensures point { (function : Function) → slice_get program.now.functions.items number ≡ Some function → IfOk result (λ activity.
-            point_of activity ≡ first_point program.now number argument (length (declared_types function.locals.items)) (map (λ global. constant global.init) program.now.globals.items)) }
+            point_of activity ≡ first_point program.now number argument (length (declared_types function.locals.items)) (map (λ global. initial_value (code_of_body global.init)) program.now.globals.items)) }
         ensures rooms { IfOk result (λ activity. rooms_of activity ≡ rooms) }
     {
         let function = &program.functions[number];
@@ -535,14 +536,26 @@ fn last_of(last: usize, index: usize, most: u64) -> usize
     }
 }
 
+/// The value that the code of a global's expression gives (4.4.1).
+fn initial_value(init: &Body) -> u64
+    requires { IsNumbered (sequences_of init.now) }
+    ensures { result ≡ initial_value (code_of_body init.now) }
+{
+    match constant_of(init) {
+        None => 0,
+        Some(constant) => value_of(constant),
+    }
+}
+
 /// The values that globals begin with (4.5.4).
 fn initial_values(alloc: Global, globals: &[module::Global]) -> Result<Vec<u64>, NoMemory>
-    ensures { IfOk result (λ values. values.items ≡ map (λ global. constant global.init) globals.now) }
+    requires { All IsValidGlobal globals.now }
+    ensures { IfOk result (λ values. values.items ≡ map (λ global. initial_value (code_of_body global.init)) globals.now) }
 {
-    let values = globals
-        .iter()
-        .map(|global| value_of(global.init))
-        .collect(alloc)?;
+    let mut values = Vec::new(alloc);
+    for global in globals {
+        values.push(initial_value(&global.init))?;
+    }
     Ok(values)
 }
 

@@ -11,8 +11,8 @@ use crate::descending::first_ascending;
 use crate::room::needed_rooms;
 use crate::shape::shaped_run;
 use crate::stepped::{Run, RunEnd, Stepped};
+use qw_base::NoMemory;
 use qw_linear::linear::Linear;
-use qw_types::NoMemory;
 use qw_valid::imports::imported_functions;
 use qw_valid::valid::ValidModule;
 use std::alloc::Global;
@@ -96,7 +96,7 @@ impl Instance {
         ensures { IfOk result (λ instance. instance ≡ record { program = valid; state = begun valid number argument }) }
     {
         let module = valid.module();
-        let rooms = needed_rooms(module).ok_or(NoMemory)?;
+        let rooms = needed_rooms(module, valid.heights()).ok_or(NoMemory)?;
         let mut activity = Activity::begin(alloc, module, rooms, number, argument)?;
         let runs = activity.leave_finished(module);
         let imported = imported_functions(&module.imports);

@@ -1,11 +1,12 @@
 //! How much room the calls of a module's functions need, where each calls only functions below it.
 
 ghost use Rattle.std.specs.Prelude.{◌≡◌, ◌<◌, length, IfSome, Some};
-ghost use Rattle.qw_module.specs.Validity.{declared_types, items_of, IsValid};
-ghost use Rattle.qw_machine.specs.Inner.Rooms.{instructions_in, locals_in, needed};
+ghost use Rattle.qw_module.specs.Validity.{declared_types, IsValid};
+ghost use Rattle.qw_valid.specs.ModuleHeights.{HaveHeights};
+ghost use Rattle.qw_machine.specs.Inner.Rooms.{locals_in, needed};
 
-use qw_module::instruction::Instr;
 use qw_module::module::{Function, Locals, Module};
+use qw_valid::heights::Heights;
 
 /// How many operands, labels and frames, and locals there is room for.
 #[derive(Clone, Copy, PartialEq, Eq)]
@@ -13,17 +14,6 @@ pub(crate) struct Rooms {
     pub(crate) operands: usize,
     pub(crate) awaiting: usize,
     pub(crate) locals: usize,
-}
-
-/// How many instructions there are in all, or `None` where no machine word counts them.
-fn instructions(sequences: &[Vec<Instr>]) -> Option<usize>
-    ensures { IfSome result (λ count. count ≡ instructions_in (items_of sequences.now) (length sequences.now)) }
-{
-    let mut count = 0usize;
-    for sequence in sequences {
-        count = count.checked_add(sequence.len())?;
-    }
-    Some(count)
 }
 
 /// How many locals the runs declare, or `None` where no machine word counts them.
@@ -46,21 +36,23 @@ fn locals(module: &Module, function: &Function) -> Option<usize>
     declared(&function.locals)?.checked_add(params)
 }
 
-/// What all functions of a module need, or `None` where no machine word counts it.
-pub(crate) fn needed_rooms(module: &Module) -> Option<Rooms>
-    requires { IsValid «module».now }
-    ensures { IfSome result (λ rooms. rooms ≡ needed «module».now) }
+/// What all functions of a module need by what is known of each, or `None` where no machine word counts it.
+pub(crate) fn needed_rooms(module: &Module, heights: &[Heights]) -> Option<Rooms>
+    requires valid { IsValid «module».now }
+    requires heights { HaveHeights «module».now heights.now }
+    ensures { IfSome result (λ rooms. rooms ≡ needed «module».now heights.now) }
 {
+    // One operand more, since each operator has room for its result before it takes any.
     let mut rooms = Rooms {
-        operands: 0,
+        operands: 1,
         awaiting: 0,
         locals: 0,
     };
-    for function in &module.functions {
-        let sequences = function.body.sequences.as_slice();
+    for (number, function) in module.functions.iter().enumerate() {
+        let most = heights[number];
         rooms = Rooms {
-            operands: rooms.operands.checked_add(instructions(sequences)?)?,
-            awaiting: rooms.awaiting.checked_add(sequences.len())?.checked_add(2)?,
+            operands: rooms.operands.checked_add(most.operands)?,
+            awaiting: rooms.awaiting.checked_add(most.labels)?.checked_add(2)?,
             locals: rooms.locals.checked_add(locals(module, function)?)?,
         };
     }

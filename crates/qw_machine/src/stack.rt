@@ -1,6 +1,6 @@
 ghost use Rattle.std.specs.Prelude.{◌≡◌, ◌+◌, ◌-◌, ◌<◌, ◌≤◌, [], ◌∷◌, ◌++◌, length, take, drop, reverse, vec_capacity, IfOk};
 
-use qw_types::NoMemory;
+use qw_base::NoMemory;
 use std::alloc::Global;
 use std::marker::Model;
 

@@ -108,7 +108,7 @@ fn sections(rt: HostRuntime) -> Result<(), Fail> {
 }
 
 /// What stands behind the header, and its fault.
-const IMPORTS: [(&[u8], Option<BinaryFault>); 11] = [
+const IMPORTS: [(&[u8], Option<BinaryFault>); 14] = [
     // The two imports; the memory again; another name, before its kind.
     (
         b"\x02\x17\x02\x01q\x06memory\x02\x00\x01\x01q\x05raise\x00\x00",
@@ -133,6 +133,15 @@ const IMPORTS: [(&[u8], Option<BinaryFault>); 11] = [
         &[0x06, 0x06, 0x01, 0x7F, 0x02, 0x41, 0x7F, 0x0B],
         NOT_MODULE,
     ),
+    // A global of an empty expression; i32.const i32.ctz before a section that is out of profile; an expression without end.
+    (&[0x06, 0x04, 0x01, 0x7F, 0x00, 0x0B], None),
+    (
+        &[
+            0x06, 0x07, 0x01, 0x7F, 0x00, 0x41, 0x00, 0x68, 0x0B, 0x0B, 0x01, 0x00,
+        ],
+        DATA_SECTION,
+    ),
+    (&[0x06, 0x05, 0x01, 0x7F, 0x00, 0x41, 0x00], NOT_MODULE),
 ];
 
 /// Imports (5.5.5), memories (5.5.8) and globals (5.5.9).

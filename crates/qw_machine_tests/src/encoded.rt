@@ -26,7 +26,7 @@ fn again(alloc: Global, octets: &[u8]) -> Option<Vec<u8>> {
 }
 
 /// What stands behind the header.
-const SHORTEST: [&[u8]; 7] = [
+const SHORTEST: [&[u8]; 8] = [
     &[],
     // A function whose `if` has an `else` that holds a block.
     &[
@@ -47,6 +47,10 @@ const SHORTEST: [&[u8]; 7] = [
     ],
     // A memory without a greatest size.
     &[0x05, 0x03, 0x01, 0x00, 0x01],
+    // A global of an expression that holds a block and a constant.
+    &[
+        0x06, 0x09, 0x01, 0x7F, 0x00, 0x02, 0x40, 0x0B, 0x41, 0x00, 0x0B,
+    ],
     // A global of -128, and one of 64, whose sixth bit is none of the sign.
     &[0x06, 0x07, 0x01, 0x7F, 0x01, 0x41, 0x80, 0x7F, 0x0B],
     &[

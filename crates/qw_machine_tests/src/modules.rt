@@ -2,9 +2,9 @@
 
 use crate::bodies::{Token, body_of};
 use crate::tokens::{GET3, I64, NO};
-use qw_module::instruction::{BlockType, Const, ValType};
+use qw_module::instruction::{BlockType, Const, Instr, Op, ValType};
 use qw_module::module::{
-    FuncType, Function, Global as ModuleGlobal, Import, Limits, Locals, Module,
+    Body, FuncType, Function, Global as ModuleGlobal, Import, Limits, Locals, Module,
 };
 use qw_valid::valid::{ValidFault, validate};
 use std::alloc::{AllocError, Global};
@@ -57,18 +57,28 @@ pub(crate) const IMPORTS: [Import; 2] = [
     Import::Raise(0),
 ];
 
-const GLOBALS: [ModuleGlobal; 2] = [
-    ModuleGlobal {
-        ty: ValType::I32,
-        mutable: true,
-        init: Const::I32(0),
-    },
-    ModuleGlobal {
-        ty: ValType::I64,
-        mutable: false,
-        init: Const::I64(0),
-    },
-];
+/// A global that begins with a constant.
+pub(crate) fn global(
+    alloc: Global,
+    ty: ValType,
+    mutable: bool,
+    init: Const,
+) -> Result<ModuleGlobal, AllocError> {
+    let sequence = vec![in alloc; Instr::Op(Op::Const(init))]?;
+    let init = Body {
+        sequences: vec![in alloc; sequence]?,
+        labels: Vec::new(alloc),
+    };
+    Ok(ModuleGlobal { ty, mutable, init })
+}
+
+/// An i32 that may be set, and an i64 that may not.
+fn globals(alloc: Global) -> Result<Vec<ModuleGlobal>, AllocError> {
+    let mut globals = Vec::new(alloc);
+    globals.push(global(alloc, ValType::I32, true, Const::I32(0))?)?;
+    globals.push(global(alloc, ValType::I64, false, Const::I64(0))?)?;
+    Ok(globals)
+}
 
 /// The type of `raise`, and that of a function with this result.
 fn types_of(alloc: Global, result_type: BlockType) -> Result<Vec<FuncType>, AllocError> {
@@ -93,7 +103,7 @@ pub(crate) fn module_of(
         imports: IMPORTS.to_vec(alloc)?,
         functions,
         memories: Vec::new(alloc),
-        globals: GLOBALS.to_vec(alloc)?,
+        globals: globals(alloc)?,
         exports: Vec::new(alloc),
     })
 }

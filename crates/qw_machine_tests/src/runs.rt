@@ -1,7 +1,7 @@
 //! Runs of modules around a body.
 
 use crate::bodies::Token;
-use crate::modules::{IMPORTS, func_type, function};
+use crate::modules::{IMPORTS, func_type, function, global};
 use qw_linear::linear::Linear;
 use qw_machine::machine::Instance;
 use qw_machine::stepped::Stepped;
@@ -29,23 +29,18 @@ pub(crate) fn shaped(
         imports: IMPORTS.to_vec(alloc)?,
         functions,
         memories: Vec::new(alloc),
-        globals: GLOBALS.to_vec(alloc)?,
+        globals: globals(alloc)?,
         exports: vec![in alloc; run_of(alloc, run)?]?,
     })
 }
 
-const GLOBALS: [ModuleGlobal; 2] = [
-    ModuleGlobal {
-        ty: ValType::I64,
-        mutable: true,
-        init: Const::I64(5),
-    },
-    ModuleGlobal {
-        ty: ValType::I32,
-        mutable: false,
-        init: Const::I32(9),
-    },
-];
+/// An i64 that may be set, and an i32 that may not.
+fn globals(alloc: Global) -> Result<Vec<ModuleGlobal>, AllocError> {
+    let mut globals = Vec::new(alloc);
+    globals.push(global(alloc, ValType::I64, true, Const::I64(5))?)?;
+    globals.push(global(alloc, ValType::I32, false, Const::I32(9))?)?;
+    Ok(globals)
+}
 
 /// The helpers by their bodies, and the function that is run.
 fn functions_of(

@@ -1,7 +1,7 @@
 //! Modules on both sides of each part of validity (WebAssembly Core Specification 1.0, 3.2 and 3.4). Bodies have their own
 //! table, in `places`.
 
-use crate::modules::{IMPORTS, check_fault};
+use crate::modules::{IMPORTS, check_fault, global};
 use qw_module::instruction::{Const, Instr, Op, ValType};
 use qw_module::module::{
     Body, Export, ExportKind, FuncType, Function, Global as ModuleGlobal, Import, Limits, Module,
@@ -85,11 +85,7 @@ fn memories_and_globals(rt: HostRuntime) -> Result<(), Fail> {
     for &(min, max, (ty, init), part) in &MEMORIES_AND_GLOBALS {
         let mut module = plain_module(rt.alloc(), &[], &[])?;
         module.memories.push(Limits { min, max })?;
-        module.globals.push(ModuleGlobal {
-            ty,
-            mutable: false,
-            init,
-        })?;
+        module.globals.push(global(rt.alloc(), ty, false, init)?)?;
         check(rt.alloc(), module, part)?;
     }
     Ok(())
@@ -125,13 +121,8 @@ fn exports(rt: HostRuntime) -> Result<(), Fail> {
     Ok(())
 }
 
-/// A function of the type of an index, whose body has these sequences and labels.
-fn function(
-    alloc: Global,
-    type_index: u32,
-    sequences: &[&[Instr]],
-    labels: &[u32],
-) -> Result<Function, AllocError> {
+/// A body of these sequences and labels.
+fn body(alloc: Global, sequences: &[&[Instr]], labels: &[u32]) -> Result<Body, AllocError> {
     let mut body = Body {
         sequences: Vec::new(alloc),
         labels: labels.to_vec(alloc)?,
@@ -139,10 +130,20 @@ fn function(
     for sequence in sequences {
         body.sequences.push(sequence.to_vec(alloc)?)?;
     }
+    Ok(body)
+}
+
+/// A function of the type of an index, whose body has these sequences and labels.
+fn function(
+    alloc: Global,
+    type_index: u32,
+    sequences: &[&[Instr]],
+    labels: &[u32],
+) -> Result<Function, AllocError> {
     Ok(Function {
         type_index,
         locals: Vec::new(alloc),
-        body,
+        body: body(alloc, sequences, labels)?,
     })
 }
 
@@ -233,6 +234,32 @@ fn functions(rt: HostRuntime) -> Result<(), Fail> {
         let mut module = plain_module(rt.alloc(), &[], &[])?;
         let function = function(rt.alloc(), type_index, sequences, &[0, 0])?;
         module.functions.push(function)?;
+        check(rt.alloc(), module, part)?;
+    }
+    Ok(())
+}
+
+/// The sequences of the expression of a global of type i32, and the part that is refused.
+const INITIAL: [(&[&[Instr]], Option<Part>); 7] = [
+    (&[&[ONE]], None),
+    (&[&[DROP], &[ONE]], None),
+    (&[&[]], Some(Part::Globals)),
+    (&[], Some(Part::Globals)),
+    (&[&[ONE, NOP]], Some(Part::Globals)),
+    (&[&[NOP, ONE]], Some(Part::Globals)),
+    (&[&[BLOCK1], &[ONE]], Some(Part::Globals)),
+];
+
+/// The expression of a global is numbered, and its code is one constant (3.3.7, 3.4.4).
+#[test]
+fn initial_expressions(rt: HostRuntime) -> Result<(), Fail> {
+    for &(sequences, part) in &INITIAL {
+        let mut module = plain_module(rt.alloc(), &[], &[])?;
+        module.globals.push(ModuleGlobal {
+            ty: ValType::I32,
+            mutable: false,
+            init: body(rt.alloc(), sequences, &[])?,
+        })?;
         check(rt.alloc(), module, part)?;
     }
     Ok(())

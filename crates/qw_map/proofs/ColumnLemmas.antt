@@ -1,5 +1,5 @@
 -- Columns depend on the octets of their parts alone; and where the columns of tables lie.
-use Rattle.std.proofs.Common.{◌≡◌, ℕ, zero, suc, ◌+◌, ◌-◌, ◌*◌, ◌/◌, ◌<◌, ◌≤◌, Bool, true, false, List, [], ◌∷◌, length, take, drop, Some, slice_get, refl, sym, ap, ◌∙◌, arith}
+use Rattle.std.proofs.Common.{◌≡◌, ℕ, zero, suc, ◌+◌, ◌-◌, ◌*◌, ◌/◌, ◌<◌, ◌≤◌, Bool, true, false, List, [], ◌∷◌, length, take, drop, Some, slice_get, refl, sym, ap, ◌∙◌, arith, ◌%◌, ◌^◌}
 use Rattle.std.specs.Prelude.{slice_index}
 use Rattle.std.specs.List.{AllByRecursion}
 use Rattle.std.proofs.lemmas.Option.{same_Some, none-some, slice_get_within}
@@ -43,6 +43,14 @@ module _ (before after : List ℕ) (longer : length before ≤ length after) (no
       (record { start = placed.octets; size = placed.size } ∷ record { start = placed.nulls; size = nulls_size not_null placed.rows } ∷ []) at width
       (covered-first (record { start = placed.octets; size = placed.size }) (record { start = placed.nulls; size = nulls_size not_null placed.rows } ∷ []) at width low high))
       room longer
+
+  -- an octet of null bits
+  octet-same : (ty : Ty) → AreKept before after (areas_of ty not_null placed) → (row : ℕ) → row < 8 * nulls_size not_null placed.rows →
+      number_at after (placed.nulls + row / 8) 1 ≡ number_at before (placed.nulls + row / 8) 1
+  octet-same ty kept row within = number-kept before after (areas_of ty not_null placed) kept (placed.nulls + row / 8) 1
+      (covered-after (record { start = placed.values; size = values_size ty placed.rows } ∷ record { start = placed.octets; size = placed.size } ∷ [])
+      (record { start = placed.nulls; size = nulls_size not_null placed.rows } ∷ []) (placed.nulls + row / 8) 1
+      (covered-first (record { start = placed.nulls; size = nulls_size not_null placed.rows }) [] (placed.nulls + row / 8) 1 (omega arith) (omega (arith, within))))
 
   -- null bits
   nulls-same : (ty : Ty) → AreKept before after (areas_of ty not_null placed) → (row : ℕ) → row < placed.rows →
@@ -103,6 +111,7 @@ module _ (before after : List ℕ) (longer : length before ≤ length after) (no
           let within : row < placed.rows = let inside = slice_get_within values row val.Null found in omega (arith, holds.rows_are) in
           stored-same ty holds kept row within ∙ holds.blanks row found;
       offsets = offsets-kept ty holds kept;
+      spare = λ row behind within. ap (λ (octet : ℕ). octet / 2 ^ (row % 8) % 2) (octet-same ty kept row within) ∙ holds.spare row behind within;
     }
 
 -- ---- where the columns of tables lie

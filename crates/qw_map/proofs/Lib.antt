@@ -1,5 +1,6 @@
 pub mod AccessLemmas
 pub mod AreaLemmas
+pub mod BehavingLemmas
 pub mod Chains
 pub mod ColumnLemmas
 pub mod LayoutLemmas

@@ -6,7 +6,7 @@ use Rattle.qw_linear.specs.Memory.{page, most_pages, pages_of}
 use Rattle.qw_module.specs.Step.{Want, wants, answered, Next, next, Agrees}
 use Rattle.qw_map.specs.Areas.{World, Others, IsFine, AsksWithin, IsAnswered, grants}
 use Rattle.qw_map.specs.Inner.Steps.{IsAllowed}
-use Rattle.qw_map.specs.Runs.{Moment, moment_after, OpenStep, OpenRun, begins, goes_on, Behaves}
+use Rattle.qw_map.specs.Runs.{Moment, moment_after, OpenStep, OpenRun, begins, goes_on, BehavesWithin}
 use Rattle.qw_map.specs.Inner.Steps.{OnStep, OnRunning, Within}
 use Rattle.qw_module.proofs.Outcomes.{Outcome, went, read, read_outside, put, put_outside, measured, was_granted, was_refused, raised, failed, outcome}
 use Rattle.qw_module.proofs.Steps.{next-rule, rule_from_next}
@@ -163,8 +163,8 @@ module _ (pages : ℕ) (Q : Moment → Type 0) (ended : (b : Moment) → Q b →
       (step-made pages (Within pages Q there.0) b.world before (next (grants b.world) c before) event state after (open-next b c before event state after step) (there.2 before step.others)).0
 
   -- a moment from which at most n steps lead to an end behaves, and each end is what they lead to
-  pub behaves_within : (n most : ℕ) → n ≤ most → (a : Moment) → Within pages Q n a → Behaves most pages Q a
-  behaves_within n most le a h = record {
+  pub behaves_within : (n most left : ℕ) → n ≤ most → (a : Moment) → Within pages Q n a → BehavesWithin most pages left Q a
+  behaves_within n most left le a h = record {
     goes_on = λ k b c before run running others.
         let here = along n k a b run h in
         let there = at_running here.0 b c running here.2 in
@@ -190,5 +190,5 @@ module _ (pages : ℕ) (Q : Moment → Type 0) (ended : (b : Moment) → Q b →
     ends = λ k b run over.
         let here = along n k a b run h in
         let end = at_end here.0 b over here.2 in
-        (omega (arith, here.1), end);
+        (omega (arith, here.1), λ within. end);
   }

@@ -7,8 +7,8 @@ use Rattle.std.proofs.lemmas.Option.{same_Some, none-some, slice_get_within}
 use Rattle.qw_linear.specs.Memory.{page}
 use Rattle.qw_module.specs.Execution.{Config, State, Running, Event, pages_gained}
 use Rattle.qw_module.specs.Step.{wants, Next, next}
-use Rattle.qw_map.specs.Areas.{Area, World, SameIn, Others, lies_in_one, IsFine, grants, world_after}
-use Rattle.qw_map.specs.Runs.{Moment, moment_after, OpenStep, OpenRun, begins, goes_on, Behaves}
+use Rattle.qw_map.specs.Areas.{Area, World, SameIn, Others, lies_in_one, IsFine, AsksOn, grants, world_after}
+use Rattle.qw_map.specs.Runs.{Moment, moment_after, OpenStep, OpenRun, begins, goes_on, Behaves, BehavesWithin}
 use Rattle.qw_map.specs.Turns.{Instance, Shared, moved, Act, turns, EachInstance, EachAfter, AreApart, AllApart, LiesWithin, may_ask, AreSeparate, moment_of, StaysFine, AreSafe, LeadsTo}
 use Rattle.qw_map.proofs.AreaLemmas.{all-append, all-front, all-back, all-weaker, all-same, all-then, outcome-kept, outcome-octet, octet-gains, all-behind-apart, all-apart-behind, Gains, outcome-gains, inside-gains}
 use Rattle.qw_map.proofs.OpenRuns.{answered-rightly}
@@ -80,16 +80,48 @@ run-after n _ a _ _ to some (begins b) = absurd (some refl)
 run-after n _ a _ _ to some (goes_on i b c e before event state after run step) =
     one-more n i a c e before event state after (run-on n i a b c to run) step
 
+-- from a moment on a run goes on after each request
+abbrev pub GoesOnAsking : Moment → Type 0
+GoesOnAsking a = (k : ℕ) (b : Moment) (c : Config) (before : List ℕ) (event : Event) (state : State) (after : List ℕ) →
+    OpenRun k a b → OpenStep b c before event state after → AsksOn event state
+
+-- others keep what holds of a moment
+abbrev pub IsKeptByOthers : (Moment → Type 0) → Type 0
+IsKeptByOthers P = (b : Moment) (after : List ℕ) → Others b.world b.memory after → P b → P (record b { memory = after })
+
 -- so what stays fine from a moment on stays fine from a later one
 pub fine-after : (n : ℕ) (a b : Moment) → LeadsTo n a b → StaysFine a → StaysFine b
 fine-after n a b to fine k c d before event state after run step =
     let on : GoesOn (k + n) a c = run-on n k a b c to run in
     fine (k + n) (record c { memory = on.left }) d before event state after on.run (step-on (k + n) a c d before event state after on step)
 
--- and an instance that behaves goes on to behave, if others keep what it ends with
-pub behaves-after : (n most pages : ℕ) (P : Moment → Type 0) → ((b : Moment) (after : List ℕ) → Others b.world b.memory after → P b → P (record b { memory = after })) →
-    (a b : Moment) → LeadsTo n a b → Behaves most pages P a → Behaves (most - n) pages P b
-behaves-after n most pages P kept a b to behaves = record {
+-- and so does a run that goes on after requests
+pub on-after : (n : ℕ) (a b : Moment) → LeadsTo n a b → GoesOnAsking a → GoesOnAsking b
+on-after n a b to asks_on k c d before event state after run step =
+    let on : GoesOn (k + n) a c = run-on n k a b c to run in
+    asks_on (k + n) (record c { memory = on.left }) d before event state after on.run (step-on (k + n) a c d before event state after on step)
+
+-- what holds at an end holds there whatever others made of the memory then
+at-end : (P : Moment → Type 0) → IsKeptByOthers P → (k : ℕ) (a c : Moment) (on : GoesOn k a c) → P (record c { memory = on.left }) → P c
+at-end P kept k a c on h = ⊎_elim
+    (λ same. subst (λ (m : List ℕ). P (record c { memory = m })) same h)
+    (λ others. kept (record c { memory = on.left }) c.memory others h)
+    on.after
+
+-- An instance that behaves goes on to behave, with so many instructions fewer left to it, if others keep what it ends with.
+pub behaves-after : (n left : ℕ) (P : Moment → Type 0) → IsKeptByOthers P → n ≤ left → (a b : Moment) → LeadsTo n a b → Behaves left P a → Behaves (left - n) P b
+behaves-after n left P kept le a b to behaves = record {
+  fine = fine-after n a b to behaves.fine;
+  asks_on = on-after n a b to behaves.asks_on;
+  ends = λ k c run over within.
+      let on : GoesOn (k + n) a c = run-on n k a b c to run in
+      at-end P kept (k + n) a c on (behaves.ends (k + n) (record c { memory = on.left }) on.run over (omega (arith, le, within)));
+}
+
+-- and so does one that behaves within bounds
+pub within-after : (n most pages left : ℕ) (P : Moment → Type 0) → IsKeptByOthers P → n ≤ left → (a b : Moment) → LeadsTo n a b →
+    BehavesWithin most pages left P a → BehavesWithin (most - n) pages (left - n) P b
+within-after n most pages left P kept le a b to behaves = record {
   goes_on = λ k c d before run running others.
       let on : GoesOn (k + n) a c = run-on n k a b c to run in
       let made = behaves.goes_on (k + n) (record c { memory = on.left }) d before on.run running (others-on (k + n) a c before on others) in (
@@ -106,14 +138,11 @@ behaves-after n most pages P kept a b to behaves = record {
       let on : GoesOn (k + n) a c = run-on n k a b c to run in
       let below : k + n < most = behaves.bounded (k + n) (record c { memory = on.left }) d on.run running in
       omega arith;
-  ends = λ k c run returned.
+  ends = λ k c run over.
       let on : GoesOn (k + n) a c = run-on n k a b c to run in
-      let end = behaves.ends (k + n) (record c { memory = on.left }) on.run returned in (
+      let end = behaves.ends (k + n) (record c { memory = on.left }) on.run over in (
         let count : k + n ≤ most = end.0 in omega arith,
-        ⊎_elim
-            (λ same. subst (λ (m : List ℕ). P (record c { memory = m })) same end.1)
-            (λ others. kept (record c { memory = on.left }) c.memory others end.1)
-            on.after,
+        λ within. at-end P kept (k + n) a c on (end.1 (omega (arith, le, within))),
       );
 }
 
@@ -391,11 +420,18 @@ columns-turns s acts safe k i found = (follows-turns s safe acts).columns k i fo
 
 -- an instance that behaves goes on to behave, whatever turns there are
 pub behaves-turns : (s : Shared) (acts : List Act) → AreSafe s → (k : ℕ) (i later : Instance) → slice_get s.instances k ≡ Some i →
-    slice_get (turns acts s).instances k ≡ Some later → (most pages : ℕ) (P : Moment → Type 0) →
-    ((b : Moment) (after : List ℕ) → Others b.world b.memory after → P b → P (record b { memory = after })) →
-    Behaves most pages P (moment_of i s.common.memory) → Behaves (most - (later.ran - i.ran)) pages P (moment_of later (turns acts s).common.memory)
-behaves-turns s acts safe k i later found found_later most pages P kept behaves =
-    behaves-after (later.ran - i.ran) most pages P kept (moment_of i s.common.memory) (moment_of later (turns acts s).common.memory)
+    slice_get (turns acts s).instances k ≡ Some later → (left : ℕ) (P : Moment → Type 0) → IsKeptByOthers P → later.ran - i.ran ≤ left →
+    Behaves left P (moment_of i s.common.memory) → Behaves (left - (later.ran - i.ran)) P (moment_of later (turns acts s).common.memory)
+behaves-turns s acts safe k i later found found_later left P kept le behaves =
+    behaves-after (later.ran - i.ran) left P kept le (moment_of i s.common.memory) (moment_of later (turns acts s).common.memory)
+    (runs-turns s acts safe k i later found found_later).1 behaves
+
+pub within-turns : (s : Shared) (acts : List Act) → AreSafe s → (k : ℕ) (i later : Instance) → slice_get s.instances k ≡ Some i →
+    slice_get (turns acts s).instances k ≡ Some later → (most pages left : ℕ) (P : Moment → Type 0) → IsKeptByOthers P → later.ran - i.ran ≤ left →
+    BehavesWithin most pages left P (moment_of i s.common.memory) →
+    BehavesWithin (most - (later.ran - i.ran)) pages (left - (later.ran - i.ran)) P (moment_of later (turns acts s).common.memory)
+within-turns s acts safe k i later found found_later most pages left P kept le behaves =
+    within-after (later.ran - i.ran) most pages left P kept le (moment_of i s.common.memory) (moment_of later (turns acts s).common.memory)
     (runs-turns s acts safe k i later found found_later).1 behaves
 
 -- ---- an octet in no own area

@@ -74,6 +74,11 @@ abbrev pub AsksWithin : (most : ℕ) → World → Event → State → Type 0
 AsksWithin most w (Grows pages granted) state = (w.held + pages ≤ most) × GoesOn state
 AsksWithin most w _ state = Unit {0}
 
+-- the run goes on after a request, of however many pages
+abbrev pub AsksOn : Event → State → Type 0
+AsksOn (Grows pages granted) state = GoesOn state
+AsksOn _ state = Unit {0}
+
 -- the pages that a request was granted, from an address on, as an area; where it asked for none there is none
 abbrev pub granted_area : (start pages : ℕ) → List Area
 granted_area start zero = []

@@ -1,6 +1,6 @@
 -- How the columns of loaded tables stand in the linear memory (docs/FORMATS.md). Numbers are little endian; signed ones are in
 -- two's complement (WebAssembly Core Specification 1.0, 4.3.1 "Storage" and 4.3.2 "Sign Interpretation").
-use Rattle.std.specs.Prelude.{◌≡◌, suc, ◌+◌, ◌-◌, ◌*◌, ◌/◌, ◌%◌, ◌^◌, ◌≤◌, ◌==◌, ◌&&◌, not, Bool, true, false, if◌then◌else◌, ℕ, pos, List, [], ◌∷◌, Some, length, map, take, drop, slice_get, slice_index_or}
+use Rattle.std.specs.Prelude.{◌≡◌, suc, ◌+◌, ◌-◌, ◌*◌, ◌/◌, ◌%◌, ◌^◌, ◌<◌, ◌≤◌, ◌==◌, ◌&&◌, not, Bool, true, false, if◌then◌else◌, ℕ, pos, List, [], ◌∷◌, Some, length, map, take, drop, slice_get, slice_index_or}
 use Rattle.std.specs.Int.{cast_signed, w32, w64}
 use Rattle.std.specs.List.{AllByRecursion}
 use Rattle.qw_types.specs.Contents.{Contents}
@@ -86,13 +86,14 @@ HasOffsets memory Integer placed values = Unit {0}
 HasOffsets memory (Decimal precision scale) placed values = Unit {0}
 HasOffsets memory Date placed values = Unit {0}
 
--- a column with these values stands in the memory
+-- A column with these values stands in the memory; the bits of the last octet that no row has are 0.
 pub record HoldsColumn (memory : List ℕ) (ty : Ty) (not_null : Bool) (placed : Placed) (values : List Val) : Type 0 where
   pub rows_are : placed.rows ≡ length values
   pub size_is : placed.size ≡ text_octets values
   pub inside : AllByRecursion (λ (area : Area). area.start + area.size ≤ length memory) (areas_of ty not_null placed)
   pub each : (row : ℕ) (value : Val) → slice_get values row ≡ Some value → value_at memory ty not_null placed row ≡ value
   pub blanks : (row : ℕ) → slice_get values row ≡ Some val.Null → stored_at memory ty placed row ≡ blank ty
+  pub spare : (row : ℕ) → length values ≤ row → row < 8 * nulls_size not_null placed.rows → null_bit memory placed.nulls row ≡ 0
   pub offsets : HasOffsets memory ty placed values
 
 -- ---- where the columns of tables stand

@@ -1,19 +1,19 @@
 -- What a module reads of the memory and what it leaves there, apart from any statement: the columns that it uses, its
 -- descriptor, and its result rows.
-use Rattle.std.specs.Prelude.{◌≡◌, ℕ, zero, suc, ◌+◌, ◌-◌, ◌*◌, ◌<◌, ◌≤◌, ◌==◌, ◌&&◌, nat_le, if◌then◌else◌, Bool, true, false, ℤ, pos, int_le, List, [], ◌∷◌, ◌++◌, length, take, drop, Option, Some, None, slice_get, slice_index}
+use Rattle.std.specs.Prelude.{◌≡◌, ℕ, zero, suc, ◌+◌, ◌-◌, ◌*◌, ◌<◌, ◌≤◌, ◌==◌, ◌&&◌, nat_le, if◌then◌else◌, Bool, true, false, List, [], ◌∷◌, ◌++◌, length, take, drop, Option, Some, None, slice_get, slice_index}
 use Rattle.std.specs.Int.{w64, cast_signed}
 use Rattle.std.specs.List.{AllByRecursion}
 use Rattle.std.specs.Str.{is_utf8}
 use Rattle.qw_types.specs.Arithmetic.{fits}
 use Rattle.qw_types.specs.Limits.{most_rows}
-use Rattle.qw_types.specs.Value.{IsOfTypeOrNull}
+use Rattle.qw_types.specs.Value.{IsOfTypeOrNull, is_day}
 use Rattle.qw_types.specs.declared.kind.Kind.{Kind}
 use Rattle.qw_types.specs.declared.kind.Kind.TheVariants as kind
 use Rattle.qw_types.specs.declared.value.Ty.{Ty}
 use Rattle.qw_types.specs.declared.value.Ty.TheVariants as ty
 use Rattle.qw_types.specs.declared.value.Val.{Val}
 use Rattle.qw_types.specs.declared.value.Val.TheVariants.{Null, Num, Date, Text}
-use Rattle.qw_meaning.specs.Flow.{rows_of}
+use Rattle.qw_types.specs.Contents.{rows_of}
 use Rattle.qw_linear.specs.Memory.{page, most_pages, pages_of, number_at, AreOctets}
 use Rattle.qw_map.specs.Areas.{Area, World, are_covered}
 use Rattle.qw_map.specs.Columns.{HoldsColumn, areas_of, column_values, to_eight}
@@ -103,7 +103,6 @@ pub record IsReady (layout : Layout) (placed : List Placed) (tables : List (List
   pub columns : (k : ℕ) (used : Used) (one : Placed) → slice_get layout.columns k ≡ Some used → slice_get placed k ≡ Some one →
       IsReadyColumn (rows_of tables used.table) descriptor memory used one
   pub behind : 64 ≤ descriptor
-  pub small : descriptor_size layout ≤ page
   pub inside : descriptor + page ≤ length memory
   pub fresh : IsFresh memory descriptor layout placed
 
@@ -112,10 +111,6 @@ pub record IsReady (layout : Layout) (placed : List Placed) (tables : List (List
 -- the octets of a result row of so many cells
 abbrev pub row_size : ℕ → ℕ
 row_size cells = 8 + 16 * cells
-
--- from 0001-01-01 to 9999-12-31, as year * 10000 + month * 100 + day
-abbrev pub is_date_number : ℤ → Bool
-is_date_number d = int_le (pos 10101) d && int_le d (pos 99991231)
 
 -- a value where a test holds
 abbrev pub if_so : {T : Type 0} → Bool → T → Option T
@@ -127,13 +122,13 @@ text_cell texts memory address size =
     let octets = take size (drop address memory) in
     if_so (nat_le (address + size) (length memory) && (are_covered texts address size && is_utf8 octets)) (Text octets)
 
--- The value of a cell that isn't null: a signed number of 8 octets in its kind's range, or the address of a text and the number
+-- The value of a cell that isn't null: a signed number of 8 octets in its kind's range, where a date is a day of the calendar, or the address of a text and the number
 -- of its octets, of 4 octets each.
 abbrev pub plain_cell : List Area → List ℕ → ℕ → Kind → Option Val
 plain_cell texts memory at (kind.Number scale) =
     let value = cast_signed w64 (number_at memory at 8) in if_so (fits value) (Num value)
 plain_cell texts memory at kind.Date =
-    let value = cast_signed w64 (number_at memory at 8) in if_so (is_date_number value) (Date value)
+    let value = cast_signed w64 (number_at memory at 8) in if_so (is_day value) (Date value)
 plain_cell texts memory at kind.Text = text_cell texts memory (number_at memory at 4) (number_at memory (at + 4) 4)
 
 -- The cell at an address: 8 octets of a value, and an octet that is 1 where it is null, and else 0. The 7 octets after it are not

@@ -6,6 +6,7 @@ pub mod Layout
 pub mod Region
 pub mod Runs
 pub mod Turns
+pub mod Seen
 pub mod Worked
 pub use Rattle.qw_linear.specs.Memory
 pub use Rattle.qw_module.specs.Execution

@@ -1,7 +1,7 @@
 //! Where the columns begin, and where the parts of an instance's descriptor and of its result rows stand.
 
 ghost use Rattle.std.specs.Prelude.{◌≡◌, ◌≤◌, ◌<◌, ◌^◌, length};
-ghost use Rattle.qw_meaning.specs.Statement.{most_items};
+ghost use Rattle.qw_types.specs.Limits.{most_cells};
 ghost use Rattle.qw_linear.specs.Memory.{page};
 ghost use Rattle.qw_map.specs.Layout as layout;
 
@@ -164,7 +164,7 @@ pub fn entry_offset(index: u32) -> u32
 
 /// The octets of a result row of so many cells.
 pub fn row_size(cells: usize) -> u32
-    requires { cells ≤ most_items }
+    requires { cells ≤ most_cells }
     ensures { result ≡ layout.row_size cells }
 {
     CELL_OFFSET + CELL_SIZE * cells as u32

@@ -7,7 +7,7 @@ ghost use Rattle.qw_linear.specs.Memory.{most_pages, pages_of, AreOctets};
 ghost use Rattle.qw_module.specs.Step.{Next, next};
 ghost use Rattle.qw_module.specs.Soundness.{IsTypedState};
 ghost use Rattle.qw_map.specs.Areas.{SameIn, IsFine, grants, lies_in_one};
-ghost use Rattle.qw_map.specs.Runs.{Moment, OpenRun, Behaves};
+ghost use Rattle.qw_map.specs.Runs.{Moment, OpenRun, Behaves, BehavesWithin};
 ghost use Rattle.qw_map.specs.Turns.{Instance, Common, Shared, Trap, steps_of, Act, turn, acted, turns, EachInstance, EachAfter, IsWhole, AreSafe, moment_of, LeadsTo};
 
 /// Whatever turns follow, an instance that has ended stays as it is.
@@ -57,7 +57,7 @@ pub fn turns_keep_instances()
 
 /// Instances lie apart in one memory, and each does only what it may in its open runs. Whatever turns they are given, that
 /// is so after them, and what an instance went through is one of its open runs, with a step for each instruction
-/// that it ran: the steps of the others are only what others may do to it. So it behaves on.
+/// that it ran: the steps of the others are only what others may do to it. So it behaves on, with bounds or without.
 pub fn turns_are_open_runs()
     ensures safe { (s : Shared) (acts : List Act) → AreSafe s → AreSafe (turns acts s) }
     ensures runs { (s : Shared) (acts : List Act) → AreSafe s →
@@ -65,9 +65,13 @@ pub fn turns_are_open_runs()
         (moment_of i s.common.memory) (moment_of later (turns acts s).common.memory)) s (turns acts s) }
     ensures onwards { (n k : ℕ) (a b c : Moment) →
         LeadsTo n a b → k ≢ 0 → OpenRun k b c → OpenRun (k + n) a c }
-    ensures behaves { (s : Shared) (acts : List Act) (most pages : ℕ) → AreSafe s →
-        EachAfter (λ i later. Behaves most pages (λ b. Unit {0}) (moment_of i s.common.memory) →
-        Behaves (most - (later.ran - i.ran)) pages (λ b. Unit {0}) (moment_of later (turns acts s).common.memory))
+    ensures behaves { (s : Shared) (acts : List Act) (left : ℕ) → AreSafe s →
+        EachAfter (λ i later. Behaves left (λ b. Unit {0}) (moment_of i s.common.memory) →
+        Behaves (left - (later.ran - i.ran)) (λ b. Unit {0}) (moment_of later (turns acts s).common.memory))
+        s (turns acts s) }
+    ensures within { (s : Shared) (acts : List Act) (most pages left : ℕ) → AreSafe s →
+        EachAfter (λ i later. BehavesWithin most pages left (λ b. Unit {0}) (moment_of i s.common.memory) →
+        BehavesWithin (most - (later.ran - i.ran)) pages (left - (later.ran - i.ran)) (λ b. Unit {0}) (moment_of later (turns acts s).common.memory))
         s (turns acts s) }
 {}
 

@@ -10,7 +10,7 @@ pub mod rows;
 ghost use Rattle.std.specs.Prelude.{◌≡◌, ℕ, List, [], ◌∷◌, length, Some, None, true, false};
 ghost use Rattle.qw_module.specs.declared.trap.Trap.{Trap};
 ghost use Rattle.qw_module.specs.Execution.{Config, Running, Returned, Event, Silent, Loads, Stores, Grows, Raises, Traps};
-ghost use Rattle.qw_map.specs.Areas.{Area, World, IsFine, IsAnswered, AsksWithin, grants, lies_in_one, are_covered, world_after};
+ghost use Rattle.qw_map.specs.Areas.{Area, World, IsFine, IsAnswered, AsksWithin, AsksOn, grants, lies_in_one, are_covered, world_after};
 ghost use Rattle.qw_map.specs.Worked.{at_start, two_pages};
 
 /// Of a column of three rows, from octet 64 on, an instance whose first page begins at 65,536 may load each value, and nothing
@@ -65,12 +65,14 @@ pub fn requests_at_the_limit()
     ensures not_answered { (w : World) → w.held ≡ 127 → w.limit ≡ 128 → (IsAnswered w (Grows 1 false) → ⊥) × (IsAnswered w (Grows 2 true) → ⊥) }
 {}
 
-/// A request within 128 pages, with 127 held, is of one page or of none, and the run goes on after it.
+/// A request within 128 pages, with 127 held, is of one page or of none, and the run goes on after it; where nothing bounds requests, it
+/// goes on after each.
 pub fn requests_within()
     ensures one { (w : World) (c : Config) → w.held ≡ 127 → AsksWithin 128 w (Grows 1 true) (Running c) }
     ensures two { (w : World) (c : Config) → w.held ≡ 127 → AsksWithin 128 w (Grows 2 false) (Running c) → ⊥ }
     ensures none { (w : World) (c : Config) → w.held ≡ 127 → AsksWithin 128 w (Grows 0 true) (Running c) }
     ensures last { (w : World) → AsksWithin 128 w (Grows 1 true) Returned → ⊥ }
+    ensures on { (c : Config) → AsksOn (Grows 1 false) (Running c) × (AsksOn (Grows 1 false) Returned → ⊥) × AsksOn Silent Returned }
 {}
 
 /// Two pages that are granted over a memory of two are the third and the fourth; a request of no page leaves what there is; of a

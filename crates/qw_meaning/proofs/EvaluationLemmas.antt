@@ -6,7 +6,7 @@ use Rattle.qw_types.specs.declared.code.Code.{Code}
 use Rattle.qw_types.specs.declared.truth.Truth.{Truth}
 use Rattle.qw_types.specs.declared.truth.Truth.TheVariants.{True, False, Unknown}
 use Rattle.qw_meaning.specs.declared.expression.Operator.{Operator}
-use Rattle.qw_meaning.specs.declared.query.Comparison.TheVariants.{Equal}
+use Rattle.qw_meaning.specs.declared.comparison.Comparison.TheVariants.{Equal}
 use Rattle.qw_types.specs.declared.value.Val.{Val}
 use Rattle.qw_types.specs.declared.value.Val.TheVariants.{Null, Num, Date, Text}
 use Rattle.qw_meaning.specs.Expression.{Expression, Condition, Expressions, last, more, arithmetic, both, either, negation_of, is, is_null, among, scale_of}

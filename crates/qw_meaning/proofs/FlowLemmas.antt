@@ -3,7 +3,8 @@ use Rattle.std.proofs.Common.{◌≡◌, ◌∙◌, ◌++◌, List, [], ◌∷�
 use Rattle.std.specs.List.{flat_map}
 use Rattle.std.proofs.lemmas.Grind.{flat_map-append}
 use Rattle.qw_types.specs.declared.value.Val.{Val}
-use Rattle.qw_meaning.specs.Flow.{codes_given, kept, product, rows_given, rows_of, selected}
+use Rattle.qw_types.specs.Contents.{rows_of}
+use Rattle.qw_meaning.specs.Flow.{codes_given, kept, product, rows_given, selected}
 use Rattle.qw_meaning.specs.Outcome.{ended, outcome}
 use Rattle.qw_meaning.specs.Select.{Parts, specification_of}
 use Rattle.qw_meaning.specs.Inner.Found.{item_codes_made, rows_made, where_codes_made}

@@ -2,7 +2,7 @@ mod CaseLemmas
 mod EvaluationLemmas
 mod FlowLemmas
 mod OutcomeLemmas
-mod PlainLemmas
+pub mod SameLemmas
 pub mod SelectLemmas
-pub mod SimpleLemmas
 pub mod TypingLemmas
+pub mod UnitsLemmas

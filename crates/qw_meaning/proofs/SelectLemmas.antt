@@ -8,7 +8,7 @@ use Rattle.qw_meaning.specs.declared.expression.Expr.{Expr}
 use Rattle.qw_meaning.specs.declared.expression.Cond.{Cond}
 use Rattle.qw_meaning.specs.Columns.{HasColumns, HaveColumns, HoldsIn, IsColumnOf}
 use Rattle.qw_meaning.specs.Expression.{Expression, Condition, null, number, date, text, column, arithmetic, negative, extract, brought, choice, comparison, is_null, both, either, negation_of, is}
-use Rattle.qw_meaning.specs.Select.{IsConditionOver, IsItemOver, IsSpecification, Parts, specification_of}
+use Rattle.qw_meaning.specs.Select.{IsConditionOver, IsItemOver, IsSpecification, Parts, specification_of, types_of}
 use Rattle.qw_meaning.specs.Tree.{condition_of, expression_of}
 use Rattle.qw_meaning.specs.Typing.{AreTyped, IsTyped}
 
@@ -51,30 +51,30 @@ at_element P f (x ∷ xs) h zero d lt = h.0
 at_element P f (x ∷ xs) h (suc k) d lt = at_element P f xs h.1 k d (omega arith)
 
 pub conjunct_at : (parts : Parts) → IsSpecification (specification_of parts) → (k : ℕ) (d : Cond) → k < length parts.conjuncts
-    → IsConditionOver parts.types (condition_of (slice_index_or parts.conjuncts k d))
+    → IsConditionOver (types_of parts.columns) (condition_of (slice_index_or parts.conjuncts k d))
 conjunct_at parts h k d lt =
-    subst (λ (types : List Ty). IsConditionOver types (condition_of (slice_index_or parts.conjuncts k d))) (append-nil parts.types)
-    (at_element (IsConditionOver (parts.types ++ [])) condition_of parts.conjuncts h.conjuncts k d lt)
+    subst (λ (types : List Ty). IsConditionOver types (condition_of (slice_index_or parts.conjuncts k d))) (append-nil (types_of parts.columns))
+    (at_element (IsConditionOver (types_of parts.columns ++ [])) condition_of parts.conjuncts h.conjuncts k d lt)
 
 pub item_at : (parts : Parts) → IsSpecification (specification_of parts) → (k : ℕ) (d : Expr) → k < length parts.items
-    → IsItemOver parts.types (expression_of (slice_index_or parts.items k d))
+    → IsItemOver (types_of parts.columns) (expression_of (slice_index_or parts.items k d))
 item_at parts h k d lt =
-    subst (λ (types : List Ty). IsItemOver types (expression_of (slice_index_or parts.items k d))) (append-nil parts.types)
-    (at_element (IsItemOver (parts.types ++ [])) expression_of parts.items h.items k d lt)
+    subst (λ (types : List Ty). IsItemOver types (expression_of (slice_index_or parts.items k d))) (append-nil (types_of parts.columns))
+    (at_element (IsItemOver (types_of parts.columns ++ [])) expression_of parts.items h.items k d lt)
 
 -- so its conjuncts and items can be evaluated at each row of its columns
 pub conjuncts_typed : (parts : Parts) → IsSpecification (specification_of parts) → All (λ c. AreTyped (condition_of c)) parts.conjuncts
 conjuncts_typed parts h k d lt = (conjunct_at parts h k d lt).0
 
-pub conjuncts_hold : (parts : Parts) (row : List Val) → IsSpecification (specification_of parts) → IsRowOf (map type_kind parts.types) row
+pub conjuncts_hold : (parts : Parts) (row : List Val) → IsSpecification (specification_of parts) → IsRowOf (map type_kind (types_of parts.columns)) row
     → All (λ c. HaveColumns (HoldsIn row) (condition_of c)) parts.conjuncts
 conjuncts_hold parts row h r k d lt =
-    conditions_more (IsColumnOf parts.types) (HoldsIn row) (row_holds parts.types row r) (condition_of (slice_index_or parts.conjuncts k d)) (conjunct_at parts h k d lt).1
+    conditions_more (IsColumnOf (types_of parts.columns)) (HoldsIn row) (row_holds (types_of parts.columns) row r) (condition_of (slice_index_or parts.conjuncts k d)) (conjunct_at parts h k d lt).1
 
 pub items_typed : (parts : Parts) → IsSpecification (specification_of parts) → All (λ e. IsTyped (expression_of e)) parts.items
 items_typed parts h k d lt = (item_at parts h k d lt).0.0
 
-pub items_hold : (parts : Parts) (row : List Val) → IsSpecification (specification_of parts) → IsRowOf (map type_kind parts.types) row
+pub items_hold : (parts : Parts) (row : List Val) → IsSpecification (specification_of parts) → IsRowOf (map type_kind (types_of parts.columns)) row
     → All (λ e. HasColumns (HoldsIn row) (expression_of e)) parts.items
 items_hold parts row h r k d lt =
-    columns_more (IsColumnOf parts.types) (HoldsIn row) (row_holds parts.types row r) (expression_of (slice_index_or parts.items k d)) (item_at parts h k d lt).1
+    columns_more (IsColumnOf (types_of parts.columns)) (HoldsIn row) (row_holds (types_of parts.columns) row r) (expression_of (slice_index_or parts.items k d)) (item_at parts h k d lt).1

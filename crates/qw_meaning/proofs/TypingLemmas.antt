@@ -4,6 +4,7 @@ use Rattle.std.proofs.lemmas.Bool.Decides.{nat_tests}
 use Rattle.std.proofs.lemmas.Grind.{common_steps}
 use Rattle.qw_types.specs.Arithmetic.{◌>>=◌, bring, fits}
 use Rattle.qw_types.proofs.ArithmeticLaws.{sum_fit, difference_fit, product_fit, quotient_fit, bring_fit}
+use Rattle.qw_types.proofs.KindLemmas.{day_number}
 use Rattle.qw_types.specs.declared.code.Code.{Code}
 use Rattle.qw_types.specs.declared.truth.Truth.{Truth}
 use Rattle.qw_types.specs.declared.truth.Truth.TheVariants as truth
@@ -17,7 +18,7 @@ use Rattle.qw_types.specs.Kind.{IsDateNumber, IsOfKind}
 use Rattle.qw_types.specs.declared.kind.Kind.{Kind}
 use Rattle.qw_types.specs.declared.kind.Kind.TheVariants as kind
 use Rattle.qw_meaning.specs.Columns.{HasColumns, HoldsIn}
-use Rattle.qw_meaning.specs.Evaluation.{applied, as_number, chosen, combined, extracted, field_of, negated, raised, truth_of, value_of}
+use Rattle.qw_meaning.specs.Evaluation.{applied, as_number, chosen, combined, extracted, field_of, negated, raised, truth_of, value_of, at_row}
 use Rattle.qw_meaning.specs.Expression.{Expression, null, number, date, text, column, arithmetic, negative, extract, brought, choice, scale_after, scale_of}
 use Rattle.qw_meaning.specs.Typing.{IsTyped, IsValueOf, agree, at_scale, is_date, is_number, joined, kind_of}
 
@@ -78,7 +79,7 @@ extracted_given field k val.Null n h = tt
 extracted_given field k (val.Num a) n h = tt
 extracted_given field None (val.Date d) n h = absurd cc
 extracted_given field (Some (kind.Number t)) (val.Date d) n h = absurd h
-extracted_given field (Some kind.Date) (val.Date d) n h = field_fits field d h
+extracted_given field (Some kind.Date) (val.Date d) n h = field_fits field d (day_number d h)
 extracted_given field (Some kind.Text) (val.Date d) n h = absurd h
 extracted_given field k (val.Text t) n h = tt
 
@@ -135,7 +136,7 @@ chosen_given k other truth.True r q a hr hq = given_joined k (joined k other) r 
 chosen_given k other truth.False r q a hr hq = given_joined other (joined k other) q (λ v. second_joined k other v a) hq
 chosen_given k other truth.Unknown r q a hr hq = given_joined other (joined k other) q (λ v. second_joined k other v a) hq
 
-pub typed_value : (e : Expression) (row : List Val) → IsTyped e → HasColumns (HoldsIn row) e → IfOk (value_of e (record { row = row })) (λ v. IsValueOf (kind_of e) v)
+pub typed_value : (e : Expression) (row : List Val) → IsTyped e → HasColumns (HoldsIn row) e → IfOk (value_of e (at_row row)) (λ v. IsValueOf (kind_of e) v)
 typed_value null row h c = refl
 typed_value (number v s) row h c = h.0
 typed_value (date d) row h c = h
@@ -143,16 +144,16 @@ typed_value (text t) row h c = tt
 typed_value (column i ty) row h c = c
 typed_value (arithmetic operator a b) row h c =
     let s = kind_of (arithmetic operator a b) in
-    then_gives (value_of a (record { row = row })) _ (λ x. Unit {0}) s (always (value_of a (record { row = row })))
-    (λ x _. then_gives (value_of b (record { row = row })) _ (λ y. Unit {0}) s (always (value_of b (record { row = row })))
+    then_gives (value_of a (at_row row)) _ (λ x. Unit {0}) s (always (value_of a (at_row row)))
+    (λ x _. then_gives (value_of b (at_row row)) _ (λ y. Unit {0}) s (always (value_of b (at_row row)))
     (λ y _. combined_given (scale_after operator (scale_of a) (scale_of b)) operator x (scale_of a) y (scale_of b)))
 typed_value (negative a) row h c =
-    then_gives (value_of a (record { row = row })) _ (IsValueOf (kind_of a)) (kind_of (negative a)) (typed_value a row h.0 c) (λ x hx. negated_given (scale_of a) (kind_of a) x h.1 hx)
+    then_gives (value_of a (at_row row)) _ (IsValueOf (kind_of a)) (kind_of (negative a)) (typed_value a row h.0 c) (λ x hx. negated_given (scale_of a) (kind_of a) x h.1 hx)
 typed_value (extract field a) row h c =
-    then_gives (value_of a (record { row = row })) _ (IsValueOf (kind_of a)) (kind_of (extract field a)) (typed_value a row h.0 c) (λ x hx. extracted_given field (kind_of a) x h.1 hx)
+    then_gives (value_of a (at_row row)) _ (IsValueOf (kind_of a)) (kind_of (extract field a)) (typed_value a row h.0 c) (λ x hx. extracted_given field (kind_of a) x h.1 hx)
 typed_value (brought a s) row h c =
-    then_gives (value_of a (record { row = row })) _ (IsValueOf (kind_of a)) (kind_of (brought a s)) (typed_value a row h.0 c) (λ x hx. raised_given (kind_of a) x (scale_of a) s hx)
+    then_gives (value_of a (at_row row)) _ (IsValueOf (kind_of a)) (kind_of (brought a s)) (typed_value a row h.0 c) (λ x hx. raised_given (kind_of a) x (scale_of a) s hx)
 typed_value (choice d a b) row h c =
-    then_gives (truth_of d (record { row = row })) _ (λ t. Unit {0}) (kind_of (choice d a b)) (always (truth_of d (record { row = row })))
-    (λ t _. chosen_given (kind_of a) (kind_of b) t (value_of a (record { row = row })) (value_of b (record { row = row })) h.1.1
+    then_gives (truth_of d (at_row row)) _ (λ t. Unit {0}) (kind_of (choice d a b)) (always (truth_of d (at_row row)))
+    (λ t _. chosen_given (kind_of a) (kind_of b) t (value_of a (at_row row)) (value_of b (at_row row)) h.1.1
     (typed_value a row h.1.0.0 c.1.0) (typed_value b row h.1.0.1 c.1.1))

@@ -15,13 +15,17 @@ use Rattle.qw_meaning.specs.declared.expression.Operator.{Operator}
 use Rattle.qw_meaning.specs.declared.expression.Operator.TheVariants.{Add, Subtract, Multiply, Divide}
 use Rattle.qw_meaning.specs.declared.expression.Field.{Field}
 use Rattle.qw_meaning.specs.declared.expression.Field.TheVariants.{Year, Month, Day}
-use Rattle.qw_meaning.specs.declared.query.Comparison.{Comparison}
-use Rattle.qw_meaning.specs.declared.query.Comparison.TheVariants.{Equal, NotEqual, Less, LessOrEqual, Greater, GreaterOrEqual}
+use Rattle.qw_meaning.specs.declared.comparison.Comparison.{Comparison}
+use Rattle.qw_meaning.specs.declared.comparison.Comparison.TheVariants.{Equal, NotEqual, Less, LessOrEqual, Greater, GreaterOrEqual}
 use Rattle.qw_meaning.specs.Expression.{Expression, Condition, Expressions, last, more, null, number, date, text, column, arithmetic, negative, extract, brought, choice, comparison, is_null, both, either, negation_of, is, scale_of}
 
 -- what an expression is evaluated in
 pub record Environment : Type 0 where
   pub row : List Val
+
+-- a row of FROM
+abbrev pub at_row : List Val → Environment
+at_row row = record { row = row }
 
 -- whether a value has at most 18 digits, where it is a number
 abbrev pub value_fits : Val → Bool

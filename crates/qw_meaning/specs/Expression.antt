@@ -7,8 +7,8 @@ use Rattle.qw_types.specs.declared.truth.Truth.{Truth}
 use Rattle.qw_meaning.specs.declared.expression.Operator.{Operator}
 use Rattle.qw_meaning.specs.declared.expression.Operator.TheVariants.{Add, Subtract, Multiply, Divide}
 use Rattle.qw_meaning.specs.declared.expression.Field.{Field}
-use Rattle.qw_meaning.specs.declared.query.Comparison.{Comparison}
-use Rattle.qw_meaning.specs.declared.query.Comparison.TheVariants.{Equal, LessOrEqual, GreaterOrEqual}
+use Rattle.qw_meaning.specs.declared.comparison.Comparison.{Comparison}
+use Rattle.qw_meaning.specs.declared.comparison.Comparison.TheVariants.{Equal, LessOrEqual, GreaterOrEqual}
 
 mutual
   pub data Expression : Type 0 where

@@ -1,12 +1,13 @@
 -- What flows from clause to clause of a query specification: rows, and the exceptions raised so far (ISO/IEC 9075:1992, 7.4, 7.6, 7.9,
 -- 22.1). FROM lists all rows there are; each clause after it is a function from such flows to such flows.
-use Rattle.std.specs.Prelude.{ℕ, if◌then◌else◌, List, [], ◌∷◌, ◌++◌, map, get_or, Result, Ok, Err}
+use Rattle.std.specs.Prelude.{if◌then◌else◌, List, [], ◌∷◌, ◌++◌, map, Result, Ok, Err}
 use Rattle.std.specs.List.{flat_map}
 use Rattle.qw_types.specs.Arithmetic.{◌>>=◌}
+use Rattle.qw_types.specs.Contents.{rows_of}
 use Rattle.qw_types.specs.declared.code.Code.{Code}
 use Rattle.qw_types.specs.declared.value.Val.{Val}
 use Rattle.qw_meaning.specs.Conjuncts.{passes}
-use Rattle.qw_meaning.specs.Evaluation.{Environment, value_of}
+use Rattle.qw_meaning.specs.Evaluation.{Environment, value_of, at_row}
 use Rattle.qw_meaning.specs.Expression.{Condition, Expression}
 use Rattle.qw_meaning.specs.Select.{Entry, Specification}
 
@@ -31,10 +32,6 @@ each work flow = record {
   codes = flow.codes ++ flat_map (λ row. codes_given (work row)) flow.rows;
 }
 
--- the rows of a table of the schema, counted from 0
-abbrev pub rows_of : List (List (List Val)) → ℕ → List (List Val)
-rows_of tables table = get_or tables table []
-
 -- each row of the first table with each row of the product of the others; of no table one row without a column (7.4)
 abbrev pub product : List (List (List Val)) → List (List Val)
 product [] = [] ∷ []
@@ -46,7 +43,7 @@ from_entries entries tables = record { rows = product (map (λ (entry : Entry). 
 
 -- WHERE keeps a row exactly where its conjuncts pass (7.6)
 abbrev pub kept : List Condition → List Val → Result (List (List Val)) Code
-kept conjuncts row = passes conjuncts (record { row = row }) >>= (λ passed. Ok (if passed then row ∷ [] else []))
+kept conjuncts row = passes conjuncts (at_row row) >>= (λ passed. Ok (if passed then row ∷ [] else []))
 
 -- the values of a select list, from left to right
 abbrev pub values_of : List Expression → Environment → Result (List Val) Code
@@ -55,7 +52,7 @@ values_of (item ∷ items) env = value_of item env >>= (λ value. values_of item
 
 -- the select list makes one row of each (7.9)
 abbrev pub selected : List Expression → List Val → Result (List (List Val)) Code
-selected items row = values_of items (record { row = row }) >>= (λ values. Ok (values ∷ []))
+selected items row = values_of items (at_row row) >>= (λ values. Ok (values ∷ []))
 
 -- FROM, WHERE and the select list. GROUP BY with HAVING has its place before the select list, DISTINCT after it; no specification has
 -- them yet.

@@ -4,12 +4,10 @@ pub mod Evaluation
 pub mod Expression
 pub mod Flow
 pub mod Inner
-pub mod Meaning
 pub mod Nodes
 pub mod Outcome
+pub mod Same
 pub mod Select
-pub mod Simple
-pub mod Statement
 pub mod Tree
 pub mod Typing
 pub mod Units

@@ -9,7 +9,7 @@ use Rattle.qw_meaning.specs.declared.expression.Cond.TheVariants.{Compare', Betw
 use Rattle.qw_meaning.specs.declared.expression.Exprs.TheVariants as Exprs
 use Rattle.qw_meaning.specs.declared.expression.Branches.TheVariants as Branches
 use Rattle.qw_meaning.specs.declared.expression.Matches.TheVariants as Matches
-use Rattle.qw_meaning.specs.declared.query.Comparison.TheVariants.{Equal}
+use Rattle.qw_meaning.specs.declared.comparison.Comparison.TheVariants.{Equal}
 use Rattle.qw_meaning.specs.Expression.{Expression, Condition, null, number, date, text, column, arithmetic, negative, extract, comparison, is_null, both, either, negation_of, is, Expressions, last, more, Choices, otherwise, when, among, between, case, coalesced, null_if}
 
 abbrev mutual

@@ -1,8 +1,8 @@
 -- The kinds of expressions (ISO/IEC 9075:1992, 4.1, 6.11, 6.12), and which expressions and conditions are typed.
 use Rattle.std.specs.Prelude.{◌≡◌, ℕ, ◌+◌, ◌≤◌, max, Bool, true, false, IsTrue, Option, Some, None}
 use Rattle.qw_types.specs.Arithmetic.{fits}
-use Rattle.qw_types.specs.Kind.{IsDateNumber, IsOfKind, type_kind}
-use Rattle.qw_types.specs.Value.{type_scale}
+use Rattle.qw_types.specs.Kind.{IsOfKind, type_kind}
+use Rattle.qw_types.specs.Value.{IsDay, type_scale}
 use Rattle.qw_types.specs.declared.kind.Kind.{Kind}
 use Rattle.qw_types.specs.declared.kind.Kind.TheVariants as kind
 use Rattle.qw_types.specs.declared.value.Val.{Val}
@@ -83,7 +83,7 @@ abbrev mutual
   pub IsTyped : Expression → Type 0
   IsTyped null = Unit {0}
   IsTyped (number v s) = IsTrue (fits v) × (s ≤ 18)
-  IsTyped (date d) = IsDateNumber d
+  IsTyped (date d) = IsDay d
   IsTyped (text t) = Unit {0}
   IsTyped (column i ty) = type_scale ty ≤ 18
   IsTyped (arithmetic operator a b) =

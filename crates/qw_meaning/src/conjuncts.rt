@@ -2,6 +2,7 @@
 
 ghost use Rattle.std.specs.Prelude.{◌≡◌, map};
 ghost use Rattle.std.specs.List.{All};
+ghost use Rattle.qw_meaning.specs.Evaluation.{at_row};
 ghost use Rattle.qw_meaning.specs.Columns.{HaveColumns, HoldsIn};
 ghost use Rattle.qw_meaning.specs.Conjuncts.{passes};
 ghost use Rattle.qw_meaning.specs.Tree.{condition_of};
@@ -19,7 +20,7 @@ use qw_types::{Code, Truth, Val};
 pub fn pass(conjuncts: &[Cond], row: &[Val]) -> Result<bool, Code>
     requires typed { All (λ c. AreTyped (condition_of c)) conjuncts.now }
     requires columns { All (λ c. HaveColumns (HoldsIn row.now) (condition_of c)) conjuncts.now }
-    ensures { result ≡ passes (map condition_of conjuncts.now) (record { row = row.now }) }
+    ensures { result ≡ passes (map condition_of conjuncts.now) (at_row row.now) }
 {
     for conjunct in conjuncts {
         match condition(conjunct, row)? {

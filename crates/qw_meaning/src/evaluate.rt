@@ -4,17 +4,17 @@
 ghost use Rattle.std.specs.Prelude.{◌≡◌, ◌≤◌, IfOk, IsTrue, Ok, slice_get};
 ghost use Rattle.qw_types.specs.Arithmetic.{fits};
 ghost use Rattle.qw_types.specs.declared.value.Val.TheVariants.{Null};
-ghost use Rattle.qw_meaning.specs.declared.query.Comparison.TheVariants.{GreaterOrEqual, LessOrEqual};
+ghost use Rattle.qw_meaning.specs.declared.comparison.Comparison.TheVariants.{GreaterOrEqual, LessOrEqual};
 ghost use Rattle.qw_meaning.specs.Columns.{HasColumns, HaveColumns, HoldsIn};
 ghost use Rattle.qw_meaning.specs.Expression.{among, cases, coalesced, largest_result, scale_of};
-ghost use Rattle.qw_meaning.specs.Evaluation.{answers, applied, cell_of, chosen, combined, compared, extracted, field_of, negated, raised, same_truth, tested_null, truth_of, value_fits, value_of};
+ghost use Rattle.qw_meaning.specs.Evaluation.{answers, applied, cell_of, chosen, combined, compared, extracted, field_of, negated, raised, same_truth, tested_null, truth_of, value_fits, value_of, at_row};
 ghost use Rattle.qw_meaning.specs.Tree.{choices_of, condition_of, expression_of, expressions_of, matches_of};
 ghost use Rattle.qw_meaning.specs.Typing.{AreTyped, IsTyped, ScalesAllowed};
 ghost use Rattle.qw_meaning.specs.Value.{val_of, valued};
 ghost use Rattle.qw_meaning.specs.Inner.Results.{AreResultsTyped};
 
+use crate::comparison::Comparison;
 use crate::expression::{Branches, Cond, Expr, Exprs, Field, Matches, Operator};
-use crate::query::Comparison;
 use crate::value::{Value, lent};
 use qw_types::{Code, Truth, Ty, Val, arithmetic, text_order, truth};
 use std::cmp::Ordering;
@@ -29,7 +29,7 @@ use std::cmp::Ordering;
 pub fn value<'a>(expr: &'a Expr, row: &'a [Val]) -> Result<Value<'a>, Code>
     requires typed { IsTyped (expression_of expr.now) }
     requires columns { HasColumns (HoldsIn row.now) (expression_of expr.now) }
-    ensures value { valued result ≡ value_of (expression_of expr.now) (record { row = row.now }) }
+    ensures value { valued result ≡ value_of (expression_of expr.now) (at_row row.now) }
     ensures fits { IfOk result (λ v. IsTrue (value_fits (val_of v))) }
 {
     match expr {
@@ -72,7 +72,7 @@ pub fn value<'a>(expr: &'a Expr, row: &'a [Val]) -> Result<Value<'a>, Code>
 pub fn condition(cond: &Cond, row: &[Val]) -> Result<Truth, Code>
     requires typed { AreTyped (condition_of cond.now) }
     requires columns { HaveColumns (HoldsIn row.now) (condition_of cond.now) }
-    ensures { result ≡ truth_of (condition_of cond.now) (record { row = row.now }) }
+    ensures { result ≡ truth_of (condition_of cond.now) (at_row row.now) }
 {
     match cond {
         Cond::Compare(comparison, left, right) => {
@@ -114,7 +114,7 @@ pub fn condition(cond: &Cond, row: &[Val]) -> Result<Truth, Code>
 fn branch<'a>(branches: &'a Branches, to: u8, row: &'a [Val]) -> Result<Value<'a>, Code>
     requires typed { IsTyped (cases to (choices_of branches.now)) }
     requires columns { HasColumns (HoldsIn row.now) (cases to (choices_of branches.now)) }
-    ensures value { valued result ≡ value_of (cases to (choices_of branches.now)) (record { row = row.now }) }
+    ensures value { valued result ≡ value_of (cases to (choices_of branches.now)) (at_row row.now) }
     ensures fits { IfOk result (λ v. IsTrue (value_fits (val_of v))) }
 {
     match branches {
@@ -138,8 +138,8 @@ fn matched<'a>(
     requires typed { IsTyped (cases to (matches_of matches.now (expression_of operand.now))) }
     requires columns { HasColumns (HoldsIn row.now) (cases to (matches_of matches.now (expression_of operand.now))) }
     requires operand_fits { IsTrue (value_fits (val_of x)) }
-    requires evaluated { value_of (expression_of operand.now) (record { row = row.now }) ≡ Ok (val_of x) }
-    ensures value { valued result ≡ value_of (cases to (matches_of matches.now (expression_of operand.now))) (record { row = row.now }) }
+    requires evaluated { value_of (expression_of operand.now) (at_row row.now) ≡ Ok (val_of x) }
+    ensures value { valued result ≡ value_of (cases to (matches_of matches.now (expression_of operand.now))) (at_row row.now) }
     ensures fits { IfOk result (λ v. IsTrue (value_fits (val_of v))) }
 {
     match matches {
@@ -165,7 +165,7 @@ fn matched<'a>(
 fn coalesce<'a>(arguments: &'a Exprs, to: u8, row: &'a [Val]) -> Result<Value<'a>, Code>
     requires typed { IsTyped (cases to (coalesced (expressions_of arguments.now))) }
     requires columns { HasColumns (HoldsIn row.now) (cases to (coalesced (expressions_of arguments.now))) }
-    ensures value { valued result ≡ value_of (cases to (coalesced (expressions_of arguments.now))) (record { row = row.now }) }
+    ensures value { valued result ≡ value_of (cases to (coalesced (expressions_of arguments.now))) (at_row row.now) }
     ensures fits { IfOk result (λ v. IsTrue (value_fits (val_of v))) }
 {
     match arguments {
@@ -191,8 +191,8 @@ fn is_among<'a>(
     requires typed { AreTyped (among (expression_of operand.now) (expressions_of values.now)) }
     requires columns { HaveColumns (HoldsIn row.now) (among (expression_of operand.now) (expressions_of values.now)) }
     requires operand_fits { IsTrue (value_fits (val_of x)) }
-    requires evaluated { value_of (expression_of operand.now) (record { row = row.now }) ≡ Ok (val_of x) }
-    ensures { result ≡ truth_of (among (expression_of operand.now) (expressions_of values.now)) (record { row = row.now }) }
+    requires evaluated { value_of (expression_of operand.now) (at_row row.now) ≡ Ok (val_of x) }
+    ensures { result ≡ truth_of (among (expression_of operand.now) (expressions_of values.now)) (at_row row.now) }
 {
     match values {
         Exprs::Last(wanted) => {

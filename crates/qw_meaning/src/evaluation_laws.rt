@@ -9,7 +9,7 @@ ghost use Rattle.qw_types.specs.declared.truth.Truth.TheVariants.{True, False, U
 ghost use Rattle.qw_meaning.specs.declared.expression.Operator.{Operator};
 ghost use Rattle.qw_meaning.specs.declared.expression.Operator.TheVariants.{Add, Subtract, Multiply, Divide};
 ghost use Rattle.qw_meaning.specs.declared.expression.Field.TheVariants.{Year, Month, Day};
-ghost use Rattle.qw_meaning.specs.declared.query.Comparison.TheVariants.{Equal, NotEqual, Less, LessOrEqual, Greater, GreaterOrEqual};
+ghost use Rattle.qw_meaning.specs.declared.comparison.Comparison.TheVariants.{Equal, NotEqual, Less, LessOrEqual, Greater, GreaterOrEqual};
 ghost use Rattle.qw_types.specs.declared.value.Ty.TheVariants.{Integer, Decimal, Varchar};
 ghost use Rattle.qw_types.specs.declared.value.Ty.TheVariants as type;
 ghost use Rattle.qw_types.specs.declared.value.Val.{Val};

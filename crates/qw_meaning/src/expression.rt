@@ -1,6 +1,6 @@
 //! Typed expressions and conditions. Types stand where a tree can't tell them: a scale at a number, a type at a column.
 
-use crate::query::Comparison;
+use crate::comparison::Comparison;
 use qw_types::{Text, Truth, Ty};
 
 /// An operator on two numbers (ISO/IEC 9075:1992, 6.12).

@@ -5,11 +5,11 @@
 //! - [`expression::Expr`], [`expression::Cond`]: typed expressions and conditions; [`kind::of_expression`]: of which kind their values are;
 //!   [`value::Value`]: such a value, which borrows its text.
 //! - [`evaluate`]: values, truth and exceptions at a row, without memory; [`conjuncts::pass`]: whether a row passes a WHERE.
-//! - [`typing_laws`], [`evaluation_laws`], [`outcome_laws`]: what holds of every expression, clause and outcome, and worked cases.
-//! - [`query::Query`] and [`plain::plain_rows`]: the scan that modules are made of today, and its rows (`specs/Meaning`), with
-//!   [`worked_laws`]; [`simple_laws`]: the query specification that it is, and that this gives the same rows.
+//! - [`typing_laws`], [`evaluation_laws`], [`outcome_laws`], [`select_laws`], [`units_laws`]: what holds of every expression, clause,
+//!   specification and outcome, and worked cases; [`worked_laws`]: worked cases of whole specifications.
 #![tactic(auto)]
 
+pub mod comparison;
 pub mod conjuncts;
 pub mod evaluate;
 pub mod evaluation_laws;
@@ -17,13 +17,12 @@ pub mod expression;
 pub mod kind;
 pub mod outcome;
 pub mod outcome_laws;
-pub mod plain;
-pub mod query;
+pub mod same_laws;
 pub mod select;
-pub mod simple_laws;
+pub mod select_laws;
 pub mod typing_laws;
+pub mod units_laws;
 pub mod value;
 pub mod worked_laws;
 
-pub use query::Query;
 pub use select::Select;

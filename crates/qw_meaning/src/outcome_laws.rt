@@ -10,11 +10,12 @@ ghost use Rattle.qw_types.specs.declared.value.Ty.TheVariants.{Integer};
 ghost use Rattle.qw_types.specs.declared.value.Val.{Val};
 ghost use Rattle.qw_types.specs.declared.value.Val.TheVariants.{Null, Num};
 ghost use Rattle.qw_meaning.specs.declared.expression.Operator.TheVariants.{Subtract, Multiply, Divide};
-ghost use Rattle.qw_meaning.specs.declared.query.Comparison.TheVariants.{Equal, Greater};
+ghost use Rattle.qw_meaning.specs.declared.comparison.Comparison.TheVariants.{Equal, Greater};
 ghost use Rattle.qw_meaning.specs.Conjuncts.{passes};
 ghost use Rattle.qw_meaning.specs.Evaluation.{Environment, truth_of};
 ghost use Rattle.qw_meaning.specs.Expression.{Condition, number, column, arithmetic, comparison};
 ghost use Rattle.qw_meaning.specs.Flow.{Flow, each, product};
+ghost use Rattle.qw_meaning.specs.WorkedRows.{nullable, numbers};
 ghost use Rattle.qw_meaning.specs.Outcome.{Outcome, Rows, Raises, IsSameOutcome, outcome};
 
 /// A clause raises exactly the exceptions of the rows that reach it, beside those raised before it; and a row comes of it exactly
@@ -60,61 +61,61 @@ pub fn same_outcomes()
 /// raises, raises nothing in the select list. Over no row nothing is raised.
 pub fn worked_outcomes()
     ensures guarded { outcome (record {
-      entries = record { table = 0; types = Integer ∷ [] } ∷ [];
+      entries = numbers ∷ [];
       conjuncts = comparison Greater (column 0 Integer) (number (pos 1) 0) ∷ comparison Greater (arithmetic Divide (number (pos 10) 0) (arithmetic Subtract (column 0 Integer) (number (pos 1) 0))) (number (pos 6) 0) ∷ [];
       items = column 0 Integer ∷ [];
     })
         (((Num (pos 1) ∷ []) ∷ (Num (pos 2) ∷ []) ∷ (Num (pos 3) ∷ []) ∷ []) ∷ []) ≡ Rows ((Num (pos 2) ∷ []) ∷ []) }
     ensures unguarded { outcome (record {
-      entries = record { table = 0; types = Integer ∷ [] } ∷ [];
+      entries = numbers ∷ [];
       conjuncts = comparison Greater (arithmetic Divide (number (pos 10) 0) (arithmetic Subtract (column 0 Integer) (number (pos 1) 0))) (number (pos 6) 0) ∷ comparison Greater (column 0 Integer) (number (pos 1) 0) ∷ [];
       items = column 0 Integer ∷ [];
     })
         (((Num (pos 1) ∷ []) ∷ (Num (pos 2) ∷ []) ∷ (Num (pos 3) ∷ []) ∷ []) ∷ []) ≡ Raises (DivZero ∷ []) }
     ensures harmless { outcome (record {
-      entries = record { table = 0; types = Integer ∷ [] } ∷ [];
+      entries = numbers ∷ [];
       conjuncts = comparison Greater (column 0 Integer) (number (pos 1) 0) ∷ comparison Equal (column 0 Integer) (number (pos 2) 0) ∷ [];
       items = column 0 Integer ∷ [];
     })
         (((Num (pos 1) ∷ []) ∷ (Num (pos 2) ∷ []) ∷ (Num (pos 3) ∷ []) ∷ []) ∷ []) ≡ Rows ((Num (pos 2) ∷ []) ∷ []) }
     ensures harmless_turned { outcome (record {
-      entries = record { table = 0; types = Integer ∷ [] } ∷ [];
+      entries = numbers ∷ [];
       conjuncts = comparison Equal (column 0 Integer) (number (pos 2) 0) ∷ comparison Greater (column 0 Integer) (number (pos 1) 0) ∷ [];
       items = column 0 Integer ∷ [];
     })
         (((Num (pos 1) ∷ []) ∷ (Num (pos 2) ∷ []) ∷ (Num (pos 3) ∷ []) ∷ []) ∷ []) ≡ Rows ((Num (pos 2) ∷ []) ∷ []) }
     ensures select_list { outcome (record {
-      entries = record { table = 0; types = Integer ∷ [] } ∷ [];
+      entries = numbers ∷ [];
       conjuncts = [];
       items = arithmetic Divide (column 0 Integer) (arithmetic Subtract (column 0 Integer) (number (pos 1) 0)) ∷ [];
     })
         (((Num (pos 1) ∷ []) ∷ (Num (pos 2) ∷ []) ∷ (Num (pos 3) ∷ []) ∷ []) ∷ []) ≡ Raises (DivZero ∷ []) }
     ensures both_clauses { outcome (record {
-      entries = record { table = 0; types = Integer ∷ [] } ∷ [];
+      entries = numbers ∷ [];
       conjuncts = comparison Greater (arithmetic Divide (number (pos 10) 0) (arithmetic Subtract (column 0 Integer) (number (pos 1) 0))) (number (pos 0) 0) ∷ [];
       items = arithmetic Multiply (number (pos 999999999999999999) 0) (column 0 Integer) ∷ [];
     })
         (((Num (pos 2) ∷ []) ∷ (Num (pos 1) ∷ []) ∷ []) ∷ []) ≡ Raises (DivZero ∷ OutOfRange ∷ []) }
     ensures dropped_row { outcome (record {
-      entries = record { table = 0; types = Integer ∷ [] } ∷ [];
+      entries = numbers ∷ [];
       conjuncts = comparison Greater (column 0 Integer) (number (pos 1) 0) ∷ [];
       items = arithmetic Divide (number (pos 10) 0) (arithmetic Subtract (column 0 Integer) (number (pos 1) 0)) ∷ [];
     })
         (((Num (pos 1) ∷ []) ∷ (Num (pos 2) ∷ []) ∷ []) ∷ []) ≡ Rows ((Num (pos 10) ∷ []) ∷ []) }
     ensures no_row { outcome (record {
-      entries = record { table = 0; types = Integer ∷ [] } ∷ [];
+      entries = numbers ∷ [];
       conjuncts = [];
       items = arithmetic Divide (number (pos 1) 0) (number (pos 0) 0) ∷ [];
     })
         ([] ∷ []) ≡ Rows [] }
     ensures unknown { outcome (record {
-      entries = record { table = 0; types = Integer ∷ [] } ∷ [];
+      entries = numbers ∷ [];
       conjuncts = comparison Greater (column 0 Integer) (number (pos 1) 0) ∷ [];
       items = column 0 Integer ∷ [];
     })
         (((Null ∷ []) ∷ (Num (pos 2) ∷ []) ∷ []) ∷ []) ≡ Rows ((Num (pos 2) ∷ []) ∷ []) }
     ensures other_table { outcome (record {
-      entries = record { table = 1; types = Integer ∷ [] } ∷ [];
+      entries = record { table = 1; columns = nullable Integer ∷ [] } ∷ [];
       conjuncts = [];
       items = column 0 Integer ∷ [];
     })

@@ -4,7 +4,7 @@ ghost use Rattle.std.specs.Prelude.{◌≡◌};
 ghost use Rattle.qw_meaning.specs.Select.{IsSpecification, specification_of};
 
 use crate::expression::{Cond, Expr};
-use qw_types::Ty;
+use qw_types::ColumnType;
 use std::marker::Model;
 
 /// A typed query specification over one table (ISO/IEC 9075:1992, 7.9): `SELECT items FROM table WHERE conjuncts`. Columns are
@@ -13,7 +13,7 @@ use std::marker::Model;
 #[derive(Drop)]
 pub struct Select {
     table: usize,
-    types: Vec<Ty>,
+    columns: Vec<ColumnType>,
     conjuncts: Vec<Cond>,
     items: Vec<Expr>,
 }
@@ -30,29 +30,34 @@ impl Model for Select {
 
     ghost view = { λ s. record {
       table = s.table;
-      types = s.types.items;
+      columns = s.columns.items;
       conjuncts = s.conjuncts.items;
       items = s.items.items;
     } };
 
     ghost invariant = { λ s. IsSpecification (specification_of (record {
       table = s.table;
-      types = s.types.items;
+      columns = s.columns.items;
       conjuncts = s.conjuncts.items;
       items = s.items.items;
     })) };
 }
 
 impl Select {
-    /// The specification with these parts: a table of the schema and its columns' types, the operands of the outermost AND
-    /// chain of WHERE in written order, and the select list.
-    pub fn new(table: usize, types: Vec<Ty>, conjuncts: Vec<Cond>, items: Vec<Expr>) -> Self
-        requires { IsSpecification (specification_of (record { table = table; types = types.items; conjuncts = conjuncts.items; items = items.items })) }
-        ensures { result ≡ record { table = table; types = types.items; conjuncts = conjuncts.items; items = items.items } }
+    /// The specification with these parts: a table of the schema and its columns' types, each with its NOT NULL, the operands of
+    /// the outermost AND chain of WHERE in written order, and the select list.
+    pub fn new(
+        table: usize,
+        columns: Vec<ColumnType>,
+        conjuncts: Vec<Cond>,
+        items: Vec<Expr>,
+    ) -> Self
+        requires { IsSpecification (specification_of (record { table = table; columns = columns.items; conjuncts = conjuncts.items; items = items.items })) }
+        ensures { result ≡ record { table = table; columns = columns.items; conjuncts = conjuncts.items; items = items.items } }
     {
         Select {
             table,
-            types,
+            columns,
             conjuncts,
             items,
         }
@@ -66,12 +71,12 @@ impl Select {
         self.table
     }
 
-    /// The types of the table's columns.
-    pub fn types(&self) -> &[Ty]
-        ensures types { result.now ≡ self.now.types }
+    /// The table's columns, in their order: the type of each, and whether it is NOT NULL.
+    pub fn columns(&self) -> &[ColumnType]
+        ensures columns { result.now ≡ self.now.columns }
         ensures kept { IsSpecification (specification_of self.now) }
     {
-        self.types.as_slice()
+        self.columns.as_slice()
     }
 
     /// The conjuncts of WHERE in written order, none where there is no WHERE.

@@ -1,6 +1,7 @@
 pub mod NumberFacts
 pub mod Numbered
 pub mod Outcomes
+pub mod ShapeLemmas
 pub mod Sound
 pub mod PlaceLemmas
 pub mod StateCode

@@ -1,5 +1,8 @@
 pub mod Execution
+pub mod Form
+pub mod Numbering
 pub mod Numbers
+pub mod Offsets
 pub mod Places
 pub mod Soundness
 pub mod Start

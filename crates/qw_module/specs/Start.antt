@@ -1,6 +1,7 @@
 -- How a call of a module's own function begins, and how many instructions it has.
 use Rattle.std.specs.Prelude.{ℕ, zero, suc, ◌+◌, ◌==◌, if◌then◌else◌, List, [], ◌∷◌, ◌++◌, length, map, replicate, Option, Some, None, slice_get}
 use Rattle.std.specs.List.{filter_map}
+use Rattle.qw_module.specs.declared.instruction.Op.TheVariants as o
 use Rattle.qw_module.specs.declared.module.Import.{Import}
 use Rattle.qw_module.specs.declared.module.Import.TheVariants as import
 use Rattle.qw_module.specs.declared.module.Module.{Module}
@@ -30,13 +31,18 @@ closure_with signature function =
 abbrev pub closure_of : Module → Function → Closure
 closure_of m function = closure_with (signature_in m function.type_index) function
 
+-- what an expression gives that is one constant (4.4.1); another one is read as 0
+abbrev pub initial_value : Code → ℕ
+initial_value (op (o.Const value) done) = constant value
+initial_value _ = 0
+
 -- The store of a module at first: the imported functions are the host's, the others its own, and globals are as declared
 -- (4.5.4, "Instantiation").
 abbrev pub callees_of : Module → List Callee
 callees_of m = filter_map host_of m.imports.items ++ map (λ function. own (closure_of m function)) m.functions.items
 
 abbrev pub first_store : Module → Store
-first_store m = record { functions = callees_of m; globals = map (λ (global : Global). constant global.init) m.globals.items }
+first_store m = record { functions = callees_of m; globals = map (λ (global : Global). initial_value (code_of_body global.init)) m.globals.items }
 
 -- the sequences and the number of declared locals of a module's own function, by its number
 abbrev pub sequences_of_function : Option Function → Sequences

@@ -6,6 +6,8 @@ use Rattle.std.specs.String.{string_bytes}
 use Rattle.std.specs.Global.{Vec}
 use Rattle.qw_module.specs.declared.instruction.ValType.{ValType}
 use Rattle.qw_module.specs.declared.instruction.ValType.TheVariants.{I32}
+use Rattle.qw_module.specs.declared.instruction.Const.{Const}
+use Rattle.qw_module.specs.declared.instruction.Op.TheVariants as o
 use Rattle.qw_module.specs.declared.instruction.Instr.{Instr}
 use Rattle.qw_module.specs.declared.instruction.Instr.TheVariants as i
 use Rattle.qw_module.specs.declared.module.Locals.{Locals}
@@ -21,7 +23,7 @@ use Rattle.qw_module.specs.declared.module.ExportKind.{ExportKind}
 use Rattle.qw_module.specs.declared.module.ExportKind.TheVariants as kind
 use Rattle.qw_module.specs.declared.module.Module.{Module}
 use Rattle.qw_module.specs.Numbers.{values_of, constant, type_of_constant}
-use Rattle.qw_module.specs.Syntax.{Code, Sequences, code_of, IsNumbered}
+use Rattle.qw_module.specs.Syntax.{Code, done, op, Sequences, code_of, IsNumbered}
 use Rattle.qw_module.specs.Typing.{Signature, GlobalType, Outside, Scope, scope_of, Typed}
 
 -- the sequences of a body, and the code that it stands for
@@ -75,9 +77,17 @@ abbrev pub IsValidImport : Module → Import → Type 0
 IsValidImport m (import.Memory limits) = IsValidMemory limits
 IsValidImport m (import.Raise type) = type < length m.types.items
 
--- a global begins as a value of its type (3.4.4)
+-- A numbered body is the initial expression of a global of this type: the code that it stands for is one constant of the type
+-- (3.3.7 and 3.4.4). An expression may read imported globals too, of which the profile has none.
+pub record IsInitial (type : ValType) (sequences : Sequences) : Type 0 where
+  pub numbered : IsNumbered sequences
+  pub value : Const
+  pub alone : code_of sequences ≡ op (o.Const value) done
+  pub of_type : type_of_constant value ≡ type
+  pub below : constant value < values_of type
+
 abbrev pub IsValidGlobal : Global → Type 0
-IsValidGlobal global = (type_of_constant global.init ≡ global.ty) × (constant global.init < values_of global.ty)
+IsValidGlobal global = IsInitial global.ty (sequences_of global.init)
 
 -- what is exported is in the module (3.4.8)
 abbrev pub IsExportedOf : Module → ExportKind → Type 0

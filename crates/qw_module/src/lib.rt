@@ -10,6 +10,8 @@
 //! - `specs/Typing`: the typing rules; `Validity`: valid modules, and the shape of those that are executed.
 //! - `specs/Execution`: the rules of execution; `Step`: the step as a function; `Start`: how a call begins.
 //! - `specs/Soundness`: typed configurations; `Places`: where in a body a typing rule first fails.
+//! - `specs/Form`: codes that never ask for the memory's size, and how deep calls nest; `Offsets`: offsets of 32 bits;
+//!   `Numbering`: which numbers the sequences of a body get where their ends are read.
 #![tactic(auto)]
 
 pub mod instruction;

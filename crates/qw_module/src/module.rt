@@ -1,4 +1,4 @@
-use crate::instruction::{Const, Instr, ValType};
+use crate::instruction::{Instr, ValType};
 
 /// The type of a function (WebAssembly Core Specification 1.0, 2.3.3).
 #[derive(Debug, Drop)]
@@ -27,7 +27,7 @@ pub enum Import {
     Raise(u32),
 }
 
-/// A function's body as sequences by number. A block names its inner sequences by lower numbers, so
+/// The code of a function, or of a global's first value, as sequences by number. A block names its inner sequences by lower numbers, so
 /// the last sequence is the outermost, and no sequence is reached from itself. Who reads a body from left to right gives a
 /// sequence its number where its end is read.
 #[derive(Debug, Drop)]
@@ -58,15 +58,15 @@ pub struct Function {
     pub body: Body,
 }
 
-/// A global (2.5.6). Its expression is one constant.
-#[derive(Clone, Copy, Debug, PartialEq, Eq)]
+/// A global (2.5.6).
+#[derive(Debug, Drop)]
 pub struct Global {
     /// The type of its value.
     pub ty: ValType,
     /// Whether it may be set.
     pub mutable: bool,
-    /// The value that it begins with.
-    pub init: Const,
+    /// The expression of the value that it begins with; a valid module's is one constant.
+    pub init: Body,
 }
 
 /// What is exported, by its index (2.5.10).

@@ -1,7 +1,7 @@
 //! The definitions on given numbers, types and limits, worked out by hand from the WebAssembly Core Specification 1.0. A
 //! definition that were weaker or wrong would refuse a line here. No function here computes anything.
 
-ghost use Rattle.std.specs.Prelude.{◌≡◌, [], ◌∷◌, List, Some, None, Ok, Err, true, false};
+ghost use Rattle.std.specs.Prelude.{◌≡◌, ℕ, [], ◌∷◌, List, Some, None, Ok, Err, true, false};
 ghost use Rattle.qw_module.specs.Numbers.{unary, binary, division, relation, converted, loaded_value, load_width, store_width, constant, values_of};
 ghost use Rattle.qw_module.specs.Numbers.{converts_from, converts_to, type_of_load, type_of_store, type_of_constant};
 ghost use Rattle.qw_module.specs.Execution.{effective, refusal, label, frame, Running, Returned, Raised, Trapped, Silent, Grows, Raises, Traps};
@@ -10,11 +10,14 @@ ghost use Rattle.qw_module.specs.Start.{weight, weights_below};
 ghost use Rattle.qw_module.specs.Typing.{OpTyped, Typed, within};
 ghost use Rattle.qw_module.specs.Syntax.{done, op, unreachable, block, loop, if_then, if_else, br, br_if, br_table, return, call};
 ghost use Rattle.qw_module.specs.Places.{Typing, tokens_of, plain, block_begins, if_begins, else_begins, ends, branches};
-ghost use Rattle.qw_module.specs.Validity.{IsValidMemory, IsValidGlobal, declared_types};
-ghost use Rattle.qw_module.specs.Worked.{scope, outside, nothing, store, at_code};
+ghost use Rattle.qw_module.specs.Validity.{IsValidMemory, IsInitial, declared_types};
+ghost use Rattle.qw_module.specs.Start.{initial_value};
+ghost use Rattle.qw_module.specs.Form.{HasNoSize, NestIn};
+ghost use Rattle.qw_module.specs.Worked.{scope, outside, nothing, store, at_code, alone, plain_function};
 ghost use Rattle.qw_module.specs.Execution.{host_raise, own};
 ghost use Rattle.qw_module.specs.declared.trap.Trap.TheVariants.{DivideByZero, Overflow, OutOfBounds, Unreachable};
 ghost use Rattle.qw_module.specs.declared.instruction.Sign.TheVariants.{Signed, Unsigned};
+ghost use Rattle.qw_module.specs.declared.instruction.Instr.TheVariants as i;
 ghost use Rattle.qw_module.specs.declared.instruction.Op.TheVariants as o;
 ghost use Rattle.qw_module.specs.declared.instruction.Const.TheVariants as const;
 ghost use Rattle.qw_module.specs.declared.instruction.Unary.TheVariants.{Clz, Ctz, Popcnt};
@@ -202,9 +205,13 @@ pub fn limits_and_globals()
     ensures too_many { IsValidMemory (record { min = 65537; max = None }) → ⊥ }
     ensures most_too_many { IsValidMemory (record { min = 0; max = Some 65537 }) → ⊥ }
     ensures most_below_least { IsValidMemory (record { min = 3; max = Some 2 }) → ⊥ }
-    ensures global { IsValidGlobal (record { ty = I32; mutable = false; init = const.I32 4294967295 }) × IsValidGlobal (record { ty = I64; mutable = true; init = const.I64 8 }) }
-    ensures of_another_type { IsValidGlobal (record { ty = I64; mutable = false; init = const.I32 7 }) → ⊥ }
-    ensures no_value { IsValidGlobal (record { ty = I32; mutable = false; init = const.I32 4294967296 }) → ⊥ }
+    ensures global { IsInitial I32 (alone (i.Op (o.Const (const.I32 4294967295)) ∷ [])) × IsInitial I64 (alone (i.Op (o.Const (const.I64 8)) ∷ [])) }
+    ensures value { (initial_value (op (o.Const (const.I32 4294967295)) done) ≡ 4294967295) × (initial_value (op (o.Const (const.I64 8)) done) ≡ 8) }
+    ensures of_another_type { IsInitial I64 (alone (i.Op (o.Const (const.I32 7)) ∷ [])) → ⊥ }
+    ensures no_value { IsInitial I32 (alone (i.Op (o.Const (const.I32 4294967296)) ∷ [])) → ⊥ }
+    ensures empty { (type : ValType) → IsInitial type (alone []) → ⊥ }
+    ensures of_two { (type : ValType) → IsInitial type (alone (i.Op (o.Const (const.I32 7)) ∷ i.Op (o.Const (const.I32 7)) ∷ [])) → ⊥ }
+    ensures computed { (type : ValType) → IsInitial type (alone (i.Op o.Nop ∷ i.Op (o.Const (const.I32 7)) ∷ [])) → ⊥ }
 {}
 
 /// Runs of locals (5.4.6), places (each instruction, `else` and `end`), and counts of instructions, called ones with theirs.
@@ -216,6 +223,22 @@ pub fn counts()
     ensures own { weight (loop None (op o.Nop (call 1 done)) (if_else None done (br 0 done) done)) ≡ 5 }
     ensures with_called { weights_below (host_raise ∷ own (record { params = 0; declared = 0; results = 0; body = op o.Nop (call 0 done) })
         ∷ own (record { params = 0; declared = 0; results = 0; body = call 1 (call 1 (call 0 done)) }) ∷ []) 3 2 ≡ 7 }
+{}
+
+/// Codes with `memory.size` and without it, and calls of three and of four functions within one another.
+pub fn forms()
+    ensures no_size { HasNoSize (block None (op o.Nop (if_else None done (op o.MemoryGrow done) done)) (loop None (call 0 done) (return done))) }
+    ensures size { HasNoSize (op o.MemorySize done) → ⊥ }
+    ensures nested_size { HasNoSize (op o.Nop (block None (op o.Nop (op o.MemorySize done)) done)) → ⊥ }
+    ensures size_in_else { HasNoSize (loop None (if_else None done (op o.MemorySize done) done) done) → ⊥ }
+    ensures raised { NestIn (host_raise ∷ []) 0 0 }
+    ensures called { NestIn (host_raise ∷ plain_function (call 0 done) ∷ plain_function (block None (call 1 done) (call 0 done)) ∷ []) 2 2 }
+    ensures of_its_own { NestIn (host_raise ∷ plain_function done ∷ []) 0 1 → ⊥ }
+    ensures three { NestIn (host_raise ∷ plain_function (call 0 done) ∷ plain_function (call 1 done) ∷ plain_function (loop None (call 2 done) done) ∷ []) 3 3 }
+    ensures four { NestIn (host_raise ∷ plain_function (call 0 done) ∷ plain_function (call 1 done) ∷ plain_function (loop None (call 2 done) done)
+        ∷ plain_function (op o.Nop (call 3 done)) ∷ []) 3 4 → ⊥ }
+    ensures of_itself { (depth : ℕ) → NestIn (plain_function (call 0 done) ∷ []) depth 0 → ⊥ }
+    ensures of_none { (depth : ℕ) → NestIn (host_raise ∷ plain_function (call 2 done) ∷ []) depth 1 → ⊥ }
 {}
 
 /// Each operator at types that its rule admits, and at some that it doesn't (3.3.1 to 3.3.4). The last operand stands first.

@@ -7,7 +7,7 @@ use Rattle.qw_types.specs.declared.value.Ty.{Ty}
 use Rattle.qw_types.specs.declared.value.Ty.TheVariants as ty
 use Rattle.qw_types.specs.declared.value.Val.{Val}
 use Rattle.qw_types.specs.declared.value.Val.TheVariants as val
-use Rattle.qw_types.proofs.KindLemmas.{typed_of_kind}
+use Rattle.qw_types.proofs.KindLemmas.{day_number, typed_of_kind}
 use Rattle.qw_map.proofs.TurnFacts.{slice_get-set_same, slice_get-set_other}
 use Rattle.qw_map.specs.Columns.{values_size}
 use Rattle.qw_map.specs.Layout.{is_text}
@@ -168,7 +168,7 @@ module _ (pages fuel n rows row : ℕ) (r : Reader) (b : Bool) (t : LowState) (b
   value_ends ty.Date (val.Date d) is sized stands null =
       let known = stands.value in
       word_ends (Valued (val.Date d)) pages fuel rows row (3 * r.index) r t at_row.within at_row.left.1 mine.value.1 known.0 d (ending ty.Date is) known.1 known.2
-      (dated d (typed_of_kind ty.Date (val.Date d) sized stands.typed) null)
+      (dated d (day_number d (typed_of_kind ty.Date (val.Date d) sized stands.typed)) null)
   value_ends ty.Date (val.Num z) is sized stands null = absurd (stands.value)
   value_ends ty.Date (val.Text octets) is sized stands null = absurd (stands.value)
   value_ends (ty.Varchar limit) val.Null is sized stands null =

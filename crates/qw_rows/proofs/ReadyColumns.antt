@@ -1,8 +1,7 @@
 -- Where a run begins, over a memory that is ready for it, each value of a column stands in the column's parts.
-use Rattle.std.proofs.Common.{◌≡◌, ℕ, zero, suc, ◌+◌, ◌*◌, ◌/◌, ◌^◌, ◌<◌, ◌≤◌, Bool, true, false, List, [], ◌∷◌, length, map, take, Some, None, slice_get, nat_le, if◌then◌else◌, refl, sym, ap, ◌∙◌, subst, arith}
+use Rattle.std.proofs.Common.{◌≡◌, ℕ, zero, suc, ◌+◌, ◌*◌, ◌/◌, ◌^◌, ◌<◌, ◌≤◌, Bool, true, false, List, [], ◌∷◌, length, take, Some, slice_get, refl, sym, ap, ◌∙◌, subst, arith}
 use Rattle.std.specs.List.{AllByRecursion}
-use Rattle.std.specs.Option.{option_and_then, option_map}
-use Rattle.std.proofs.lemmas.Bool.{le-leb}
+use Rattle.std.specs.Option.{option_map}
 use Rattle.std.proofs.lemmas.List.{length-map}
 use Rattle.std.proofs.lemmas.Option.{same_Some, slice_get_within, slice_get-map, get_or_from_slice_get}
 use Rattle.qw_types.specs.Value.{IsOfTypeOrNull, text_octets}
@@ -10,12 +9,12 @@ use Rattle.qw_types.specs.declared.value.Ty.{Ty}
 use Rattle.qw_types.specs.declared.value.Ty.TheVariants as ty
 use Rattle.qw_types.specs.declared.value.Val.{Val}
 use Rattle.qw_types.specs.declared.value.Val.TheVariants as val
-use Rattle.qw_linear.specs.Memory.{number_at}
+use Rattle.qw_linear.specs.Memory.{number_at, page}
 use Rattle.qw_linear.proofs.MemoryFacts.{number_at-below}
-use Rattle.qw_meaning.specs.Flow.{rows_of}
+use Rattle.qw_types.specs.Contents.{rows_of}
 use Rattle.qw_map.specs.Areas.{Area}
 use Rattle.qw_map.specs.Columns.{values_size, nulls_size, text_offset, HoldsColumn, column_values}
-use Rattle.qw_map.specs.Layout.{Layout, is_text, HasColumn, column_areas, first_world, IsReadyColumn, IsReady}
+use Rattle.qw_map.specs.Layout.{Layout, is_text, HasColumn, column_areas, descriptor_size, first_world, IsReadyColumn, IsReady}
 use Rattle.qw_map.specs.declared.layout.Placed.{Placed}
 use Rattle.qw_map.specs.declared.layout.Used.{Used}
 use Rattle.qw_map.proofs.ColumnLemmas.{text_octets-taken}
@@ -23,8 +22,8 @@ use Rattle.qw_map.proofs.LayoutLemmas.{HasParts, area-parts, ready-between}
 use Rattle.qw_map.proofs.TurnFacts.{found-in}
 use Rattle.qw_low.specs.State.{Column, Value, Number, Address, Cells}
 use Rattle.qw_low.specs.Places.{area_of}
-use Rattle.qw_low.specs.Begin.{cell_in, cells_of, KnowsValue}
-use Rattle.qw_low.proofs.BeginLemmas.{values-known, nulls-known}
+use Rattle.qw_low.specs.Begin.{sizes_of, cells_of, KnowsValue}
+use Rattle.qw_low.proofs.BeginLemmas.{ready-stands, sizes-there, values-known, nulls-known}
 use Rattle.qw_low.proofs.Standing.{all-at}
 use Rattle.qw_rows.specs.Reading.{octets_of, HasOctets, StandsAt}
 
@@ -46,10 +45,6 @@ number_of (Address p offset) = 0
 pub same_number : (a b : ℕ) → Some (Number a) ≡ Some (Number b) → a ≡ b
 same_number a b is = ap number_of (same_Some (Number a) (Number b) is)
 
-given_number : (b : Bool) (v x : ℕ) → (if b then Some (Number v) else None) ≡ Some (Number x) → v ≡ x
-given_number true v x is = same_number v x is
-given_number false v x is = absurd cc
-
 -- a column's values are of its type
 typed_at : (used : Used) (rows : List (List Val)) (row : ℕ) (value : Val) → AllByRecursion (HasColumn used) rows → slice_get (column_values rows used.column) row ≡ Some value →
     IsOfTypeOrNull used.ty used.not_null value
@@ -61,30 +56,33 @@ typed_at used (r ∷ rows) zero value all there =
 typed_at used (r ∷ rows) (suc row) value all there = typed_at used rows row value all.1 there
 
 module _ (layout : Layout) (placed : List Placed) (tables : List (List (List Val))) (descriptor limit : ℕ) (memory : List ℕ)
-    (ready : IsReady layout placed tables descriptor limit memory) where
+    (ready : IsReady layout placed tables descriptor limit memory) (small : descriptor_size layout ≤ page) where
   abbrev areas : List Area
   areas = column_areas layout.columns placed
 
   abbrev sizes : List ℕ
-  sizes = map (λ (a : Area). a.size) areas
+  sizes = sizes_of tables layout.columns
 
   abbrev cells : Cells
-  cells = cells_of layout placed descriptor limit memory
+  cells = cells_of layout tables
 
   -- a part of a column is where its area is
   has_octets : (part least : ℕ) (a : Area) → slice_get areas part ≡ Some a → least ≤ a.size → HasOctets sizes part least
   has_octets part least a is enough =
       let between = all-at (λ area. (64 ≤ area.start) × (area.start + area.size ≤ descriptor)) areas part a (ready-between layout placed tables descriptor limit memory ready) is in
-      (a.size, slice_get-map (λ (x : Area). x.size) areas part ∙ ap (option_map (λ (x : Area). x.size)) is, enough, omega (arith, between.0, between.1, ready.inside, ready.room))
+      (a.size, subst (λ (all : List ℕ). slice_get all part ≡ Some a.size) (sizes-there layout placed tables descriptor limit memory ready) (slice_get-map (λ (x : Area). x.size) areas part ∙ ap (option_map (λ (x : Area). x.size)) is), enough, omega (arith, between.0, between.1, ready.inside, ready.room))
 
-  known : (part offset width : ℕ) (a : Area) → area_of (first_world layout placed descriptor limit) (Column part) ≡ Some a → offset + width ≤ a.size →
-      cells (Column part) offset width ≡ Some (Number (number_at memory (a.start + offset) width))
-  known part offset width a is within = rw (is, le-leb (offset + width) a.size within) refl
+  -- a number that is known of a part stands there
+  read_at : (part offset width x : ℕ) (a : Area) → area_of (first_world layout placed descriptor limit) (Column part) ≡ Some a → cells (Column part) offset width ≡ Some (Number x) →
+      number_at memory (a.start + offset) width ≡ x
+  read_at part offset width x a is found =
+      let there = (ready-stands layout placed tables descriptor limit memory ready small []).cells (Column part) offset width (Number x) found in
+      let same : there.area ≡ a = same_Some there.area a (sym there.is ∙ is) in
+      ap (λ (b : Area). number_at memory (b.start + offset) width) (sym same) ∙ there.means
 
   word_below : (part offset x : ℕ) (a : Area) → area_of (first_world layout placed descriptor limit) (Column part) ≡ Some a → cells (Column part) offset 8 ≡ Some (Number x) → x < 2 ^ 64
   word_below part offset x a is found =
-      let number : number_at memory (a.start + offset) 8 ≡ x =
-      given_number (nat_le (offset + 8) a.size) (number_at memory (a.start + offset) 8) x (sym (ap (option_and_then (cell_in layout memory (Column part) offset 8)) is) ∙ found) in
+      let number : number_at memory (a.start + offset) 8 ≡ x = read_at part offset 8 x a is found in
       omega (arith, number, number_at-below memory ready.octets (a.start + offset) 8)
 
   module _ (k row : ℕ) (used : Used) (one : Placed) (value : Val) (found : slice_get layout.columns k ≡ Some used) (at : slice_get placed k ≡ Some one)
@@ -118,9 +116,7 @@ module _ (layout : Layout) (placed : List Placed) (tables : List (List (List Val
 
     text_inside : (limit : ℕ) → used.ty ≡ ty.Varchar limit → (end : ℕ) → cells (Column (3 * k)) (4 * (row + 1)) 4 ≡ Some (Number end) → end ≤ one.size
     text_inside limit is end next =
-        let size : values_size used.ty one.rows ≡ 4 * one.rows + 4 = ap (λ (t : Ty). values_size t one.rows) is in
-        let stands : cells (Column (3 * k)) (4 * (row + 1)) 4 ≡ Some (Number (text_offset memory one (row + 1))) = known (3 * k) (4 * (row + 1)) 4 values_area parts.values (omega (arith, size, row_within)) in
-        let same : text_offset memory one (row + 1) ≡ end = same_number (text_offset memory one (row + 1)) end (sym stands ∙ next) in
+        let same : text_offset memory one (row + 1) ≡ end = read_at (3 * k) (4 * (row + 1)) 4 end values_area parts.values next in
         omega (arith, same, offset_is limit is, ready_column.holds.size_is, text_octets-taken values (row + 1))
 
     octets_inside : (type : Ty) (v : Val) → used.ty ≡ type → is_text type ≡ true → KnowsValue cells k type row v → (from : ℕ) → cells (Column (3 * k)) (4 * row) 4 ≡ Some (Number from) →

@@ -6,7 +6,7 @@ use Rattle.std.proofs.lemmas.Option.{slice_get_within}
 use Rattle.qw_types.specs.declared.value.Val.{Val}
 use Rattle.qw_types.specs.declared.value.Val.TheVariants as val
 use Rattle.qw_linear.specs.Memory.{page}
-use Rattle.qw_map.specs.Layout.{Layout, entry_offset, IsReady}
+use Rattle.qw_map.specs.Layout.{Layout, descriptor_size, entry_offset, IsReady}
 use Rattle.qw_map.specs.declared.layout.Placed.{Placed}
 use Rattle.qw_module.specs.declared.instruction.ValType.{ValType}
 use Rattle.qw_low.specs.State.{Own, Value, Number, LowState}
@@ -134,9 +134,9 @@ get-behind [] ys i = let none : 0 + i ≡ i = omega arith in ap (slice_get ys) n
 get-behind (x ∷ xs) ys i = let more : suc (length xs) + i ≡ suc (length xs + i) = omega arith in ap (slice_get (x ∷ (xs ++ ys))) more ∙ get-behind xs ys i
 
 module _ (layout : Layout) (placed : List Placed) (tables : List (List (List Val))) (descriptor limit : ℕ) (memory : List ℕ) (locals : List Value)
-    (ready : IsReady layout placed tables descriptor limit memory) where
+    (ready : IsReady layout placed tables descriptor limit memory) (small : descriptor_size layout ≤ page) where
   abbrev first : LowState
-  first = first_state layout placed descriptor limit memory locals
+  first = first_state layout tables limit locals
 
   abbrev start : ℕ
   start = entry_offset (length layout.columns)
@@ -149,7 +149,7 @@ module _ (layout : Layout) (placed : List Placed) (tables : List (List (List Val
       record {
         size = page;
         sized = refl;
-        inside = let small = ready.small in omega (arith, many, long, rest, small);
+        inside = omega (arith, many, long, rest, small);
         each = λ i octet found.
             let place : start + (length before + i) ≡ start + length before + i = omega arith in
             let there : slice_get layout.literals (length before + i) ≡ Some octet =

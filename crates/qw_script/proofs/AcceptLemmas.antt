@@ -2,6 +2,7 @@
 use Rattle.std.proofs.Common.{◌≡◌, ℕ, zero, suc, ◌+◌, ◌<◌, ◌≤◌, true, false, List, [], ◌∷◌, ◌++◌, length, map, drop, get_or, Option, Some, None, Err, refl, sym, ap, subst, ◌∙◌, arith, inl, inr, append_assoc}
 use Rattle.std.specs.Prelude.{◌⊎◌, IsErrOf, eqb}
 use Rattle.std.specs.Borrow.{Bor}
+use Rattle.std.specs.List.{AllByRecursion}
 use Rattle.std.specs.Str.{IsUtf8}
 use Rattle.std.proofs.lemmas.Bool.{false≢true}
 use Rattle.std.proofs.lemmas.List.{append-nil, length-drop, length-map}
@@ -16,13 +17,14 @@ use Rattle.qw_ast.specs.Syntax.{Select}
 use Rattle.qw_ast.specs.SyntaxTree as tree
 use Rattle.qw_ast.proofs.NestingLemmas.{deep-Decides}
 use Rattle.qw_ast.proofs.StatementLemmas.{drop_next, is_no_list, lexed}
-use Rattle.qw_script.specs.declared.fault.Count.TheVariants.{Statements}
+use Rattle.qw_script.specs.declared.fault.Count.TheVariants.{Statements, SelectItems, Nodes, LiteralOctets}
 use Rattle.qw_script.specs.declared.fault.ParseFault.{ParseFault}
 use Rattle.qw_script.specs.declared.fault.ParseFault.TheVariants.{NotGrammar, TooDeep, TooMany, NoMemory}
 use Rattle.qw_script.specs.Script as script
-use Rattle.qw_script.specs.Script.{AreAccepted, HasFault, HasFirstFault, IsAccepted, IsScriptRefused, ReadsScript}
+use Rattle.qw_ast.specs.Limits.{AreQueries, AreTaken, IsAccepted, IsQuery, query_items, query_nodes, query_octets}
+use Rattle.qw_script.specs.Script.{AreAccepted, HasFault, HasFirstFault, IsScriptRefused, ReadsScript}
 use Rattle.qw_script.specs.Inner.Judges as judges
-use Rattle.qw_script.specs.Inner.Judges.{KeepsLimits, PassesLimit, fault_of}
+use Rattle.qw_script.specs.Inner.Judges.{PassesLimit, fault_of}
 use Rattle.qw_script.specs.Inner.Readers.{select_of}
 use Rattle.qw_script.proofs.SelectLemmas.{select_read, select_is_read}
 
@@ -43,19 +45,25 @@ not_read ts s none is = none_some (select_of ts) s none (select_is_read ts s is)
 pub grammar_fault : (k : ℕ) (ts : List Lexeme) → false ≡ exceeds 0 ts → select_of ts ≡ None → HasFault k ts (NotGrammar k)
 grammar_fault k ts shallow none = script.not_grammar (shallow_of ts shallow) (λ s is. not_read ts s none is)
 
-pub accepted_is : (ts : List Lexeme) (s : Select) → false ≡ exceeds 0 ts → select_of ts ≡ Some s → KeepsLimits s → IsAccepted ts s
-accepted_is ts s shallow is keeps = record {
+pub accepted_is : (ts : List Lexeme) (s : Select) → false ≡ exceeds 0 ts → select_of ts ≡ Some s → AreTaken (query_items s) (query_nodes s) (query_octets s) → IsAccepted ts s
+accepted_is ts s shallow is sizes = record {
   shallow = shallow_of ts shallow;
   query = select_read ts s is;
-  few_items = keeps.few_items;
-  few_nodes = keeps.few_nodes;
-  few_octets = keeps.few_octets;
+  sizes = sizes;
 }
 
 pub limit_fault : (k : ℕ) (ts : List Lexeme) (s : Select) (f : ParseFault) → false ≡ exceeds 0 ts → select_of ts ≡ Some s → PassesLimit k s f → HasFault k ts f
-limit_fault k ts s _ shallow is (judges.items many) = script.many_items (shallow_of ts shallow) s (select_read ts s is) many
-limit_fault k ts s _ shallow is (judges.nodes few many) = script.many_nodes (shallow_of ts shallow) s (select_read ts s is) few many
-limit_fault k ts s _ shallow is (judges.octets few few_nodes many) = script.many_octets (shallow_of ts shallow) s (select_read ts s is) few few_nodes many
+limit_fault k ts s _ shallow is (judges.passes limit first) = script.too_many (shallow_of ts shallow) s (select_read ts s is) limit first
+
+pub many_items : (k : ℕ) (s : Select) → 64 < query_items s → PassesLimit k s (TooMany k SelectItems 64)
+many_items k s many = judges.passes (record { many = query_items s; what = SelectItems; most = 64 }) (script.passed _ _ many)
+
+pub many_nodes : (k : ℕ) (s : Select) → query_items s ≤ 64 → 1000 < query_nodes s → PassesLimit k s (TooMany k Nodes 1000)
+many_nodes k s few_items many = judges.passes (record { many = query_nodes s; what = Nodes; most = 1000 }) (script.kept _ _ _ few_items (script.passed _ _ many))
+
+pub many_octets : (k : ℕ) (s : Select) → query_items s ≤ 64 → query_nodes s ≤ 1000 → 16384 < query_octets s → PassesLimit k s (TooMany k LiteralOctets 16384)
+many_octets k s few_items few_nodes many =
+    judges.passes (record { many = query_octets s; what = LiteralOctets; most = 16384 }) (script.kept _ _ _ few_items (script.kept _ _ _ few_nodes (script.passed _ _ many)))
 
 -- ---- all statements
 
@@ -125,10 +133,31 @@ pub script_read : (text : List ℕ) (ts : List Lexeme) (ss : List (Bor (List Tok
 script_read text ts ss qs a split few some accepted = record {
   tokens = ts;
   are_tokens = a;
-  some = omega (arith, as_many ss ts split, some);
-  few = omega (arith, as_many ss ts split, few);
+  length_is = record { some = omega (arith, as_many ss ts split, some); few = omega (arith, as_many ss ts split, few) };
   accepted = subst (λ x. AreAccepted x qs) split accepted;
 }
+
+each_query : (ts : List (List Lexeme)) (qs : List Select) → AreAccepted ts qs → AllByRecursion IsQuery qs
+each_query [] [] a = tt
+each_query [] (q ∷ qs) a = absurd a
+each_query (t ∷ ts) [] a = absurd a
+each_query (t ∷ ts) (q ∷ qs) a = ((t, a.0), each_query ts qs a.1)
+
+as_long : (ts : List (List Lexeme)) (qs : List Select) → AreAccepted ts qs → length qs ≡ length ts
+as_long [] [] a = refl
+as_long [] (q ∷ qs) a = absurd a
+as_long (t ∷ ts) [] a = absurd a
+as_long (t ∷ ts) (q ∷ qs) a = ap suc (as_long ts qs a.1)
+
+-- what is accepted is what a script keeps
+pub queries_kept : (ss : List (Bor (List Token))) (qs : List Select) → AreAccepted (lexed ss) qs → 0 < length ss → length ss ≤ 64 → AreQueries qs
+queries_kept ss qs accepted some few =
+    let one = as_long (lexed ss) qs accepted in
+    let two = length-map ss (λ s. lexemes s.now) in
+    record {
+      length_is = record { some = omega (arith, one, two, some); few = omega (arith, one, two, few) };
+      each = each_query (lexed ss) qs accepted;
+    }
 
 pub some_left : (n : ℕ) → false ≡ eqb n 0 → 0 < n
 some_left zero e = absurd (false≢true e)

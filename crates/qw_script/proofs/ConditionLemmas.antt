@@ -6,7 +6,7 @@ use Rattle.std.proofs.lemmas.Bool.{cases_Bool}
 use Rattle.qw_types.specs.declared.truth.Truth.{Truth}
 use Rattle.qw_token.specs.Token.{Lexeme}
 use Rattle.qw_token.specs.declared.token.Kind.TheVariants.{Word}
-use Rattle.qw_meaning.specs.declared.query.Comparison.{Comparison}
+use Rattle.qw_meaning.specs.declared.comparison.Comparison.{Comparison}
 use Rattle.qw_ast.specs.Grammar.{folded}
 use Rattle.qw_ast.specs.Syntax.{Expression, Condition, comparison, between, among, is_null, both, either, negation_of, is, bracketed, Clause, condition, expression}
 use Rattle.qw_ast.specs.ScriptGrammar.{is_word, is_symbol, comparison_of, truth_of, first, IsOperator, operator, AreFurther, IsExpressionOf, arguments, IsOptionalNot, not_absent, not_there, IsValueExpression, IsPredicate, a_comparison, a_between, an_in, a_null_test, IsBooleanPrimary, predicate, condition_brackets, IsBooleanTest, no_test, a_test, IsBooleanFactor, no_negation, a_negation, is_and, is_or, IsBooleanTerm, IsSearchCondition, IsClause, IsNested}

@@ -1,6 +1,7 @@
 -- A text is one script or is refused for one cause.
 use Rattle.std.proofs.Common.{◌≡◌, ℕ, suc, ◌<◌, ◌≤◌, List, [], ◌∷◌, length, refl, sym, ap, subst, ◌∙◌, arith, inl, inr}
 use Rattle.std.specs.Prelude.{◌⊎◌}
+use Rattle.std.specs.List.{AllByRecursion}
 use Rattle.std.specs.Str.{IsUtf8}
 use Rattle.qw_token.specs.Token.{Lexeme, AreTokens, StopsAt}
 use Rattle.qw_token.proofs.TokenRun.{AreTokens-unique, AreTokens-no_stop, StopsAt-unique}
@@ -11,22 +12,26 @@ use Rattle.qw_script.specs.declared.fault.Count.TheVariants.{Statements}
 use Rattle.qw_script.specs.declared.fault.ParseFault.{ParseFault}
 use Rattle.qw_script.specs.declared.fault.ParseFault.TheVariants.{NotUtf8, NotToken, NotGrammar, TooDeep, TooMany}
 use Rattle.qw_script.specs.Script as script
-use Rattle.qw_script.specs.Script.{query_items, query_nodes, query_octets, IsAccepted, HasFault, AreAccepted, ReadsScript, HasFirstFault, IsScriptRefused}
-use Rattle.qw_script.specs.Inner.Judges.{PassesLimit, items, nodes, octets}
+use Rattle.qw_ast.specs.Limits.{AreTaken, IsAccepted, query_items, query_nodes, query_octets}
+use Rattle.qw_script.specs.Script.{AreAccepted, HasFault, HasFirstFault, IsPassedFirst, IsScriptRefused, Limit, ReadsScript, limits}
+use Rattle.qw_script.specs.Inner.Judges.{PassesLimit, passes}
 use Rattle.qw_script.proofs.SelectLemmas.{one_select}
 
 -- ---- one statement
 
+passed_one : (ls : List Limit) (a b : Limit) → IsPassedFirst ls a → IsPassedFirst ls b → a ≡ b
+passed_one _ _ b (script.passed limit others many) (script.passed _ _ more) = refl
+passed_one _ _ b (script.passed limit others many) (script.kept _ _ _ few h) = absurd (omega (arith, many, few))
+passed_one _ _ b (script.kept limit a others few h) (script.passed _ _ many) = absurd (omega (arith, many, few))
+passed_one _ _ b (script.kept limit a others few h) (script.kept _ _ _ _ k) = passed_one others a b h k
+
+-- where each limit is kept none is passed
+pub none_passed : (ls : List Limit) (a : Limit) → AllByRecursion (λ (l : Limit). l.many ≤ l.most) ls → IsPassedFirst ls a → ⊥
+none_passed _ _ all (script.passed limit others many) = let few = all.0 in omega (arith, few, many)
+none_passed _ _ all (script.kept limit a others few h) = none_passed others a all.1 h
+
 passes_one : (k : ℕ) (s : Select) (f g : ParseFault) → PassesLimit k s f → PassesLimit k s g → f ≡ g
-passes_one k s _ _ (items a) (items b) = refl
-passes_one k s _ _ (items a) (nodes b c) = absurd (omega (arith, a, b))
-passes_one k s _ _ (items a) (octets b c d) = absurd (omega (arith, a, b))
-passes_one k s _ _ (nodes a b) (items c) = absurd (omega (arith, a, c))
-passes_one k s _ _ (nodes a b) (nodes c d) = refl
-passes_one k s _ _ (nodes a b) (octets c d e) = absurd (omega (arith, b, d))
-passes_one k s _ _ (octets a b c) (items d) = absurd (omega (arith, a, d))
-passes_one k s _ _ (octets a b c) (nodes d e) = absurd (omega (arith, b, e))
-passes_one k s _ _ (octets a b c) (octets d e f) = refl
+passes_one k s _ _ (passes a one) (passes b two) = ap (λ (l : Limit). TooMany k l.what l.most) (passed_one (limits (query_items s) (query_nodes s) (query_octets s)) a b one two)
 
 -- it is nested too deeply, or is no query, or a query that passes a limit
 abbrev Cause : ℕ → List Lexeme → ParseFault → Type 0
@@ -35,9 +40,7 @@ Cause k ts f = (IsTooDeep ts × (f ≡ TooDeep k)) ⊎ (((IsTooDeep ts → ⊥) 
 cause_of : (k : ℕ) (ts : List Lexeme) (f : ParseFault) → HasFault k ts f → Cause k ts f
 cause_of k ts _ (script.too_deep deep) = inl (deep, refl)
 cause_of k ts _ (script.not_grammar shallow none) = inr (inl (shallow, none, refl))
-cause_of k ts _ (script.many_items shallow s q a) = inr (inr (shallow, (s, q, items a)))
-cause_of k ts _ (script.many_nodes shallow s q a b) = inr (inr (shallow, (s, q, nodes a b)))
-cause_of k ts _ (script.many_octets shallow s q a b c) = inr (inr (shallow, (s, q, octets a b c)))
+cause_of k ts _ (script.too_many shallow s q limit first) = inr (inr (shallow, (s, q, passes limit first)))
 
 causes_one : (k : ℕ) (ts : List Lexeme) (f g : ParseFault) → Cause k ts f → Cause k ts g → f ≡ g
 causes_one k ts f g (inl a) (inl b) = a.1 ∙ sym b.1
@@ -56,15 +59,13 @@ fault_one k ts f g a b = causes_one k ts f g (cause_of k ts f a) (cause_of k ts 
 accepted_one : (ts : List Lexeme) (s t : Select) → IsAccepted ts s → IsAccepted ts t → s ≡ t
 accepted_one ts s t a b = one_select ts s t a.query b.query
 
-passes_none : (k : ℕ) (s : Select) (f : ParseFault) → query_items s ≤ 64 → query_nodes s ≤ 1000 → query_octets s ≤ 16384 → PassesLimit k s f → ⊥
-passes_none k s _ few_items few_nodes few_octets (items a) = omega (arith, few_items, a)
-passes_none k s _ few_items few_nodes few_octets (nodes a b) = omega (arith, few_nodes, b)
-passes_none k s _ few_items few_nodes few_octets (octets a b c) = omega (arith, few_octets, c)
+passes_none : (k : ℕ) (s : Select) (f : ParseFault) → AreTaken (query_items s) (query_nodes s) (query_octets s) → PassesLimit k s f → ⊥
+passes_none k s _ sizes (passes limit first) = none_passed (limits (query_items s) (query_nodes s) (query_octets s)) limit (sizes.few_items, (sizes.few_nodes, (sizes.few_octets, tt))) first
 
 cause_none : (k : ℕ) (ts : List Lexeme) (s : Select) (f : ParseFault) → IsAccepted ts s → Cause k ts f → ⊥
 cause_none k ts s f a (inl b) = a.shallow b.0
 cause_none k ts s f a (inr (inl b)) = b.1 s a.query
-cause_none k ts s f a (inr (inr b)) = passes_none k s f a.few_items a.few_nodes a.few_octets (subst (λ x. PassesLimit k x f) (one_select ts b.1.0 s b.1.1 a.query) b.1.2)
+cause_none k ts s f a (inr (inr b)) = passes_none k s f a.sizes (subst (λ x. PassesLimit k x f) (one_select ts b.1.0 s b.1.1 a.query) b.1.2)
 
 accepted_no_fault : (k : ℕ) (ts : List Lexeme) (s : Select) (f : ParseFault) → IsAccepted ts s → HasFault k ts f → ⊥
 accepted_no_fault k ts s f a h = cause_none k ts s f a (cause_of k ts f h)

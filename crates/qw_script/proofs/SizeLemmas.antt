@@ -4,7 +4,7 @@ use Rattle.std.specs.Prelude.{eqb}
 use Rattle.std.proofs.lemmas.Bool.{cases_Bool}
 use Rattle.std.proofs.lemmas.Slice.{between_to_end}
 use Rattle.qw_script.specs.declared.size.Size.{Size}
-use Rattle.qw_script.specs.Script.{undoubled}
+use Rattle.qw_ast.specs.Limits.{undoubled}
 use Rattle.qw_script.specs.Inner.Sizes.{Counts, GoesOn, counted, behind_octet}
 
 -- ---- character strings

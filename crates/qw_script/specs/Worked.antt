@@ -1,6 +1,6 @@
 -- Token lists of worked cases, and what they say.
 use Rattle.std.specs.Prelude.{ℕ, List, [], None}
-use Rattle.qw_meaning.specs.declared.query.Comparison.TheVariants.{Equal}
+use Rattle.qw_meaning.specs.declared.comparison.Comparison.TheVariants.{Equal}
 use Rattle.qw_token.specs.declared.token.Kind.TheVariants.{Word, Number, Symbol}
 use Rattle.qw_token.specs.Token.{Lexeme}
 use Rattle.qw_ast.specs.Syntax.{Expression, number, column, Condition, comparison, Clause}

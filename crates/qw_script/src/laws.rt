@@ -2,13 +2,15 @@
 
 ghost use Rattle.std.specs.Prelude.{◌≡◌, ℕ, List, [], ◌∷◌, codes, false};
 ghost use Rattle.qw_meaning.specs.declared.expression.Operator.TheVariants.{Add, Multiply, Subtract};
-ghost use Rattle.qw_meaning.specs.declared.query.Comparison.TheVariants.{Equal, Greater};
+ghost use Rattle.qw_meaning.specs.declared.comparison.Comparison.TheVariants.{Equal, Greater};
 ghost use Rattle.qw_token.specs.Token.{Lexeme};
 ghost use Rattle.qw_ast.specs.declared.script.Sign.TheVariants.{Minus};
 ghost use Rattle.qw_ast.specs.Syntax.{Select, arithmetic, between, both, bracketed, comparison, condition, date, either, expression, negation_of, null, number, otherwise, searched_case, signed, text, when};
 ghost use Rattle.qw_ast.specs.ScriptGrammar.{IsSelectOf};
 ghost use Rattle.qw_script.specs.declared.fault.ParseFault.{ParseFault};
-ghost use Rattle.qw_script.specs.Script.{IsScriptRefused, ReadsScript, nodes, nodes_condition, octets};
+ghost use Rattle.qw_ast.specs.Limits.{nodes, nodes_condition, octets};
+ghost use Rattle.qw_script.specs.declared.fault.Count.TheVariants.{LiteralOctets, Nodes, SelectItems};
+ghost use Rattle.qw_script.specs.Script.{IsPassedFirst, IsScriptRefused, Limit, ReadsScript, limits};
 ghost use Rattle.qw_script.specs.Worked.{Says, equals, n, s, the_column, w};
 
 /// Tokens are one query at most.
@@ -51,4 +53,13 @@ pub fn worked_sizes()
     ensures case { nodes (searched_case (when (condition (equals (codes "a") (codes "1"))) null (otherwise (text (codes "'x'"))))) ≡ 5 }
     ensures string { octets (text (codes "'it''s'")) ≡ 4 }
     ensures date { (nodes (date (codes "'2024-01-31'") []) ≡ 1) × (octets (date (codes "'2024-01-31'") []) ≡ 0) }
+{}
+
+/// Of several limits that are passed the first is told: items, then nodes, then octets of literals. Of 1,000 nodes there aren't too many,
+/// of 1,001 there are.
+pub fn worked_limits()
+    ensures items { IsPassedFirst (limits 65 1001 16385) (record { many = 65; what = SelectItems; most = 64 }) }
+    ensures nodes { IsPassedFirst (limits 64 1001 16385) (record { many = 1001; what = Nodes; most = 1000 }) }
+    ensures octets { IsPassedFirst (limits 64 1000 16385) (record { many = 16385; what = LiteralOctets; most = 16384 }) }
+    ensures none { (limit : Limit) → IsPassedFirst (limits 64 1000 16384) limit → ⊥ }
 {}

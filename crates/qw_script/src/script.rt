@@ -3,15 +3,16 @@
 ghost use Rattle.std.specs.Prelude.{◌≡◌, ◌⊎◌, length, map, IfOk, IfErr};
 ghost use Rattle.qw_token.specs.Token.{lexemes};
 ghost use Rattle.qw_ast.specs.SyntaxTree.{select_of, selected_of, selects_of};
-ghost use Rattle.qw_script.specs.Script.{AreAccepted, HasFault, HasFirstFault, IsAccepted, IsScriptRefused, ReadsScript, items_of};
-ghost use Rattle.qw_script.specs.Inner.Judges.{KeepsLimits, PassesLimit};
+ghost use Rattle.qw_ast.specs.Limits.{AreTaken, IsAccepted, items_of, query_items, query_nodes, query_octets};
+ghost use Rattle.qw_script.specs.Script.{AreAccepted, HasFault, HasFirstFault, IsScriptRefused, ReadsScript};
+ghost use Rattle.qw_script.specs.Inner.Judges.{PassesLimit};
 
 use crate::fault::{Count, ParseFault};
 use crate::read::{Stop, push, query};
 use crate::size::size_of;
+use qw_ast::limits::MAX_ITEMS;
 use qw_ast::script::{Script, SelectList, Statement};
 use qw_ast::statement::{is_too_deep, statements};
-use qw_meaning::query::MAX_ITEMS;
 use qw_token::token::{self, Token};
 use std::alloc::Global;
 
@@ -48,9 +49,7 @@ pub fn script_of<'a>(alloc: Global, text: &'a [u8]) -> Result<Script<'a>, ParseF
         return Err(ParseFault::NotGrammar { statement: 1 });
     }
     let queries = queries(alloc, &statements)?;
-    Ok(Script {
-        statements: queries,
-    })
+    Ok(Script::new(queries))
 }
 
 /// The queries that the statements are, one each, or the first fault.
@@ -100,7 +99,7 @@ fn item_count(list: &SelectList<'_>) -> usize
 
 /// Sees that the query of this number keeps each limit.
 fn within_limits(statement: usize, query: &Statement<'_>) -> Result<(), ParseFault>
-    ensures kept { IfOk result (λ _. KeepsLimits (select_of query.now)) }
+    ensures kept { IfOk result (λ _. AreTaken (query_items (select_of query.now)) (query_nodes (select_of query.now)) (query_octets (select_of query.now))) }
     ensures passed { IfErr result (λ fault. PassesLimit statement (select_of query.now) fault) }
 {
     let size = size_of(query);

@@ -2,7 +2,7 @@
 
 ghost use Rattle.std.specs.Prelude.{◌≡◌, length, map, option_map};
 ghost use Rattle.qw_ast.specs.SyntaxTree.{branching_of, clause_of, condition_of, expression_of, expressions_of, item_of, select_of, selected_of};
-ghost use Rattle.qw_script.specs.Script.{items_of, nodes, nodes_all, nodes_branches, nodes_clause, nodes_condition, octets, octets_all, octets_branches, octets_clause, octets_condition, over_filter, over_items, query_nodes, query_octets, string_value, undoubled};
+ghost use Rattle.qw_ast.specs.Limits.{items_of, nodes, nodes_all, nodes_branches, nodes_clause, nodes_condition, octets, octets_all, octets_branches, octets_clause, octets_condition, over_filter, over_items, query_nodes, query_octets, string_value, undoubled};
 ghost use Rattle.qw_script.specs.Inner.Sizes.{Counts, behind_octet, counted};
 
 use qw_ast::script::{Branches, Cond, Expr, Exprs, Item, Phrase, SelectList, Statement};

@@ -74,7 +74,7 @@ module _ (b : Standing) (i : ℕ) (kept : IsBench b) (is : IsDone b i) where
   rows-there =
       let over : is.instance.state ≡ Returned = returned is.instance.state is.instance.world is.instance.ran is.instance.most_steps (sym serves.whole.end_is ∙ is.done) in
       let here = moment_of is.instance b.shared.common.memory in
-      let rows = (serves.behaves.2.ends 0 here (begins here) (subst IsOver (sym over) tt)).1 in
+      let rows = serves.behaves.ends 0 here (begins here) (subst IsOver (sym over) tt) (omega arith) in
       subst (HasRows is.task.program.layout is.task.descriptor here) over rows
 
   -- what was told of a bench leads to its rows

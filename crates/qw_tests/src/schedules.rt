@@ -1,10 +1,8 @@
-// Compiled statements beside the plain program, whatever turns they are given, and the octets that a run leaves.
+// Compiled statements beside comparisons of numbers, whatever turns they are given, and the octets that a run leaves.
 
-use crate::tables::{bench_of, differs, end_of, narrow};
-use qw_bench::bench::{Bench, DEFAULT_LIMITS, Ended};
-use qw_meaning::plain::plain_rows;
-use qw_meaning::query::{Comparison, Query};
-use qw_types::{NoMemory, Row, Val};
+use crate::tables::{DEFAULT_LIMITS, bench_of, differs, end_of, narrow};
+use qw_bench::bench::{Bench, Ended};
+use qw_meaning::comparison::Comparison;
 use std::alloc::{AllocError, Global};
 use std::test::Fail;
 
@@ -70,25 +68,32 @@ fn stored_bench(alloc: Global) -> Result<Bench, Fail> {
     bench_of(alloc, narrow(alloc)?, file.as_bytes(), DEFAULT_LIMITS)
 }
 
-fn numbers_of(alloc: Global, rows: &[Row]) -> Result<Vec<i64>, NoMemory> {
+fn compares(comparison: Comparison, number: i64, literal: i64) -> bool {
+    match comparison {
+        Comparison::Equal => number == literal,
+        Comparison::NotEqual => number != literal,
+        Comparison::Less => number < literal,
+        Comparison::LessOrEqual => number <= literal,
+        Comparison::Greater => number > literal,
+        Comparison::GreaterOrEqual => number >= literal,
+    }
+}
+
+// Those of a column's values that compare so with the literal.
+fn kept_numbers(
+    alloc: Global,
+    comparison: Comparison,
+    literal: i64,
+    values: &[i32],
+) -> Result<Vec<i64>, AllocError> {
     let mut numbers = Vec::new(alloc);
-    for row in rows {
-        if let [Val::Num(number)] = row.values() {
-            numbers.push(*number)?;
+    for value in values {
+        let number = i64::from(*value);
+        if compares(comparison, number, literal) {
+            numbers.push(number)?;
         }
     }
     Ok(numbers)
-}
-
-// What the plain program gives of a column of these values.
-fn plain_numbers(alloc: Global, query: &Query, values: &[i32]) -> Result<Vec<i64>, NoMemory> {
-    let mut rows = Vec::new(alloc);
-    for value in values {
-        let values = vec![in alloc; Val::Num(i64::from(*value))]?;
-        rows.push(Row::new(values))?;
-    }
-    let bag = plain_rows(alloc, query, rows.as_slice())?;
-    numbers_of(alloc, bag.as_slice())
 }
 
 #[test]

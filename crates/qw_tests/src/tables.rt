@@ -5,14 +5,13 @@ ghost use Rattle.std.specs.List.{AllByRecursion};
 ghost use Rattle.qw_types.specs.declared.value.Ty.TheVariants.{Integer};
 ghost use Rattle.qw_bench.specs.Standing.{AreLimits};
 ghost use Rattle.qw_top.specs.Inner.Queries.{IsOver};
-ghost use Rattle.qw_top.specs.Inner.Stages.{AreContentsOf};
+ghost use Rattle.qw_top.specs.Inner.Stages.{AreContentsOf, IsContentsOf};
 
-use qw_bench::bench::{Bench, BenchFault, Ended, Limits, MAX_JOBS};
+use qw_bench::bench::{Bench, BenchFault, Ended, Limits, MAX_JOBS, MAX_STEPS};
 use qw_csv::loading::{LoadFault, load};
 use qw_csv::{CellFault, Loaded};
 use qw_io::{MemoryShelf, MemorySink, NamedFile, Shelf, Sink};
 use qw_linear::linear::{Linear, MAX_PAGES};
-use qw_meaning::query::{Comparison, Query};
 use qw_sink::sink::Head;
 use qw_top::status::Status;
 use qw_top::top::program::job_of;
@@ -24,6 +23,12 @@ use qw_types::{Column, Columns, Kind, Schema, Table, Text, Ty};
 use std::alloc::{AllocError, Global};
 use std::process::Abort;
 use std::test::Fail;
+
+/// Limits that no test meets by them.
+pub const DEFAULT_LIMITS: Limits = Limits {
+    pages: 128,
+    steps: MAX_STEPS,
+};
 
 /// The words of a run over the files of a `shelf`.
 pub const WORDS: [&str; 4] = ["run", "s", "d", "q"];
@@ -142,12 +147,6 @@ pub fn words(alloc: Global, texts: &[&str]) -> Result<Vec<String>, AllocError> {
     Ok(words)
 }
 
-/// The statement that selects the first column where it compares so with the literal.
-pub fn asking(alloc: Global, comparison: Comparison, literal: i64) -> Result<Query, AllocError> {
-    let columns = vec![in alloc; 0]?;
-    Ok(Query::new(0, columns, 0, comparison, literal))
-}
-
 /// A bench of `SELECT A FROM T WHERE A > 5` over the file of a table T, before its first turn.
 pub fn bench_of(alloc: Global, table: Table, file: &[u8], limits: Limits) -> Result<Bench, Fail> {
     Ok(bench_or_fault(alloc, table, file, limits)??)
@@ -184,14 +183,49 @@ pub fn bench_over(
     bench_of_queries(alloc, schema, tables.as_slice(), queries.as_slice(), limits)
 }
 
+/// The same over the files of a schema's two tables.
+pub fn bench_over_two(
+    alloc: Global,
+    schema: &Schema,
+    (first, second): (&[u8], &[u8]),
+    script: &[u8],
+    limits: &[Limits],
+) -> Result<Result<Bench, BenchFault>, Fail> {
+    let tables = two_tables_of(alloc, schema, first, second)?;
+    let queries = queries_of(alloc, schema, script)?;
+    bench_of_queries(alloc, schema, tables.as_slice(), queries.as_slice(), limits)
+}
+
 fn tables_of(alloc: Global, schema: &Schema, file: &[u8]) -> Result<Vec<Loaded>, Fail>
     ensures { IfOk result (λ tables. AreContentsOf schema.now tables.items) }
 {
     let [table] = schema.as_slice() else {
         return Err("not one table".into());
     };
-    let loaded = load(alloc, table, file)?;
+    let loaded = loaded_of(alloc, table, file)?;
     Ok(vec![in alloc; loaded]?)
+}
+
+fn two_tables_of(
+    alloc: Global,
+    schema: &Schema,
+    first_file: &[u8],
+    second_file: &[u8],
+) -> Result<Vec<Loaded>, Fail>
+    ensures { IfOk result (λ tables. AreContentsOf schema.now tables.items) }
+{
+    let [first, second] = schema.as_slice() else {
+        return Err("not two tables".into());
+    };
+    let first = loaded_of(alloc, first, first_file)?;
+    let second = loaded_of(alloc, second, second_file)?;
+    Ok(vec![in alloc; first, second]?)
+}
+
+fn loaded_of(alloc: Global, table: &Table, file: &[u8]) -> Result<Loaded, LoadFault>
+    ensures { IfOk result (λ loaded. IsContentsOf table.now loaded) }
+{
+    load(alloc, table, file)
 }
 
 fn bench_of_queries(
@@ -229,7 +263,7 @@ fn are_limits(limits: &[Limits]) -> bool
 fn is_limit(one: Limits) -> bool
     ensures { IsTrue result → AreLimits one }
 {
-    1 <= one.pages && one.pages <= MAX_PAGES && 1 <= one.steps
+    1 <= one.pages && one.pages <= MAX_PAGES && 1 <= one.steps && one.steps <= MAX_STEPS
 }
 
 /// A sink that takes at most so many octets a call.

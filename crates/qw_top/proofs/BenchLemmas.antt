@@ -1,17 +1,17 @@
 -- That queries over the schema can be compiled and begun over the tables' rows, and that turns run them to their ends.
 use Rattle.std.proofs.Common.{◌≡◌, ℕ, zero, suc, ◌≤◌, List, [], ◌∷◌, Some, refl, subst, length, ap, ◌∙◌, arith, map}
-use Rattle.std.specs.Prelude.{◌++◌, Bool, IsSome, replicate, slice_get}
+use Rattle.std.specs.Prelude.{◌++◌, IsSome, replicate, slice_get}
 use Rattle.std.specs.List.{AllByRecursion, AllZip}
 use Rattle.std.proofs.lemmas.Option.{none-some, same_Some}
-use Rattle.qw_types.specs.Contents.{Contents, column_type}
-use Rattle.qw_types.specs.declared.schema.Column.{Column}
+use Rattle.qw_types.specs.Contents.{Contents, column_type, rows_of}
 use Rattle.qw_types.specs.declared.schema.ColumnType.{ColumnType}
 use Rattle.qw_types.specs.declared.schema.Table.{Table}
-use Rattle.qw_types.specs.declared.value.Ty.{Ty}
+use Rattle.qw_csv.proofs.ColumnLaws.{loaded_of_columns}
+use Rattle.qw_meaning.specs.Select.{AreOfEntries}
 use Rattle.qw_map.specs.Turns.{Act, EachInstance, turns}
 use Rattle.qw_map.specs.declared.layout.Used.{Used}
 use Rattle.qw_compile.specs.Named.{IsOfTable}
-use Rattle.qw_bench.specs.Bench.{AreRounds, AreServing, IsColumnIn, IsStart, Program}
+use Rattle.qw_bench.specs.Bench.{AreRounds, AreServing, IsColumnIn, IsStart, Program, rows_in_tables}
 use Rattle.qw_bench.specs.Standing.{Standing, AreLimits, AreTasksOf}
 use Rattle.qw_bench.specs.declared.bench.Limits.{Limits}
 use Rattle.qw_map.proofs.TurnFacts.{found-in as there}
@@ -20,12 +20,11 @@ use Rattle.qw_bench.proofs.Starting.{start-serving}
 use Rattle.qw_top.specs.Delivered.{HasRun, IsProgramOf}
 use Rattle.qw_types.specs.Limits.{most_tables}
 use Rattle.qw_parse.proofs.SchemaLemmas.{ReadsSchema-tables}
-use Rattle.qw_top.specs.Limits.{default_limits, quantum}
 use Rattle.qw_top.specs.Top.{Asked, Files, HasQueries, HaveRoom, Names, TablesAre, same_limits}
 use Rattle.qw_top.specs.declared.stop.Stop.{Stop}
 use Rattle.qw_typer.specs.declared.query.TypedSelect.{TypedSelect}
-use Rattle.qw_top.specs.Inner.Queries.{IsJobOf, asked_of}
-use Rattle.qw_top.specs.Inner.Stages.{AreContentsOf, FilesStop, HasAsked, StopsToRun}
+use Rattle.qw_top.specs.Inner.Queries.{IsJobOf, IsOver, asked_of}
+use Rattle.qw_top.specs.Inner.Stages.{AreContentsOf, FilesStop, HasAsked, IsContentsOf, StopsToRun}
 use Rattle.qw_top.proofs.RunLemmas.{end_is, many_tasks}
 use Rattle.qw_top.proofs.StopLemmas.{run_stops}
 
@@ -33,29 +32,47 @@ use Rattle.qw_top.proofs.StopLemmas.{run_stops}
 
 -- the rows of a table of the schema
 contents_at : (schema : List Table) (tables : List Contents) (n : ℕ) (table : Table) → AreContentsOf schema tables → slice_get schema n ≡ Some table →
-    (one : Contents) × (slice_get tables n ≡ Some one) × (one.columns ≡ map column_type table.columns)
+    (one : Contents) × (slice_get tables n ≡ Some one) × IsContentsOf table one
 contents_at [] tables n table are found = absurd (none-some table found)
 contents_at (first ∷ schema) [] n table are found = absurd are
 contents_at (first ∷ schema) (one ∷ tables) zero table are found =
-    let same : first ≡ table = cc in (one, refl, are.0 ∙ ap (λ (t : Table). map column_type t.columns) same)
+    let same : first ≡ table = cc in (one, refl, subst (λ (t : Table). IsContentsOf t one) same are.0)
 contents_at (first ∷ schema) (one ∷ tables) (suc n) table are found = contents_at schema tables n table are.1 found
 
--- the column of a type and of a NOT NULL at a place
-column_there : (columns : List Column) (k : ℕ) (t : Ty) (b : Bool) → slice_get (map (λ (c : Column). c.ty) columns) k ≡ Some t → slice_get (map (λ (c : Column). c.not_null) columns) k ≡ Some b →
-    (c : ColumnType) × (slice_get (map column_type columns) k ≡ Some c) × (c.ty ≡ t) × (c.not_null ≡ b)
-column_there [] k t b types nulls = absurd cc
-column_there (c ∷ columns) zero t b types nulls = (column_type c, refl, same_Some c.ty t types, same_Some c.not_null b nulls)
-column_there (c ∷ columns) (suc k) t b types nulls = column_there columns k t b types nulls
-
 pub columns_in : (schema : List Table) (tables : List Contents) (n : ℕ) (table : Table) → AreContentsOf schema tables → slice_get schema n ≡ Some table → (used : List Used) →
-    AllByRecursion (IsOfTable n (map (λ (c : Column). c.ty) table.columns) (map (λ (c : Column). c.not_null) table.columns)) used → AllByRecursion (IsColumnIn tables) used
+    AllByRecursion (IsOfTable n (map column_type table.columns)) used → AllByRecursion (IsColumnIn tables) used
 columns_in schema tables n table are found [] all = tt
 columns_in schema tables n table are found (u ∷ used) all =
-    let one = contents_at schema tables n table are found in
-    let c = column_there table.columns u.column u.ty u.not_null all.0.type_is all.0.not_null_is in (
-      (one.0, c.0, ap (λ (m : ℕ). slice_get tables m) all.0.table_is ∙ one.1, ap (λ (cs : List ColumnType). slice_get cs u.column) one.2 ∙ c.1, c.2, c.3),
+    let one = contents_at schema tables n table are found in (
+      (
+        one.0,
+        record { ty = u.ty; not_null = u.not_null },
+        ap (λ (m : ℕ). slice_get tables m) all.0.table_is ∙ one.1,
+        ap (λ (cs : List ColumnType). slice_get cs u.column) one.2.columns ∙ all.0.column_is,
+        refl,
+        refl,
+      ),
       columns_in schema tables n table are found used all.1,
     )
+
+-- ---- the rows that queries read
+
+rows_there : (tables : List Contents) (n : ℕ) (one : Contents) → slice_get tables n ≡ Some one → rows_of (rows_in_tables tables) n ≡ one.rows
+rows_there [] n one found = absurd (none-some one found)
+rows_there (first ∷ tables) zero one found = ap (λ (c : Contents). c.rows) (same_Some first one found)
+rows_there (first ∷ tables) (suc n) one found = rows_there tables n one found
+
+-- those of a query over a table of the schema
+pub entry_read : (schema : List Table) (tables : List Contents) (query : TypedSelect) → AreContentsOf schema tables → IsOver schema query → AreOfEntries (asked_of query).specification.entries (rows_in_tables tables)
+entry_read schema tables query are over =
+    let one = contents_at schema tables query.select.table over.table are over.there in
+    let rows : rows_of (rows_in_tables tables) query.select.table ≡ one.0.rows = rows_there tables query.select.table one.0 one.1 in
+    (record { few = rw rows one.2.few; typed = rw (rows, over.columns_are) one.2.typed }, tt)
+
+pub entries_read : (schema : List Table) (tables : List Contents) (queries : List TypedSelect) → AreContentsOf schema tables → AllByRecursion (IsOver schema) queries →
+    AllByRecursion (λ (asked : Asked). AreOfEntries asked.specification.entries (rows_in_tables tables)) (map asked_of queries)
+entries_read schema tables [] are over = tt
+entries_read schema tables (query ∷ queries) are over = (entry_read schema tables query are over.0, entries_read schema tables queries are over.1)
 
 -- ---- as many rows as tables
 
@@ -63,7 +80,10 @@ pub contents_of : (files : Files) (folder : List ℕ) (schema : List Table) (tab
 contents_of files folder [] [] are = tt
 contents_of files folder [] (one ∷ tables) are = are
 contents_of files folder (table ∷ schema) [] are = are
-contents_of files folder (table ∷ schema) (one ∷ tables) are = (are.0.columns, contents_of files folder schema tables are.1)
+contents_of files folder (table ∷ schema) (one ∷ tables) are = (
+  record { columns = are.0.columns; few = are.0.loads.few; typed = loaded_of_columns table are.0.bytes one.rows are.0.loads },
+  contents_of files folder schema tables are.1,
+)
 
 pub same_many : (schema : List Table) (tables : List Contents) → AreContentsOf schema tables → length tables ≡ length schema
 same_many [] [] are = refl
@@ -78,16 +98,17 @@ few_tables files names schema tables queries held =
 -- ---- turns from a start on, after which all instances have ended
 
 pub HasRun-from : (limits : Limits) (quantum : ℕ) (tables : List Contents) (queries : List Asked) (programs : List Program) (before b : Standing) → HaveRoom limits tables queries →
-    AllZip IsProgramOf queries programs → AreTasksOf programs (same_limits limits queries) before.tasks → IsStart tables before.tasks before.shared → b.tasks ≡ before.tasks →
+    AllByRecursion (λ (asked : Asked). AreOfEntries asked.specification.entries (rows_in_tables tables)) queries → AllZip IsProgramOf queries programs → AreTasksOf programs (same_limits limits queries) before.tasks → IsStart tables before.tasks before.shared → b.tasks ≡ before.tasks →
     ((given : List Act) × AreRounds quantum given before.shared × (b.shared ≡ turns given before.shared)) →
     EachInstance (λ instance. IsSome instance.end) b.shared → HasRun limits quantum tables queries b
-HasRun-from limits quantum tables queries programs before b room compiled tasks start same (given, rounds, turned) ended =
+HasRun-from limits quantum tables queries programs before b room read compiled tasks start same (given, rounds, turned) ended =
     let are : AreTasksOf programs (same_limits limits queries) b.tasks = rw same tasks in
     let began : IsStart tables b.tasks before.shared = rw same start in
     let serving : AreServing tables b.tasks b.shared = rw turned (turns-serving tables b.tasks before.shared (start-serving tables b.tasks before.shared began) given) in
     let many : length b.shared.instances ≡ length queries = serving.many ∙ many_tasks limits queries programs b.tasks compiled are in
     record {
       room = room;
+      read = read;
       programs = programs;
       compiled = compiled;
       tasks = are;
@@ -138,13 +159,13 @@ jobs_more schema (first ∷ queries) [] query job are is = absurd are
 jobs_more schema (first ∷ queries) (one ∷ jobs) query job are is = (are.0, jobs_more schema queries jobs query job are.1 is)
 
 -- their limits
-pub limits_of : (queries : List TypedSelect) → replicate (length queries) default_limits ≡ same_limits default_limits (map asked_of queries)
-limits_of [] = refl
-limits_of (query ∷ queries) = ap (λ (limits : List Limits). default_limits ∷ limits) (limits_of queries)
+pub each_limits : (limits : Limits) (queries : List TypedSelect) → replicate (length queries) limits ≡ same_limits limits (map asked_of queries)
+each_limits limits [] = refl
+each_limits limits (query ∷ queries) = ap (λ (all : List Limits). limits ∷ all) (each_limits limits queries)
 
-pub each_limit : (n : ℕ) → AllByRecursion AreLimits (replicate n default_limits)
-each_limit zero = tt
-each_limit (suc n) = (record { some_pages = omega arith; few_pages = omega arith; some_steps = omega arith }, each_limit n)
+pub each_limit : (limits : Limits) (n : ℕ) → AreLimits limits → AllByRecursion AreLimits (replicate n limits)
+each_limit limits zero are = tt
+each_limit limits (suc n) are = (are, each_limit limits n are)
 
 -- ---- from what was read to what was run
 
@@ -155,8 +176,8 @@ module _ (files : Files) (names : Names) (schema : List Table) (tables : List Co
   pub accepted_contents : AreContentsOf schema tables
   accepted_contents = contents_of files names.folder schema tables asks.before.loaded
 
-  pub accepted_run : (b : Standing) → HasRun default_limits quantum tables queries b → HasAsked files names queries b
-  accepted_run b run = record { schema = schema; tables = tables; asks = asks; run = run }
+  pub accepted_run : (limits : Limits) (quantum : ℕ) (b : Standing) → HasRun limits quantum tables queries b → HasAsked limits quantum files names queries b
+  accepted_run limits quantum b run = record { schema = schema; tables = tables; asks = asks; run = run }
 
-  pub accepted_stops : (stop : Stop) → StopsToRun tables queries stop → FilesStop files names stop
-  accepted_stops stop stops = run_stops files names schema tables queries stop asks stops
+  pub accepted_stops : (limits : Limits) (stop : Stop) → StopsToRun limits tables queries stop → FilesStop limits files names stop
+  accepted_stops limits stop stops = run_stops limits files names schema tables queries stop asks stops

@@ -2,6 +2,7 @@
 use Rattle.std.proofs.Common.{◌≡◌, ◌⊎◌, ℕ, ◌<◌, ◌-◌, List, Option, Some, None, Err, length, inl, inr, refl, sym, subst, ap, ◌∙◌, arith}
 use Rattle.std.specs.String.{string_bytes}
 use Rattle.qw_types.specs.declared.schema.Table.{Table}
+use Rattle.qw_bench.specs.Standing.{Standing}
 use Rattle.qw_bench.specs.declared.bench.Limits.{Limits}
 use Rattle.qw_check.specs.Check.{HasFault, SpellsValid}
 use Rattle.qw_check.specs.declared.check.CheckFault.{CheckFault}
@@ -12,7 +13,7 @@ use Rattle.qw_words.specs.declared.command.WordsFault.{WordsFault}
 use Rattle.qw_words.specs.declared.command.WordsFault.TheVariants as words_faults
 use Rattle.qw_top.specs.Call.{CheckSettles, CompileSettles, ExplainsBy, HasScript, HasStatement, IsEndOfWords, IsValidFile, LeavesBy, NamesBy, NotesBy, SettlesBy, TookText}
 use Rattle.qw_top.specs.Causes.{AreOne, Cause, line_of_cause, status_of_cause, words_refused, statement_out_of_range, schema_too_long, schema_refused, queries_too_long, queries_refused, queries_mistyped, no_statement, module_too_long, module_refused}
-use Rattle.qw_top.specs.Limits.{default_limits, quantum, most_module_octets}
+use Rattle.qw_top.specs.Limits.{limits_of, most_module_octets}
 use Rattle.qw_top.specs.Notes.{want_of_memory_line}
 use Rattle.qw_top.specs.Top.{Asked, Files, FilesSettle, IsFault, IsRefusal, IsReported, QueriesAre, RunExplains, SchemaIs}
 use Rattle.qw_top.specs.declared.status.Status.{Status}
@@ -27,10 +28,10 @@ use Rattle.qw_top.proofs.StoppedLemmas.{cause_noted, cut_short, want_noted}
 
 -- ---- a run
 
-pub run_explains : (limits : Limits) (files : Files) (names : Names) (result : Status) → ((cause : Cause) × FilesSettle limits files names cause × (result ≡ status_of_cause cause)) ⊎ IsFault result →
-    RunExplains limits files names result
-run_explains limits files names result (inl (cause, h, is)) = subst (RunExplains limits files names) (sym is) (settled_explains limits files names cause h)
-run_explains limits files names result (inr fault) = fault_explains limits files names result fault
+pub run_explains : (limits : Limits) (files : Files) (names : Names) (kept : Option Standing) (result : Status) → ((cause : Cause) × FilesSettle limits files names cause × (result ≡ status_of_cause cause)) ⊎ IsFault result →
+    RunExplains limits files names kept result
+run_explains limits files names kept result (inl (cause, h, is)) = subst (RunExplains limits files names kept) (sym is) (settled_explains limits files names kept cause h)
+run_explains limits files names kept result (inr fault) = fault_explains limits files names kept result fault
 
 -- ---- words that aren't read
 
@@ -47,60 +48,60 @@ want_ends : (result : Status) (old new : Option (List ℕ)) → NotesLine want_o
 want_ends result old new (inl (is, took)) = inr is
 want_ends result old new (inr (ends, front)) = ends
 
-module _ (limits : Limits) (files : Files) where
-  want_explains : (r : Reading) (result : Status) → (result ≡ WriteFailed) ⊎ (result ≡ NoMemory) → ExplainsBy limits files r result
-  want_explains no_command result (inl is) = subst IsEndOfWords (sym is) tt
-  want_explains no_command result (inr is) = subst IsEndOfWords (sym is) tt
-  want_explains no_number result (inl is) = subst IsEndOfWords (sym is) tt
-  want_explains no_number result (inr is) = subst IsEndOfWords (sym is) tt
-  want_explains (command (run names)) result (inl is) = subst (RunExplains limits files names) (sym is) tt
-  want_explains (command (run names)) result (inr is) = subst (RunExplains limits files names) (sym is) tt
-  want_explains (command (compile names k)) result (inl is) = subst (λ (s : Status). ExplainsBy limits files (command (compile names k)) s) (sym is) tt
-  want_explains (command (compile names k)) result (inr is) = subst (λ (s : Status). ExplainsBy limits files (command (compile names k)) s) (sym is) tt
-  want_explains (command (check name)) result (inl is) = subst (λ (s : Status). ExplainsBy limits files (command (check name)) s) (sym is) tt
-  want_explains (command (check name)) result (inr is) = subst (λ (s : Status). ExplainsBy limits files (command (check name)) s) (sym is) tt
+module _ (files : Files) where
+  want_explains : (r : Reading) (kept : Option Standing) (result : Status) → (result ≡ WriteFailed) ⊎ (result ≡ NoMemory) → ExplainsBy files r kept result
+  want_explains no_command kept result (inl is) = subst IsEndOfWords (sym is) tt
+  want_explains no_command kept result (inr is) = subst IsEndOfWords (sym is) tt
+  want_explains no_number kept result (inl is) = subst IsEndOfWords (sym is) tt
+  want_explains no_number kept result (inr is) = subst IsEndOfWords (sym is) tt
+  want_explains (command (run names options)) kept result (inl is) = subst (RunExplains (limits_of options) files names kept) (sym is) tt
+  want_explains (command (run names options)) kept result (inr is) = subst (RunExplains (limits_of options) files names kept) (sym is) tt
+  want_explains (command (compile names k)) kept result (inl is) = subst (λ (s : Status). ExplainsBy files (command (compile names k)) kept s) (sym is) tt
+  want_explains (command (compile names k)) kept result (inr is) = subst (λ (s : Status). ExplainsBy files (command (compile names k)) kept s) (sym is) tt
+  want_explains (command (check name)) kept result (inl is) = subst (λ (s : Status). ExplainsBy files (command (check name)) kept s) (sym is) tt
+  want_explains (command (check name)) kept result (inr is) = subst (λ (s : Status). ExplainsBy files (command (check name)) kept s) (sym is) tt
 
-  pub words_explained : (r : Reading) (fault : WordsFault) (result : Status) (old new : Option (List ℕ)) → Answers r (Err fault) → NotesWords fault result old new → ExplainsBy limits files r result
-  words_explained r (words_faults.Refused text) result old new is noted =
-      subst (λ (q : Reading). ExplainsBy limits files q result) (sym is) (noted_end (string_bytes text) WordsRefused result old new tt noted)
-  words_explained r words_faults.StatementOutOfRange result old new is noted =
-      subst (λ (q : Reading). ExplainsBy limits files q result) (sym is) (noted_end (line_of_cause statement_out_of_range) WordsRefused result old new tt noted)
-  words_explained r words_faults.NoMemory result old new is noted = want_explains r result (want_ends result old new noted)
+  pub words_explained : (r : Reading) (kept : Option Standing) (fault : WordsFault) (result : Status) (old new : Option (List ℕ)) → Answers r (Err fault) → NotesWords fault result old new → ExplainsBy files r kept result
+  words_explained r kept (words_faults.Refused text) result old new is noted =
+      subst (λ (q : Reading). ExplainsBy files q kept result) (sym is) (noted_end (string_bytes text) WordsRefused result old new tt noted)
+  words_explained r kept words_faults.StatementOutOfRange result old new is noted =
+      subst (λ (q : Reading). ExplainsBy files q kept result) (sym is) (noted_end (line_of_cause statement_out_of_range) WordsRefused result old new tt noted)
+  words_explained r kept words_faults.NoMemory result old new is noted = want_explains r kept result (want_ends result old new noted)
 
-  want_notes : (r : Reading) (fault_name : Option (List ℕ)) (result : Status) (old new : Option (List ℕ)) → NotesLine want_of_memory_line NoMemory result old new → NotesBy limits files r fault_name result old new
+  want_notes : (r : Reading) (fault_name : Option (List ℕ)) (result : Status) (old new : Option (List ℕ)) → NotesLine want_of_memory_line NoMemory result old new → NotesBy files r fault_name result old new
   want_notes no_command fault_name result old new noted = noted_text want_of_memory_line NoMemory result old new noted
-  want_notes no_number fault_name result old new noted = want_noted (SettlesBy limits files no_number) (NamesBy files no_number) fault_name result old new noted
-  want_notes (command c) fault_name result old new noted = want_noted (SettlesBy limits files (command c)) (NamesBy files (command c)) fault_name result old new noted
+  want_notes no_number fault_name result old new noted = want_noted (SettlesBy files no_number) (NamesBy files no_number) fault_name result old new noted
+  want_notes (command c) fault_name result old new noted = want_noted (SettlesBy files (command c)) (NamesBy files (command c)) fault_name result old new noted
 
   number_noted : (fault_name : Option (List ℕ)) (result : Status) (old new : Option (List ℕ)) → NotesLine (line_of_cause statement_out_of_range) WordsRefused result old new →
-      NotesBy limits files no_number fault_name result old new
+      NotesBy files no_number fault_name result old new
   number_noted fault_name result old new (inl (is, took)) =
-      subst (λ (s : Status). NotesBy limits files no_number fault_name s old new) (sym is) (cause_noted (SettlesBy limits files no_number) (NamesBy files no_number) fault_name statement_out_of_range old new refl took)
+      subst (λ (s : Status). NotesBy files no_number fault_name s old new) (sym is) (cause_noted (SettlesBy files no_number) (NamesBy files no_number) fault_name statement_out_of_range old new refl took)
   number_noted fault_name result old new (inr (ends, front)) =
-      cut_short (SettlesBy limits files no_number) (NamesBy files no_number) fault_name (line_of_cause statement_out_of_range) result old new (inr (inr (statement_out_of_range, refl, refl))) ends front
+      cut_short (SettlesBy files no_number) (NamesBy files no_number) fault_name (line_of_cause statement_out_of_range) result old new (inr (inr (statement_out_of_range, refl, refl))) ends front
 
   pub words_noted : (r : Reading) (fault : WordsFault) (fault_name : Option (List ℕ)) (result : Status) (old new : Option (List ℕ)) → Answers r (Err fault) → NotesWords fault result old new →
-      NotesBy limits files r fault_name result old new
+      NotesBy files r fault_name result old new
   words_noted r (words_faults.Refused text) fault_name result old new is noted =
-      subst (λ (q : Reading). NotesBy limits files q fault_name result old new) (sym is) (noted_text (string_bytes text) WordsRefused result old new noted)
+      subst (λ (q : Reading). NotesBy files q fault_name result old new) (sym is) (noted_text (string_bytes text) WordsRefused result old new noted)
   words_noted r words_faults.StatementOutOfRange fault_name result old new is noted =
-      subst (λ (q : Reading). NotesBy limits files q fault_name result old new) (sym is) (number_noted fault_name result old new noted)
+      subst (λ (q : Reading). NotesBy files q fault_name result old new) (sym is) (number_noted fault_name result old new noted)
   words_noted r words_faults.NoMemory fault_name result old new is noted = want_notes r fault_name result old new noted
 
-want_leaves : (files : Files) (r : Reading) (result : Status) (taken : Option (List ℕ)) → (result ≡ WriteFailed) ⊎ (result ≡ NoMemory) → LeavesBy default_limits quantum files r result None taken taken
+want_leaves : (files : Files) (r : Reading) (result : Status) (taken : Option (List ℕ)) → (result ≡ WriteFailed) ⊎ (result ≡ NoMemory) → LeavesBy files r result None taken taken
 want_leaves files no_command result taken ends = (refl, refl)
 want_leaves files no_number result taken ends = (refl, refl)
-want_leaves files (command (run names)) result taken (inl is) = subst (λ (s : Status). LeavesBy default_limits quantum files (command (run names)) s None taken taken) (sym is) (inl (refl, refl))
-want_leaves files (command (run names)) result taken (inr is) = subst (λ (s : Status). LeavesBy default_limits quantum files (command (run names)) s None taken taken) (sym is) (inl (refl, refl))
-want_leaves files (command (compile names k)) result taken (inl is) = subst (λ (s : Status). LeavesBy default_limits quantum files (command (compile names k)) s None taken taken) (sym is) (refl, inl refl)
-want_leaves files (command (compile names k)) result taken (inr is) = subst (λ (s : Status). LeavesBy default_limits quantum files (command (compile names k)) s None taken taken) (sym is) (refl, inl refl)
-want_leaves files (command (check name)) result taken (inl is) = subst (λ (s : Status). LeavesBy default_limits quantum files (command (check name)) s None taken taken) (sym is) (refl, inl refl)
-want_leaves files (command (check name)) result taken (inr is) = subst (λ (s : Status). LeavesBy default_limits quantum files (command (check name)) s None taken taken) (sym is) (refl, inl refl)
+want_leaves files (command (run names options)) result taken (inl is) = subst (λ (s : Status). LeavesBy files (command (run names options)) s None taken taken) (sym is) (inl (refl, refl))
+want_leaves files (command (run names options)) result taken (inr is) = subst (λ (s : Status). LeavesBy files (command (run names options)) s None taken taken) (sym is) (inl (refl, refl))
+want_leaves files (command (compile names k)) result taken (inl is) = subst (λ (s : Status). LeavesBy files (command (compile names k)) s None taken taken) (sym is) (refl, inl refl)
+want_leaves files (command (compile names k)) result taken (inr is) = subst (λ (s : Status). LeavesBy files (command (compile names k)) s None taken taken) (sym is) (refl, inl refl)
+want_leaves files (command (check name)) result taken (inl is) = subst (λ (s : Status). LeavesBy files (command (check name)) s None taken taken) (sym is) (refl, inl refl)
+want_leaves files (command (check name)) result taken (inr is) = subst (λ (s : Status). LeavesBy files (command (check name)) s None taken taken) (sym is) (refl, inl refl)
 
 pub words_left : (files : Files) (r : Reading) (fault : WordsFault) (result : Status) (taken old new : Option (List ℕ)) → Answers r (Err fault) → NotesWords fault result old new →
-    LeavesBy default_limits quantum files r result None taken taken
-words_left files r (words_faults.Refused text) result taken old new is noted = subst (λ (q : Reading). LeavesBy default_limits quantum files q result None taken taken) (sym is) (refl, refl)
-words_left files r words_faults.StatementOutOfRange result taken old new is noted = subst (λ (q : Reading). LeavesBy default_limits quantum files q result None taken taken) (sym is) (refl, refl)
+    LeavesBy files r result None taken taken
+words_left files r (words_faults.Refused text) result taken old new is noted = subst (λ (q : Reading). LeavesBy files q result None taken taken) (sym is) (refl, refl)
+words_left files r words_faults.StatementOutOfRange result taken old new is noted = subst (λ (q : Reading). LeavesBy files q result None taken taken) (sym is) (refl, refl)
 words_left files r words_faults.NoMemory result taken old new is noted = want_leaves files r result taken (want_ends result old new noted)
 
 pub words_not_read : (fault : WordsFault) (result : Status) (old new : Option (List ℕ)) → NotesWords fault result old new → result ≡ ReadFailed → ⊥
@@ -118,13 +119,13 @@ end_of_words QueriesRefused r end = absurd end
 end_of_words TotalPages r end = absurd end
 end_of_words _ r end = absurd r
 
-refusal_cause : (limits : Limits) (files : Files) (r : Reading) (status : Status) → IsRefusal status → ExplainsBy limits files r status →
-    (cause : Cause) × SettlesBy limits files r cause × (status ≡ status_of_cause cause)
-refusal_cause limits files no_command status refusal why = (words_refused, refl, end_of_words status refusal why)
-refusal_cause limits files no_number status refusal why = (statement_out_of_range, refl, end_of_words status refusal why)
-refusal_cause limits files (command (run names)) status refusal why = refusal_settled limits files names status refusal why
-refusal_cause limits files (command (compile names k)) status refusal why = text_cause ((one : Asked) × HasStatement files names k one) (CompileSettles files names k) status refusal why
-refusal_cause limits files (command (check name)) status refusal why = text_cause (IsValidFile files name) (CheckSettles files name) status refusal why
+refusal_cause : (files : Files) (r : Reading) (kept : Option Standing) (status : Status) → IsRefusal status → ExplainsBy files r kept status →
+    (cause : Cause) × SettlesBy files r cause × (status ≡ status_of_cause cause)
+refusal_cause files no_command kept status refusal why = (words_refused, refl, end_of_words status refusal why)
+refusal_cause files no_number kept status refusal why = (statement_out_of_range, refl, end_of_words status refusal why)
+refusal_cause files (command (run names options)) kept status refusal why = refusal_settled (limits_of options) files names kept status refusal why
+refusal_cause files (command (compile names k)) kept status refusal why = text_cause ((one : Asked) × HasStatement files names k one) (CompileSettles files names k) status refusal why
+refusal_cause files (command (check name)) kept status refusal why = text_cause (IsValidFile files name) (CheckSettles files name) status refusal why
 
 -- ---- told files
 
@@ -194,70 +195,69 @@ module _ (told : List ℕ → Option (List ℕ))
       some (never octets fault valid (subst (λ (t : List ℕ). HasFault t fault) e has))
   none_checked name _ valid h = h
 
-  module _ (limits : Limits) where
-    pub one_settled_by : (r : Reading) (cause other : Cause) → SettlesBy limits (Some told) r cause → SettlesBy limits (Some told) r other → AreOne cause other
-    one_settled_by no_command cause other h k = inl (h ∙ sym k)
-    one_settled_by no_number cause other h k = inl (h ∙ sym k)
-    one_settled_by (command (run names)) cause other h k = one_settled limits told names cause other h k
-    one_settled_by (command (compile names n)) cause other h k = one_compile told names n cause other (compile_at (Some told) names n cause h) (compile_at (Some told) names n other k)
-    one_settled_by (command (check name)) cause other h k = inl (one_check name cause other h k)
+  pub one_settled_by : (r : Reading) (cause other : Cause) → SettlesBy (Some told) r cause → SettlesBy (Some told) r other → AreOne cause other
+  one_settled_by no_command cause other h k = inl (h ∙ sym k)
+  one_settled_by no_number cause other h k = inl (h ∙ sym k)
+  one_settled_by (command (run names options)) cause other h k = one_settled (limits_of options) told names cause other h k
+  one_settled_by (command (compile names n)) cause other h k = one_compile told names n cause other (compile_at (Some told) names n cause h) (compile_at (Some told) names n other k)
+  one_settled_by (command (check name)) cause other h k = inl (one_check name cause other h k)
 
-    not_words : (status : Status) → IsReported status → IsEndOfWords status → ⊥
-    not_words Done r end = end
-    not_words Raised r end = end
-    not_words PageLimitMet r end = end
-    not_words StepLimitMet r end = end
-    not_words _ r end = r
+  not_words : (status : Status) → IsReported status → IsEndOfWords status → ⊥
+  not_words Done r end = end
+  not_words Raised r end = end
+  not_words PageLimitMet r end = end
+  not_words StepLimitMet r end = end
+  not_words _ r end = r
 
-    done_settles_none : (r : Reading) (cause : Cause) (status : Status) → IsReported status → ExplainsBy limits (Some told) r status → SettlesBy limits (Some told) r cause → ⊥
-    done_settles_none no_command cause status reported why h = not_words status reported why
-    done_settles_none no_number cause status reported why h = not_words status reported why
-    done_settles_none (command (run names)) cause status reported why h =
-        let asked = reported_asks limits (Some told) names status reported why in
-        asked_settles_none limits told names asked.0 asked.1 asked.2 cause asked.3 asked.4 h
-    done_settles_none (command (compile names n)) cause status reported why h =
-        let work = (text_done ((one : Asked) × HasStatement (Some told) names n one) (CompileSettles (Some told) names n) status reported why).1 in
-        none_compiled told names n work.0 cause work.1 (compile_at (Some told) names n cause h)
-    done_settles_none (command (check name)) cause status reported why h =
-        none_checked name cause (text_done (IsValidFile (Some told) name) (CheckSettles (Some told) name) status reported why).1 h
+  done_settles_none : (r : Reading) (cause : Cause) (kept : Option Standing) (status : Status) → IsReported status → ExplainsBy (Some told) r kept status → SettlesBy (Some told) r cause → ⊥
+  done_settles_none no_command cause kept status reported why h = not_words status reported why
+  done_settles_none no_number cause kept status reported why h = not_words status reported why
+  done_settles_none (command (run names options)) cause kept status reported why h =
+      let asked = reported_asks (limits_of options) (Some told) names kept status reported why in
+      asked_settles_none (limits_of options) told names asked.0 asked.1 asked.2 cause asked.3 asked.4 h
+  done_settles_none (command (compile names n)) cause kept status reported why h =
+      let work = (text_done ((one : Asked) × HasStatement (Some told) names n one) (CompileSettles (Some told) names n) status reported why).1 in
+      none_compiled told names n work.0 cause work.1 (compile_at (Some told) names n cause h)
+  done_settles_none (command (check name)) cause kept status reported why h =
+      none_checked name cause (text_done (IsValidFile (Some told) name) (CheckSettles (Some told) name) status reported why).1 h
 
-    -- beside a cause that is settled comes its status or a fault
-    pub ends_by : (r : Reading) (cause : Cause) (status : Status) → SettlesBy limits (Some told) r cause → ExplainsBy limits (Some told) r status → (status ≡ status_of_cause cause) ⊎ IsFault status
-    ends_by r cause status h why =
-        elim (kind_of_end status) [
-          | inl refusal ↦
-              let other = refusal_cause limits (Some told) r status refusal why in
-              inl (other.2 ∙ one_status other.0 cause (one_settled_by r other.0 cause other.1 h))
-          | inr (inl fault) ↦ inr fault
-          | inr (inr reported) ↦ absurd (done_settles_none r cause status reported why h)
-        ]
+  -- beside a cause that is settled comes its status or a fault
+  pub ends_by : (r : Reading) (cause : Cause) (kept : Option Standing) (status : Status) → SettlesBy (Some told) r cause → ExplainsBy (Some told) r kept status → (status ≡ status_of_cause cause) ⊎ IsFault status
+  ends_by r cause kept status h why =
+      elim (kind_of_end status) [
+        | inl refusal ↦
+            let other = refusal_cause (Some told) r kept status refusal why in
+            inl (other.2 ∙ one_status other.0 cause (one_settled_by r other.0 cause other.1 h))
+        | inr (inl fault) ↦ inr fault
+        | inr (inr reported) ↦ absurd (done_settles_none r cause kept status reported why h)
+      ]
 
-    pub compile_ends : (names : TextNames) (n : ℕ) (one : Asked) (status : Status) → HasStatement (Some told) names n one → ExplainsBy limits (Some told) (command (compile names n)) status → (status ≡ Done) ⊎ IsFault status
-    compile_ends names n one status has why =
-        elim (kind_of_end status) [
-          | inl refusal ↦
-              let other = refusal_cause limits (Some told) (command (compile names n)) status refusal why in
-              absurd (none_compiled told names n one other.0 has (compile_at (Some told) names n other.0 other.1))
-          | inr (inl fault) ↦ inr fault
-          | inr (inr reported) ↦ inl (text_done ((one : Asked) × HasStatement (Some told) names n one) (CompileSettles (Some told) names n) status reported why).0
-        ]
+  pub compile_ends : (names : TextNames) (n : ℕ) (one : Asked) (kept : Option Standing) (status : Status) → HasStatement (Some told) names n one → ExplainsBy (Some told) (command (compile names n)) kept status → (status ≡ Done) ⊎ IsFault status
+  compile_ends names n one kept status has why =
+      elim (kind_of_end status) [
+        | inl refusal ↦
+            let other = refusal_cause (Some told) (command (compile names n)) kept status refusal why in
+            absurd (none_compiled told names n one other.0 has (compile_at (Some told) names n other.0 other.1))
+        | inr (inl fault) ↦ inr fault
+        | inr (inr reported) ↦ inl (text_done ((one : Asked) × HasStatement (Some told) names n one) (CompileSettles (Some told) names n) status reported why).0
+      ]
 
-    pub check_ends : (name : List ℕ) (status : Status) → IsValidFile (Some told) name → ExplainsBy limits (Some told) (command (check name)) status → (status ≡ Done) ⊎ IsFault status
-    check_ends name status valid why =
-        elim (kind_of_end status) [
-          | inl refusal ↦
-              let other = refusal_cause limits (Some told) (command (check name)) status refusal why in
-              absurd (none_checked name other.0 valid other.1)
-          | inr (inl fault) ↦ inr fault
-          | inr (inr reported) ↦ inl (text_done (IsValidFile (Some told) name) (CheckSettles (Some told) name) status reported why).0
-        ]
+  pub check_ends : (name : List ℕ) (kept : Option Standing) (status : Status) → IsValidFile (Some told) name → ExplainsBy (Some told) (command (check name)) kept status → (status ≡ Done) ⊎ IsFault status
+  check_ends name kept status valid why =
+      elim (kind_of_end status) [
+        | inl refusal ↦
+            let other = refusal_cause (Some told) (command (check name)) kept status refusal why in
+            absurd (none_checked name other.0 valid other.1)
+        | inr (inl fault) ↦ inr fault
+        | inr (inr reported) ↦ inl (text_done (IsValidFile (Some told) name) (CheckSettles (Some told) name) status reported why).0
+      ]
 
 -- refused words explain no other end, but that what is noted of them couldn't be written
-pub words_first : (limits : Limits) (files : Files) (r : Reading) (status : Status) → (r ≡ no_command) ⊎ (r ≡ no_number) → ExplainsBy limits files r status →
+pub words_first : (files : Files) (r : Reading) (kept : Option Standing) (status : Status) → (r ≡ no_command) ⊎ (r ≡ no_number) → ExplainsBy files r kept status →
     (status ≡ WordsRefused) ⊎ (status ≡ WriteFailed) ⊎ (status ≡ NoMemory)
-words_first limits files r status is why = by_status status (by_reading r is why)
+words_first files r kept status is why = by_status status (by_reading r is why)
   where
-    by_reading : (r : Reading) → (r ≡ no_command) ⊎ (r ≡ no_number) → ExplainsBy limits files r status → IsEndOfWords status
+    by_reading : (r : Reading) → (r ≡ no_command) ⊎ (r ≡ no_number) → ExplainsBy files r kept status → IsEndOfWords status
     by_reading no_command is why = why
     by_reading no_number is why = why
     by_reading (command c) (inl is) why = absurd cc

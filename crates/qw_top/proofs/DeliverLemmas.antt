@@ -9,7 +9,7 @@ use Rattle.qw_map.specs.Turns.{End}
 use Rattle.qw_bench.specs.Bench.{end_in}
 use Rattle.qw_bench.specs.Standing.{Standing}
 use Rattle.qw_top.specs.Delivered.{CommandNotes, LeavesBench, Reports, RunLeaves, ShowsEnds, ends_below, is_exception, is_pages, is_steps, status_of_ends}
-use Rattle.qw_top.specs.Limits.{default_limits, quantum}
+use Rattle.qw_bench.specs.declared.bench.Limits.{Limits}
 use Rattle.qw_top.specs.Notes.{want_of_memory_line}
 use Rattle.qw_top.specs.Output.{TookFront, with_text}
 use Rattle.qw_top.specs.Top.{Asked, Files, FilesSettle, IsFileOf, Names, RunExplains}
@@ -25,17 +25,17 @@ use Rattle.qw_top.proofs.StoppedLemmas.{TookFront-none, TookFront-whole}
 -- ---- a report
 
 -- A run over files: what they ask for was run, and this is its report, which was written so.
-pub record Delivered (files : Files) (names : Names) (b : Standing) (result : Status) (old new : Option (List ℕ)) : Type 0 where
+pub record Delivered (limits : Limits) (quantum : ℕ) (files : Files) (names : Names) (b : Standing) (result : Status) (old new : Option (List ℕ)) : Type 0 where
   pub report : List ℕ
   pub status : Status
-  pub reports : Reports default_limits quantum files names b report status
+  pub reports : Reports limits quantum files names b report status
   pub writes : Writes status result old new report
 
-pub delivered : (files : Files) (names : Names) (queries : List Asked) (b : Standing) (result : Status) (old new : Option (List ℕ)) → HasAsked files names queries b →
+pub delivered : (limits : Limits) (quantum : ℕ) (files : Files) (names : Names) (queries : List Asked) (b : Standing) (result : Status) (old new : Option (List ℕ)) → HasAsked limits quantum files names queries b →
     ((ran : Ran queries b) → (report : List ℕ) × ShowsEnds ran.tables queries b 0 report × Writes (status_of_ends (ends_below b (length queries))) result old new report) →
-    Delivered files names b result old new
-delivered files names queries b result old new asked writes =
-    let written = writes (record { tables = asked.tables; run = asked.run }) in
+    Delivered limits quantum files names b result old new
+delivered limits quantum files names queries b result old new asked writes =
+    let written = writes (record { limits = limits; quantum = quantum; tables = asked.tables; run = asked.run }) in
     record {
       report = written.0;
       status = status_of_ends (ends_below b (length queries));
@@ -55,42 +55,42 @@ delivered files names queries b result old new asked writes =
 
 module _ (queries : List Asked) (b : Standing) (ran : Ran queries b) where
   pub ran_many : length queries ≡ length b.shared.instances
-  ran_many = sym (many_instances default_limits quantum ran.tables queries b ran.run)
+  ran_many = sym (many_instances ran.limits ran.quantum ran.tables queries b ran.run)
 
   pub ran_ended : (k : ℕ) → k < length queries → IsSome (end_in b.shared k)
   ran_ended k within = ran.run.ended k within
 
   pub ran_shows : (text : List ℕ) → AreBlocks queries b 0 text → ShowsEnds ran.tables queries b 0 text
-  ran_shows text are = shows_run default_limits quantum ran.tables queries b ran.run text are
+  ran_shows text are = shows_run ran.limits ran.quantum ran.tables queries b ran.run text are
 
   pub ran_status : (status : Status) → status ≡ status_of_ends (ends_below b (length b.shared.instances)) → status ≡ status_of_ends (ends_below b (length queries))
-  ran_status status is = is ∙ ap (λ (n : ℕ). status_of_ends (ends_below b n)) (many_instances default_limits quantum ran.tables queries b ran.run)
+  ran_status status is = is ∙ ap (λ (n : ℕ). status_of_ends (ends_below b n)) (many_instances ran.limits ran.quantum ran.tables queries b ran.run)
 
   pub ran_report : (report : List ℕ) × ShowsEnds ran.tables queries b 0 report
-  ran_report = some_report default_limits quantum ran.tables queries b ran.run
+  ran_report = some_report ran.limits ran.quantum ran.tables queries b ran.run
 
 pub is_report : (queries : List Asked) (b : Standing) (text : List ℕ) (status : Status) → AreBlocks queries b 0 text → status ≡ status_of_ends (ends_below b (length b.shared.instances)) →
     IsReport queries b text status
 is_report queries b text status are is = λ ran. (ran_shows queries b ran text are, ran_status queries b ran status is)
 
 -- an end of a run whose report was written is explained
-module _ (files : Files) (names : Names) (b : Standing) (report : List ℕ) (status : Status) (r : Reports default_limits quantum files names b report status) where
-  reports_pages : status ≡ PageLimitMet → RunExplains default_limits files names PageLimitMet
+module _ (limits : Limits) (quantum : ℕ) (files : Files) (names : Names) (b : Standing) (report : List ℕ) (status : Status) (r : Reports limits quantum files names b report status) where
+  reports_pages : status ≡ PageLimitMet → RunExplains limits files names (Some b) PageLimitMet
   reports_pages is =
-      let met = pages_met default_limits quantum r.tables r.queries b r.run (sym r.status_is ∙ is) in
+      let met = pages_met limits quantum r.tables r.queries b r.run (sym r.status_is ∙ is) in
       (r.schema, r.tables, r.queries, met.0, r.asks, r.run.room, met.1, met.2)
 
-  reports_steps : status ≡ StepLimitMet → RunExplains default_limits files names StepLimitMet
+  reports_steps : status ≡ StepLimitMet → RunExplains limits files names (Some b) StepLimitMet
   reports_steps is =
-      let met = steps_met default_limits quantum r.tables r.queries b r.run (sym r.status_is ∙ is) in
-      (r.schema, r.tables, r.queries, met.0, r.asks, r.run.room, met.1, met.2)
+      let met = steps_met limits quantum r.tables r.queries b r.run (sym r.status_is ∙ is) in
+      (b, refl, r.schema, r.tables, r.queries, met.0, met.1, r.asks, r.run.room, met.2, met.3)
 
-  reports_raised : status ≡ Raised → RunExplains default_limits files names Raised
+  reports_raised : status ≡ Raised → RunExplains limits files names (Some b) Raised
   reports_raised is =
-      let met = exception_raised default_limits quantum r.tables r.queries b r.run (sym r.status_is ∙ is) in
+      let met = exception_raised limits quantum r.tables r.queries b r.run (sym r.status_is ∙ is) in
       (r.schema, r.tables, r.queries, met.0, r.asks, r.run.room, met.1, met.2)
 
-  written_explained : (result : Status) (old new : Option (List ℕ)) → Writes status result old new report → RunExplains default_limits files names result
+  written_explained : (result : Status) (old new : Option (List ℕ)) → Writes status result old new report → RunExplains limits files names (Some b) result
   written_explained Done old new writes = (r.schema, r.tables, r.queries, r.asks, r.run.room)
   written_explained Raised old new writes = reports_raised writes.0
   written_explained PageLimitMet old new writes = reports_pages writes.0
@@ -99,7 +99,7 @@ module _ (files : Files) (names : Names) (b : Standing) (report : List ℕ) (sta
   written_explained NoMemory old new writes = tt
   written_explained _ old new writes = absurd writes
 
-  written_left : (result : Status) (old new : Option (List ℕ)) → Writes status result old new report → RunLeaves default_limits quantum files names result (Some b) old new
+  written_left : (result : Status) (old new : Option (List ℕ)) → Writes status result old new report → RunLeaves limits quantum files names result (Some b) old new
   written_left Done old new writes = (b, report, status, refl, r, writes)
   written_left Raised old new writes = (b, report, status, refl, r, writes)
   written_left PageLimitMet old new writes = (b, report, status, refl, r, writes)
@@ -108,9 +108,9 @@ module _ (files : Files) (names : Names) (b : Standing) (report : List ℕ) (sta
   written_left NoMemory old new writes = inr (b, report, status, refl, r, writes)
   written_left _ old new writes = absurd writes
 
-  cut_left : (result : Status) (old new : Option (List ℕ)) → TookFront old new report → (result ≡ WriteFailed) ⊎ (result ≡ NoMemory) → RunLeaves default_limits quantum files names result (Some b) old new
-  cut_left result old new front (inl is) = subst (λ (s : Status). RunLeaves default_limits quantum files names s (Some b) old new) (sym is) (inr (b, report, status, refl, r, front))
-  cut_left result old new front (inr is) = subst (λ (s : Status). RunLeaves default_limits quantum files names s (Some b) old new) (sym is) (inr (b, report, status, refl, r, front))
+  cut_left : (result : Status) (old new : Option (List ℕ)) → TookFront old new report → (result ≡ WriteFailed) ⊎ (result ≡ NoMemory) → RunLeaves limits quantum files names result (Some b) old new
+  cut_left result old new front (inl is) = subst (λ (s : Status). RunLeaves limits quantum files names s (Some b) old new) (sym is) (inr (b, report, status, refl, r, front))
+  cut_left result old new front (inr is) = subst (λ (s : Status). RunLeaves limits quantum files names s (Some b) old new) (sym is) (inr (b, report, status, refl, r, front))
 
 -- however the writing of a report ended, a front of it was taken
 written_front : (status result : Status) (old new : Option (List ℕ)) (report : List ℕ) → Writes status result old new report → TookFront old new report
@@ -122,49 +122,49 @@ written_front status WriteFailed old new report front = front
 written_front status NoMemory old new report front = front
 written_front status _ old new report writes = absurd writes
 
-written_noted : (files : Files) (names : Names) (fault_name : Option (List ℕ)) (status result : Status) (old new taken : Option (List ℕ)) (report : List ℕ) → Writes status result old new report →
-    CommandNotes (FilesSettle default_limits files names) (IsFileOf files names) fault_name result taken taken
-written_noted files names fault_name status Done old new taken report writes = refl
-written_noted files names fault_name status Raised old new taken report writes = refl
-written_noted files names fault_name status PageLimitMet old new taken report writes = refl
-written_noted files names fault_name status StepLimitMet old new taken report writes = refl
-written_noted files names fault_name status WriteFailed old new taken report writes = (want_of_memory_line, inl refl, TookFront-none taken want_of_memory_line)
-written_noted files names fault_name status NoMemory old new taken report writes = (want_of_memory_line, inl refl, TookFront-none taken want_of_memory_line)
-written_noted files names fault_name status _ old new taken report writes = absurd writes
+written_noted : (limits : Limits) (files : Files) (names : Names) (fault_name : Option (List ℕ)) (status result : Status) (old new taken : Option (List ℕ)) (report : List ℕ) → Writes status result old new report →
+    CommandNotes (FilesSettle limits files names) (IsFileOf files names) fault_name result taken taken
+written_noted limits files names fault_name status Done old new taken report writes = refl
+written_noted limits files names fault_name status Raised old new taken report writes = refl
+written_noted limits files names fault_name status PageLimitMet old new taken report writes = refl
+written_noted limits files names fault_name status StepLimitMet old new taken report writes = refl
+written_noted limits files names fault_name status WriteFailed old new taken report writes = (want_of_memory_line, inl refl, TookFront-none taken want_of_memory_line)
+written_noted limits files names fault_name status NoMemory old new taken report writes = (want_of_memory_line, inl refl, TookFront-none taken want_of_memory_line)
+written_noted limits files names fault_name status _ old new taken report writes = absurd writes
 
 line_ends : (line : List ℕ) (result : Status) (old new : Option (List ℕ)) → NotesLine line NoMemory result old new → (result ≡ WriteFailed) ⊎ (result ≡ NoMemory)
 line_ends line result old new (inl (is, took)) = inr is
 line_ends line result old new (inr (ends, front)) = ends
 
-module _ (files : Files) (names : Names) (b : Standing) (result : Status) (old new : Option (List ℕ)) (d : Delivered files names b result old new) where
-  pub delivered_explained : RunExplains default_limits files names result
-  delivered_explained = written_explained files names b d.report d.status d.reports result old new d.writes
+module _ (limits : Limits) (quantum : ℕ) (files : Files) (names : Names) (b : Standing) (result : Status) (old new : Option (List ℕ)) (d : Delivered limits quantum files names b result old new) where
+  pub delivered_explained : RunExplains limits files names (Some b) result
+  delivered_explained = written_explained limits quantum files names b d.report d.status d.reports result old new d.writes
 
-  pub delivered_left : RunLeaves default_limits quantum files names result (Some b) old new
-  delivered_left = written_left files names b d.report d.status d.reports result old new d.writes
+  pub delivered_left : RunLeaves limits quantum files names result (Some b) old new
+  delivered_left = written_left limits quantum files names b d.report d.status d.reports result old new d.writes
 
-  pub delivered_front : LeavesBench default_limits quantum files names (Some b) (λ status report. TookFront old new report)
+  pub delivered_front : LeavesBench limits quantum files names (Some b) (λ status report. TookFront old new report)
   delivered_front = (b, d.report, d.status, refl, d.reports, written_front d.status result old new d.report d.writes)
 
   -- the writing of a report notes nothing
-  pub delivered_noted : (fault_name taken : Option (List ℕ)) → CommandNotes (FilesSettle default_limits files names) (IsFileOf files names) fault_name result taken taken
-  delivered_noted fault_name taken = written_noted files names fault_name d.status result old new taken d.report d.writes
+  pub delivered_noted : (fault_name taken : Option (List ℕ)) → CommandNotes (FilesSettle limits files names) (IsFileOf files names) fault_name result taken taken
+  delivered_noted fault_name taken = written_noted limits files names fault_name d.status result old new taken d.report d.writes
 
   -- and it doesn't end with a failed read
   pub delivered_reads : result ≡ ReadFailed → ⊥
   delivered_reads is = subst (λ (s : Status). Writes d.status s old new d.report) is d.writes
 
-pub wanted_left : (files : Files) (names : Names) (b : Standing) (result : Status) (old new before after : Option (List ℕ)) → Delivered files names b NoMemory old new →
-    NotesLine want_of_memory_line NoMemory result before after → RunLeaves default_limits quantum files names result (Some b) old new
-wanted_left files names b result old new before after d noted =
-    cut_left files names b d.report d.status d.reports result old new d.writes (line_ends want_of_memory_line result before after noted)
+pub wanted_left : (limits : Limits) (quantum : ℕ) (files : Files) (names : Names) (b : Standing) (result : Status) (old new before after : Option (List ℕ)) → Delivered limits quantum files names b NoMemory old new →
+    NotesLine want_of_memory_line NoMemory result before after → RunLeaves limits quantum files names result (Some b) old new
+wanted_left limits quantum files names b result old new before after d noted =
+    cut_left limits quantum files names b d.report d.status d.reports result old new d.writes (line_ends want_of_memory_line result before after noted)
 
-pub wanted_explained : (files : Files) (names : Names) (b : Standing) (result : Status) (old new before after : Option (List ℕ)) → Delivered files names b NoMemory old new →
-    NotesLine want_of_memory_line NoMemory result before after → RunExplains default_limits files names result
-wanted_explained files names b result old new before after d noted =
+pub wanted_explained : (limits : Limits) (quantum : ℕ) (files : Files) (names : Names) (b : Standing) (result : Status) (old new before after : Option (List ℕ)) → Delivered limits quantum files names b NoMemory old new →
+    NotesLine want_of_memory_line NoMemory result before after → RunExplains limits files names (Some b) result
+wanted_explained limits quantum files names b result old new before after d noted =
     elim (line_ends want_of_memory_line result before after noted) [
-      | inl is ↦ subst (λ (s : Status). RunExplains default_limits files names s) (sym is) tt
-      | inr is ↦ subst (λ (s : Status). RunExplains default_limits files names s) (sym is) tt
+      | inl is ↦ subst (λ (s : Status). RunExplains limits files names (Some b) s) (sym is) tt
+      | inr is ↦ subst (λ (s : Status). RunExplains limits files names (Some b) s) (sym is) tt
     ]
 
 -- ---- how a report was written

@@ -1,4 +1,5 @@
 mod AskedLemmas
+mod AskingLemmas
 pub mod BenchLemmas
 mod CallLemmas
 mod CauseLemmas

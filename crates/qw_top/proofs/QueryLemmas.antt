@@ -1,13 +1,16 @@
 -- The queries that a script asks for: how many they are, that each is over a table of the schema, and its header.
 use Rattle.std.proofs.Common.{◌≡◌, ℕ, zero, suc, ◌+◌, ◌<◌, ◌≤◌, Bool, true, false, List, [], ◌∷◌, ◌++◌, Option, Some, None, refl, sym, subst, length, ap, ◌∙◌, arith, map, take, get_or}
-use Rattle.std.specs.Prelude.{IfSome, not, slice_get, unwrap_or}
+use Rattle.std.specs.Prelude.{IfSome, IsSome, not, slice_get, unwrap_or}
 use Rattle.std.specs.List.{AllByRecursion}
 use Rattle.std.specs.Option.{option_map_or}
-use Rattle.std.proofs.lemmas.List.{length-append, length-map}
+use Rattle.std.proofs.lemmas.List.{length-map}
+use Rattle.qw_types.specs.Schema.{AreColumns}
 use Rattle.qw_types.specs.Value.{IsSized}
 use Rattle.qw_types.specs.declared.kind.Kind.{Kind}
 use Rattle.qw_types.specs.declared.kind.Kind.TheVariants as kind
+use Rattle.qw_types.specs.Contents.{column_type}
 use Rattle.qw_types.specs.declared.schema.Column.{Column}
+use Rattle.qw_types.specs.declared.schema.ColumnType.{ColumnType}
 use Rattle.qw_types.specs.declared.schema.Table.{Table}
 use Rattle.qw_types.specs.declared.value.Ty.{Ty}
 use Rattle.qw_meaning.specs.Expression as meaning
@@ -16,15 +19,13 @@ use Rattle.qw_meaning.specs.Tree.{expression_of}
 use Rattle.qw_meaning.specs.Typing.{IsTyped, has_kind, kind_of}
 use Rattle.qw_meaning.specs.declared.expression.Expr.{Expr}
 use Rattle.qw_token.specs.Token.{Lexeme}
-use Rattle.qw_ast.specs.ScriptGrammar as grammar
-use Rattle.qw_ast.specs.ScriptGrammar.{IsSelectOf}
-use Rattle.qw_ast.specs.Syntax.{Clause, Condition, comparison, between, among, is_null, both, either, negation_of, is, bracketed, SelectItem, Selected, all_columns, items, Select}
-use Rattle.qw_script.specs.Script.{AreAccepted, IsAccepted, ReadsScript, nodes_condition, over_filter, over_items, items_of, nodes, query_nodes}
+use Rattle.qw_ast.specs.Syntax.{SelectItem, Selected, all_columns, items, Select}
+use Rattle.qw_script.specs.Script.{AreAccepted, ReadsScript}
 use Rattle.qw_typer.specs.Faults.{Fault, fault_where, faults, first_token, item_faults, or_own}
 use Rattle.qw_typer.specs.Meanings.{AreMeant}
 use Rattle.qw_typer.specs.Meant.{Scope, meant}
 use Rattle.qw_typer.specs.Sizes.{AreSmall, IsSmall}
-use Rattle.qw_typer.specs.Typed.{HasFewItems, IsWithin, Means, columns_from, conjuncts_of, item_names, items_meant, list_faults, result_names, scope_of, selected_faults}
+use Rattle.qw_typer.specs.Typed.{Means, columns_from, item_names, items_meant, list_faults, result_names, scope_of, selected_faults}
 use Rattle.qw_typer.specs.declared.fault.FaultKind.{FaultKind}
 use Rattle.qw_typer.specs.declared.query.TypedSelect.{TypedSelect}
 use Rattle.qw_sink.specs.declared.sink.Head.{Head}
@@ -32,61 +33,7 @@ use Rattle.qw_top.specs.Top.{AreAsked, AsksFor, IsHeader}
 use Rattle.qw_top.specs.Inner.Queries.{IsOver, asked_of, columns_of, head_of, heads_of}
 use Rattle.qw_top.proofs.ShortLemmas.{is_short}
 
--- ---- sizes of the queries of a script
-
--- each conjunct has a node
-some_node : (c : Condition) → 1 ≤ nodes_condition c
-some_node (comparison op a b) = omega arith
-some_node (between negated x a b) = omega arith
-some_node (among negated x es) = omega arith
-some_node (is_null negated a) = omega arith
-some_node (both c d) = omega arith
-some_node (either c d) = omega arith
-some_node (negation_of c) = omega arith
-some_node (is negated c t) = omega arith
-some_node (bracketed c) = some_node c
-
-node_each : (c : Condition) → length (conjuncts_of c) ≤ nodes_condition c
-node_each (both c d) =
-    let first = node_each c in
-    let second = some_node d in
-    rw (length-append (conjuncts_of c) (d ∷ [])) (omega (arith, first, second))
-node_each (comparison op a b) = omega arith
-node_each (between negated x a b) = omega arith
-node_each (among negated x es) = omega arith
-node_each (is_null negated a) = omega arith
-node_each (either c d) = omega arith
-node_each (negation_of c) = omega arith
-node_each (is negated c t) = omega arith
-node_each (bracketed c) = some_node c
-
-few_conjuncts : (o : Option Condition) → length (option_map_or conjuncts_of o []) ≤ over_filter nodes_condition o
-few_conjuncts None = omega arith
-few_conjuncts (Some c) = node_each c
-
--- a select list that is written has an item
-has_items : (Inner : Clause → List Lexeme → List Lexeme → Type 0) (s : Select) (ts rest : List Lexeme) → grammar.IsSelect Inner s ts rest → length (items_of s.selected) ≤ 64 → HasFewItems s.selected
-has_items Inner _ _ _ (grammar.a_select selected alias filter word from table ts us vs ws rest is_select all list is_from regular naming where_there) few = by_list selected us (from ∷ table ∷ vs) list few
-  where
-    by_list : (selected : Selected) (us rest : List Lexeme) → grammar.IsSelectList Inner selected us rest → length (items_of selected) ≤ 64 → HasFewItems selected
-    by_list _ _ _ (grammar.asterisk t rest star) few = tt
-    by_list _ _ _ (grammar.some_items i more ts us rest first others) few = (omega arith, few)
-
-is_within : (tokens : List Lexeme) (s : Select) → IsAccepted tokens s → IsWithin s
-is_within tokens s accepted =
-    let conjuncts_fit = few_conjuncts s.filter in
-    let nodes_fit = accepted.few_nodes in
-    let all : query_nodes s ≡ over_items nodes (items_of s.selected) + over_filter nodes_condition s.filter = refl in
-    record {
-      items = has_items (grammar.IsNested 33) s tokens [] accepted.query accepted.few_items;
-      conjuncts = omega (arith, conjuncts_fit, nodes_fit, all);
-    }
-
-pub all_within : (tokens : List (List Lexeme)) (script : List Select) → AreAccepted tokens script → AllByRecursion IsWithin script
-all_within [] [] all = tt
-all_within [] (s ∷ script) all = absurd all
-all_within (t ∷ tokens) [] all = absurd all
-all_within (t ∷ tokens) (s ∷ script) all = (is_within t s all.0, all_within tokens script all.1)
+-- ---- how many queries a script has
 
 many_accepted : (tokens : List (List Lexeme)) (script : List Select) → AreAccepted tokens script → length script ≡ length tokens
 many_accepted [] [] all = refl
@@ -100,21 +47,18 @@ many_meant schema [] (t ∷ typed) all = absurd all
 many_meant schema (s ∷ script) [] all = absurd all
 many_meant schema (s ∷ script) (t ∷ typed) all = ap suc (many_meant schema script typed all.1)
 
-pub sizes_within : (text : List ℕ) (script : List Select) → ReadsScript text script → AllByRecursion IsWithin script
-sizes_within text script reads = all_within _ script reads.accepted
-
 pub some_queries : (schema : List Table) (text : List ℕ) (script : List Select) (typed : List TypedSelect) → ReadsScript text script → AreMeant schema script typed → 1 ≤ length typed
 some_queries schema text script typed reads all =
     let many = many_meant schema script typed all in
     let accepted = many_accepted _ script reads.accepted in
-    let some = reads.some in
+    let some = reads.length_is.some in
     omega (arith, many, accepted, some)
 
 pub few_queries : (schema : List Table) (text : List ℕ) (script : List Select) (typed : List TypedSelect) → ReadsScript text script → AreMeant schema script typed → length typed ≤ 64
 few_queries schema text script typed reads all =
     let many = many_meant schema script typed all in
     let accepted = many_accepted _ script reads.accepted in
-    let few = reads.few in
+    let few = reads.length_is.few in
     omega (arith, many, accepted, few)
 
 -- ---- each is over a table
@@ -123,9 +67,9 @@ abbrev first_table : List Entry → ℕ
 first_table [] = 0
 first_table (entry ∷ entries) = entry.table
 
-abbrev first_types : List Entry → List Ty
-first_types [] = []
-first_types (entry ∷ entries) = entry.types
+abbrev first_columns : List Entry → List ColumnType
+first_columns [] = []
+first_columns (entry ∷ entries) = entry.columns
 
 is_over : (schema : List Table) (s : Select) (t : TypedSelect) → Means schema s (specification_of t.select) t.names.items → IsSmall t.select → IsOver schema t
 is_over schema s t means small =
@@ -133,20 +77,15 @@ is_over schema s t means small =
     record {
       table = means.table;
       there = rw place means.table_is;
-      types_are = ap first_types means.entries_are;
+      columns_are = ap first_columns means.entries_are;
       short = is_short t.select small;
     }
 
-each_over : (schema : List Table) (tokens : List (List Lexeme)) (script : List Select) (typed : List TypedSelect) → AreAccepted tokens script → AreMeant schema script typed → AreSmall script typed → AllByRecursion (IsOver schema) typed
-each_over schema tokens [] [] accepted all small = tt
-each_over schema tokens [] (t ∷ typed) accepted all small = absurd all
-each_over schema tokens (s ∷ script) [] accepted all small = absurd all
-each_over schema [] (s ∷ script) (t ∷ typed) accepted all small = absurd accepted
-each_over schema (ts ∷ tokens) (s ∷ script) (t ∷ typed) accepted all small =
-    (is_over schema s t all.0 (small.0 ts accepted.0), each_over schema tokens script typed accepted.1 all.1 small.1)
-
-pub all_over : (schema : List Table) (text : List ℕ) (script : List Select) (typed : List TypedSelect) → ReadsScript text script → AreMeant schema script typed → AreSmall script typed → AllByRecursion (IsOver schema) typed
-all_over schema text script typed reads all small = each_over schema _ script typed reads.accepted all small
+pub all_over : (schema : List Table) (script : List Select) (typed : List TypedSelect) → AreMeant schema script typed → AreSmall typed → AllByRecursion (IsOver schema) typed
+all_over schema [] [] all small = tt
+all_over schema [] (t ∷ typed) all small = absurd all
+all_over schema (s ∷ script) [] all small = absurd all
+all_over schema (s ∷ script) (t ∷ typed) all small = (is_over schema s t all.0 small.0, all_over schema script typed all.1 small.1)
 
 -- ---- its header
 
@@ -273,6 +212,11 @@ typed_at types (e ∷ es) (suc i) all = typed_at types es i all.1
 pub columns_there : (schema : List Table) (n : ℕ) (table : Table) → slice_get schema n ≡ Some table → columns_of schema n ≡ table.columns
 columns_there schema n table there = ap (λ (o : Option Table). option_map_or (λ (t : Table). t.columns) o []) there
 
-pub sized_types : (columns : List Column) → AllByRecursion (λ (c : Column). IsSized c.ty) columns → AllByRecursion IsSized (map (λ (c : Column). c.ty) columns)
+-- the columns of its table keep their limits
+pub columns_kept : (schema : List Table) (n : ℕ) (table : Table) (columns : List Column) → slice_get schema n ≡ Some table → columns ≡ columns_of schema n →
+    (IsSome (slice_get schema n) → AreColumns columns) → AreColumns table.columns
+columns_kept schema n table columns there is limits = subst AreColumns (is ∙ columns_there schema n table there) (limits (rw there refl))
+
+pub sized_types : (columns : List Column) → AllByRecursion (λ (c : Column). IsSized c.ty) columns → AllByRecursion (λ (c : ColumnType). IsSized c.ty) (map column_type columns)
 sized_types [] all = tt
 sized_types (column ∷ columns) all = (all.0, sized_types columns all.1)

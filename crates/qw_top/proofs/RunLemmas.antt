@@ -1,18 +1,22 @@
 -- What a bench that has run queries to their ends holds, and what a report shows of it.
 use Rattle.std.proofs.Common.{◌≡◌, ◌⊎◌, ℕ, zero, suc, ◌+◌, ◌<◌, nat_le, Bool, true, false, List, [], ◌∷◌, ◌++◌, Option, Some, None, inl, inr, refl, sym, subst, length, ap, ◌∙◌, arith}
-use Rattle.std.specs.Prelude.{Contains, IsSome, ◌==◌, ◌||◌, if◌then◌else◌, slice_get}
-use Rattle.std.specs.List.{AllZip, list_any}
+use Rattle.std.specs.Prelude.{Contains, IfSome, IsSome, ◌==◌, ◌||◌, if◌then◌else◌, slice_get}
+use Rattle.std.specs.List.{AllByRecursion, AllZip, list_any}
 use Rattle.std.specs.Option.{option_and_then}
 use Rattle.std.proofs.lemmas.Option.{none-some, same_Some}
 use Rattle.qw_types.specs.Contents.{Contents}
 use Rattle.qw_types.specs.declared.code.Code.{Code}
 use Rattle.qw_types.specs.declared.code.Code.TheVariants.{DivZero, OutOfRange}
+use Rattle.qw_types.specs.declared.value.Val.{Val}
 use Rattle.qw_module.specs.Execution.{State, Running, Returned, Raised as HasRaised, Trapped}
 use Rattle.qw_module.specs.Validity.{IsShaped}
-use Rattle.qw_meaning.specs.Outcome.{Rows, Raises, outcome}
+use Rattle.std.specs.List.Sorted.{IsPermutation}
+use Rattle.qw_meaning.specs.Outcome.{IsSameOutcome, Outcome, Rows, Raises, outcome}
+use Rattle.qw_meaning.specs.Select.{AreOfEntries}
 use Rattle.qw_map.specs.Layout.{rows_at}
 use Rattle.qw_map.specs.Turns.{End, Done as EndedDone, Exception, Pages, Steps, Trap, Instance, IsWhole, Shared, end_at, end_of_refusal}
-use Rattle.qw_emit.specs.Compiled.{IsCompiled, page_bound, raised_for}
+use Rattle.qw_emit.specs.Compiled.{Answers, IsCompiled, bound, raised_for}
+use Rattle.qw_emit.specs.Queries.{page_bound, promise_of}
 use Rattle.qw_bench.specs.Bench.{AreServing, IsAt, Program, Serves, Task, end_in, rows_in_tables}
 use Rattle.qw_bench.specs.Standing.{Standing, AreTasksOf, rows_in}
 use Rattle.qw_bench.specs.declared.bench.Limits.{Limits}
@@ -31,7 +35,7 @@ use Rattle.qw_top.specs.declared.status.Status.TheVariants.{Done, Raised, PageLi
 record TaskOf (limits : Limits) (asked : Asked) (tasks : List Task) (k : ℕ) : Type 0 where
   t : Task
   task : slice_get tasks k ≡ Some t
-  compiled : IsCompiled asked.specification t.program.layout t.program.module'
+  compiled : IsCompiled (promise_of asked.specification) t.program.layout t.program.module'
   pages : t.pages ≡ limits.pages
   steps : t.steps ≡ limits.steps
 
@@ -44,8 +48,8 @@ task_of limits (query ∷ queries) (program ∷ programs) (t ∷ tasks) compiled
   t = t;
   task = refl;
   compiled =
-      subst (λ (q : Asked). IsCompiled q.specification t.program.layout t.program.module') (same_Some query asked found)
-      (subst (λ (p : Program). IsCompiled query.specification p.layout p.module') (sym are.0) compiled.0);
+      subst (λ (q : Asked). IsCompiled (promise_of q.specification) t.program.layout t.program.module') (same_Some query asked found)
+      (subst (λ (p : Program). IsCompiled (promise_of query.specification) p.layout p.module') (sym are.0) compiled.0);
   pages = are.1;
   steps = are.2;
 }
@@ -63,6 +67,12 @@ many_tasks limits (query ∷ queries) [] tasks compiled are = absurd compiled
 many_tasks limits (query ∷ queries) (program ∷ programs) [] compiled are = absurd are
 many_tasks limits (query ∷ queries) (program ∷ programs) (t ∷ tasks) compiled are = ap suc (many_tasks limits queries programs tasks compiled.1 are.3)
 
+-- what holds of each query holds of the one of a number
+read_at : (P : Asked → Type 0) (queries : List Asked) (k : ℕ) (asked : Asked) → AllByRecursion P queries → slice_get queries k ≡ Some asked → P asked
+read_at P [] k asked all found = absurd (none-some asked found)
+read_at P (query ∷ queries) zero asked all found = subst P (same_Some query asked found) all.0
+read_at P (query ∷ queries) (suc k) asked all found = read_at P queries k asked all.1 found
+
 -- ---- the end of a query
 
 -- Query k of a bench was run to this end by its task's instance.
@@ -71,13 +81,13 @@ pub record EndedAs (limits : Limits) (tables : List Contents) (asked : Asked) (b
   pub task : slice_get b.tasks k ≡ Some t
   pub i : Instance
   pub found : slice_get b.shared.instances k ≡ Some i
-  pub compiled : IsCompiled asked.specification t.program.layout t.program.module'
+  pub compiled : IsCompiled (promise_of asked.specification) t.program.layout t.program.module'
   pub serves : Serves b.shared.common.memory t i
   pub pages : t.pages ≡ limits.pages
   pub steps : t.steps ≡ limits.steps
   pub number : ℕ
   pub shaped : IsShaped t.program.module' number
-  pub at : IsAt asked.specification (rows_in_tables tables) b.shared.common.memory t number i i.end
+  pub at : IsAt (promise_of asked.specification) (rows_in_tables tables) b.shared.common.memory t number i i.end
 
 pub end_is : (s : Shared) (k : ℕ) (i : Instance) → slice_get s.instances k ≡ Some i → end_in s k ≡ i.end
 end_is s k i found = ap (option_and_then (λ (instance : Instance). instance.end)) found
@@ -94,8 +104,8 @@ module _ (limits : Limits) (quantum : ℕ) (tables : List Contents) (queries : L
   ended_as k asked found within =
       let one = task_of limits queries run.programs b.tasks run.compiled run.tasks k asked found in
       let i = there b.shared.instances k (omega (arith, many_instances, within)) in
-      let answers = compiled-answers tables b.tasks run.start run.given asked.specification run.began k one.t i.0 one.task
-      (subst (λ (s : Shared). slice_get s.instances k ≡ Some i.0) run.turned i.1) one.compiled in
+      let answers = compiled-answers tables b.tasks run.start run.given (promise_of asked.specification) run.began k one.t i.0 one.task
+      (subst (λ (s : Shared). slice_get s.instances k ≡ Some i.0) run.turned i.1) one.compiled (read_at (λ (other : Asked). AreOfEntries other.specification.entries (rows_in_tables tables)) queries k asked run.read found) in
       record {
         t = one.t;
         task = one.task;
@@ -107,7 +117,7 @@ module _ (limits : Limits) (quantum : ℕ) (tables : List Contents) (queries : L
         steps = one.steps;
         number = answers.0;
         shaped = answers.1;
-        at = subst (λ (s : Shared). IsAt asked.specification (rows_in_tables tables) s.common.memory one.t answers.0 i.0 i.0.end) (sym run.turned) answers.2;
+        at = subst (λ (s : Shared). IsAt (promise_of asked.specification) (rows_in_tables tables) s.common.memory one.t answers.0 i.0 i.0.end) (sym run.turned) answers.2;
       }
 
 -- ---- what is shown of it
@@ -118,18 +128,29 @@ same_raised DivZero OutOfRange is = absurd (omega (arith, is))
 same_raised OutOfRange DivZero is = absurd (omega (arith, is))
 same_raised OutOfRange OutOfRange is = refl
 
+-- an outcome that is the same as rows is a bag of them
+bag_of : (out : Outcome) (rows : List (List Val)) → IsSameOutcome out (Rows rows) → (bag : List (List Val)) × (out ≡ Rows bag) × IsPermutation bag rows
+bag_of (Rows bag) rows same = (bag, refl, same)
+bag_of (Raises codes) rows same = absurd same
+
 module _ (limits : Limits) (tables : List Contents) (asked : Asked) (b : Standing) (k : ℕ) (one : EndedAs limits tables asked b k) where
   rows_are : rows_in b k ≡ rows_at one.t.program.layout one.i.world b.shared.common.memory one.t.descriptor
   rows_are = rw (one.task, one.found) refl
 
+  -- what is answered of its end
+  abbrev AnswersTo : End → Type 0
+  AnswersTo end =
+      Answers (outcome asked.specification (rows_in_tables tables)) one.t.program.layout (bound (promise_of asked.specification) (rows_in_tables tables) one.t.program.module' one.number)
+      (page_bound asked.specification (rows_in_tables tables)) one.t.descriptor one.i.world b.shared.common.memory end
+
   -- the block of an end shows it
-  shows_at : (end : Option End) → IsAt asked.specification (rows_in_tables tables) b.shared.common.memory one.t one.number one.i end → (block : List ℕ) →
-      IsBlock asked.header b k end block → ShowsEnd tables asked b k end block
+  shows_at : (end : Option End) → IfSome end AnswersTo → (block : List ℕ) → IsBlock asked.header b k end block → ShowsEnd tables asked b k end block
   shows_at None at block is = absurd is
-  shows_at (Some EndedDone) at block (bag, found, is) =
-      let same : Some at.1.1.0 ≡ Some bag = sym (rows_are ∙ at.1.1.2) ∙ found in
-      (bag, at.1.1.1 ∙ ap Rows (same_Some at.1.1.0 bag same), found, is)
-  shows_at (Some (Exception code)) (ran, (raised, other, out, among, code_is)) block (shown, shown_is, is) =
+  shows_at (Some EndedDone) (none, (rows, same_out, there_is)) block (shown, found, is) =
+      let same : rows ≡ shown = same_Some rows shown (sym (rows_are ∙ there_is) ∙ found) in
+      let bag = bag_of (outcome asked.specification (rows_in_tables tables)) rows same_out in
+      (bag.0, shown, bag.1, subst (λ (rs : List (List Val)). IsPermutation bag.0 rs) same bag.2, found, is)
+  shows_at (Some (Exception code)) (none, (raised, other, out, among, code_is)) block (shown, shown_is, is) =
       let same : other ≡ shown = same_raised other shown (sym code_is ∙ shown_is) in
       (raised, shown, out, subst (λ (c : Code). Contains raised c) same among, shown_is, is)
   shows_at (Some (Pages held asked_for limit)) at block is = is
@@ -140,7 +161,7 @@ module _ (limits : Limits) (tables : List Contents) (asked : Asked) (b : Standin
   shows_block block is =
       let end = end_is b.shared k one.i one.found in
       subst (λ (o : Option End). ShowsEnd tables asked b k o block) (sym end)
-      (shows_at one.i.end one.at block (subst (λ (o : Option End). IsBlock asked.header b k o block) end is))
+      (shows_at one.i.end one.at.answers block (subst (λ (o : Option End). IsBlock asked.header b k o block) end is))
 
 -- the blocks of queries show their ends, where each shows its own
 shows_blocks : (tables : List Contents) (b : Standing) (queries : List Asked) (k : ℕ) (text : List ℕ) →
@@ -179,20 +200,20 @@ shows_run limits quantum tables queries b run text are =
 -- ---- there is a report
 
 module _ (limits : Limits) (tables : List Contents) (asked : Asked) (b : Standing) (k : ℕ) (one : EndedAs limits tables asked b k) where
-  some_at : (end : Option End) → IsSome end → IsAt asked.specification (rows_in_tables tables) b.shared.common.memory one.t one.number one.i end → (block : List ℕ) × ShowsEnd tables asked b k end block
+  some_at : (end : Option End) → IsSome end → IfSome end (AnswersTo limits tables asked b k one) → (block : List ℕ) × ShowsEnd tables asked b k end block
   some_at None some at = cc
-  some_at (Some EndedDone) some at =
-      let bag = at.1.1.0 in
-      (report_of_rows (suc k) asked.header bag, (bag, at.1.1.1, rows_are limits tables asked b k one ∙ at.1.1.2, refl))
-  some_at (Some (Exception code)) some (ran, (raised, other, out, among, code_is)) = (report_of_exception (suc k) other, (raised, other, out, among, code_is, refl))
+  some_at (Some EndedDone) some (none, (rows, same_out, there_is)) =
+      let bag = bag_of (outcome asked.specification (rows_in_tables tables)) rows same_out in
+      (report_of_rows (suc k) asked.header rows, (bag.0, rows, bag.1, bag.2, rows_are limits tables asked b k one ∙ there_is, refl))
+  some_at (Some (Exception code)) some (none, (raised, other, out, among, code_is)) = (report_of_exception (suc k) other, (raised, other, out, among, code_is, refl))
   some_at (Some (Pages held asked_for limit)) some at = (report_of_pages (suc k) held asked_for limit, refl)
   some_at (Some (Steps limit)) some at = (report_of_steps (suc k) limit, refl)
-  some_at (Some Trap) some at = absurd at.1
+  some_at (Some Trap) some at = absurd at
 
   some_block : IsSome (end_in b.shared k) → (block : List ℕ) × ShowsEnd tables asked b k (end_in b.shared k) block
   some_block some =
       let end = end_is b.shared k one.i one.found in
-      let h = some_at one.i.end (subst (λ (o : Option End). IsSome o) end some) one.at in
+      let h = some_at one.i.end (subst (λ (o : Option End). IsSome o) end some) one.at.answers in
       (h.0, subst (λ (o : Option End). ShowsEnd tables asked b k o h.0) (sym end) h.1)
 
 some_blocks : (tables : List Contents) (b : Standing) (queries : List Asked) (k : ℕ) →
@@ -303,7 +324,7 @@ module _ (limits : Limits) (quantum : ℕ) (tables : List Contents) (queries : L
   record OneEnd (p : Option End → Bool) : Type 0 where
     k : ℕ
     asked : Asked
-    among : Contains queries asked
+    place : slice_get queries k ≡ Some asked
     one : EndedAs limits tables asked b k
     is : p one.i.end ≡ true
 
@@ -315,7 +336,7 @@ module _ (limits : Limits) (quantum : ℕ) (tables : List Contents) (queries : L
       record {
         k = h.0;
         asked = asked.0;
-        among = contains_at queries h.0 asked.0 asked.1;
+        place = asked.1;
         one = one;
         is = subst (λ (o : Option End). p o ≡ true) (end_is b.shared h.0 one.i one.found) h.2;
       }
@@ -323,28 +344,33 @@ module _ (limits : Limits) (quantum : ℕ) (tables : List Contents) (queries : L
   abbrev ends : List (Option End)
   ends = ends_below b (length queries)
 
+  -- what is answered of the end of one of them
+  answers_at : (p : Option End → Bool) (h : OneEnd p) (end : End) → h.one.i.end ≡ Some end → AnswersTo limits tables h.asked b h.k h.one end
+  answers_at p h end is = subst (λ (o : Option End). IfSome o (AnswersTo limits tables h.asked b h.k h.one)) is h.one.at.answers
+
   -- a limit of pages that was met is below the page bound of a query
   pub pages_met : status_of_ends ends ≡ PageLimitMet → (asked : Asked) × Contains queries asked × (limits.pages < page_bound asked.specification (rows_in_tables tables))
   pages_met is =
       let h = one_end is_pages (pages_status (list_any is_pages ends) (list_any is_steps ends) (list_any is_exception ends) is) in
       let pages = some_pages h.one.i.end h.is in
-      let at = subst (λ (o : Option End). IsAt h.asked.specification (rows_in_tables tables) b.shared.common.memory h.one.t h.one.number h.one.i o) pages.3 h.one.at in
+      let at = answers_at is_pages h (Pages pages.0 pages.1 pages.2) pages.3 in
       let may_hold = h.one.serves.may_hold in
       let limit_is = h.one.pages in
-      (h.asked, h.among, omega (arith, at.1.1, at.1.2, at.1.3, may_hold, limit_is))
+      (h.asked, contains_at queries h.k h.asked h.place, omega (arith, at.1, at.2, at.3, may_hold, limit_is))
 
-  -- one of instructions is below the bound of a compiled form
-  pub steps_met : status_of_ends ends ≡ StepLimitMet → (asked : Asked) × Contains queries asked × IsPastSteps limits.steps (rows_in_tables tables) asked
+  -- one of instructions is below the bound of the module of a query
+  pub steps_met : status_of_ends ends ≡ StepLimitMet → (k : ℕ) × (asked : Asked) × (slice_get queries k ≡ Some asked) × IsPastSteps limits.steps (rows_in_tables tables) b k asked
   steps_met is =
       let h = one_end is_steps (steps_status (list_any is_pages ends) (list_any is_steps ends) (list_any is_exception ends) is) in
       let steps = some_steps h.one.i.end h.is in
-      let at = subst (λ (o : Option End). IsAt h.asked.specification (rows_in_tables tables) b.shared.common.memory h.one.t h.one.number h.one.i o) steps.1 h.one.at in
+      let at = answers_at is_steps h (Steps steps.0) steps.1 in
       let limit_is = limit_of_steps h.one.i steps.0 h.one.serves.whole steps.1 in
       let may_run = h.one.serves.may_run in
       let steps_are = h.one.steps in (
+        h.k,
         h.asked,
-        h.among,
-        (h.one.t.program.layout, h.one.t.program.module', h.one.number, h.one.compiled, h.one.shaped, omega (arith, at.1, limit_is, may_run, steps_are)),
+        h.place,
+        record { task = h.one.t; there = h.one.task; number = h.one.number; shaped = h.one.shaped; past = omega (arith, at, limit_is, may_run, steps_are) },
       )
 
   -- an exception that was raised is one of a query's outcome
@@ -352,5 +378,5 @@ module _ (limits : Limits) (quantum : ℕ) (tables : List Contents) (queries : L
   exception_raised is =
       let h = one_end is_exception (raised_status (list_any is_pages ends) (list_any is_steps ends) (list_any is_exception ends) is) in
       let code = some_exception h.one.i.end h.is in
-      let at = subst (λ (o : Option End). IsAt h.asked.specification (rows_in_tables tables) b.shared.common.memory h.one.t h.one.number h.one.i o) code.1 h.one.at in
-      (h.asked, h.among, (at.1.0, at.1.2))
+      let at = answers_at is_exception h (Exception code.0) code.1 in
+      (h.asked, contains_at queries h.k h.asked h.place, (at.1.0, at.1.2))

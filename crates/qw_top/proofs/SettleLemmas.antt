@@ -1,15 +1,16 @@
 -- That words and told files settle one cause, and which ends they explain beside it.
 use Rattle.std.proofs.Common.{◌≡◌, ◌⊎◌, ℕ, zero, suc, ◌<◌, List, [], ◌∷◌, ◌++◌, Option, Some, inl, inr, refl, sym, subst, ap, ◌∙◌, arith}
-use Rattle.std.specs.Prelude.{Contains}
+use Rattle.std.specs.Prelude.{◌≤◌, Contains, slice_get}
 use Rattle.std.specs.List.{AllByRecursion}
 use Rattle.qw_types.specs.Contents.{Contents}
 use Rattle.qw_types.specs.declared.schema.Table.{Table}
 use Rattle.qw_linear.specs.Memory.{most_pages}
 use Rattle.qw_types.specs.declared.code.Code.{Code}
 use Rattle.qw_meaning.specs.Outcome.{Raises, outcome}
-use Rattle.qw_emit.specs.Compiled.{page_bound}
+use Rattle.qw_emit.specs.Queries.{page_bound}
 use Rattle.qw_bench.specs.Bench.{rows_in_tables}
-use Rattle.qw_bench.specs.Standing.{total_pages as pages_in_all}
+use Rattle.qw_bench.specs.Standing.{Standing, total_pages as pages_in_all}
+use Rattle.std.proofs.lemmas.Option.{same_Some}
 use Rattle.qw_bench.specs.declared.bench.Limits.{Limits}
 use Rattle.qw_top.specs.Causes.{AreOne, Cause, words_refused, statement_out_of_range, schema_too_long, schema_refused, table_too_long, table_refused, queries_too_long, queries_refused, queries_mistyped, no_statement, module_too_long, module_refused, total_pages, status_of_cause}
 use Rattle.qw_top.specs.Top.{Asked, AsksOne, Files, FilesSettle, HasQueries, HasTables, HaveRoom, IsEnough, IsFault, IsNextTable, IsPastSteps, IsRefusal, IsReported, Names, RaisesNothing, RunExplains, same_limits}
@@ -181,82 +182,82 @@ kinds_apart StepLimitMet = ((λ r f. r), (λ r e. r), (λ f e. f))
 -- ---- the ends that are explained
 
 -- a refusal that is explained is that of a cause
-pub refusal_settled : (limits : Limits) (files : Files) (names : Names) (status : Status) → IsRefusal status → RunExplains limits files names status →
+pub refusal_settled : (limits : Limits) (files : Files) (names : Names) (kept : Option Standing) (status : Status) → IsRefusal status → RunExplains limits files names kept status →
     (cause : Cause) × FilesSettle limits files names cause × (status ≡ status_of_cause cause)
-refusal_settled limits files names WordsRefused r why = why
-refusal_settled limits files names SchemaRefused r why = why
-refusal_settled limits files names TableFileRefused r why = why
-refusal_settled limits files names QueriesRefused r why = why
-refusal_settled limits files names TotalPages r why = why
-refusal_settled limits files names ReadFailed r why = absurd r
-refusal_settled limits files names WriteFailed r why = absurd r
-refusal_settled limits files names NoMemory r why = absurd r
-refusal_settled limits files names Done r why = absurd r
-refusal_settled limits files names Raised r why = absurd r
-refusal_settled limits files names PageLimitMet r why = absurd r
-refusal_settled limits files names StepLimitMet r why = absurd r
+refusal_settled limits files names kept WordsRefused r why = why
+refusal_settled limits files names kept SchemaRefused r why = why
+refusal_settled limits files names kept TableFileRefused r why = why
+refusal_settled limits files names kept QueriesRefused r why = why
+refusal_settled limits files names kept TotalPages r why = why
+refusal_settled limits files names kept ReadFailed r why = absurd r
+refusal_settled limits files names kept WriteFailed r why = absurd r
+refusal_settled limits files names kept NoMemory r why = absurd r
+refusal_settled limits files names kept Done r why = absurd r
+refusal_settled limits files names kept Raised r why = absurd r
+refusal_settled limits files names kept PageLimitMet r why = absurd r
+refusal_settled limits files names kept StepLimitMet r why = absurd r
 
 -- and back
-pub settled_explains : (limits : Limits) (files : Files) (names : Names) (cause : Cause) → FilesSettle limits files names cause → RunExplains limits files names (status_of_cause cause)
-settled_explains limits files names schema_too_long h = (schema_too_long, h, refl)
-settled_explains limits files names (schema_refused fault) h = (schema_refused fault, h, refl)
-settled_explains limits files names (table_too_long table) h = (table_too_long table, h, refl)
-settled_explains limits files names (table_refused table fault) h = (table_refused table fault, h, refl)
-settled_explains limits files names queries_too_long h = (queries_too_long, h, refl)
-settled_explains limits files names (queries_refused fault) h = (queries_refused fault, h, refl)
-settled_explains limits files names (queries_mistyped fault) h = (queries_mistyped fault, h, refl)
-settled_explains limits files names (total_pages need) h = (total_pages need, h, refl)
-settled_explains limits files names _ h = absurd h
+pub settled_explains : (limits : Limits) (files : Files) (names : Names) (kept : Option Standing) (cause : Cause) → FilesSettle limits files names cause → RunExplains limits files names kept (status_of_cause cause)
+settled_explains limits files names kept schema_too_long h = (schema_too_long, h, refl)
+settled_explains limits files names kept (schema_refused fault) h = (schema_refused fault, h, refl)
+settled_explains limits files names kept (table_too_long table) h = (table_too_long table, h, refl)
+settled_explains limits files names kept (table_refused table fault) h = (table_refused table fault, h, refl)
+settled_explains limits files names kept queries_too_long h = (queries_too_long, h, refl)
+settled_explains limits files names kept (queries_refused fault) h = (queries_refused fault, h, refl)
+settled_explains limits files names kept (queries_mistyped fault) h = (queries_mistyped fault, h, refl)
+settled_explains limits files names kept (total_pages need) h = (total_pages need, h, refl)
+settled_explains limits files names kept _ h = absurd h
 
 -- an end whose queries were executed asks for them, with room
-pub reported_asks : (limits : Limits) (files : Files) (names : Names) (status : Status) → IsReported status → RunExplains limits files names status →
+pub reported_asks : (limits : Limits) (files : Files) (names : Names) (kept : Option Standing) (status : Status) → IsReported status → RunExplains limits files names kept status →
     (schema : List Table) × (tables : List Contents) × (queries : List Asked) × HasQueries files names schema tables queries × HaveRoom limits tables queries
-reported_asks limits files names Done r why = why
-reported_asks limits files names Raised r (schema, tables, queries, one, asks, room, _, _) = (schema, tables, queries, asks, room)
-reported_asks limits files names PageLimitMet r (schema, tables, queries, one, asks, room, _, _) = (schema, tables, queries, asks, room)
-reported_asks limits files names StepLimitMet r (schema, tables, queries, one, asks, room, _, _) = (schema, tables, queries, asks, room)
-reported_asks limits files names WordsRefused r why = absurd r
-reported_asks limits files names SchemaRefused r why = absurd r
-reported_asks limits files names TableFileRefused r why = absurd r
-reported_asks limits files names QueriesRefused r why = absurd r
-reported_asks limits files names TotalPages r why = absurd r
-reported_asks limits files names ReadFailed r why = absurd r
-reported_asks limits files names WriteFailed r why = absurd r
-reported_asks limits files names NoMemory r why = absurd r
+reported_asks limits files names kept Done r why = why
+reported_asks limits files names kept Raised r (schema, tables, queries, one, asks, room, _, _) = (schema, tables, queries, asks, room)
+reported_asks limits files names kept PageLimitMet r (schema, tables, queries, one, asks, room, _, _) = (schema, tables, queries, asks, room)
+reported_asks limits files names kept StepLimitMet r (b, kept_is, schema, tables, queries, k, one, asks, room, _, _) = (schema, tables, queries, asks, room)
+reported_asks limits files names kept WordsRefused r why = absurd r
+reported_asks limits files names kept SchemaRefused r why = absurd r
+reported_asks limits files names kept TableFileRefused r why = absurd r
+reported_asks limits files names kept QueriesRefused r why = absurd r
+reported_asks limits files names kept TotalPages r why = absurd r
+reported_asks limits files names kept ReadFailed r why = absurd r
+reported_asks limits files names kept WriteFailed r why = absurd r
+reported_asks limits files names kept NoMemory r why = absurd r
 
 -- beside a cause that is settled comes its status or a fault
-pub settled_ends : (limits : Limits) (told : List ℕ → Option (List ℕ)) (names : Names) (cause : Cause) (status : Status) →
-    FilesSettle limits (Some told) names cause → RunExplains limits (Some told) names status → (status ≡ status_of_cause cause) ⊎ IsFault status
-settled_ends limits told names cause status h why =
+pub settled_ends : (limits : Limits) (told : List ℕ → Option (List ℕ)) (names : Names) (cause : Cause) (kept : Option Standing) (status : Status) →
+    FilesSettle limits (Some told) names cause → RunExplains limits (Some told) names kept status → (status ≡ status_of_cause cause) ⊎ IsFault status
+settled_ends limits told names cause kept status h why =
     elim (kind_of_end status) [
       | inl refusal ↦
-          let other = refusal_settled limits (Some told) names status refusal why in
+          let other = refusal_settled limits (Some told) names kept status refusal why in
           inl (other.2 ∙ one_status other.0 cause (one_settled limits told names other.0 cause other.1 h))
       | inr (inl fault) ↦ inr fault
       | inr (inr reported) ↦
-          let asked = reported_asks limits (Some told) names status reported why in
+          let asked = reported_asks limits (Some told) names kept status reported why in
           absurd (asked_settles_none limits told names asked.0 asked.1 asked.2 cause asked.3 asked.4 h)
     ]
 
 -- a fault of the outside and want of memory are explained
-pub fault_explains : (limits : Limits) (files : Files) (names : Names) (status : Status) → IsFault status → RunExplains limits files names status
-fault_explains limits files names ReadFailed f = tt
-fault_explains limits files names WriteFailed f = tt
-fault_explains limits files names NoMemory f = tt
-fault_explains limits files names _ f = absurd f
+pub fault_explains : (limits : Limits) (files : Files) (names : Names) (kept : Option Standing) (status : Status) → IsFault status → RunExplains limits files names kept status
+fault_explains limits files names kept ReadFailed f = tt
+fault_explains limits files names kept WriteFailed f = tt
+fault_explains limits files names kept NoMemory f = tt
+fault_explains limits files names kept _ f = absurd f
 
 -- ---- what a run promises of told files
 
-module _ (limits : Limits) (files : Files) (names : Names) (result : Status) (why : RunExplains limits files names result) where
+module _ (limits : Limits) (files : Files) (names : Names) (kept : Option Standing) (result : Status) (why : RunExplains limits files names kept result) where
   pub exactly_explained : (told : List ℕ → Option (List ℕ)) (cause : Cause) → files ≡ Some told → FilesSettle limits (Some told) names cause → (result ≡ status_of_cause cause) ⊎ IsFault result
-  exactly_explained told cause is h = settled_ends limits told names cause result h (subst (λ (f : Files). RunExplains limits f names result) is why)
+  exactly_explained told cause is h = settled_ends limits told names cause kept result h (subst (λ (f : Files). RunExplains limits f names kept result) is why)
 
   pub runs_explained : (told : List ℕ → Option (List ℕ)) (schema : List Table) (tables : List Contents) (queries : List Asked) → files ≡ Some told →
       HasQueries (Some told) names schema tables queries → HaveRoom limits tables queries → IsReported result ⊎ IsFault result
   runs_explained told schema tables queries is asks room =
       elim (kind_of_end result) [
         | inl refusal ↦
-            let other = refusal_settled limits (Some told) names result refusal (subst (λ (f : Files). RunExplains limits f names result) is why) in
+            let other = refusal_settled limits (Some told) names kept result refusal (subst (λ (f : Files). RunExplains limits f names kept result) is why) in
             absurd (asked_settles_none limits told names schema tables queries other.0 asks room other.1)
         | inr (inl fault) ↦ inr fault
         | inr (inr reported) ↦ inl reported
@@ -277,48 +278,35 @@ module _ (limits : Limits) (told : List ℕ → Option (List ℕ)) (names : Name
       let here : AllByRecursion (P tables) queries' = subst (λ (qs : List Asked). AllByRecursion (P tables) qs) e.2 all in
       apart one (all_contains (P tables) queries' one here among) (subst (λ (t : List Contents). Q t one) (sym e.1) holds)
 
-  pub pages_enough : AllByRecursion (IsEnough limits (rows_in_tables tables)) queries → RunExplains limits (Some told) names PageLimitMet → ⊥
-  pages_enough enough met = asked_one (λ t one. IsEnough limits (rows_in_tables t) one) (λ t one. limits.pages < page_bound one.specification (rows_in_tables t))
-      (λ one is above. let within = is.pages in omega (arith, within, above)) enough met
+  pub pages_enough : (b : Standing) (kept : Option Standing) → IsEnough limits (rows_in_tables tables) queries b → RunExplains limits (Some told) names kept PageLimitMet → ⊥
+  pages_enough b kept enough met = asked_one (λ t one. page_bound one.specification (rows_in_tables t) ≤ limits.pages) (λ t one. limits.pages < page_bound one.specification (rows_in_tables t))
+      (λ one within above. omega (arith, within, above)) enough.pages met
 
-  pub steps_enough : AllByRecursion (IsEnough limits (rows_in_tables tables)) queries → RunExplains limits (Some told) names StepLimitMet → ⊥
-  steps_enough enough met = asked_one (λ t one. IsEnough limits (rows_in_tables t) one) (λ t one. IsPastSteps limits.steps (rows_in_tables t) one)
-      (λ one is past. is.steps past) enough met
+  pub steps_enough : (b : Standing) (kept : Option Standing) → kept ≡ Some b → IsEnough limits (rows_in_tables tables) queries b → RunExplains limits (Some told) names kept StepLimitMet → ⊥
+  steps_enough b kept is enough (other, other_is, schema', tables', queries', k, one, asks', room, there, past) =
+      let e = HasQueries-unique told names schema schema' tables tables' queries queries' asks asks' in
+      let same : other ≡ b = same_Some other b (sym other_is ∙ is) in
+      let here : IsPastSteps limits.steps (rows_in_tables tables) b k one =
+      subst (λ (t : List Contents). IsPastSteps limits.steps (rows_in_tables t) b k one) (sym e.1) (subst (λ (x : Standing). IsPastSteps limits.steps (rows_in_tables tables') x k one) same past) in
+      let found : slice_get queries k ≡ Some one = subst (λ (qs : List Asked). slice_get qs k ≡ Some one) (sym e.2) there in
+      let within = enough.steps k here.number one here.task found here.there here.shaped in
+      let above = here.past in
+      omega (arith, within, above)
 
-  pub raises_nothing : AllByRecursion (RaisesNothing (rows_in_tables tables)) queries → RunExplains limits (Some told) names Raised → ⊥
-  raises_nothing none raised = asked_one (λ t one. RaisesNothing (rows_in_tables t) one) (λ t one. (codes : List Code) × (outcome one.specification (rows_in_tables t) ≡ Raises codes))
+  pub raises_nothing : (kept : Option Standing) → AllByRecursion (RaisesNothing (rows_in_tables tables)) queries → RunExplains limits (Some told) names kept Raised → ⊥
+  raises_nothing kept none raised = asked_one (λ t one. RaisesNothing (rows_in_tables t) one) (λ t one. (codes : List Code) × (outcome one.specification (rows_in_tables t) ≡ Raises codes))
       (λ one is out. is out.0 out.1) none raised
 
-module _ (limits : Limits) (files : Files) (names : Names) (result : Status) (why : RunExplains limits files names result) (told : List ℕ → Option (List ℕ)) (schema : List Table)
+module _ (limits : Limits) (files : Files) (names : Names) (kept : Option Standing) (result : Status) (why : RunExplains limits files names kept result) (told : List ℕ → Option (List ℕ)) (schema : List Table)
     (tables : List Contents) (queries : List Asked) (is : files ≡ Some told) (asks : HasQueries (Some told) names schema tables queries) where
-  abbrev here : RunExplains limits (Some told) names result
-  here = subst (λ (f : Files). RunExplains limits f names result) is why
+  abbrev here : RunExplains limits (Some told) names kept result
+  here = subst (λ (f : Files). RunExplains limits f names kept result) is why
 
-  within_limits : (status : Status) → IsReported status → (status ≡ PageLimitMet → ⊥) → (status ≡ StepLimitMet → ⊥) → (status ≡ Done) ⊎ (status ≡ Raised)
-  within_limits Done reported pages steps = inl refl
-  within_limits Raised reported pages steps = inr refl
-  within_limits PageLimitMet reported pages steps = absurd (pages refl)
-  within_limits StepLimitMet reported pages steps = absurd (steps refl)
-  within_limits WordsRefused reported pages steps = absurd reported
-  within_limits SchemaRefused reported pages steps = absurd reported
-  within_limits TableFileRefused reported pages steps = absurd reported
-  within_limits QueriesRefused reported pages steps = absurd reported
-  within_limits TotalPages reported pages steps = absurd reported
-  within_limits ReadFailed reported pages steps = absurd reported
-  within_limits WriteFailed reported pages steps = absurd reported
-  within_limits NoMemory reported pages steps = absurd reported
-
-  pub enough_explained : HaveRoom limits tables queries → AllByRecursion (IsEnough limits (rows_in_tables tables)) queries → (result ≡ Done) ⊎ (result ≡ Raised) ⊎ IsFault result
-  enough_explained room enough =
-      elim (runs_explained limits files names result why told schema tables queries is asks room) [
-        | inl reported ↦ elim (within_limits result reported
-            (λ same. pages_enough limits told names schema tables queries asks enough (subst (λ (s : Status). RunExplains limits (Some told) names s) same here))
-            (λ same. steps_enough limits told names schema tables queries asks enough (subst (λ (s : Status). RunExplains limits (Some told) names s) same here))) [
-              | inl done ↦ inl done
-              | inr raised ↦ inr (inl raised)
-            ]
-        | inr fault ↦ inr (inr fault)
-      ]
+  pub enough_explained : (b : Standing) → kept ≡ Some b → IsEnough limits (rows_in_tables tables) queries b → (result ≡ PageLimitMet → ⊥) × (result ≡ StepLimitMet → ⊥)
+  enough_explained b kept_is enough = (
+    (λ same. pages_enough limits told names schema tables queries asks b kept enough (subst (λ (s : Status). RunExplains limits (Some told) names kept s) same here)),
+    (λ same. steps_enough limits told names schema tables queries asks b kept kept_is enough (subst (λ (s : Status). RunExplains limits (Some told) names kept s) same here)),
+  )
 
   pub plain_explained : AllByRecursion (RaisesNothing (rows_in_tables tables)) queries → result ≡ Raised → ⊥
-  plain_explained none same = raises_nothing limits told names schema tables queries asks none (subst (λ (s : Status). RunExplains limits (Some told) names s) same here)
+  plain_explained none same = raises_nothing limits told names schema tables queries asks kept none (subst (λ (s : Status). RunExplains limits (Some told) names kept s) same here)

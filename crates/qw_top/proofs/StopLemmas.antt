@@ -15,7 +15,8 @@ use Rattle.qw_parse.specs.declared.parse.SchemaFault.TheVariants as schema_fault
 use Rattle.qw_parse.specs.Parse.{IsRefused}
 use Rattle.qw_top.specs.Causes.{Cause, queries_mistyped, queries_refused, schema_refused, table_refused, total_pages}
 use Rattle.qw_top.specs.FileNames.{table_file_of}
-use Rattle.qw_top.specs.Limits.{default_limits, most_table_octets, most_text_octets}
+use Rattle.qw_bench.specs.declared.bench.Limits.{Limits}
+use Rattle.qw_top.specs.Limits.{most_table_octets, most_text_octets}
 use Rattle.qw_top.specs.Top.{Asked, Files, FilesSettle, HasQueries, HasTables, IsFile, IsFileOf, IsMistyped, IsNextTable, Names, QueriesAre, SchemaIs, TableIs, TablesAre}
 use Rattle.qw_top.specs.declared.stop.Stop.{Stop}
 use Rattle.qw_top.specs.declared.stop.Stop.TheVariants.{Refused, Unread, NoMemory}
@@ -135,19 +136,19 @@ StopsAs-weaker P Q name (Unread file) weaker stops = stops
 StopsAs-weaker P Q name NoMemory weaker stops = tt
 
 -- a stage that stopped for a reason that files settle, or at a file that a run may read
-pub StopsAs-files : (files : Files) (names : Names) (reason : Cause → Type 0) (name : List ℕ) (stop : Stop) → ((cause : Cause) → reason cause → FilesSettle default_limits files names cause) →
-    IsFileOf files names name → StopsAs reason name stop → FilesStop files names stop
-StopsAs-files files names reason name (Refused refusal line) settle named (cause, holds, is) = (cause, settle cause holds, is)
-StopsAs-files files names reason name (Unread file) settle named is = subst (λ (octets : List ℕ). IsFileOf files names octets) (sym is) named
-StopsAs-files files names reason name NoMemory settle named stops = tt
+pub StopsAs-files : (limits : Limits) (files : Files) (names : Names) (reason : Cause → Type 0) (name : List ℕ) (stop : Stop) → ((cause : Cause) → reason cause → FilesSettle limits files names cause) →
+    IsFileOf files names name → StopsAs reason name stop → FilesStop limits files names stop
+StopsAs-files limits files names reason name (Refused refusal line) settle named (cause, holds, is) = (cause, settle cause holds, is)
+StopsAs-files limits files names reason name (Unread file) settle named is = subst (λ (octets : List ℕ). IsFileOf files names octets) (sym is) named
+StopsAs-files limits files names reason name NoMemory settle named stops = tt
 
-module _ (files : Files) (names : Names) where
-  pub schema_stops : (stop : Stop) → StopsAs (IsNoSchema files names.schema) names.schema stop → FilesStop files names stop
-  schema_stops stop stops = StopsAs-files files names (IsNoSchema files names.schema) names.schema stop (schema_settles default_limits files names) (inl refl) stops
+module _ (limits : Limits) (files : Files) (names : Names) where
+  pub schema_stops : (stop : Stop) → StopsAs (IsNoSchema files names.schema) names.schema stop → FilesStop limits files names stop
+  schema_stops stop stops = StopsAs-files limits files names (IsNoSchema files names.schema) names.schema stop (schema_settles limits files names) (inl refl) stops
 
   -- where the tables' stage stopped, after a schema that was accepted
-  pub tables_stop : (now : Files) (schema : List Table) (stop : Stop) → now ≡ files → SchemaIs files names.schema schema → StopsAtTables now names.folder schema stop → FilesStop files names stop
-  tables_stop now schema stop same declared (inl is) = subst (FilesStop files names) (sym is) tt
+  pub tables_stop : (now : Files) (schema : List Table) (stop : Stop) → now ≡ files → SchemaIs files names.schema schema → StopsAtTables now names.folder schema stop → FilesStop limits files names stop
+  tables_stop now schema stop same declared (inl is) = subst (FilesStop limits files names) (sym is) tt
   tables_stop now schema stop same declared (inr (before, table, behind, contents, is, loaded, stops)) =
       let next : IsNextTable files names table = record {
         before = before;
@@ -156,8 +157,8 @@ module _ (files : Files) (names : Names) where
         contents = contents;
         loaded = subst (λ (f : Files). TablesAre f names.folder before contents) same loaded;
       } in
-      StopsAs-files files names (IsNoTable files names.folder table) (table_file_of names.folder table.name) stop
-      (λ cause none. table_settles default_limits files names table cause next none)
+      StopsAs-files limits files names (IsNoTable files names.folder table) (table_file_of names.folder table.name) stop
+      (λ cause none. table_settles limits files names table cause next none)
       (inr (inl (table, next, refl)))
       (subst (λ (f : Files). StopsAs (IsNoTable f names.folder table) (table_file_of names.folder table.name) stop) same stops)
 
@@ -170,10 +171,10 @@ module _ (files : Files) (names : Names) where
 
   -- where the queries' stage stopped
   pub queries_stop : (now : Files) (schema : List Table) (tables : List Contents) (stop : Stop) → now ≡ files → HasTables files names schema tables →
-      StopsAs (IsNoScript now names.queries schema) names.queries stop → FilesStop files names stop
+      StopsAs (IsNoScript now names.queries schema) names.queries stop → FilesStop limits files names stop
   queries_stop now schema tables stop same held stops =
-      StopsAs-files files names (IsNoScript files names.queries schema) names.queries stop
-      (λ cause none. queries_settle default_limits files names schema tables cause held none)
+      StopsAs-files limits files names (IsNoScript files names.queries schema) names.queries stop
+      (λ cause none. queries_settle limits files names schema tables cause held none)
       (inr (inr (schema, tables, held, refl)))
       (subst (λ (f : Files). StopsAs (IsNoScript f names.queries schema) names.queries stop) same stops)
 
@@ -197,10 +198,10 @@ TablesAre-more files folder (first ∷ tables) (held ∷ contents) table one are
 -- ---- after what was asked for was read
 
 -- where a run stopped before its bench
-pub run_stops : (files : Files) (names : Names) (schema : List Table) (tables : List Contents) (queries : List Asked) (stop : Stop) →
-    HasQueries files names schema tables queries → StopsToRun tables queries stop → FilesStop files names stop
-run_stops files names schema tables queries stop held (inl is) = subst (FilesStop files names) (sym is) tt
-run_stops files names schema tables queries (Refused refusal line) held (inr (large, stops)) =
+pub run_stops : (limits : Limits) (files : Files) (names : Names) (schema : List Table) (tables : List Contents) (queries : List Asked) (stop : Stop) →
+    HasQueries files names schema tables queries → StopsToRun limits tables queries stop → FilesStop limits files names stop
+run_stops limits files names schema tables queries stop held (inl is) = subst (FilesStop limits files names) (sym is) tt
+run_stops limits files names schema tables queries (Refused refusal line) held (inr (large, stops)) =
     (total_pages _, (schema, tables, queries, held, refl, large), stops)
-run_stops files names schema tables queries (Unread file) held (inr (large, stops)) = absurd stops
-run_stops files names schema tables queries NoMemory held (inr (large, stops)) = tt
+run_stops limits files names schema tables queries (Unread file) held (inr (large, stops)) = absurd stops
+run_stops limits files names schema tables queries NoMemory held (inr (large, stops)) = tt

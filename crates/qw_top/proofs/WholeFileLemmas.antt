@@ -5,6 +5,7 @@ use Rattle.std.proofs.lemmas.List.{take_all, length-take-le}
 use Rattle.std.proofs.Math.Seq.{take-add}
 use Rattle.qw_io.specs.Faults.{IsCounted}
 use Rattle.qw_io.specs.Files.{OfFile}
+use Rattle.qw_top.specs.Asking.{AsksWithin, IsOne}
 use Rattle.qw_top.specs.Inner.WholeFiles.{IsFront}
 use Rattle.qw_top.specs.Inner.Shelves.{HasRead, Told}
 
@@ -67,3 +68,4 @@ pub record Reads (before now : Told) (name bytes : List ℕ) (limit : ℕ) : Typ
   pub front : IsFront before.files name bytes
   pub within : length bytes ≤ limit + 1
   pub shelf : HasRead None before now
+  pub asked : AsksWithin (IsOne name limit) before.watched now.watched

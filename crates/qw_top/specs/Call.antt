@@ -11,12 +11,13 @@ use Rattle.qw_check.specs.Check.{HasFault, SpellsValid}
 use Rattle.qw_check.specs.declared.check.CheckFault.TheVariants as check_faults
 use Rattle.qw_map.specs.Layout.{Layout}
 use Rattle.qw_emit.specs.Compiled.{IsCompiled}
+use Rattle.qw_emit.specs.Queries.{promise_of}
 use Rattle.qw_bench.specs.Standing.{Standing}
-use Rattle.qw_bench.specs.declared.bench.Limits.{Limits}
-use Rattle.qw_words.specs.Words.{run, compile, check, Reading, command, no_command, no_number, TextNames, reading}
+use Rattle.qw_words.specs.Words.{run, compile, check, Reading, RunOptions, command, no_command, no_number, TextNames, reading}
 use Rattle.qw_top.specs.Causes.{Cause, words_refused, statement_out_of_range, schema_too_long, schema_refused, queries_too_long, queries_refused, queries_mistyped, no_statement, module_too_long, module_refused, status_of_cause}
 use Rattle.qw_top.specs.Delivered.{CommandNotes, LeavesBench, LeavesNothing, RunLeaves}
-use Rattle.qw_top.specs.Limits.{most_module_octets, most_text_octets}
+use Rattle.qw_top.specs.FileNames.{table_file_of}
+use Rattle.qw_top.specs.Limits.{limits_of, most_module_octets, most_table_octets, most_text_octets}
 use Rattle.qw_top.specs.Output.{TookFront, with_text}
 use Rattle.qw_top.specs.Top.{Asked, Files, FilesSettle, HasQueries, IsFile, IsFileOf, IsMistyped, IsTooLong, Names, QueriesAre, RunExplains, SchemaIs}
 use Rattle.qw_top.specs.declared.status.Status.{Status}
@@ -74,7 +75,7 @@ IsScriptFile files names name = (name ≡ names.schema) ⊎ ((schema : List Tabl
 pub record SpellsCompiled (one : Asked) (octets : List ℕ) : Type 0 where
   pub layout : Layout
   pub m : Module
-  pub compiled : IsCompiled one.specification layout m
+  pub compiled : IsCompiled (promise_of one.specification) layout m
   pub spelled : SpellsModule (contents_of m) octets
 
 -- what is written of a statement
@@ -119,51 +120,52 @@ TookText old new = (text : List ℕ) × (new ≡ with_text old text)
 -- ---- a call, by the reading of its words
 
 -- the words and the files settle the cause
-abbrev pub SettlesBy : (limits : Limits) → Files → Reading → Cause → Type 0
-SettlesBy limits files no_command cause = cause ≡ words_refused
-SettlesBy limits files no_number cause = cause ≡ statement_out_of_range
-SettlesBy limits files (command (run names)) cause = FilesSettle limits files names cause
-SettlesBy limits files (command (compile names statement)) cause = CompileSettles files names statement cause
-SettlesBy limits files (command (check name)) cause = CheckSettles files name cause
+abbrev pub SettlesBy : Files → Reading → Cause → Type 0
+SettlesBy files no_command cause = cause ≡ words_refused
+SettlesBy files no_number cause = cause ≡ statement_out_of_range
+SettlesBy files (command (run names options)) cause = FilesSettle (limits_of options) files names cause
+SettlesBy files (command (compile names statement)) cause = CompileSettles files names statement cause
+SettlesBy files (command (check name)) cause = CheckSettles files name cause
 
-abbrev pub Settles : (limits : Limits) → Files → (words : List (List ℕ)) → Cause → Type 0
-Settles limits files words cause = SettlesBy limits files (reading words) cause
+abbrev pub Settles : Files → (words : List (List ℕ)) → Cause → Type 0
+Settles files words cause = SettlesBy files (reading words) cause
 
--- they explain how the call ended
-abbrev pub ExplainsBy : (limits : Limits) → Files → Reading → Status → Type 0
-ExplainsBy limits files no_command status = IsEndOfWords status
-ExplainsBy limits files no_number status = IsEndOfWords status
-ExplainsBy limits files (command (run names)) status = RunExplains limits files names status
-ExplainsBy limits files (command (compile names statement)) status =
+-- they, and the bench that was kept, explain how the call ended
+abbrev pub ExplainsBy : Files → Reading → (kept : Option Standing) → Status → Type 0
+ExplainsBy files no_command kept status = IsEndOfWords status
+ExplainsBy files no_number kept status = IsEndOfWords status
+ExplainsBy files (command (run names options)) kept status = RunExplains (limits_of options) files names kept status
+ExplainsBy files (command (compile names statement)) kept status =
     TextExplains ((one : Asked) × HasStatement files names statement one) (CompileSettles files names statement) status
-ExplainsBy limits files (command (check name)) status = TextExplains (IsValidFile files name) (CheckSettles files name) status
+ExplainsBy files (command (check name)) kept status = TextExplains (IsValidFile files name) (CheckSettles files name) status
 
-abbrev pub Explains : (limits : Limits) → Files → (words : List (List ℕ)) → Status → Type 0
-Explains limits files words status = ExplainsBy limits files (reading words) status
+abbrev pub Explains : Files → (words : List (List ℕ)) → (kept : Option Standing) → Status → Type 0
+Explains files words kept status = ExplainsBy files (reading words) kept status
 
 -- the bench that was kept, and what `out` had taken before and has taken now; a run alone keeps a bench
-abbrev pub LeavesBy : (limits : Limits) → (quantum : ℕ) → Files → Reading → Status → (kept : Option Standing) → (old new : Option (List ℕ)) → Type 0
-LeavesBy limits quantum files (command (run names)) status kept old new = RunLeaves limits quantum files names status kept old new
-LeavesBy limits quantum files (command (compile names statement)) status kept old new = (kept ≡ None) × LeavesText (CompileWrites files names statement) status old new
-LeavesBy limits quantum files (command (check name)) status kept old new = (kept ≡ None) × LeavesText (CheckWrites files name) status old new
-LeavesBy limits quantum files _ status kept old new = LeavesNothing kept old new
+abbrev pub LeavesBy : Files → Reading → Status → (kept : Option Standing) → (old new : Option (List ℕ)) → Type 0
+LeavesBy files (command (run names options)) status kept old new = RunLeaves (limits_of options) options.quantum files names status kept old new
+LeavesBy files (command (compile names statement)) status kept old new = (kept ≡ None) × LeavesText (CompileWrites files names statement) status old new
+LeavesBy files (command (check name)) status kept old new = (kept ≡ None) × LeavesText (CheckWrites files name) status old new
+LeavesBy files _ status kept old new = LeavesNothing kept old new
 
-abbrev pub Leaves : (limits : Limits) → (quantum : ℕ) → Files → (words : List (List ℕ)) → Status → (kept : Option Standing) → (old new : Option (List ℕ)) → Type 0
-Leaves limits quantum files words status kept old new = LeavesBy limits quantum files (reading words) status kept old new
+abbrev pub Leaves : Files → (words : List (List ℕ)) → Status → (kept : Option Standing) → (old new : Option (List ℕ)) → Type 0
+Leaves files words status kept old new = LeavesBy files (reading words) status kept old new
 
 -- what is left where `out` counted a fault: a run's bench with a front of its report, or a front of a command's text
-abbrev pub LeavesFrontBy : (limits : Limits) → (quantum : ℕ) → Files → Reading → (kept : Option Standing) → (old new : Option (List ℕ)) → Type 0
-LeavesFrontBy limits quantum files (command (run names)) kept old new = LeavesBench limits quantum files names kept (λ status report. TookFront old new report)
-LeavesFrontBy limits quantum files (command (compile names statement)) kept old new = (kept ≡ None) × TookFrontOf (CompileWrites files names statement) old new
-LeavesFrontBy limits quantum files (command (check name)) kept old new = (kept ≡ None) × TookFrontOf (CheckWrites files name) old new
-LeavesFrontBy limits quantum files _ kept old new = ⊥
+abbrev pub LeavesFrontBy : Files → Reading → (kept : Option Standing) → (old new : Option (List ℕ)) → Type 0
+LeavesFrontBy files (command (run names options)) kept old new =
+    LeavesBench (limits_of options) options.quantum files names kept (λ status report. TookFront old new report)
+LeavesFrontBy files (command (compile names statement)) kept old new = (kept ≡ None) × TookFrontOf (CompileWrites files names statement) old new
+LeavesFrontBy files (command (check name)) kept old new = (kept ≡ None) × TookFrontOf (CheckWrites files name) old new
+LeavesFrontBy files _ kept old new = ⊥
 
-abbrev pub LeavesFront : (limits : Limits) → (quantum : ℕ) → Files → (words : List (List ℕ)) → (kept : Option Standing) → (old new : Option (List ℕ)) → Type 0
-LeavesFront limits quantum files words kept old new = LeavesFrontBy limits quantum files (reading words) kept old new
+abbrev pub LeavesFront : Files → (words : List (List ℕ)) → (kept : Option Standing) → (old new : Option (List ℕ)) → Type 0
+LeavesFront files words kept old new = LeavesFrontBy files (reading words) kept old new
 
 -- the name of a file that the call may read
 abbrev pub NamesBy : Files → Reading → (name : List ℕ) → Type 0
-NamesBy files (command (run names)) name = IsFileOf files names name
+NamesBy files (command (run names options)) name = IsFileOf files names name
 NamesBy files (command (compile names statement)) name = IsScriptFile files names name
 NamesBy files (command (check file)) name = name ≡ file
 NamesBy files _ name = ⊥
@@ -172,18 +174,42 @@ abbrev pub IsNamed : Files → (words : List (List ℕ)) → (name : List ℕ) �
 IsNamed files words name = NamesBy files (reading words) name
 
 -- What is noted. Of words that are those of no command it is clap's text, which isn't fixed, as far as the sink takes it.
-abbrev pub NotesBy : (limits : Limits) → Files → Reading → (fault_name : Option (List ℕ)) → Status → (old new : Option (List ℕ)) → Type 0
-NotesBy limits files no_command fault_name status old new = TookText old new
-NotesBy limits files r fault_name status old new = CommandNotes (SettlesBy limits files r) (NamesBy files r) fault_name status old new
+abbrev pub NotesBy : Files → Reading → (fault_name : Option (List ℕ)) → Status → (old new : Option (List ℕ)) → Type 0
+NotesBy files no_command fault_name status old new = TookText old new
+NotesBy files r fault_name status old new = CommandNotes (SettlesBy files r) (NamesBy files r) fault_name status old new
 
-abbrev pub Notes : (limits : Limits) → Files → (words : List (List ℕ)) → (fault_name : Option (List ℕ)) → Status → (old new : Option (List ℕ)) → Type 0
-Notes limits files words fault_name status old new = NotesBy limits files (reading words) fault_name status old new
+abbrev pub Notes : Files → (words : List (List ℕ)) → (fault_name : Option (List ℕ)) → Status → (old new : Option (List ℕ)) → Type 0
+Notes files words fault_name status old new = NotesBy files (reading words) fault_name status old new
+
+-- ---- how far files are read
+
+-- the limit of a text's file of one of two names
+abbrev pub IsTextLimit : (schema queries : List ℕ) → (name : List ℕ) → (limit : ℕ) → Type 0
+IsTextLimit schema queries name limit = ((name ≡ schema) ⊎ (name ≡ queries)) × (limit ≡ most_text_octets)
+
+-- the limit of the file of a table in a folder
+abbrev pub IsTableLimit : (folder : List ℕ) → (name : List ℕ) → (limit : ℕ) → Type 0
+IsTableLimit folder name limit = ((table : List ℕ) × (name ≡ table_file_of folder table)) × (limit ≡ most_table_octets)
+
+-- those of the files of a run
+abbrev pub IsRunLimit : Names → (name : List ℕ) → (limit : ℕ) → Type 0
+IsRunLimit names name limit = IsTextLimit names.schema names.queries name limit ⊎ IsTableLimit names.folder name limit
+
+-- a limit of the file of this name, by what the words say of it; they may name one file twice
+abbrev pub IsLimitBy : Reading → (name : List ℕ) → (limit : ℕ) → Type 0
+IsLimitBy (command (run names options)) name limit = IsRunLimit names name limit
+IsLimitBy (command (compile names statement)) name limit = IsTextLimit names.schema names.queries name limit
+IsLimitBy (command (check file)) name limit = (name ≡ file) × (limit ≡ most_module_octets)
+IsLimitBy _ name limit = ⊥
+
+abbrev pub IsLimit : (words : List (List ℕ)) → (name : List ℕ) → (limit : ℕ) → Type 0
+IsLimit words name limit = IsLimitBy (reading words) name limit
 
 -- ---- what words ask for
 
--- they are read as `run`, and the files ask for these queries over these tables
-abbrev pub Asks : Files → (words : List (List ℕ)) → List Table → List Contents → List Asked → Type 0
-Asks files words schema tables queries = (names : Names) × (reading words ≡ command (run names)) × HasQueries files names schema tables queries
+-- they are read as `run` with these options, and the files ask for these queries over these tables
+abbrev pub Asks : Files → (words : List (List ℕ)) → RunOptions → List Table → List Contents → List Asked → Type 0
+Asks files words options schema tables queries = (names : Names) × (reading words ≡ command (run names options)) × HasQueries files names schema tables queries
 
 -- they are read as `compile`, and the statement asks for this query
 abbrev pub AsksToCompile : Files → (words : List (List ℕ)) → Asked → Type 0

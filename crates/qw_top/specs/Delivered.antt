@@ -1,13 +1,16 @@
 -- What a run leaves: the bench that it turned to the end, what it wrote of the report, and what it noted.
 use Rattle.std.specs.Prelude.{◌≡◌, ◌⊎◌, ℕ, zero, suc, ◌<◌, Bool, true, false, if◌then◌else◌, List, [], ◌∷◌, ◌++◌, length, Contains, Option, Some, None, IfSome, IsSome}
-use Rattle.std.specs.List.{AllZip, list_any}
+use Rattle.std.specs.List.{AllByRecursion, AllZip, list_any}
+use Rattle.std.specs.List.Sorted.{IsPermutation}
 use Rattle.qw_types.specs.Contents.{Contents}
 use Rattle.qw_types.specs.declared.code.Code.{Code}
 use Rattle.qw_types.specs.declared.schema.Table.{Table}
 use Rattle.qw_types.specs.declared.value.Val.{Val}
 use Rattle.qw_meaning.specs.Outcome.{Rows, Raises, outcome}
 use Rattle.qw_map.specs.Turns.{Act, End, Done as EndedDone, Exception, Pages, Steps, Trap, Shared, turns}
+use Rattle.qw_meaning.specs.Select.{AreOfEntries}
 use Rattle.qw_emit.specs.Compiled.{IsCompiled, raised_for}
+use Rattle.qw_emit.specs.Queries.{promise_of}
 use Rattle.qw_bench.specs.Bench.{AreRounds, IsStart, Program, end_in, rows_in_tables}
 use Rattle.qw_bench.specs.Standing.{Standing, AreTasksOf, rows_in}
 use Rattle.qw_bench.specs.declared.bench.Limits.{Limits}
@@ -21,13 +24,14 @@ use Rattle.qw_top.specs.declared.status.Status.TheVariants.{Done, ReadFailed, Wr
 
 -- a program is a query's compiled form
 abbrev pub IsProgramOf : Asked → Program → Type 0
-IsProgramOf asked program = IsCompiled asked.specification program.layout program.module'
+IsProgramOf asked program = IsCompiled (promise_of asked.specification) program.layout program.module'
 
--- A bench has run queries over tables to their ends, under limits, in turns of so many instructions: there is room for them; it has
--- one task for each query in order, its compiled module; it stands where rounds of turns led from a start of these tasks; and all
--- instances ended.
+-- A bench has run queries over tables to their ends, under limits, in turns of so many instructions: there is room for them; the tables
+-- that they read have rows of the columns that they take them to have; it has one task for each query in order, its compiled module; it
+-- stands where rounds of turns led from a start of these tasks; and all instances ended.
 pub record HasRun (limits : Limits) (quantum : ℕ) (tables : List Contents) (queries : List Asked) (b : Standing) : Type 0 where
   pub room : HaveRoom limits tables queries
+  pub read : AllByRecursion (λ (asked : Asked). AreOfEntries asked.specification.entries (rows_in_tables tables)) queries
   pub programs : List Program
   pub compiled : AllZip IsProgramOf queries programs
   pub tasks : AreTasksOf programs (same_limits limits queries) b.tasks
@@ -38,12 +42,13 @@ pub record HasRun (limits : Limits) (quantum : ℕ) (tables : List Contents) (qu
   pub turned : b.shared ≡ turns given start
   pub ended : (k : ℕ) → k < length queries → IsSome (end_in b.shared k)
 
--- What is reported of the end of query k, counted from 0: the rows that stand in the bench's memory, which are those of the
--- query's meaning; the exception, which is one of its meaning's; the pages, or the limit of instructions. There is no other end.
+-- What is reported of the end of query k, counted from 0: the rows that stand in the bench's memory, in their order there, which are the bag of
+-- the query's meaning; the exception, which is one of its meaning's; the pages, or the limit of instructions. There is no other end.
 abbrev pub ShowsEnd : List Contents → Asked → Standing → ℕ → Option End → (block : List ℕ) → Type 0
 ShowsEnd tables asked b k None block = ⊥
-ShowsEnd tables asked b k (Some EndedDone) block = (bag : List (List Val))
-    × (outcome asked.specification (rows_in_tables tables) ≡ Rows bag) × (rows_in b k ≡ Some bag) × (block ≡ report_of_rows (suc k) asked.header bag)
+ShowsEnd tables asked b k (Some EndedDone) block = (bag : List (List Val)) × (rows : List (List Val))
+    × (outcome asked.specification (rows_in_tables tables) ≡ Rows bag) × IsPermutation bag rows × (rows_in b k ≡ Some rows)
+    × (block ≡ report_of_rows (suc k) asked.header rows)
 ShowsEnd tables asked b k (Some (Exception code)) block = (raised : List Code) × (one : Code)
     × (outcome asked.specification (rows_in_tables tables) ≡ Raises raised) × Contains raised one × (code ≡ raised_for one) × (block ≡ report_of_exception (suc k) one)
 ShowsEnd tables asked b k (Some (Pages held asked_for limit)) block = block ≡ report_of_pages (suc k) held asked_for limit

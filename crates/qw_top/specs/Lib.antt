@@ -1,3 +1,4 @@
+pub mod Asking
 pub mod Call
 pub mod Causes
 pub mod Delivered

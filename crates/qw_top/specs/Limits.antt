@@ -1,5 +1,6 @@
--- The limits of a run.
+-- The limits of files, and those of a run.
 use Rattle.std.specs.Prelude.{ℕ}
+use Rattle.qw_words.specs.Words.{RunOptions}
 use Rattle.qw_bench.specs.declared.bench.Limits.{Limits}
 
 -- octets of a schema file, and of a queries file
@@ -14,10 +15,6 @@ most_table_octets = 268435456
 abbrev pub most_module_octets : ℕ
 most_module_octets = 67108864
 
--- instructions of a turn
-abbrev pub quantum : ℕ
-quantum = 10000
-
--- what an instance may use where no limits are given
-abbrev pub default_limits : Limits
-default_limits = record { pages = 128; steps = 999999999999999999 }
+-- what each query of a run may use
+abbrev pub limits_of : RunOptions → Limits
+limits_of options = record { pages = options.pages; steps = options.steps }

@@ -1,5 +1,6 @@
 -- What the files of a run hold, and which ends of a run the words and the files explain.
-use Rattle.std.specs.Prelude.{◌≡◌, ◌⊎◌, ℕ, ◌<◌, ◌≤◌, List, [], ◌∷◌, ◌++◌, Option, Some, length, map, Contains}
+use Rattle.std.specs.Prelude.{◌≡◌, ◌⊎◌, ℕ, ◌<◌, ◌≤◌, List, [], ◌∷◌, ◌++◌, Option, Some, length, map, Contains, slice_get}
+use Rattle.std.specs.List.{AllByRecursion}
 use Rattle.qw_io.specs.Files.{OfFile}
 use Rattle.qw_types.specs.Contents.{Contents, column_type}
 use Rattle.qw_types.specs.declared.code.Code.{Code}
@@ -15,12 +16,11 @@ use Rattle.qw_parse.specs.Parse.{IsRefused, ReadsSchema}
 use Rattle.qw_script.specs.Script.{IsScriptRefused, ReadsScript}
 use Rattle.qw_typer.specs.Typed.{HasFirstFault, Means}
 use Rattle.qw_typer.specs.declared.fault.TypeFault.{TypeFault}
-use Rattle.qw_module.specs.declared.module.Module.{Module}
 use Rattle.qw_module.specs.Validity.{IsShaped}
-use Rattle.qw_map.specs.Layout.{Layout}
-use Rattle.qw_emit.specs.Compiled.{IsCompiled, bound, page_bound}
-use Rattle.qw_bench.specs.Bench.{rows_in_tables}
-use Rattle.qw_bench.specs.Standing.{total_pages as pages_in_all}
+use Rattle.qw_emit.specs.Compiled.{bound}
+use Rattle.qw_emit.specs.Queries.{page_bound, promise_of}
+use Rattle.qw_bench.specs.Bench.{Task, rows_in_tables}
+use Rattle.qw_bench.specs.Standing.{Standing, total_pages as pages_in_all}
 use Rattle.qw_bench.specs.declared.bench.Limits.{Limits}
 use Rattle.qw_sink.specs.declared.sink.Head.{Head}
 pub use Rattle.qw_words.specs.Words.{Names}
@@ -188,30 +188,36 @@ IsFault WriteFailed = Unit {0}
 IsFault NoMemory = Unit {0}
 IsFault _ = ⊥
 
--- a compiled form of the query has a bound that is past so many instructions
-abbrev pub IsPastSteps : (steps : ℕ) → (tables : List (List (List Val))) → Asked → Type 0
-IsPastSteps steps tables one = (layout : Layout) × (m : Module) × (number : ℕ)
-    × IsCompiled one.specification layout m × IsShaped m number × (steps < bound one.specification tables m number)
+-- the module that a bench has for its query of number k, counted from 0, has a bound over tables that is past so many instructions
+pub record IsPastSteps (steps : ℕ) (tables : List (List (List Val))) (b : Standing) (k : ℕ) (one : Asked) : Type 0 where
+  pub task : Task
+  pub there : slice_get b.tasks k ≡ Some task
+  pub number : ℕ
+  pub shaped : IsShaped task.program.module' number
+  pub past : steps < bound (promise_of one.specification) tables task.program.module' number
 
--- limits are enough for a query over tables: its bound on pages is within them, and so is that on instructions of each compiled form
-pub record IsEnough (limits : Limits) (tables : List (List (List Val))) (one : Asked) : Type 0 where
-  pub pages : page_bound one.specification tables ≤ limits.pages
-  pub steps : IsPastSteps limits.steps tables one → ⊥
+-- limits are enough for the queries of a bench over tables: the bound of each on pages is within them, and so is that of its module there
+-- on instructions
+pub record IsEnough (limits : Limits) (tables : List (List (List Val))) (queries : List Asked) (b : Standing) : Type 0 where
+  pub pages : AllByRecursion (λ (one : Asked). page_bound one.specification tables ≤ limits.pages) queries
+  pub steps : (k number : ℕ) (one : Asked) (task : Task) → slice_get queries k ≡ Some one → slice_get b.tasks k ≡ Some task →
+      IsShaped task.program.module' number → bound (promise_of one.specification) tables task.program.module' number ≤ limits.steps
 
 -- the query raises nothing over tables
 abbrev pub RaisesNothing : (tables : List (List (List Val))) → Asked → Type 0
 RaisesNothing tables one = (codes : List Code) → outcome one.specification tables ≡ Raises codes → ⊥
 
--- The files of these names explain how a run under limits ended: they settle a cause of a refusal; or they ask for queries that
--- have room, of which one raises, where an exception was raised, and has bounds that are past the limits, where one was met. Of a
--- fault of the outside and of want of memory nothing is said.
-abbrev pub RunExplains : (limits : Limits) → Files → Names → Status → Type 0
-RunExplains limits files names Done =
+-- The files of these names, and the bench that was kept, explain how a run under limits ended: they settle a cause of a refusal; or they
+-- ask for queries that have room, of which one raises, where an exception was raised; or has a bound on pages, or a module in the bench
+-- with a bound on instructions, that is past the limit, where that was met. Of a fault of the outside and of want of memory nothing is said.
+abbrev pub RunExplains : (limits : Limits) → Files → Names → (kept : Option Standing) → Status → Type 0
+RunExplains limits files names kept Done =
     (schema : List Table) × (tables : List Contents) × (queries : List Asked) × HasQueries files names schema tables queries × HaveRoom limits tables queries
-RunExplains limits files names Raised = AsksOne limits files names (λ tables one. (codes : List Code) × (outcome one.specification (rows_in_tables tables) ≡ Raises codes))
-RunExplains limits files names PageLimitMet = AsksOne limits files names (λ tables one. limits.pages < page_bound one.specification (rows_in_tables tables))
-RunExplains limits files names StepLimitMet = AsksOne limits files names (λ tables one. IsPastSteps limits.steps (rows_in_tables tables) one)
-RunExplains limits files names ReadFailed = Unit {0}
-RunExplains limits files names WriteFailed = Unit {0}
-RunExplains limits files names NoMemory = Unit {0}
-RunExplains limits files names status = (cause : Cause) × FilesSettle limits files names cause × (status ≡ status_of_cause cause)
+RunExplains limits files names kept Raised = AsksOne limits files names (λ tables one. (codes : List Code) × (outcome one.specification (rows_in_tables tables) ≡ Raises codes))
+RunExplains limits files names kept PageLimitMet = AsksOne limits files names (λ tables one. limits.pages < page_bound one.specification (rows_in_tables tables))
+RunExplains limits files names kept StepLimitMet = (b : Standing) × (kept ≡ Some b) × (schema : List Table) × (tables : List Contents) × (queries : List Asked) × (k : ℕ) × (one : Asked)
+    × HasQueries files names schema tables queries × HaveRoom limits tables queries × (slice_get queries k ≡ Some one) × IsPastSteps limits.steps (rows_in_tables tables) b k one
+RunExplains limits files names kept ReadFailed = Unit {0}
+RunExplains limits files names kept WriteFailed = Unit {0}
+RunExplains limits files names kept NoMemory = Unit {0}
+RunExplains limits files names kept status = (cause : Cause) × FilesSettle limits files names cause × (status ≡ status_of_cause cause)

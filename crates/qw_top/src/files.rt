@@ -2,7 +2,9 @@
 
 ghost use Rattle.std.specs.Prelude.{◌≡◌, ◌+◌, ◌<◌, ◌≤◌, IfOk, IsErrOf, OnOk, length};
 ghost use Rattle.std.specs.String.{string_bytes};
-ghost use Rattle.qw_io.specs.Files.{OfFile};
+ghost use Rattle.std.specs.Option.{option_map};
+ghost use Rattle.qw_io.specs.Files.{OfFile, watched_after};
+ghost use Rattle.qw_top.specs.Asking.{AsksWithin, IsOne};
 ghost use Rattle.qw_top.specs.Inner.Shelves.{HasRead, failed_read, told_by};
 ghost use Rattle.qw_top.specs.FileNames.{table_file_of};
 ghost use Rattle.qw_top.specs.Inner.WholeFiles.{IsFront};
@@ -62,7 +64,7 @@ pub fn table_file_name(alloc: Global, folder: &str, table: &str) -> Result<Strin
     Ok(name)
 }
 
-/// Reads a whole file of at most `limit` octets, piece by piece.
+/// Reads a whole file of at most `limit` octets, piece by piece. It asks for no octet behind the one after the limit.
 ///
 /// # Errors
 ///
@@ -80,6 +82,7 @@ pub fn read_whole<F: Shelf>(
         OfFile (F.files files.old) name.now (λ file. limit < length file) }
 
     ensures shelf { HasRead (failed_read name.now result) (told_by F.Shelf files.old) (told_by F.Shelf files.new) }
+    ensures asked { AsksWithin (IsOne name.now limit) (F.watched files.old) (F.watched files.new) }
 {
     let mut buffer = vec![in alloc; 0; PIECE].map_err(|_| ReadFault::NoMemory)?;
     read_pieces(alloc, files, name, limit, buffer.as_mut_slice())
@@ -102,6 +105,7 @@ fn read_pieces<F: Shelf>(
         OfFile (F.files files.old) name.now (λ file. limit < length file) }
 
     ensures shelf { HasRead (failed_read name.now result) (told_by F.Shelf files.old) (told_by F.Shelf files.new) }
+    ensures asked { AsksWithin (IsOne name.now limit) (F.watched files.old) (F.watched files.new) }
 {
     let mut bytes = Vec::new(alloc);
     while bytes.len() <= limit {
@@ -134,6 +138,7 @@ fn read_more<F: Shelf>(
 
     ensures never_too_long { ¬ IsErrOf result ReadFault.TooLong }
     ensures shelf { HasRead (failed_read name.now result) (told_by F.Shelf files.old) (told_by F.Shelf files.new) }
+    ensures asked { F.watched files.new ≡ option_map (watched_after name.now (length bytes.old.items + length piece.old)) (F.watched files.old) }
 {
     let count = files.fetch(name, bytes.len() as u64, piece)?;
     bytes

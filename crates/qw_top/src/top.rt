@@ -7,11 +7,12 @@ ghost use Rattle.qw_io.specs.Faults.{IsCounted};
 ghost use Rattle.qw_types.specs.Contents.{Contents};
 ghost use Rattle.qw_types.specs.declared.schema.Table.{Table};
 ghost use Rattle.qw_bench.specs.Bench.{rows_in_tables};
-ghost use Rattle.qw_bench.specs.declared.bench.Limits.{Limits};
-ghost use Rattle.qw_words.specs.Words.{no_command, no_number, reading};
-ghost use Rattle.qw_top.specs.Call.{Asks, AsksToCheck, AsksToCompile, Explains, IsNamed, Leaves, LeavesFront, Notes, Settles};
+ghost use Rattle.qw_bench.specs.Standing.{Standing};
+ghost use Rattle.qw_words.specs.Words.{RunOptions, no_command, no_number, reading};
+ghost use Rattle.qw_top.specs.Asking.{AsksWithin};
+ghost use Rattle.qw_top.specs.Call.{Asks, AsksToCheck, AsksToCompile, Explains, IsLimit, IsNamed, Leaves, LeavesFront, Notes, Settles};
 ghost use Rattle.qw_top.specs.Causes.{AreOne, Cause, status_of_cause};
-ghost use Rattle.qw_top.specs.Limits.{default_limits, quantum};
+ghost use Rattle.qw_top.specs.Limits.{limits_of};
 ghost use Rattle.qw_top.specs.declared.status.Status.{Status};
 ghost use Rattle.qw_top.specs.Notes.{want_of_memory_line};
 ghost use Rattle.qw_top.specs.Output.{with_text};
@@ -35,10 +36,6 @@ pub mod queries;
 mod report;
 mod run;
 
-/// How many instructions an instance runs before the next one has its turn: so many that the cost of a turn
-/// doesn't count, and so few that instances alternate.
-pub const QUANTUM: u64 = 10_000;
-
 /// Does what the words of a command line ask for, which come without the program's own name: runs queries and writes their report
 /// to `out`, or writes the module of a statement, or says of a file that it is a valid module. `notes` gets a line where it couldn't.
 ///
@@ -52,29 +49,28 @@ pub fn qwasm<F: Shelf, O: Sink, E: Sink>(
     notes: &mut E,
     kept: &mut Option<Bench>,
 ) -> Status
-    ensures explained { Explains default_limits (F.files files.old) (map string_bytes words.now) result }
+    ensures explained { Explains (F.files files.old) (map string_bytes words.now) kept.new result }
     ensures exactly { (told : List ℕ → Option (List ℕ)) (cause : Cause) → F.files files.old ≡ Some told
-        → Settles default_limits (Some told) (map string_bytes words.now) cause
+        → Settles (Some told) (map string_bytes words.now) cause
         → (result ≡ status_of_cause cause) ⊎ IsFault result }
-    ensures runs { (told : List ℕ → Option (List ℕ)) (schema : List Table) (tables : List Contents) (queries : List Asked)
-        → F.files files.old ≡ Some told → Asks (Some told) (map string_bytes words.now) schema tables queries
-        → HaveRoom default_limits tables queries → IsReported result ⊎ IsFault result }
-    ensures enough { (told : List ℕ → Option (List ℕ)) (schema : List Table) (tables : List Contents) (queries : List Asked)
-        → F.files files.old ≡ Some told → Asks (Some told) (map string_bytes words.now) schema tables queries
-        → HaveRoom default_limits tables queries
-        → AllByRecursion (IsEnough default_limits (rows_in_tables tables)) queries
-        → (result ≡ Status.Done) ⊎ (result ≡ Status.Raised) ⊎ IsFault result }
-    ensures plain { (told : List ℕ → Option (List ℕ)) (schema : List Table) (tables : List Contents) (queries : List Asked)
-        → F.files files.old ≡ Some told → Asks (Some told) (map string_bytes words.now) schema tables queries
+    ensures runs { (told : List ℕ → Option (List ℕ)) (options : RunOptions) (schema : List Table) (tables : List Contents) (queries : List Asked)
+        → F.files files.old ≡ Some told → Asks (Some told) (map string_bytes words.now) options schema tables queries
+        → HaveRoom (limits_of options) tables queries → IsReported result ⊎ IsFault result }
+    ensures enough { (told : List ℕ → Option (List ℕ)) (options : RunOptions) (schema : List Table) (tables : List Contents) (queries : List Asked) (b : Standing)
+        → F.files files.old ≡ Some told → Asks (Some told) (map string_bytes words.now) options schema tables queries
+        → kept.new ≡ Some b → IsEnough (limits_of options) (rows_in_tables tables) queries b
+        → (result ≢ Status.PageLimitMet) × (result ≢ Status.StepLimitMet) }
+    ensures plain { (told : List ℕ → Option (List ℕ)) (options : RunOptions) (schema : List Table) (tables : List Contents) (queries : List Asked)
+        → F.files files.old ≡ Some told → Asks (Some told) (map string_bytes words.now) options schema tables queries
         → AllByRecursion (RaisesNothing (rows_in_tables tables)) queries → result ≢ Status.Raised }
     ensures compiles { (told : List ℕ → Option (List ℕ)) (one : Asked) → F.files files.old ≡ Some told
         → AsksToCompile (Some told) (map string_bytes words.now) one → (result ≡ Status.Done) ⊎ IsFault result }
     ensures checks { (told : List ℕ → Option (List ℕ)) → F.files files.old ≡ Some told
         → AsksToCheck (Some told) (map string_bytes words.now) → (result ≡ Status.Done) ⊎ IsFault result }
-    ensures left { Leaves default_limits quantum (F.files files.old) (map string_bytes words.now) result kept.new (O.taken out.old) (O.taken out.new) }
+    ensures left { Leaves (F.files files.old) (map string_bytes words.now) result kept.new (O.taken out.old) (O.taken out.new) }
     ensures kept_at_fault { O.faults out.new ≢ O.faults out.old
-        → LeavesFront default_limits quantum (F.files files.old) (map string_bytes words.now) kept.new (O.taken out.old) (O.taken out.new) }
-    ensures noted { Notes default_limits (F.files files.old) (map string_bytes words.now) (F.fault_name files.new) result (E.taken notes.old) (E.taken notes.new) }
+        → LeavesFront (F.files files.old) (map string_bytes words.now) kept.new (O.taken out.old) (O.taken out.new) }
+    ensures noted { Notes (F.files files.old) (map string_bytes words.now) (F.fault_name files.new) result (E.taken notes.old) (E.taken notes.new) }
     ensures noted_whole { (IsTrue E.takes_memory → ⊥) → result ≡ Status.NoMemory
         → E.taken notes.new ≡ with_text (E.taken notes.old) want_of_memory_line }
     ensures silent_at_fault { O.faults out.new ≢ O.faults out.old → E.taken notes.new ≡ E.taken notes.old }
@@ -85,6 +81,7 @@ pub fn qwasm<F: Shelf, O: Sink, E: Sink>(
     ensures fault_name { F.faults files.new ≢ F.faults files.old
         → IfSome (F.fault_name files.new) (λ name. IsNamed (F.files files.old) (map string_bytes words.now) name) }
     ensures same_files { F.files files.new ≡ F.files files.old }
+    ensures asked { AsksWithin (IsLimit (map string_bytes words.now)) (F.watched files.old) (F.watched files.new) }
     ensures write_fault { result ≡ Status.WriteFailed
         → IsCounted (O.faults out.old) (O.faults out.new) ⊎ IsCounted (E.faults notes.old) (E.faults notes.new) }
     ensures no_write_fault { result ≢ Status.WriteFailed
@@ -108,11 +105,11 @@ pub fn kinds_of_ends()
 /// Words and told files settle one cause at most, or faults of one statement's typing, and its status is that of a refusal. So a
 /// call that promises `Explains` ends with this refusal, or with a fault of the outside or want of memory.
 pub fn one_cause()
-    ensures one { (limits : Limits) (told : List ℕ → Option (List ℕ)) (words : List (List ℕ)) (cause other : Cause)
-        → Settles limits (Some told) words cause → Settles limits (Some told) words other → AreOne cause other }
+    ensures one { (told : List ℕ → Option (List ℕ)) (words : List (List ℕ)) (cause other : Cause)
+        → Settles (Some told) words cause → Settles (Some told) words other → AreOne cause other }
     ensures refusal { (cause : Cause) → IsRefusal (status_of_cause cause) }
-    ensures ends { (limits : Limits) (told : List ℕ → Option (List ℕ)) (words : List (List ℕ)) (cause : Cause) (status : Status)
-        → Settles limits (Some told) words cause → Explains limits (Some told) words status
+    ensures ends { (told : List ℕ → Option (List ℕ)) (words : List (List ℕ)) (cause : Cause) (kept : Option Standing) (status : Status)
+        → Settles (Some told) words cause → Explains (Some told) words kept status
         → (status ≡ status_of_cause cause) ⊎ IsFault status }
 {
     one_answer();
@@ -121,8 +118,8 @@ pub fn one_cause()
 /// Words that are those of no command, or whose number of a statement is out of range, explain no other end but one that kept what
 /// is noted of them from being written: no file is read.
 pub fn refused_words_come_first()
-    ensures { (limits : Limits) (files : Files) (words : List (List ℕ)) (status : Status)
-        → (reading words ≡ no_command) ⊎ (reading words ≡ no_number) → Explains limits files words status
+    ensures { (files : Files) (words : List (List ℕ)) (kept : Option Standing) (status : Status)
+        → (reading words ≡ no_command) ⊎ (reading words ≡ no_number) → Explains files words kept status
         → (status ≡ Status.WordsRefused) ⊎ (status ≡ Status.WriteFailed) ⊎ (status ≡ Status.NoMemory) }
 {}
 

@@ -1,7 +1,7 @@
 //! Cases with numbers of definitions that no function computes as they stand. No function here computes anything.
 
-ghost use Rattle.std.specs.Prelude.{◌≡◌, [], ◌∷◌, Some, codes};
-ghost use Rattle.qw_types.specs.declared.numeral.FieldFault.TheVariants.{TooLarge};
+ghost use Rattle.std.specs.Prelude.{◌≡◌, ◌^◌, [], ◌∷◌, Some, codes};
+ghost use Rattle.qw_types.specs.declared.numeral.FieldFault.TheVariants.{NotDate, NotNumber, TooFine, TooLarge};
 ghost use Rattle.qw_csv.specs.declared.cell.CellFault.TheVariants as cell;
 ghost use Rattle.qw_csv.specs.declared.loading.LoadFault.TheVariants as load;
 ghost use Rattle.qw_map.specs.Turns.{Done, Exception, Pages, Steps};
@@ -14,9 +14,12 @@ ghost use Rattle.qw_typer.specs.declared.fault.TypeFault.TheVariants.{Fault};
 ghost use Rattle.qw_grammar.specs.declared.fault.What.TheVariants.{DataSection};
 ghost use Rattle.qw_valid.specs.declared.valid.Part.TheVariants.{Exports};
 ghost use Rattle.qw_check.specs.declared.check.CheckFault.TheVariants as check;
+ghost use Rattle.qw_top.specs.Asking.{AsksWithin, IsOne};
 ghost use Rattle.qw_top.specs.Causes.{line_of_cause, module_refused, module_too_long, no_statement, queries_mistyped, queries_refused, queries_too_long, schema_refused, schema_too_long, statement_out_of_range, table_refused, table_too_long, total_pages};
 ghost use Rattle.qw_top.specs.Delivered.{status_of_ends};
-ghost use Rattle.qw_top.specs.Worked.{worked_table};
+ghost use Rattle.qw_top.specs.Limits.{limits_of, most_module_octets, most_table_octets, most_text_octets};
+ghost use Rattle.qw_top.specs.Worked.{watched_file, worked_table};
+ghost use Rattle.qw_words.specs.Words.{default_options};
 ghost use Rattle.qw_top.specs.declared.status.Status.{Status};
 
 /// A limit of pages comes before one of instructions, and that before an exception, whichever query met it.
@@ -45,8 +48,13 @@ pub fn worked_table_lines()
     ensures too_long { line_of_cause (table_too_long worked_table) ≡ codes "T: too long\n" }
     ensures bad_header { line_of_cause (table_refused worked_table load.BadHeader) ≡ codes "T: bad header\n" }
     ensures field_count { line_of_cause (table_refused worked_table (load.FieldCount 12)) ≡ codes "T record 12: field count\n" }
+    ensures not_number { line_of_cause (table_refused worked_table (load.Field 1 0 (cell.Form NotNumber))) ≡ codes "T record 1 column A: not a number\n" }
+    ensures too_large { line_of_cause (table_refused worked_table (load.Field 3 1 (cell.Form TooLarge))) ≡ codes "T record 3 column B: too large\n" }
+    ensures too_fine { line_of_cause (table_refused worked_table (load.Field 2 0 (cell.Form TooFine))) ≡ codes "T record 2 column A: too fine\n" }
+    ensures not_date { line_of_cause (table_refused worked_table (load.Field 10 1 (cell.Form NotDate))) ≡ codes "T record 10 column B: not a date\n" }
     ensures null { line_of_cause (table_refused worked_table (load.Field 1 0 cell.NullForbidden)) ≡ codes "T record 1 column A: null forbidden\n" }
-    ensures second_column { line_of_cause (table_refused worked_table (load.Field 3 1 (cell.Form TooLarge))) ≡ codes "T record 3 column B: too large\n" }
+    ensures text_too_long { line_of_cause (table_refused worked_table (load.Field 1 1 cell.TextTooLong)) ≡ codes "T record 1 column B: text too long\n" }
+    ensures not_utf8 { line_of_cause (table_refused worked_table (load.Field 1 0 cell.NotUtf8)) ≡ codes "T record 1 column A: not utf-8\n" }
     ensures too_many_rows { line_of_cause (table_refused worked_table load.TooManyRows) ≡ codes "T: too many rows\n" }
 {}
 
@@ -77,4 +85,20 @@ pub fn worked_module_lines()
     ensures function { line_of_cause (module_refused (check.Body 0 3)) ≡ codes "module: invalid function 0 at 3\n" }
     ensures statement { line_of_cause (no_statement 2) ≡ codes "queries: no statement 2\n" }
     ensures number { line_of_cause statement_out_of_range ≡ codes "words: statement out of range\n" }
+{}
+
+/// The limits of files: 1,048,576 octets of a schema file and of a queries file, 268,435,456 of a table file, 67,108,864 of a module's;
+/// and what a query may use where the words have no options: 128 pages, and fewer than 10^18 instructions.
+pub fn worked_limits()
+    ensures texts { most_text_octets ≡ 2 ^ 20 }
+    ensures tables { most_table_octets ≡ 2 ^ 28 }
+    ensures modules { most_module_octets ≡ 2 ^ 26 }
+    ensures defaults { limits_of default_options ≡ record { pages = 128; steps = 999999999999999999 } }
+{}
+
+/// A file with a limit of 3 octets may be asked for up to the fourth, and not up to the fifth, unless it was before.
+pub fn worked_asking()
+    ensures within { AsksWithin (IsOne (codes "f") 3) (watched_file 0) (watched_file 4) }
+    ensures past { AsksWithin (IsOne (codes "f") 3) (watched_file 0) (watched_file 5) → ⊥ }
+    ensures before { AsksWithin (IsOne (codes "f") 3) (watched_file 5) (watched_file 5) }
 {}

@@ -1,11 +1,10 @@
 -- A date with its intervals is a day of the years 1 to 9999.
-use Rattle.std.proofs.Common.{◌≡◌, ℕ, ◌≤◌, ◌&&◌, true, false, nat_le, pos, List, [], ◌∷◌, Option, Some, None, IfSome, arith, inl, inr, option_map, is_none, unwrap_or}
+use Rattle.std.proofs.Common.{◌≡◌, ℕ, ◌≤◌, ◌&&◌, true, false, nat_le, pos, List, [], ◌∷◌, Option, Some, None, IfSome, refl, arith, inl, inr, option_map, is_none, unwrap_or}
 use Rattle.std.specs.Option.{option_and_then}
 use Rattle.std.proofs.lemmas.Bool.{and_parts, cases_Bool}
 use Rattle.std.proofs.lemmas.Bool.Decides.{nat_tests}
-use Rattle.std.proofs.lemmas.Int.{ints}
 use Rattle.qw_types.specs.Calendar.{days_of, packed}
-use Rattle.qw_types.specs.Kind.{IsDateNumber}
+use Rattle.qw_types.specs.Value.{IsDay}
 use Rattle.qw_ast.specs.declared.script.Sign.{Sign}
 use Rattle.qw_ast.specs.declared.script.Sign.TheVariants.{Plus, Minus}
 use Rattle.qw_ast.specs.Syntax.{Days}
@@ -65,19 +64,21 @@ shown_valid text = elim (cases_Bool (is_date_form text && is_day (shown text))) 
   | inr e ↦ rw e tt
 ]
 
-valid_date : (d : Day) → IsValid d → IsDateNumber (pos (packed d.year d.month d.day))
-valid_date d v =
-    let a : 1 ≤ d.year = v.first_year in
-    let b : d.year ≤ 9999 = v.last_year in
-    let c : 1 ≤ d.month = v.first_month in
-    let e : d.month ≤ 12 = v.last_month in
-    let f : 1 ≤ d.day = v.first_day in
-    let l : days_of d.year d.month ≤ 31 = month_short d.year d.month in
-    let g : d.day ≤ days_of d.year d.month = v.last_day in
-    (omega (arith, ints), omega (arith, ints))
-  where
-    month_short : (y m : ℕ) → days_of y m ≤ 31
-    month_short y m = grind arith
+valid_date : (d : Day) → IsValid d → IsDay (pos (packed d.year d.month d.day))
+valid_date d v = record {
+  year = d.year;
+  month = d.month;
+  day = d.day;
+  there = record {
+    first_year = v.first_year;
+    last_year = v.last_year;
+    first_month = v.first_month;
+    last_month = v.last_month;
+    first_day = v.first_day;
+    last_day = v.last_day;
+  };
+  packed_is = refl;
+}
 
 found_date : (o : Option Day) → IfSome o IsValid → is_none (option_map date_at o) ≡ false → IsTyped (unwrap_or (option_map date_at o) meaning.null)
 found_date None h some = tt

@@ -11,12 +11,10 @@ use Rattle.qw_meaning.specs.declared.expression.Branches.{Branches}
 use Rattle.qw_meaning.specs.declared.expression.Matches.{Matches}
 use Rattle.qw_meaning.specs.Nodes as typed
 use Rattle.qw_ast.specs.SyntaxTree as syntax
-use Rattle.qw_ast.specs.SyntaxTree.{select_of}
 use Rattle.qw_ast.specs.declared.script.Item.{Item}
-use Rattle.qw_ast.specs.declared.script.Statement.{Statement}
 use Rattle.qw_ast.specs.Syntax.{Select}
-use Rattle.qw_script.specs.Script as script
-use Rattle.qw_script.specs.Script.{IsAccepted, items_of, octets, octets_condition, over_filter, over_items}
+use Rattle.qw_ast.specs.Limits as script
+use Rattle.qw_ast.specs.Limits.{IsAccepted, IsQuery, items_of, octets, octets_condition, over_filter, over_items}
 use Rattle.qw_typer.specs.declared.query.TypedSelect.{TypedSelect}
 use Rattle.qw_typer.specs.declared.refusal.Refusal.{Refusal}
 use Rattle.qw_typer.specs.declared.tree.Results.{Results}
@@ -26,7 +24,6 @@ use Rattle.qw_typer.specs.Literal.{string_value, undoubled}
 use Rattle.qw_typer.specs.Sizes.{AreSmall, IsSmall, text_octets, text_octets_of}
 use Rattle.qw_typer.specs.Inner.Sizes.{Fits, FitsAll, FitsBranches, FitsCondition, FitsItems, FitsMatches, FitsQuery, FitsTests, nodes, nodes_condition, selected_nodes}
 use Rattle.qw_typer.proofs.ScriptSizes.{few_of_query}
-use Rattle.qw_typer.proofs.StepLemmas.{push_more}
 
 -- ---- the value of a character string is the script's
 
@@ -131,17 +128,9 @@ is_small s t tokens fits accepted =
 
 -- ---- a script, query by query
 
-pub small_kept : (all : List Select) (rest others : List Statement) (s : Statement) (made made' : List TypedSelect) (t : TypedSelect) → rest ≡ s ∷ others → made' ≡ made ++ t ∷ []
-    → FitsQuery t.select.conjuncts t.select.items (select_of s) → ((ts : List TypedSelect) → AreSmall (map select_of rest) ts → AreSmall all (made ++ ts))
-    → (ts : List TypedSelect) → AreSmall (map select_of others) ts → AreSmall all (made' ++ ts)
-small_kept all rest others s made made' t first more fits h ts small =
-    let next = (rw first at h) (t ∷ ts) (λ tokens accepted. is_small (select_of s) t tokens fits accepted, small) in
-    rw (more, push_more made t ts) next
+small_push : (made : List TypedSelect) (t : TypedSelect) → AreSmall made → IsSmall t.select → AreSmall (made ++ t ∷ [])
+small_push [] t small one = (one, tt)
+small_push (u ∷ made) t small one = (small.0, small_push made t small.1 one)
 
-none_more : {A : Type 0} (xs : List A) → xs ++ [] ≡ xs
-none_more [] = refl
-none_more (x ∷ xs) = ap (λ ys. x ∷ ys) (none_more xs)
-
-pub small_end : (all : List Select) (rest : List Statement) (made : List TypedSelect) → length rest < 1 → ((ts : List TypedSelect) → AreSmall (map select_of rest) ts → AreSmall all (made ++ ts)) → AreSmall all made
-small_end all [] made none h = rw (none_more made) at (h [] tt)
-small_end all (s ∷ others) made none h = absurd (omega arith)
+pub small_kept : (s : Select) (made made' : List TypedSelect) (t : TypedSelect) → made' ≡ made ++ t ∷ [] → IsQuery s → FitsQuery t.select.conjuncts t.select.items s → AreSmall made → AreSmall made'
+small_kept s made made' t more query fits small = rw more (small_push made t small (is_small s t query.0 fits query.1))

@@ -3,8 +3,11 @@ use Rattle.std.proofs.Common.{◌≡◌, ℕ, zero, suc, ◌+◌, ◌≤◌, Lis
 use Rattle.std.specs.List.{AllByRecursion}
 use Rattle.std.specs.Option.{option_map_or}
 use Rattle.qw_types.specs.Schema.{AreColumns}
+use Rattle.qw_types.specs.Contents.{column_type}
 use Rattle.qw_types.specs.declared.schema.Column.{Column}
+use Rattle.qw_types.specs.declared.schema.ColumnType.{ColumnType}
 use Rattle.qw_types.specs.declared.schema.Table.{Table}
+use Rattle.qw_types.specs.declared.value.Ty.{Ty}
 use Rattle.qw_meaning.specs.Expression as meaning
 use Rattle.qw_meaning.specs.Select.{Entry, IsConditionOver, IsItemOver, IsSpecification, Specification, row_types}
 use Rattle.qw_meaning.specs.Typing.{has_kind, kind_of}
@@ -89,8 +92,12 @@ append_none (x ∷ xs) = ap (λ ys. x ∷ ys) (append_none xs)
 
 -- ---- a query
 
-row_is : (e : Entry) → row_types (e ∷ []) ≡ e.types
-row_is e = append_none e.types
+same_types : (columns : List Column) → map (λ (c : ColumnType). c.ty) (map column_type columns) ≡ types_of columns
+same_types [] = refl
+same_types (c ∷ cs) = ap (λ (ts : List Ty). c.ty ∷ ts) (same_types cs)
+
+row_is : (place : ℕ) (columns : List Column) → row_types (record { table = place; columns = map column_type columns } ∷ []) ≡ types_of columns
+row_is place columns = append_none (map (λ (c : ColumnType). c.ty) (map column_type columns)) ∙ same_types columns
 
 columns_at : (schema : List Table) (i : ℕ) (t : Table) → AllByRecursion (λ (u : Table). AreColumns u.columns) schema → slice_get schema i ≡ Some t → AreColumns t.columns
 columns_at [] i t h e = absurd cc
@@ -110,7 +117,7 @@ some_items scope (items list) a h =
     (omega (arith, l, some), omega (arith, l, few))
 
 pub specified : (place : ℕ) (table : Table) (s : Select) (specification : Specification) → AreColumns table.columns → IsWithin s → selected_faults (scope_of s table) s.selected ++ filter_faults (scope_of s table) s ≡ []
-    → specification.entries ≡ record { table = place; types = types_of table.columns } ∷ [] → specification.conjuncts ≡ map (condition_meant (scope_of s table)) (conjuncts s) → specification.items ≡ items_meant (scope_of s table) s.selected
+    → specification.entries ≡ record { table = place; columns = map column_type table.columns } ∷ [] → specification.conjuncts ≡ map (condition_meant (scope_of s table)) (conjuncts s) → specification.items ≡ items_meant (scope_of s table) s.selected
     → IsSpecification specification
 specified place table s specification a within h entries_are conjuncts_are items_are =
     let scope = scope_of s table in
@@ -123,8 +130,8 @@ specified place table s specification a within h entries_are conjuncts_are items
       few_conjuncts = few;
       some_item = rw items_are sizes.0;
       few_items = rw items_are sizes.1;
-      conjuncts = rw (entries_are, conjuncts_are, row_is) (filter_over scope a.sized s.filter q.1);
-      items = rw (entries_are, items_are, row_is) (items_over scope a.sized s.selected q.0);
+      conjuncts = rw (entries_are, conjuncts_are, row_is place table.columns) (filter_over scope a.sized s.filter q.1);
+      items = rw (entries_are, items_are, row_is place table.columns) (items_over scope a.sized s.selected q.0);
     }
 
 pub typed_query : (schema : List Table) (s : Select) (specification : Specification) (names : List (List ℕ)) → AllByRecursion (λ (t : Table). AreColumns t.columns) schema → IsWithin s → Means schema s specification names → IsSpecification specification
@@ -143,7 +150,7 @@ query_meaning schema s h = by_place (place_of schema (name_of s.table)) refl
     by_table : (i : ℕ) → place_of schema (name_of s.table) ≡ Some i → (o : Option Table) → slice_get schema i ≡ o → (specification : Specification) × (names : List (List ℕ)) × Means schema s specification names
     by_table i e None f = absurd (some_fault (rw (e, f) at h))
     by_table i e (Some t) f = (
-      record { entries = record { table = i; types = types_of t.columns } ∷ []; conjuncts = map (condition_meant (scope_of s t)) (conjuncts s); items = items_meant (scope_of s t) s.selected },
+      record { entries = record { table = i; columns = map column_type t.columns } ∷ []; conjuncts = map (condition_meant (scope_of s t)) (conjuncts s); items = items_meant (scope_of s t) s.selected },
       result_names (scope_of s t) s.selected,
       record { faultless = h; place = i; table = t; place_is = e; table_is = f; entries_are = refl; conjuncts_are = refl; items_are = refl; names_are = refl },
     )
@@ -163,7 +170,7 @@ one_meaning schema s specification other names others m n =
     let place : m.place ≡ n.place = some_same m.place n.place (sym m.place_is ∙ n.place_is) in
     let table : m.table ≡ n.table = some_same m.table n.table (sym m.table_is ∙ ap (slice_get schema) place ∙ n.table_is) in (
       same_parts specification other
-          (m.entries_are ∙ ap (λ (i : ℕ). record { table = i; types = types_of m.table.columns } ∷ []) place ∙ ap (λ (t : Table). record { table = n.place; types = types_of t.columns } ∷ []) table ∙ sym n.entries_are)
+          (m.entries_are ∙ ap (λ (i : ℕ). record { table = i; columns = map column_type m.table.columns } ∷ []) place ∙ ap (λ (t : Table). record { table = n.place; columns = map column_type t.columns } ∷ []) table ∙ sym n.entries_are)
           (m.conjuncts_are ∙ ap (λ (t : Table). map (condition_meant (scope_of s t)) (conjuncts s)) table ∙ sym n.conjuncts_are)
           (m.items_are ∙ ap (λ (t : Table). items_meant (scope_of s t) s.selected) table ∙ sym n.items_are),
       m.names_are ∙ ap (λ (t : Table). result_names (scope_of s t) s.selected) table ∙ sym n.names_are,

@@ -13,3 +13,4 @@ mod ScriptSizes
 mod ShownLemmas
 mod SoundLemmas
 mod StepLemmas
+mod WithinLemmas

@@ -7,9 +7,10 @@ use Rattle.std.proofs.lemmas.List.Quantifiers.{position-Some}
 use Rattle.std.proofs.lemmas.Option.{slice_get_read}
 use Rattle.std.proofs.lemmas.List.Elements.{Contains-append_left, Contains-append_right}
 use Rattle.qw_types.specs.Schema.{AreColumns}
+use Rattle.qw_types.specs.Contents.{column_type}
 use Rattle.qw_types.specs.declared.schema.Column.{Column}
+use Rattle.qw_types.specs.declared.schema.ColumnType.{ColumnType}
 use Rattle.qw_types.specs.declared.schema.Table.{Table}
-use Rattle.qw_types.specs.declared.value.Ty.{Ty}
 use Rattle.qw_meaning.specs.Select.{IsSpecification, Specification, specification_of}
 use Rattle.qw_meaning.specs.Tree.{condition_of, expression_of}
 use Rattle.qw_ast.specs.Grammar.{name_of}
@@ -67,11 +68,11 @@ memory_refused r fs e = rw e (memory_is_one fs)
 -- ---- what is given
 
 pub over_given : (scope : Scope) (s : Select) (over : Over) → typed_list scope s.selected ≡ Ok (map expression_of over.items.items) → typed_filter scope s.filter ≡ Ok (map condition_of over.conjuncts.items)
-    → over.types.items ≡ map (λ (c : Column). c.ty) scope.columns → over.names.items ≡ result_names scope s.selected → IsOver scope s over
-over_given scope s over hl hf types names =
+    → over.columns.items ≡ map column_type scope.columns → over.names.items ≡ result_names scope s.selected → IsOver scope s over
+over_given scope s over hl hf columns names =
     let l = no_fault (selected_faults scope s.selected) (items_meant scope s.selected) (map expression_of over.items.items) (sym (list_is scope s.selected) ∙ hl) in
     let f = no_fault (filter_faults scope s) (map (condition_meant scope) (conjuncts s)) (map condition_of over.conjuncts.items) (sym (filter_is scope s.filter) ∙ hf) in
-    record { faultless = rw (l.0, f.0) refl; types_are = types; conjuncts_are = sym f.1; items_are = sym l.1; names_are = names }
+    record { faultless = rw (l.0, f.0) refl; columns_are = columns; conjuncts_are = sym f.1; items_are = sym l.1; names_are = names }
 
 -- ---- over a schema
 
@@ -107,19 +108,19 @@ scoped : (s : Select) (over : Over) (table : Table) (name : List ℕ) (columns :
 scoped s over table name columns n e h = rw (← n, ← e) h
 
 pub over_specified : (place : ℕ) (table : Table) (s : Select) (over : Over) (name : List ℕ) (columns : List Column) → AreColumns columns → IsWithin s → name ≡ entry_name s → columns ≡ table.columns
-    → IsOver (record { name = name; columns = columns }) s over → IsSpecification (specification_of (record { table = place; types = over.types.items; conjuncts = over.conjuncts.items; items = over.items.items }))
+    → IsOver (record { name = name; columns = columns }) s over → IsSpecification (specification_of (record { table = place; columns = over.columns.items; conjuncts = over.conjuncts.items; items = over.items.items }))
 over_specified place table s over name columns a within n e h =
     let o = scoped s over table name columns n e h in
-    specified place table s (specification_of (record { table = place; types = over.types.items; conjuncts = over.conjuncts.items; items = over.items.items })) (rw e at a) within o.faultless
-    (ap (λ (ts : List Ty). record { table = place; types = ts } ∷ []) o.types_are) o.conjuncts_are o.items_are
+    specified place table s (specification_of (record { table = place; columns = over.columns.items; conjuncts = over.conjuncts.items; items = over.items.items })) (rw e at a) within o.faultless
+    (ap (λ (cs : List ColumnType). record { table = place; columns = cs } ∷ []) o.columns_are) o.conjuncts_are o.items_are
 
 pub over_means : (place : ℕ) (table : Table) (s : Select) (over : Over) (name : List ℕ) (columns : List Column) → name ≡ entry_name s → columns ≡ table.columns
-    → IsOver (record { name = name; columns = columns }) s over → MeansOver place table s (specification_of (record { table = place; types = over.types.items; conjuncts = over.conjuncts.items; items = over.items.items })) over.names.items
+    → IsOver (record { name = name; columns = columns }) s over → MeansOver place table s (specification_of (record { table = place; columns = over.columns.items; conjuncts = over.conjuncts.items; items = over.items.items })) over.names.items
 over_means place table s over name columns n e h =
     let o = scoped s over table name columns n e h in
     record {
       faultless = o.faultless;
-      entries_are = ap (λ (ts : List Ty). record { table = place; types = ts } ∷ []) o.types_are;
+      entries_are = ap (λ (cs : List ColumnType). record { table = place; columns = cs } ∷ []) o.columns_are;
       conjuncts_are = o.conjuncts_are;
       items_are = o.items_are;
       names_are = o.names_are;

@@ -17,8 +17,8 @@ use Rattle.qw_types.specs.declared.kind.Kind.{Kind}
 use Rattle.qw_meaning.specs.declared.expression.Operator.{Operator}
 use Rattle.qw_meaning.specs.declared.expression.Operator.TheVariants as op
 use Rattle.qw_meaning.specs.declared.expression.Field.{Field}
-use Rattle.qw_meaning.specs.declared.query.Comparison.{Comparison}
-use Rattle.qw_meaning.specs.declared.query.Comparison.TheVariants.{Equal, GreaterOrEqual, LessOrEqual}
+use Rattle.qw_meaning.specs.declared.comparison.Comparison.{Comparison}
+use Rattle.qw_meaning.specs.declared.comparison.Comparison.TheVariants.{Equal, GreaterOrEqual, LessOrEqual}
 use Rattle.qw_meaning.specs.Columns.{HasColumns, HaveColumns, IsColumnOf}
 use Rattle.qw_meaning.specs.Expression as meaning
 use Rattle.qw_meaning.specs.Typing.{AreTyped, IsTyped, ScalesAllowed, agree, are_comparable, has_kind, is_date, is_number, kind_of}

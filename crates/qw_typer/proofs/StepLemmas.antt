@@ -11,6 +11,7 @@ use Rattle.qw_meaning.specs.Select.{specification_of}
 use Rattle.qw_meaning.specs.Tree.{expression_of}
 use Rattle.qw_ast.specs.declared.script.Item.{Item}
 use Rattle.qw_ast.specs.declared.script.Statement.{Statement}
+use Rattle.qw_ast.specs.Limits.{IsQuery}
 use Rattle.qw_ast.specs.SyntaxTree as syntax
 use Rattle.qw_ast.specs.SyntaxTree.{select_of}
 use Rattle.qw_ast.specs.Syntax.{Select, SelectItem}
@@ -23,7 +24,7 @@ use Rattle.qw_typer.specs.Faults.{Fault}
 use Rattle.qw_typer.specs.Meanings.{AreMeant}
 use Rattle.qw_typer.specs.Meant.{Scope}
 use Rattle.qw_typer.specs.Inner.Queries.{IsFaultOf, IsOneOf}
-use Rattle.qw_typer.specs.Typed.{HasFirstFault, IsWithin, Means, columns_from, item_name, item_names, query_faults}
+use Rattle.qw_typer.specs.Typed.{HasFirstFault, Means, columns_from, item_name, item_names, query_faults}
 use Rattle.qw_typer.specs.Inner.Typing.{◌>>=◌, Refuses, spelled, typed_item, typed_items}
 use Rattle.qw_typer.proofs.OutcomeLemmas.{refuses_then}
 
@@ -104,8 +105,8 @@ faults_step schema all s others made t none h fault k = h fault (HasFirstFault.l
 
 -- ---- statements
 
-pub sizes_kept : (rest others : List Statement) (s : Statement) → rest ≡ s ∷ others → AllByRecursion IsWithin (map select_of rest) → IsWithin (select_of s) × AllByRecursion IsWithin (map select_of others)
-sizes_kept rest others s first h = rw first at h
+pub queries_kept : (rest others : List Statement) (s : Statement) → rest ≡ s ∷ others → AllByRecursion IsQuery (map select_of rest) → IsQuery (select_of s) × AllByRecursion IsQuery (map select_of others)
+queries_kept rest others s first h = rw first at h
 
 pub meant_kept : (schema : List Table) (all : List Select) (rest others : List Statement) (s : Statement) (made made' : List TypedSelect) (t : TypedSelect) → rest ≡ s ∷ others → made' ≡ made ++ t ∷ []
     → Means schema (select_of s) (specification_of t.select) t.names.items → ((ts : List TypedSelect) → AreMeant schema (map select_of rest) ts → AreMeant schema all (made ++ ts))

@@ -1,6 +1,6 @@
 -- How large the typed trees of a query are: their nodes (Nodes), and the octets of their text literals (ISO/IEC 9075:1992, 5.3).
-use Rattle.std.specs.Prelude.{ℕ, ◌+◌, ◌≤◌, List, [], ◌∷◌, length, sum_by}
-use Rattle.qw_token.specs.Token.{Lexeme}
+use Rattle.std.specs.Prelude.{ℕ, ◌+◌, ◌≤◌, List, length, sum_by}
+use Rattle.std.specs.List.{AllByRecursion}
 use Rattle.qw_meaning.specs.declared.expression.Expr.{Expr}
 use Rattle.qw_meaning.specs.declared.expression.Cond.{Cond}
 use Rattle.qw_meaning.specs.declared.expression.Exprs.{Exprs}
@@ -13,8 +13,6 @@ use Rattle.qw_meaning.specs.declared.expression.Branches.TheVariants as Branches
 use Rattle.qw_meaning.specs.declared.expression.Matches.TheVariants as Matches
 use Rattle.qw_meaning.specs.Nodes.{nodes, nodes_of}
 use Rattle.qw_meaning.specs.Select.{Parts}
-use Rattle.qw_ast.specs.Syntax.{Select}
-use Rattle.qw_script.specs.Script.{IsAccepted}
 use Rattle.qw_typer.specs.declared.query.TypedSelect.{TypedSelect}
 
 -- the octets of the text literals of a typed tree
@@ -68,9 +66,6 @@ pub record IsSmall (parts : Parts) : Type 0 where
   pub few_nodes : all_nodes parts ≤ 4000
   pub few_octets : all_octets parts ≤ 16384
 
--- each query that a script takes, whose limits are fewer (Script), is typed small
-abbrev pub AreSmall : List Select → List TypedSelect → Type 0
-AreSmall [] [] = Unit {0}
-AreSmall [] (t ∷ ts) = ⊥
-AreSmall (s ∷ others) [] = ⊥
-AreSmall (s ∷ others) (t ∷ ts) = ((tokens : List Lexeme) → IsAccepted tokens s → IsSmall t.select) × AreSmall others ts
+-- each of these queries is
+abbrev pub AreSmall : List TypedSelect → Type 0
+AreSmall typed = AllByRecursion (λ (t : TypedSelect). IsSmall t.select) typed

@@ -4,6 +4,7 @@ use Rattle.std.specs.Prelude.{◌≡◌, ◌≤◌, ℕ, suc, List, [], ◌∷�
 use Rattle.std.specs.Fmt.{decimal}
 use Rattle.std.specs.Option.{option_and_then, option_map_or}
 use Rattle.std.specs.Str.{bytes_eq}
+use Rattle.qw_types.specs.Contents.{column_type}
 use Rattle.qw_types.specs.declared.schema.Column.{Column}
 use Rattle.qw_types.specs.declared.schema.Table.{Table}
 use Rattle.qw_meaning.specs.Expression as meaning
@@ -114,7 +115,8 @@ pub record Means (schema : List Table) (s : Select) (specification : Specificati
   pub table : Table
   pub place_is : place_of schema (name_of s.table) ≡ Some place
   pub table_is : slice_get schema place ≡ Some table
-  pub entries_are : specification.entries ≡ record { table = place; types = map (λ (c : Column). c.ty) table.columns } ∷ []
+  -- the entry has the table's columns, each with its type and NOT NULL (11.4)
+  pub entries_are : specification.entries ≡ record { table = place; columns = map column_type table.columns } ∷ []
   pub conjuncts_are : specification.conjuncts ≡ map (condition_meant (scope_of s table)) (conjuncts s)
   pub items_are : specification.items ≡ items_meant (scope_of s table) s.selected
   pub names_are : names ≡ result_names (scope_of s table) s.selected

@@ -2,7 +2,7 @@
 #![tactic(auto, unfolding(crate::specs::Inner::Typing::Refuses))]
 
 ghost use Rattle.std.specs.Prelude.{◌≡◌, ℕ, ◌+◌, IfOk, Ok};
-ghost use Rattle.qw_meaning.specs.declared.query.Comparison.TheVariants.{Equal};
+ghost use Rattle.qw_meaning.specs.declared.comparison.Comparison.TheVariants.{Equal};
 ghost use Rattle.qw_meaning.specs.Expression.{Expression, coalesced, comparison, last, more};
 ghost use Rattle.qw_meaning.specs.Expression as meaning;
 ghost use Rattle.qw_meaning.specs.Tree.{choices_of, condition_of, expression_of, expressions_of, matches_of};

@@ -17,9 +17,9 @@ use crate::kinds::{are_comparable, is_date, is_number, scale};
 use crate::refusal::{Refusal, first_of_all, first_of_branches, first_token};
 use crate::tree::{Results, Typed, boxed};
 use qw_ast::script::{Branches, Expr, Exprs, Sign};
+use qw_meaning::comparison::Comparison;
 use qw_meaning::expression as meaning;
 use qw_meaning::expression::{Field, Operator};
-use qw_meaning::query::Comparison;
 use qw_types::Kind;
 use std::alloc::Global;
 

@@ -1,7 +1,6 @@
 //! A query over the tables of a schema (ISO/IEC 9075:1992, 7.4, 7.6, 7.9): its specification, and the names of its result columns.
 
 ghost use Rattle.std.specs.Prelude.{◌≡◌, ◌≤◌, ◌++◌, MatchResult, IfOk, Ok, length, map, option_map};
-ghost use Rattle.qw_types.specs.declared.schema.Column.{Column};
 ghost use Rattle.qw_types.specs.Schema.{AreColumns};
 ghost use Rattle.qw_ast.specs.SyntaxTree.{select_of};
 ghost use Rattle.qw_meaning.specs.Select.{specification_of};
@@ -14,11 +13,11 @@ use crate::fault::FaultKind;
 use crate::name::name_text;
 use crate::refusal::{Refusal, Token};
 use crate::scope::Scope;
-use crate::statement::{filter, list, names, place_of, types_of};
+use crate::statement::{column_types, filter, list, names, place_of};
 use qw_ast::script::Statement;
 use qw_meaning::expression::{Cond, Expr};
 use qw_meaning::select::Select;
-use qw_types::{Column, NoMemory, Schema, Table, Text, Ty};
+use qw_types::{ColumnType, NoMemory, Schema, Table, Text};
 use std::alloc::Global;
 
 /// A query over a schema's tables: its specification, and the names of its result columns in order.
@@ -31,7 +30,7 @@ pub struct TypedSelect {
 /// What a query is over the columns of its table.
 #[derive(Drop)]
 struct Over {
-    types: Vec<Ty>,
+    columns: Vec<ColumnType>,
     conjuncts: Vec<Cond>,
     items: Vec<Expr>,
     names: Vec<Text>,
@@ -74,7 +73,7 @@ fn over_table<'a>(
     let columns = table.columns.as_slice();
     let over = over_columns(alloc, &Scope { name, columns }, statement)?;
     Ok(TypedSelect {
-        select: Select::new(place, over.types, over.conjuncts, over.items),
+        select: Select::new(place, over.columns, over.conjuncts, over.items),
         names: over.names,
     })
 }
@@ -102,10 +101,10 @@ fn over_columns<'a>(
 {
     let items = list(alloc, scope, &statement.list)?;
     let conjuncts = filter(alloc, scope, &statement.condition)?;
-    let types = types_of(alloc, scope.columns).map_err(|_| Refusal::NoMemory)?;
+    let columns = column_types(alloc, scope.columns).map_err(|_| Refusal::NoMemory)?;
     let names = names(alloc, scope, &statement.list).map_err(|_| Refusal::NoMemory)?;
     Ok(Over {
-        types,
+        columns,
         conjuncts,
         items,
         names,

@@ -1,13 +1,12 @@
 //! The query specifications of a script (ISO/IEC 9075:1992, 7.9), or its first fault.
 
 ghost use Rattle.std.specs.Prelude.{◌≡◌, ◌⊎◌, ◌+◌, IfOk, IfErr, List, length};
-ghost use Rattle.std.specs.List.{AllByRecursion};
 ghost use Rattle.qw_ast.specs.SyntaxTree.{select_of, selects_of};
 ghost use Rattle.qw_typer.specs.Inner.Queries.{IsFaultOf};
 ghost use Rattle.qw_typer.specs.Inner.Typing.{spelled};
 ghost use Rattle.qw_typer.specs.Meanings.{AreMeant};
 ghost use Rattle.qw_typer.specs.Sizes.{AreSmall};
-ghost use Rattle.qw_typer.specs.Typed.{HasFirstFault, IsWithin, query_faults};
+ghost use Rattle.qw_typer.specs.Typed.{HasFirstFault, query_faults};
 ghost use Rattle.qw_typer.specs.declared.fault.TypeFault.TheVariants as type_fault;
 
 use crate::fault::TypeFault;
@@ -29,13 +28,12 @@ pub fn type_script(
     schema: &Schema,
     script: &Script<'_>,
 ) -> Result<Vec<TypedSelect>, TypeFault>
-    requires sizes { AllByRecursion IsWithin (selects_of script.now) }
     ensures meanings { IfOk result (λ made. AreMeant schema.now (selects_of script.now) made.items) }
-    ensures small { IfOk result (λ made. AreSmall (selects_of script.now) made.items) }
+    ensures small { IfOk result (λ made. AreSmall made.items) }
     ensures first_fault { IfErr result (λ fault. (fault ≡ type_fault.NoMemory) ⊎ HasFirstFault schema.now 1 (selects_of script.now) fault) }
 {
     let mut made = Vec::new(alloc);
-    let mut rest = script.statements.as_slice();
+    let mut rest = script.as_slice();
     while let [statement, behind @ ..] = rest {
         match query(alloc, schema, statement) {
             Ok(typed) => made.push(typed).map_err(|_| TypeFault::NoMemory)?,

@@ -4,10 +4,11 @@ ghost use Rattle.std.specs.Prelude.{◌≡◌, ◌≤◌, ◌+◌, ℕ, MatchRes
 ghost use Rattle.std.specs.Str.{bytes_eq};
 ghost use Rattle.qw_ast.specs.Grammar.{name_of};
 ghost use Rattle.qw_ast.specs.SyntaxTree as syntax;
+ghost use Rattle.qw_types.specs.Contents.{column_type};
 ghost use Rattle.qw_types.specs.declared.schema.Column.{Column};
 ghost use Rattle.qw_types.specs.declared.schema.Table.{Table};
 ghost use Rattle.qw_meaning.specs.Tree.{condition_of, expression_of};
-ghost use Rattle.qw_script.specs.Script.{items_of, octets, octets_condition, over_filter, over_items};
+ghost use Rattle.qw_ast.specs.Limits.{items_of, octets, octets_condition, over_filter, over_items};
 ghost use Rattle.qw_typer.specs.Inner.Sizes.{Fits, FitsItems, FitsTests, nodes, nodes_condition, selected_nodes};
 ghost use Rattle.qw_typer.specs.Inner.Typing.{Refuses, entry, typed_conjuncts, typed_filter, typed_item, typed_items, typed_list};
 ghost use Rattle.qw_typer.specs.Typed.{columns_from, item_name, item_names, place_of, result_names};
@@ -19,7 +20,7 @@ use crate::refusal::{Refusal, first_token};
 use crate::scope::{Scope, is_name};
 use qw_ast::script::{Cond, Expr, Item, SelectList};
 use qw_meaning::expression as meaning;
-use qw_types::{Column, NoMemory, Table, Text, Ty};
+use qw_types::{Column, ColumnType, NoMemory, Table, Text};
 use std::alloc::Global;
 
 /// The place of the table of a name, as it is kept.
@@ -29,11 +30,26 @@ pub(crate) fn place_of(tables: &[Table], name: &Text) -> Option<usize>
     tables.iter().position(|table| is_name(name, &table.name))
 }
 
-/// The types of columns.
-pub(crate) fn types_of(alloc: Global, columns: &[Column]) -> Result<Vec<Ty>, NoMemory>
-    ensures { IfOk result (λ types. types.items ≡ map (λ (c : Column). c.ty) columns.now) }
+/// What columns are but for their names.
+pub(crate) fn column_types(alloc: Global, columns: &[Column]) -> Result<Vec<ColumnType>, NoMemory>
+    ensures { IfOk result (λ types. types.items ≡ map column_type columns.now) }
 {
-    Ok(columns.iter().map(|column| column.ty).collect(alloc)?)
+    Ok(
+        columns
+            .iter()
+            .map(|column| column_type(column))
+            .collect(alloc)?,
+    )
+}
+
+/// What a column is but for its name: its type, and its NOT NULL.
+fn column_type(column: &Column) -> ColumnType
+    ensures { result ≡ column_type column.now }
+{
+    ColumnType {
+        ty: column.ty,
+        not_null: column.not_null,
+    }
 }
 
 /// The expressions of a select list.

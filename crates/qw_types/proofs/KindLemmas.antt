@@ -26,10 +26,10 @@ decimal_fits number precision short few =
     let most : 10 ^ precision ≤ 10 ^ 18 = pow-le-pow_right (omega arith) short in
     few_fit number (omega (arith, few, most))
 
-month_short : (year month : ℕ) → days_of year month ≤ 31
+pub month_short : (year month : ℕ) → days_of year month ≤ 31
 month_short year month = grind arith
 
-day_number : (number : ℤ) → IsDay number → IsDateNumber number
+pub day_number : (number : ℤ) → IsDay number → IsDateNumber number
 day_number number is =
     let there = is.there in
     let short = month_short is.year is.month in
@@ -43,7 +43,7 @@ typed_of_kind ty.Date (val.Num number) sized of = absurd of
 typed_of_kind (ty.Varchar limit) (val.Num number) sized of = absurd of
 typed_of_kind ty.Integer (val.Date number) sized of = absurd of
 typed_of_kind (ty.Decimal precision scale) (val.Date number) sized of = absurd of
-typed_of_kind ty.Date (val.Date number) sized of = day_number number of
+typed_of_kind ty.Date (val.Date number) sized of = of
 typed_of_kind (ty.Varchar limit) (val.Date number) sized of = absurd of
 typed_of_kind ty.Integer (val.Text octets) sized of = absurd of
 typed_of_kind (ty.Decimal precision scale) (val.Text octets) sized of = absurd of

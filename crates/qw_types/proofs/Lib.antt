@@ -1,6 +1,7 @@
 pub mod ArithmeticLaws
 mod ArithmeticLemmas
 mod DateLemmas
+pub mod DayLemmas
 pub mod DigitLemmas
 pub mod KindLemmas
 pub mod NumberTextLaws

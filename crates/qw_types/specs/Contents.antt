@@ -1,5 +1,5 @@
 -- The rows of a table, and what they keep (ISO/IEC 9075:1992, 4.9 "Tables" and 11.4 "column definition").
-use Rattle.std.specs.Prelude.{◌≤◌, List, length}
+use Rattle.std.specs.Prelude.{ℕ, ◌≤◌, List, [], get_or, length}
 use Rattle.std.specs.List.{AllByRecursion, AllZip}
 use Rattle.qw_types.specs.Limits.{most_columns, most_rows}
 use Rattle.qw_types.specs.Value.{IsOfTypeOrNull, IsSized}
@@ -29,3 +29,7 @@ pub record AreLoaded (contents : Contents) : Type 0 where
   pub few : length contents.rows ≤ most_rows
   -- a row has a value of each column, in their order
   pub typed : AllByRecursion (AllZip IsOfColumnType contents.columns) contents.rows
+
+-- the rows of a table of the schema, counted from 0
+abbrev pub rows_of : List (List (List Val)) → ℕ → List (List Val)
+rows_of tables table = get_or tables table []

@@ -2,6 +2,7 @@
 use Rattle.std.specs.Prelude.{ℤ, pos, ◌≤ℤ◌, IsTrue, List}
 use Rattle.std.specs.List.{AllZip}
 use Rattle.qw_types.specs.Arithmetic.{fits}
+use Rattle.qw_types.specs.Value.{IsDay}
 use Rattle.qw_types.specs.declared.kind.Kind.{Kind}
 use Rattle.qw_types.specs.declared.kind.Kind.TheVariants as kind
 use Rattle.qw_types.specs.declared.value.Ty.{Ty}
@@ -16,18 +17,18 @@ type_kind (type.Decimal p s) = kind.Number s
 type_kind type.Date = kind.Date
 type_kind (type.Varchar n) = kind.Text
 
--- from 0001-01-01 to 9999-12-31, as year * 10000 + month * 100 + day; that the calendar has the day is not said
+-- from 0001-01-01 to 9999-12-31, as year * 10000 + month * 100 + day: the numbers that days lie between
 abbrev pub IsDateNumber : ℤ → Type 0
 IsDateNumber d = (pos 10101 ≤ℤ d) × (d ≤ℤ pos 99991231)
 
--- a value of a kind; null is of every kind, and a number has at most 18 digits
+-- a value of a kind; null is of every kind, a number has at most 18 digits, and a date is a day of the calendar
 abbrev pub IsOfKind : Kind → Val → Type 0
 IsOfKind k val.Null = Unit {0}
 IsOfKind (kind.Number s) (val.Num v) = IsTrue (fits v)
 IsOfKind (kind.Number s) (val.Date d) = ⊥
 IsOfKind (kind.Number s) (val.Text t) = ⊥
 IsOfKind kind.Date (val.Num v) = ⊥
-IsOfKind kind.Date (val.Date d) = IsDateNumber d
+IsOfKind kind.Date (val.Date d) = IsDay d
 IsOfKind kind.Date (val.Text t) = ⊥
 IsOfKind kind.Text (val.Num v) = ⊥
 IsOfKind kind.Text (val.Date d) = ⊥

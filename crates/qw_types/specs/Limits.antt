@@ -12,3 +12,7 @@ most_columns = 64
 -- rows of a table
 abbrev pub most_rows : ℕ
 most_rows = 1000000
+
+-- cells of a result row: 64 columns of each of 8 entries of FROM
+abbrev pub most_cells : ℕ
+most_cells = 512

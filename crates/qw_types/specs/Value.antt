@@ -1,7 +1,7 @@
 -- Which values a type and a column have.
-use Rattle.std.specs.Prelude.{◌≡◌, ℕ, pos, negsuc, ℤ, ◌≤◌, ◌≤ℤ◌, ◌<◌, ◌+◌, ◌^◌, Bool, false, unsigned_abs, length, List, [], ◌∷◌, Option, slice_get, IsUtf8, chars}
+use Rattle.std.specs.Prelude.{◌≡◌, ℕ, pos, negsuc, ℤ, ◌≤◌, ◌≤ℤ◌, ◌<◌, ◌+◌, ◌/◌, ◌%◌, ◌^◌, nat_le, ◌&&◌, Bool, false, unsigned_abs, length, List, [], ◌∷◌, Option, slice_get, IsUtf8, chars}
 use Rattle.std.specs.Option.{option_and_then}
-use Rattle.qw_types.specs.Calendar.{IsDate, packed}
+use Rattle.qw_types.specs.Calendar.{IsDate, days_of, packed}
 use Rattle.qw_types.specs.declared.schema.Column.{Column}
 use Rattle.qw_types.specs.declared.value.Ty.{Ty}
 use Rattle.qw_types.specs.declared.value.Ty.TheVariants as ty
@@ -15,6 +15,15 @@ pub record IsDay (number : ℤ) : Type 0 where
   pub day : ℕ
   pub there : IsDate year month day
   pub packed_is : number ≡ pos (packed year month day)
+
+-- whether a number is one
+abbrev pub is_day : ℤ → Bool
+is_day (pos n) =
+    let year = n / 10000 in
+    let month = n / 100 % 100 in
+    let day = n % 100 in
+    (nat_le 1 year && nat_le year 9999) && ((nat_le 1 month && nat_le month 12) && (nat_le 1 day && nat_le day (days_of year month)))
+is_day (negsuc n) = false
 
 -- a text of at most so many characters: UTF-8, whose characters are Unicode scalar values
 pub record IsTextOf (length_limit : ℕ) (octets : List ℕ) : Type 0 where

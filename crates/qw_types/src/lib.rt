@@ -21,7 +21,9 @@ pub mod code;
 pub mod date_text;
 pub mod digits;
 pub mod kind;
-pub mod memory;
+
+pub use qw_base::memory;
+
 pub mod number_text;
 pub mod numeral;
 mod power;
@@ -37,8 +39,8 @@ pub mod worked_laws;
 
 pub use code::Code;
 pub use kind::Kind;
-pub use memory::NoMemory;
 pub use numeral::FieldFault;
+pub use qw_base::NoMemory;
 pub use row::Row;
 pub use schema::{Column, ColumnType, Columns, Schema, Table};
 pub use text::Text;

@@ -6,8 +6,8 @@ ghost use Rattle.std.specs.String.{string_bytes};
 ghost use Rattle.qw_types.specs.Numeral.{ShowsNumber};
 ghost use Rattle.qw_types.specs.NumberText.{decimal_text, fraction_text, last_digits, sign_text};
 
-use crate::memory::NoMemory;
 use crate::text::Text;
+use qw_base::NoMemory;
 use std::alloc::Global;
 
 /// The greatest power of ten below 2^64 is that of 19.

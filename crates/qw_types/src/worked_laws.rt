@@ -1,6 +1,6 @@
 //! Worked cases of the definitions, with numbers, stated as contracts. No function here computes anything.
 
-ghost use Rattle.std.specs.Prelude.{◌≡◌, ℤ, pos, negsuc, [], ◌∷◌, codes, true, false, Some, None};
+ghost use Rattle.std.specs.Prelude.{◌≡◌, IsTrue, ℤ, pos, negsuc, [], ◌∷◌, codes, true, false, Some, None};
 ghost use Rattle.qw_types.specs.Calendar.{IsDate};
 ghost use Rattle.qw_types.specs.DateText.{ShowsDate};
 ghost use Rattle.qw_types.specs.Numeral.{ShowsNumber, is_fine, is_number};
@@ -9,7 +9,7 @@ ghost use Rattle.qw_types.specs.declared.value.Ty.TheVariants as ty;
 ghost use Rattle.qw_types.specs.declared.value.Ty.TheVariants.{Decimal, Integer, Varchar};
 ghost use Rattle.qw_types.specs.declared.value.Val.TheVariants as val;
 ghost use Rattle.qw_types.specs.declared.value.Val.TheVariants.{Num};
-ghost use Rattle.qw_types.specs.Value.{IsOfType, IsSized, value_of};
+ghost use Rattle.qw_types.specs.Value.{IsDay, IsOfType, IsSized, is_day, value_of};
 
 /// An INTEGER is from -2147483648 to 2147483647, and no number past these bounds is one.
 pub fn integer_bounds()
@@ -46,6 +46,14 @@ pub fn dates_of_the_calendar()
     ensures beside { (IsDate 0 1 1 → ⊥) × (IsDate 10000 1 1 → ⊥) × (IsDate 1998 13 1 → ⊥) × (IsDate 1998 0 1 → ⊥) × (IsDate 1998 1 0 → ⊥) }
     ensures number { IsOfType ty.Date (val.Date (pos 19980902)) }
     ensures no_number { IsOfType ty.Date (val.Date (pos 19980931)) → ⊥ }
+{}
+
+/// The numbers that are days are those of the calendar's days, and no others.
+pub fn days_are_numbers()
+    ensures days { (number : ℤ) → IsTrue (is_day number) → IsDay number }
+    ensures numbers { (number : ℤ) → IsDay number → IsTrue (is_day number) }
+    ensures ends { (is_day (pos 10101) ≡ true) × (is_day (pos 10100) ≡ false) × (is_day (pos 99991231) ≡ true) × (is_day (pos 99991232) ≡ false) × (is_day (negsuc 10100) ≡ false) }
+    ensures leap { (is_day (pos 20000229) ≡ true) × (is_day (pos 19000229) ≡ false) × (is_day (pos 19980431) ≡ false) × (is_day (pos 19981301) ≡ false) }
 {}
 
 /// A VARCHAR(2) has texts of two characters of up to four octets each: "zß" has three octets, and "zß水" is too long.

@@ -40,7 +40,7 @@ not_refused : (m : Module) (function : Function) (at : ℕ) → IsValidFunction 
 not_refused m function at valid refused = typed_there m function at (slice_get m.types.items function.type_index) refl valid refused
 
 -- all parts of a valid module are valid
-parts_of : (m : Module) → IsValid m → (p : Part) → PartHolds m p
+pub parts_of : (m : Module) → IsValid m → (p : Part) → PartHolds m p
 parts_of m valid part.Types = valid.types
 parts_of m valid part.Imports = valid.imports
 parts_of m valid part.Functions = λ n d h. has_body m (get_or m.functions.items n d) (valid.functions n d h)

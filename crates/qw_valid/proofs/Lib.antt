@@ -1,5 +1,7 @@
 mod ControlPlaces
 mod Faults
+mod HeightFacts
+mod InitialConstants
 mod KindFacts
 mod LocalsLemmas
 mod Names

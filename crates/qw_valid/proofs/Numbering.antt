@@ -1,5 +1,5 @@
 -- When the sequences of a body, as they are kept, make a numbered body.
-use Rattle.std.proofs.Common.{◌≡◌, ℕ, ◌<◌, ◌≤◌, List, length, get_or, All, refl, sym, subst, arith}
+use Rattle.std.proofs.Common.{◌≡◌, ℕ, ◌<◌, ◌≤◌, List, length, get_or, All, refl, sym, ap, subst, ◌∙◌, arith}
 use Rattle.std.specs.Global.{Vec}
 use Rattle.std.specs.Prelude.{slice_get, Some, [], ◌∷◌}
 use Rattle.std.specs.List.{AllByRecursion}
@@ -7,8 +7,9 @@ use Rattle.std.proofs.lemmas.List.{length-map}
 use Rattle.std.proofs.lemmas.List.Elements.{All-from_recursion, recursion_from_All}
 use Rattle.std.proofs.lemmas.Option.{slice_get-map, slice_get-get_or}
 use Rattle.qw_module.specs.declared.instruction.Instr.{Instr}
-use Rattle.qw_module.specs.Syntax.{sequence_at, NamesBelow, IsNumbered}
-use Rattle.qw_module.specs.Validity.{items_of}
+use Rattle.qw_module.specs.declared.module.Body.{Body}
+use Rattle.qw_module.specs.Syntax.{Sequences, sequence_at, NamesBelow, IsNumbered}
+use Rattle.qw_module.specs.Validity.{items_of, sequences_of}
 
 -- each sequence of a number below a bound names lower ones alone
 abbrev pub NameLower : ℕ → List (Vec Instr) → ℕ → Type 0
@@ -43,3 +44,24 @@ items_from_numbered labels sequences numbered k d h =
 
 pub length_from_numbered : (labels : List ℕ) (sequences : List (Vec Instr)) → IsNumbered (record { each = items_of sequences; labels = labels }) → 1 ≤ length sequences
 length_from_numbered labels sequences numbered = rw length-map at numbered.some
+
+-- ---- a sequence that was read from a body
+pub number-inside : (body : Body) (kept : List (Vec Instr)) (n : ℕ) → kept ≡ body.sequences.items → n < length kept → n < length (sequences_of body).each
+number-inside body kept n same h =
+    omega (arith, h, ap (λ (xs : List (Vec Instr)). length xs) same, length-map body.sequences.items (λ (sequence : Vec Instr). sequence.items))
+
+pub sequence-read : (body : Body) (kept : List (Vec Instr)) (n : ℕ) (item : Vec Instr) (instructions : List Instr) → kept ≡ body.sequences.items → n < length kept →
+    item ≡ get_or kept n item → instructions ≡ item.items → sequence_at (sequences_of body) n ≡ instructions
+sequence-read body kept n item instructions same h is read =
+    let inside : n < length body.sequences.items = omega (arith, h, ap (λ (xs : List (Vec Instr)). length xs) same) in
+    let found : item ≡ get_or body.sequences.items n item = is ∙ ap (λ (xs : List (Vec Instr)). get_or xs n item) same in
+    sequence_at-get_or body.labels.items body.sequences.items n item inside ∙ ap (λ (x : Vec Instr). x.items) (sym found) ∙ sym read
+
+-- it names lower ones alone
+pub names-read : (sequences : Sequences) (n k : ℕ) (instructions : List Instr) → IsNumbered sequences → n < length sequences.each →
+    sequence_at sequences n ≡ instructions → k ≡ n → All (NamesBelow (length sequences.labels) k) instructions
+names-read sequences n k instructions numbered inside same e =
+    let there : All (NamesBelow (length sequences.labels) n) (sequence_at sequences n) =
+    All-from_recursion (NamesBelow (length sequences.labels) n) (sequence_at sequences n) (numbered.lower n inside) in
+    subst (λ (j : ℕ). All (NamesBelow (length sequences.labels) j) instructions) (sym e)
+    (subst (λ (xs : List Instr). All (NamesBelow (length sequences.labels) n) xs) same there)

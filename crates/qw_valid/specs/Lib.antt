@@ -1,3 +1,5 @@
+pub mod Heights
 pub mod Inner
+pub mod ModuleHeights
 pub mod ValidFaults
 pub use Rattle.qw_module.specs.Validity

@@ -138,13 +138,12 @@ impl Checker<'_> {
         declared_type(self.locals, index - self.parameters.len()).ok_or(Refusal::IllTyped)
     }
 
-    fn global(&self, index: u32) -> Result<Global, Refusal>
-        ensures { Finds result (slice_get (map global_type self.now.«module».now.globals.items) index) global_type }
+    fn global(&self, index: u32) -> Result<&Global, Refusal>
+        ensures { Finds result (slice_get (map global_type self.now.«module».now.globals.items) index) (λ global. global_type global.now) }
     {
         self.module
             .globals
             .get(index as usize)
-            .copied()
             .ok_or(Refusal::IllTyped)
     }
 

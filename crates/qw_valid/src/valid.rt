@@ -13,10 +13,13 @@ ghost use Rattle.qw_module.specs.Validity.{memories_of, IsValidType, IsValidMemo
 ghost use Rattle.qw_module.specs.Validity.{IsValidImport, IsValidGlobal, IsExportedOf};
 ghost use Rattle.qw_module.specs.Validity.{IsExport, IsValidFunction, HaveOtherNames, IsValid};
 ghost use Rattle.qw_valid.specs.Inner.Refusals.{fault_in};
+ghost use Rattle.qw_valid.specs.ModuleHeights.{HaveHeights};
 ghost use Rattle.qw_valid.specs.ValidFaults.{HasBody, PartHolds, ArePartsValid, typing_in, IsFault};
 
 use crate::checker::{Checker, constant_type};
+use crate::heights::{Heights, module_heights};
 use crate::imports::{imported_functions, imported_memories};
+use crate::initial::constant_of;
 use crate::walk::{BodyFault, check_body};
 use qw_module::instruction::{BlockType, Instr};
 use qw_module::module::{
@@ -37,7 +40,7 @@ pub enum Part {
     Functions,
     /// The memory is within its limits, and the only one.
     Memory,
-    /// A global begins as a value of its type.
+    /// A global's expression is one constant of its type.
     Globals,
     /// What is exported is there, each under a name of its own.
     Exports,
@@ -51,6 +54,7 @@ pub enum ValidFault {
     /// The function, counted among all functions, the imported ones first; and the place in its body.
     #[error("function {func} isn't typed at place {at}")]
     Body { func: usize, at: usize },
+    /// There is no memory left for the check, or a function needs more operands than any memory holds.
     #[error("want of memory")]
     NoMemory,
 }
@@ -59,6 +63,8 @@ pub enum ValidFault {
 #[derive(Drop)]
 pub struct ValidModule {
     module: Module,
+    /// What each of its own functions needs, in their order.
+    heights: Vec<Heights>,
 }
 
 impl Model for ValidModule {
@@ -67,10 +73,11 @@ impl Model for ValidModule {
     ghost Value = { Module };
 
     ghost use Rattle.qw_module.specs.Validity.{IsValid};
+    ghost use Rattle.qw_valid.specs.ModuleHeights.{HaveHeights};
 
     ghost view = { λ valid. valid.«module» };
 
-    ghost invariant = { λ valid. IsValid valid.«module» };
+    ghost invariant = { λ valid. IsValid valid.«module» × HaveHeights valid.«module» valid.heights.items };
 }
 
 impl ValidModule {
@@ -79,6 +86,13 @@ impl ValidModule {
         ensures valid { IsValid self.now }
     {
         &self.module
+    }
+
+    /// How many operands and labels each of its own functions needs at most, in their order.
+    pub fn heights(&self) -> &[Heights]
+        ensures { HaveHeights self.now result.now }
+    {
+        &self.heights
     }
 }
 
@@ -133,16 +147,22 @@ fn memories(module: &Module) -> usize
     imported_memories(&module.imports) + module.memories.len()
 }
 
-fn is_global(global: Global) -> bool
-    ensures { IsTrue result ↔ IsValidGlobal global }
+fn is_global(global: &Global) -> bool
+    ensures { IsTrue result ↔ IsValidGlobal global.now }
 {
-    constant_type(global.init) == global.ty
+    if !is_numbered(&global.init.labels, &global.init.sequences) {
+        return false;
+    }
+    match constant_of(&global.init) {
+        None => false,
+        Some(constant) => constant_type(constant) == global.ty,
+    }
 }
 
 fn are_globals(globals: &[Global]) -> bool
     ensures { IsTrue result ↔ All IsValidGlobal globals.now }
 {
-    globals.iter().all(|global| is_global(*global))
+    globals.iter().all(|global| is_global(global))
 }
 
 fn is_memory_part(module: &Module) -> bool
@@ -341,6 +361,15 @@ fn check(alloc: alloc::Global, module: &Module) -> Result<(), ValidFault>
     check_functions(alloc, module)
 }
 
+/// What each own function of a valid module needs, or want of memory.
+fn heights_of(alloc: alloc::Global, module: &Module) -> Result<Vec<Heights>, ValidFault>
+    requires { IsValid «module».now }
+    ensures heights { IfOk result (λ heights. HaveHeights «module».now heights.items) }
+    ensures fault { IfErr result (λ fault. fault ≡ ValidFault.NoMemory) }
+{
+    module_heights(alloc, module).ok_or(ValidFault::NoMemory)
+}
+
 /// The module as a valid one. Otherwise it is dropped.
 ///
 /// # Errors
@@ -354,5 +383,6 @@ pub fn validate(alloc: alloc::Global, module: Module) -> Result<ValidModule, Val
     ensures invalid { IfErr result (λ fault. fault ≢ ValidFault.NoMemory → ¬ IsValid «module») }
 {
     check(alloc, &module)?;
-    Ok(ValidModule { module })
+    let heights = heights_of(alloc, &module)?;
+    Ok(ValidModule { module, heights })
 }

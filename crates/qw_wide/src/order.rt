@@ -12,7 +12,7 @@ use crate::arithmetic::{Scaled, is_past, ten_to};
 use qw_low::block::Block;
 use qw_low::cell::Local;
 use qw_low::step::LowStep;
-use qw_meaning::query::Comparison;
+use qw_meaning::comparison::Comparison;
 use qw_module::instruction::{Binary, Const, Division, Op, Relation, Sign, ValType};
 use qw_types::NoMemory;
 

@@ -1,7 +1,8 @@
 -- What the reading of words answers.
 use Rattle.std.specs.Prelude.{◌≡◌, Result, Ok, Err}
-use Rattle.qw_words.specs.Words.{Command, Names, TextNames, run, compile, check, Reading, command, no_number, no_command}
+use Rattle.qw_words.specs.Words.{Command, Names, RunOptions, TextNames, run, compile, check, Reading, command, no_number, no_command}
 use Rattle.qw_words.specs.declared.command.CompileWords.{CompileWords}
+use Rattle.qw_words.specs.declared.command.RunOptions.{RunOptions as ReadOptions}
 use Rattle.qw_words.specs.declared.command.RunWords.{RunWords}
 use Rattle.qw_words.specs.declared.command.Command.{Command as Read}
 use Rattle.qw_words.specs.declared.command.Command.TheVariants.{Run, Compile, Check}
@@ -12,12 +13,16 @@ use Rattle.qw_words.specs.declared.command.WordsFault.TheVariants.{Refused, Stat
 abbrev pub names_of : RunWords → Names
 names_of words = record { schema = words.schema.now; folder = words.folder.now; queries = words.queries.now }
 
+-- the options that were read
+abbrev pub options_of : ReadOptions → RunOptions
+options_of options = record { pages = options.pages; steps = options.steps; quantum = options.quantum; counts = options.counts }
+
 abbrev pub texts_of : CompileWords → TextNames
 texts_of words = record { schema = words.schema.now; queries = words.queries.now }
 
 -- the command that was read
 abbrev pub command_of : Read → Command
-command_of (Run words) = run (names_of words)
+command_of (Run words) = run (names_of words) (options_of words.options)
 command_of (Compile words) = compile (texts_of words) words.statement
 command_of (Check file) = check file.now
 

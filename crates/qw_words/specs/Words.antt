@@ -1,5 +1,5 @@
 -- The words of the command line: the program's commands in the terms of the crate `clap`, and the words that are read as one of them.
-use Rattle.std.specs.Prelude.{ℕ, ◌&&◌, nat_le, true, if◌then◌else◌, List, [], ◌∷◌, Option, Some, None, codes}
+use Rattle.std.specs.Prelude.{ℕ, ◌&&◌, nat_le, Bool, true, false, if◌then◌else◌, List, [], ◌∷◌, Option, Some, None, codes}
 use Rattle.std.specs.Option.{option_map_or}
 use Rattle.std.specs.Str.{bytes_eq}
 use Rattle.std.specs.Str.Parse.{digits_value}
@@ -45,14 +45,26 @@ pub record Names : Type 0 where
   pub folder : Text
   pub queries : Text
 
+-- What `run` is given beside its files: how many pages a query may hold, how many instructions it may run, how many of them a turn has, and
+-- whether counts of what was used are written.
+pub record RunOptions : Type 0 where
+  pub pages : ℕ
+  pub steps : ℕ
+  pub quantum : ℕ
+  pub counts : Bool
+
+-- those of `run` where no word says otherwise
+abbrev pub default_options : RunOptions
+default_options = record { pages = 128; steps = 999999999999999999; quantum = 10000; counts = false }
+
 -- the files of `compile`
 pub record TextNames : Type 0 where
   pub schema : Text
   pub queries : Text
 
--- A command, with what it is given: `run`; `compile` the number of a statement too, counted from 1; `check` the file of a module.
+-- A command, with what it is given: `run` its files and options; `compile` the number of a statement too, counted from 1; `check` the file of a module.
 pub data Command : Type 0 where
-  run : Names → Command
+  run : Names → RunOptions → Command
   compile : TextNames → (statement : ℕ) → Command
   check : (file : Text) → Command
 
@@ -71,10 +83,10 @@ number_within least most word =
 abbrev pub with_value : List Row → (id : Text) → (Text → Reading) → Reading
 with_value rows id read = option_map_or read (first_of id rows) no_command
 
--- the matches of `run`
+-- the matches of `run`, which has no option
 abbrev pub read_run : List Row → Reading
 read_run rows = with_value rows (codes "SCHEMA") (λ schema. with_value rows (codes "DIR") (λ folder. with_value rows (codes "QUERIES") (λ queries.
-    command (run (record { schema = schema; folder = folder; queries = queries })))))
+    command (run (record { schema = schema; folder = folder; queries = queries }) default_options))))
 
 -- those of `compile`; the number of a statement is from 1 to 64
 abbrev pub read_compile : List Row → Reading

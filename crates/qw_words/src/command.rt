@@ -1,6 +1,35 @@
 //! What words that were read ask for, and why others aren't read.
 
+ghost use Rattle.std.specs.Prelude.{◌≤◌};
+
 use thiserror::Error;
+
+/// What `run` is given beside its files, each in its range.
+#[derive(Clone, Copy, Debug)]
+pub struct RunOptions {
+    /// How many pages of 65,536 octets a query may hold.
+    pub pages: u32,
+    /// How many instructions a query may run.
+    pub steps: u64,
+    /// How many instructions a query runs before the next one has its turn: so many that the cost of a turn doesn't count, and so few
+    /// that queries alternate.
+    pub quantum: u64,
+    /// Whether counts of what was used are written.
+    pub counts: bool,
+    ghost some_pages: { 1 ≤ pages },
+    ghost few_pages: { pages ≤ 65535 },
+    ghost some_steps: { 1 ≤ steps },
+    ghost few_steps: { steps ≤ 999999999999999999 },
+    ghost some_quantum: { 1 ≤ quantum },
+}
+
+/// The options of `run` where no word says otherwise.
+pub const DEFAULT_OPTIONS: RunOptions = RunOptions {
+    pages: 128,
+    steps: 999_999_999_999_999_999,
+    quantum: 10_000,
+    counts: false,
+};
 
 /// The words of `run`.
 #[derive(Clone, Copy, Debug)]
@@ -11,6 +40,8 @@ pub struct RunWords<'a> {
     pub folder: &'a str,
     /// The name of the queries file.
     pub queries: &'a str,
+    /// What else it is given.
+    pub options: RunOptions,
 }
 
 /// The words of `compile`.

@@ -7,7 +7,7 @@ ghost use Rattle.qw_words.specs.Inner.Values.{IsRefusal, IsValue};
 ghost use Rattle.qw_words.specs.Read.{Answers};
 ghost use Rattle.qw_words.specs.Words as spec;
 
-use crate::command::{Command, CompileWords, RunWords, WordsFault};
+use crate::command::{Command, CompileWords, DEFAULT_OPTIONS, RunWords, WordsFault};
 use crate::program::program;
 use clap::error::ErrorKind;
 use clap::{ArgMatches, Error};
@@ -90,6 +90,7 @@ fn read_run<'a>(alloc: Global, matches: &ArgMatches<'a>) -> Result<Command<'a>, 
         schema,
         folder,
         queries,
+        options: DEFAULT_OPTIONS,
     }))
 }
 

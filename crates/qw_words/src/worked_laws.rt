@@ -1,12 +1,13 @@
 //! Words by their reading, worked out. The function here computes nothing.
 
-ghost use Rattle.std.specs.Prelude.{◌≡◌, [], ◌∷◌, codes};
+ghost use Rattle.std.specs.Prelude.{◌≡◌, ◌-◌, ◌^◌, [], ◌∷◌, codes, false};
 ghost use Rattle.qw_words.specs.Words as spec;
 
 /// Words of each command, and words that are refused: the number of a statement may have leading zeros, but no sign, and is from 1
-/// to 64; options stand anywhere, with or without `=`, and not twice; a request for help is none of the commands.
+/// to 64; options stand anywhere, with or without `=`, and not twice; `run` has its default options; a request for help is none of the commands.
 pub fn worked_words()
-    ensures run { spec.reading (codes "run" ∷ codes "s" ∷ codes "d" ∷ codes "q" ∷ []) ≡ spec.command (spec.run (record { schema = codes "s"; folder = codes "d"; queries = codes "q" })) }
+    ensures run { spec.reading (codes "run" ∷ codes "s" ∷ codes "d" ∷ codes "q" ∷ []) ≡ spec.command (spec.run (record { schema = codes "s"; folder = codes "d"; queries = codes "q" }) spec.default_options) }
+    ensures defaults { spec.default_options ≡ record { pages = 128; steps = 10 ^ 18 - 1; quantum = 10000; counts = false } }
     ensures compile { spec.reading (codes "compile" ∷ codes "s" ∷ codes "q" ∷ codes "--statement" ∷ codes "1" ∷ []) ≡ spec.command (spec.compile (record { schema = codes "s"; queries = codes "q" }) 1) }
     ensures equals_sign { spec.reading (codes "compile" ∷ codes "--statement=064" ∷ codes "s" ∷ codes "q" ∷ []) ≡ spec.command (spec.compile (record { schema = codes "s"; queries = codes "q" }) 64) }
     ensures check { spec.reading (codes "check" ∷ codes "m" ∷ []) ≡ spec.command (spec.check (codes "m")) }

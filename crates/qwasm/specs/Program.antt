@@ -4,7 +4,6 @@ use Rattle.std.specs.Process.{exit_status}
 use Rattle.std.specs.declared.process.ExitCode.{ExitCode}
 use Rattle.qw_bench.specs.Standing.{Standing}
 use Rattle.qw_top.specs.Call.{Explains, Leaves, Notes}
-use Rattle.qw_top.specs.Limits.{default_limits, quantum}
 use Rattle.qw_top.specs.Status.{exit_code}
 use Rattle.qw_top.specs.Top.{Files}
 use Rattle.qw_top.specs.declared.status.Status.{Status}
@@ -15,7 +14,7 @@ use Rattle.qw_top.specs.declared.status.Status.{Status}
 pub record HasEnded (files : Files) (words : List (List ℕ)) (fault_name : Option (List ℕ)) (code : ExitCode) (out_before out_after notes_before notes_after : Option (List ℕ)) : Type 0 where
   pub status : Status
   pub number : exit_status code ≡ exit_code status
-  pub explained : Explains default_limits files words status
   pub kept : Option Standing
-  pub left : Leaves default_limits quantum files words status kept out_before out_after
-  pub noted : Notes default_limits files words fault_name status notes_before notes_after
+  pub explained : Explains files words kept status
+  pub left : Leaves files words status kept out_before out_after
+  pub noted : Notes files words fault_name status notes_before notes_after

@@ -7,7 +7,7 @@ use Rattle.qw_linear.specs.Memory.{page}
 use Rattle.qw_module.specs.Start.{begun}
 use Rattle.qw_module.specs.Validity.{IsShaped}
 use Rattle.qw_map.specs.Behaving.{BehavesWith}
-use Rattle.qw_map.specs.Layout.{IsFresh, descriptor_size}
+use Rattle.qw_map.specs.Layout.{IsFresh}
 use Rattle.qw_map.specs.declared.layout.Placed.{Placed}
 use Rattle.qw_map.specs.declared.layout.Used.{Used}
 use Rattle.qw_bench.specs.Bench.{ArePlaced, Program}
@@ -36,7 +36,6 @@ pub record IsFirstSeat (map : List (List Placed)) (memory : List ℕ) (descripto
   pub limits_are : seat.limits ≡ limits
   pub placed : ArePlaced map program.layout.columns seat.placed.items
   pub descriptor_is : seat.descriptor ≡ descriptor
-  pub small : descriptor_size program.layout ≤ page
   pub fresh : IsFresh memory descriptor program.layout seat.placed.items
   pub number : ℕ
   pub shaped : IsShaped program.module' number

@@ -1,16 +1,15 @@
--- Mirrors parts of what is written: `put_constant`, `exported`.
-use Rattle.std.specs.Prelude.{◌≡◌, ℕ, Result, Ok, Err}
+-- Mirrors parts of what is written: `put_global`, `exported`.
+use Rattle.std.specs.Prelude.{◌≡◌, ℕ, List, Result, Ok, Err}
 use Rattle.qw_grammar.specs.declared.fault.BinaryFault.{BinaryFault}
-use Rattle.qw_grammar.specs.Grammar.{Grammar, after, settle}
-use Rattle.qw_module.specs.declared.instruction.Const.{Const}
+use Rattle.qw_grammar.specs.Grammar.{Spells}
 use Rattle.qw_module.specs.declared.module.ExportKind.{ExportKind}
 use Rattle.qw_module.specs.declared.module.Function.{Function}
 use Rattle.qw_binary.specs.Instructions.{expression}
-use Rattle.qw_binary.specs.Sections.{constant_of}
+use Rattle.qw_binary.specs.Contents.{GlobalContents}
 
--- the expression that is one constant
-abbrev pub constant : Grammar Const
-constant = after expression (λ e. settle (constant_of e.each))
+-- some octets spell the expression of a global
+abbrev pub IsInitSpelled : GlobalContents → Type 0
+IsInitSpelled global = (text : List ℕ) × Spells expression global.init text
 
 -- what a kind makes of an index
 abbrev pub MakesKind : Result (ℕ → ExportKind) BinaryFault → ℕ → ExportKind → Type 0

@@ -65,7 +65,7 @@ fn put_store(store: Store, arg: MemArg, out: &mut Vec<u8>) -> Result<(), AllocEr
 
 /// Writes a constant, which is signed.
 #[tactic(auto, using(crate::proofs::WriteCodes::instruction_put))]
-pub fn put_const(constant: Const, out: &mut Vec<u8>) -> Result<(), AllocError>
+fn put_const(constant: Const, out: &mut Vec<u8>) -> Result<(), AllocError>
     ensures { OnOk result (PutsInstruction (i.Op (o.Const constant)) out.old.items out.new.items) }
 {
     match constant {

@@ -1,12 +1,13 @@
 //! Sections (WebAssembly Core Specification 1.0, 5.5.2), each where it holds something.
 
 ghost use Rattle.std.specs.Prelude.{◌≡◌, IfErr, OnOk, List, ℕ, [], map};
+ghost use Rattle.std.specs.List.{AllByRecursion};
 ghost use Rattle.qw_grammar.specs.Grammar.{Spells};
 ghost use Rattle.qw_grammar.specs.declared.write.WriteFault.TheVariants.{NotSpelled};
 ghost use Rattle.qw_binary.specs.Sections.{imports as imports_grammar, functions as functions_grammar};
 ghost use Rattle.qw_module.specs.Validity.{signature_of};
-ghost use Rattle.qw_binary.specs.Contents.{Contents, function_contents, export_contents};
-ghost use Rattle.qw_binary.specs.Inner.Parts.{type_index_of};
+ghost use Rattle.qw_binary.specs.Contents.{Contents, function_contents, global_contents, export_contents};
+ghost use Rattle.qw_binary.specs.Inner.Parts.{IsInitSpelled, type_index_of};
 ghost use Rattle.qw_binary.specs.Inner.Written.{Written, PutsSection};
 
 use crate::write::exports::put_exports;
@@ -105,15 +106,17 @@ pub fn put_global_section(
     alloc: Global,
     globals: &[ModuleGlobal],
     out: &mut Vec<u8>,
-) -> Result<(), AllocError>
-    ensures { OnOk result ((indices : List ℕ) (c : Contents) → c.globals ≡ [] → Written 5 indices c out.old.items → Written 6 indices (record c { globals = globals.now }) out.new.items) }
+) -> Result<(), WriteFault>
+    ensures written { OnOk result ((indices : List ℕ) (c : Contents) → c.globals ≡ [] → Written 5 indices c out.old.items → Written 6 indices (record c { globals = map global_contents globals.now }) out.new.items) }
+    ensures refused { IfErr result (λ e. e ≡ NotSpelled → AllByRecursion IsInitSpelled (map global_contents globals.now) → ⊥) }
 {
     if globals.is_empty() {
         return Ok(());
     }
     let mut content = Vec::new(alloc);
-    put_globals(globals, &mut content)?;
-    put_section(6, &content, out)
+    put_globals(alloc, globals, &mut content)?;
+    put_section(6, &content, out)?;
+    Ok(())
 }
 
 /// Writes the exports.

@@ -9,7 +9,7 @@ use Rattle.qw_meaning.specs.Expression.{scale_after}
 use Rattle.qw_low.specs.declared.cell.Cell.{Cell}
 use Rattle.qw_low.specs.declared.step.LowStep.{LowStep}
 use Rattle.std.specs.declared.cmp.Ordering.{Ordering}
-use Rattle.qw_meaning.specs.declared.query.Comparison.{Comparison}
+use Rattle.qw_meaning.specs.declared.comparison.Comparison.{Comparison}
 use Rattle.qw_low.specs.Syntax.{Statement, seq}
 use Rattle.qw_low.specs.Steps.{steps_of}
 use Rattle.qw_wide.specs.declared.arithmetic.Scaled.{Scaled}

@@ -19,7 +19,7 @@ use Rattle.qw_meaning.specs.Nodes.{nodes, nodes_of, nodes_of_all, nodes_of_branc
 use Rattle.qw_meaning.specs.Tree.{choices_of, condition_of, expression_of, expressions_of, matches_of}
 use Rattle.qw_meaning.specs.Typing.{AreTyped, IsTyped}
 use Rattle.qw_fold.specs.Folded.{AllFolded, AreAtOneScale, AreFolded, BranchesFolded, IsAtScale, IsFolded, MatchesFolded}
-use Rattle.qw_fold.specs.Same.{AreSame, IsSame}
+use Rattle.qw_meaning.specs.Same.{AreSame, IsSame}
 use Rattle.qw_fold.specs.Texts.{texts_in, texts_of_all, texts_of_branches, texts_of_matches, texts_within}
 
 -- the second can stand for the first

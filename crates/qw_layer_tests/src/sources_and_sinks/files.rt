@@ -2,7 +2,7 @@
 
 use super::device::Device;
 use super::{Fetch, assert_fetch, assert_fetches};
-use qw_io::{FileShelf, IoFault, Shelf};
+use qw_io::{FileShelf, IoFault, Shelf, WatchedShelf};
 use std::alloc::Global;
 use std::fs;
 use std::io::ErrorKind;
@@ -30,10 +30,21 @@ const MISSING_FETCHES: [Fetch; 2] = [
 
 const LONG: &str = "file-shelf-long.txt";
 
+// How many octets it has: 3 MB, more than any power of two that a piece or a count might be cut at below.
+const LONG_OCTETS: usize = 3_000_000;
+
 // From its front once more, and from near its end.
 const LONG_FETCHES: [Fetch; 2] = [
     (LONG, 0, 3, Ok(&[0, 1, 2])),
-    (LONG, 199_998, 3, Ok(&[202, 203])),
+    (LONG, 2_999_998, 3, Ok(&[46, 47])),
+];
+
+const WATCHED: &str = "file-shelf-watched.txt";
+
+const WATCHED_FETCHES: [Fetch; 3] = [
+    (WATCHED, 1, 8, Ok(b"ello")),
+    (WATCHED, 4, 2, Ok(b"o")),
+    (".", 0, 64, Err(IoFault::Failed)),
 ];
 
 const VERSION: &str = "file-shelf-version.txt";
@@ -75,7 +86,7 @@ fn read_on<F: Shelf>(shelf: &mut F, name: &str, read: &mut Vec<u8>) -> Result<us
 
 // Reads the rest of a file on to the end of what was read of it.
 fn read_rest<F: Shelf>(shelf: &mut F, name: &str, read: &mut Vec<u8>) -> Result<(), Fail> {
-    for _ in 0..8 {
+    for _ in 0..64 {
         if read_on(shelf, name, read)? == 0 {
             return Ok(());
         }
@@ -95,7 +106,7 @@ fn a_short_file_is_read(rt: HostRuntime) -> Result<(), Fail> {
 
 #[test]
 fn a_long_file_is_read_whole(rt: HostRuntime) -> Result<(), Fail> {
-    let long = written(&rt, LONG, 200_000)?;
+    let long = written(&rt, LONG, LONG_OCTETS)?;
     let mut shelf = FileShelf::new(rt.alloc(), &rt);
     let mut read = Vec::new(rt.alloc());
     read_rest(&mut shelf, LONG, &mut read)?;
@@ -156,4 +167,16 @@ fn a_fault_in_mid_file(rt: HostRuntime) {
     for &(kind, fault) in &FAULTS {
         assert_fault(&rt, rt.alloc(), kind, fault);
     }
+}
+
+// The furthest call counts, whatever it gave; a call for another file doesn't.
+#[test]
+fn a_watched_file_is_asked_for(rt: HostRuntime) -> Result<(), Fail> {
+    fs::write(&rt, WATCHED, "hello")?;
+    let name = String::from_str(rt.alloc(), WATCHED)?;
+    let mut shelf = WatchedShelf::new(FileShelf::new(rt.alloc(), &rt), name);
+    assert_fetches(&rt, &mut shelf, &WATCHED_FETCHES);
+    assert_eq!(rt; shelf.asked_to(), 9);
+    fs::remove_file(&rt, WATCHED)?;
+    Ok(())
 }

@@ -2,9 +2,11 @@
 
 use super::{Put, assert_puts};
 use crate::assertions::assert_octets;
-use qw_io::{IoFault, StdSink};
-use std::io;
+use qw_io::{IoFault, Sink, StdSink};
+use std::fs::File;
 use std::io::{ErrorKind, Write};
+use std::test::Fail;
+use std::{fs, io};
 
 const RELUCTANT_PUTS: [Put; 5] = [
     (b"hello", Ok(2)),
@@ -59,4 +61,27 @@ fn std_sink_over_a_reluctant_writer(rt: HostRuntime) {
 #[test]
 fn std_sink_takes(rt: HostRuntime) {
     assert_puts(&rt, &mut StdSink::new(rt.stdout()), &STDOUT_PUTS);
+}
+
+const LARGE: &str = "std-sink-large.txt";
+
+// Writes the rest of a text to a sink, from where it took the front.
+fn put_on<O: Sink>(sink: &mut O, text: &[u8], taken: usize) -> Result<usize, Fail> {
+    let count = sink.put(&text[taken..]).ok().ok_or("a fault")?;
+    Ok(taken + count)
+}
+
+// A piece of 1 MB goes to a file of the system, in as few writes as that takes.
+#[test]
+fn std_sink_takes_a_large_piece(rt: HostRuntime) -> Result<(), Fail> {
+    let text = vec![in rt.alloc(); 7u8; 1_000_000]?;
+    let mut sink = StdSink::new(File::create(&rt, LARGE)?);
+    let mut taken = 0;
+    for _ in 0..16 {
+        taken = put_on(&mut sink, text.as_slice(), taken)?;
+    }
+    assert!(rt; taken == text.len());
+    assert!(rt; fs::read(&rt, LARGE)? == text);
+    fs::remove_file(&rt, LARGE)?;
+    Ok(())
 }

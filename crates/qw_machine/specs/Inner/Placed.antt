@@ -9,6 +9,7 @@ use Rattle.qw_machine.specs.declared.activity.Awaiting.TheVariants.{Label, Call}
 use Rattle.qw_module.specs.Numbers.{truth}
 use Rattle.qw_module.specs.Typing.{scope_of, Typed}
 use Rattle.qw_module.specs.Soundness.{AreOf, AreGlobalsOf}
+use Rattle.qw_valid.specs.Heights.{StaysWithin}
 use Rattle.qw_module.specs.Validity.{imported_functions, outside_of, IsValid, IsOneI32, IsDescending}
 use Rattle.qw_machine.specs.Inner.Points.{Point, code_at, instructions_at, base_of, floor_of}
 use Rattle.qw_machine.specs.declared.room.Rooms.{Rooms}
@@ -20,8 +21,12 @@ pub record IsExecuted (m : Module) : Type 0 where
   pub linked : All (IsOneI32 m) (imported_functions m)
   pub descends : IsDescending m
 
+-- the code from a place of a function on, which begins on so many operands of its sequence, has at most so many operands and labels
+abbrev pub StaysAt : Module → (function sequence index : ℕ) → (operands labels now : ℕ) → Type 0
+StaysAt m function sequence index operands labels now = StaysWithin ((outside_of m).functions) operands labels (code_at m function sequence index) now
+
 -- An entry awaits a sequence that leaves operands of the types `ends` on `operands`, in a function whose locals, results and labels
--- have these types. Its own operands and what comes on them are at most its index.
+-- have these types. It has at most so many operands and labels where it goes on.
 pub record IsEntry (m : Module) (rooms : Rooms) (function first_local : ℕ) (locals results : List ValType) (labels : List (List ValType)) (ends : List ValType) (entry : Entry) (rest : List Awaiting) (operands : List ℕ) : Type 0 where
   pub own : List ℕ
   pub below : List ℕ
@@ -38,9 +43,11 @@ pub record IsEntry (m : Module) (rooms : Rooms) (function first_local : ℕ) (lo
   pub after_typed : Typed (scope_of (outside_of m) locals results outer) (code_at m function entry.sequence entry.after) (ends ++ types) next
   pub target_in : entry.target ≤ length (instructions_at m function entry.sequence)
   pub after_in : entry.after ≤ length (instructions_at m function entry.sequence)
-  pub target_fits : length own + length taken ≤ entry.target
-  pub after_fits : length own + length ends ≤ entry.after
-  pub room : HasRoom m rooms function entry.sequence (length below) (length rest) first_local
+  pub operands_most : ℕ
+  pub labels_most : ℕ
+  pub target_within : StaysAt m function entry.sequence entry.target operands_most labels_most (length own + length taken)
+  pub after_within : StaysAt m function entry.sequence entry.after operands_most labels_most (length own + length ends)
+  pub room : HasRoom m rooms function entry.sequence (length below + operands_most) (length rest + labels_most) first_local
 
 -- A frame awaits a function that leaves operands of the types `results` on `operands`. Its caller's locals are the last of `values`.
 pub record IsCaller (m : Module) (rooms : Rooms) (results : List ValType) (caller : Frame) (rest : List Awaiting) (operands values : List ℕ) : Type 0 where
@@ -61,8 +68,10 @@ pub record IsCaller (m : Module) (rooms : Rooms) (results : List ValType) (calle
   pub floor_is : caller.floor ≡ floor_of rest
   pub after_typed : Typed (scope_of (outside_of m) locals outer_results labels) (code_at m caller.function caller.sequence caller.after) (results ++ types) next
   pub after_in : caller.after ≤ length (instructions_at m caller.function caller.sequence)
-  pub after_fits : length own + length results ≤ caller.after
-  pub room : HasRoom m rooms caller.function caller.sequence (length below) (length rest) caller.first_local
+  pub operands_most : ℕ
+  pub labels_most : ℕ
+  pub after_within : StaysAt m caller.function caller.sequence caller.after operands_most labels_most (length own + length results)
+  pub room : HasRoom m rooms caller.function caller.sequence (length below + operands_most) (length rest + labels_most) caller.first_local
 
 -- Each of what awaits takes what those inside it leave; the outermost function's labels are all, and it leaves its results.
 abbrev pub AreAwaiting : Module → Rooms → (function first_local : ℕ) → (locals results : List ValType) → List (List ValType) → (ends : List ValType) → List Awaiting → (operands values : List ℕ) → Type 0
@@ -93,8 +102,10 @@ pub record IsPoint (m : Module) (rooms : Rooms) (p : Point) : Type 0 where
   pub floor_is : p.floor ≡ floor_of p.awaiting
   pub typed : Typed (scope_of (outside_of m) locals results labels) (code_at m p.function p.sequence p.index) before ends
   pub index_in : p.index ≤ length (instructions_at m p.function p.sequence)
-  pub fits : length own ≤ p.index
-  pub room : HasRoom m rooms p.function p.sequence (length below) (length p.awaiting) p.first_local
+  pub operands_most : ℕ
+  pub labels_most : ℕ
+  pub stays : StaysAt m p.function p.sequence p.index operands_most labels_most (length own)
+  pub room : HasRoom m rooms p.function p.sequence (length below + operands_most) (length p.awaiting + labels_most) p.first_local
   pub awaiting : AreAwaiting m rooms p.function p.first_local locals results labels ends p.awaiting below (take p.first_local p.locals)
 
 -- the point runs: it isn't at the end of its sequence

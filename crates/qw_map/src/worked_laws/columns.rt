@@ -92,12 +92,13 @@ pub fn texts_of_octets()
 {}
 
 /// A memory holds a column of texts where the values, all offsets and the null bits are the column's, and its parts lie in the
-/// memory. Where the last text would end an octet later, where another row is null, or where the null bits lie behind the memory, it
-/// doesn't.
+/// memory. Where the last text would end an octet later, where another row is null, where a bit is 1 that no row has, or where the null bits lie behind the
+/// memory, it doesn't.
 pub fn a_column_of_texts()
     ensures held { HoldsColumn (label_octets 3 2) (Varchar 10) false labels label_values }
     ensures last { HoldsColumn (label_octets 4 2) (Varchar 10) false labels label_values → ⊥ }
     ensures null { HoldsColumn (label_octets 3 4) (Varchar 10) false labels label_values → ⊥ }
+    ensures spare { HoldsColumn (label_octets 3 10) (Varchar 10) false labels label_values → ⊥ }
     ensures behind { HoldsColumn (take 24 (label_octets 3 2)) (Varchar 10) false labels label_values → ⊥ }
     ensures size { HoldsColumn (label_octets 3 2) (Varchar 10) false (record labels { size = 4 }) label_values → ⊥ }
     ensures rows { HoldsColumn (label_octets 3 2) (Varchar 10) false labels (val.Text (112 ∷ 101 ∷ 110 ∷ []) ∷ val.Null ∷ []) → ⊥ }

@@ -11,7 +11,7 @@ use super::parser::{Parser, Stop};
 use super::rules::Rules;
 use super::tree::{boxed, the_expression};
 use qw_ast::script::{Cond, Expr, Phrase};
-use qw_meaning::query::Comparison;
+use qw_meaning::comparison::Comparison;
 
 /// Reads what stands behind `operand IS`, of a test for NULL.
 #[tactic(auto, unfolding(crate::specs::Inner::Readers::null_test_at))]

@@ -8,8 +8,8 @@ ghost use Rattle.qw_script.specs.Inner.Parser.{Passes, Reads, behind, first_of, 
 
 use super::terminal;
 use qw_ast::script::Sign;
+use qw_meaning::comparison::Comparison;
 use qw_meaning::expression::{Field, Operator};
-use qw_meaning::query::Comparison;
 use qw_token::token::Token;
 use qw_types::Truth;
 use std::alloc::{AllocError, Global};

@@ -6,8 +6,8 @@ ghost use Rattle.qw_ast.specs.ScriptGrammar as grammar;
 
 use qw_ast::script::Sign;
 use qw_ast::word::{folds_to, is_reserved};
+use qw_meaning::comparison::Comparison;
 use qw_meaning::expression::{Field, Operator};
-use qw_meaning::query::Comparison;
 use qw_token::token::{Kind, Token};
 use qw_types::Truth;
 use qw_types::digits::are_digits;

@@ -1,9 +1,11 @@
 //! Scripts over one table: what the program leaves of each query, compared with the plain program's answer.
 
-ghost use Rattle.std.specs.Prelude.{◌≡◌, ◌<◌, IsTrue, length, map};
+ghost use Rattle.std.specs.Prelude.{◌≡◌, ◌<◌, IfOk, IsTrue, length, map, pos};
 ghost use Rattle.std.specs.List.{AllByRecursion};
 ghost use Rattle.qw_types.specs.Kind.{IsOfKind, IsRowOf, type_kind};
-ghost use Rattle.qw_meaning.specs.Flow.{rows_of};
+ghost use Rattle.qw_types.specs.Contents.{rows_of};
+ghost use Rattle.qw_types.specs.Value.{IsDay, is_day as tells_day};
+ghost use Rattle.qw_meaning.specs.Select as row;
 
 use crate::tables::left;
 use qw_bench::bench::{Bench, Ended};
@@ -14,7 +16,7 @@ use qw_meaning::outcome::{Answer, plain_outcome};
 use qw_parse::parse::schema_of;
 use qw_sink::results::received;
 use qw_top::top::queries::queries_of;
-use qw_types::{Code, Kind, NoMemory, Row, Schema, Text, Ty, Val};
+use qw_types::{Code, ColumnType, Kind, NoMemory, Row, Schema, Text, Ty, Val};
 use std::alloc::Global;
 use std::process::Abort;
 use std::test::Fail;
@@ -200,10 +202,19 @@ fn is_same(value: &Val, other: &Val) -> bool {
 
 // What the plain program answers over the tables. Their rows are tested for being of their kinds, as it asks.
 fn plain_answer(alloc: Global, select: &Select, tables: &[Vec<Row>]) -> Result<Answer, Fail> {
-    if !are_rows_of(select.types(), rows_at(tables, select.table())) {
+    let types = types_of(alloc, select.columns())?;
+    if !are_rows_of(types.as_slice(), rows_at(tables, select.table())) {
         return Err("rows of other kinds".into());
     }
     Ok(plain_outcome(alloc, select, tables)?)
+}
+
+// The data types of columns.
+fn types_of(alloc: Global, columns: &[ColumnType]) -> Result<Vec<Ty>, NoMemory>
+    ensures { IfOk result (λ types. types.items ≡ row.types_of columns.now) }
+{
+    let types = columns.iter().map(|column| column.ty).collect(alloc)?;
+    Ok(types)
 }
 
 fn rows_at(tables: &[Vec<Row>], table: usize) -> &[Row]
@@ -236,13 +247,38 @@ fn is_row_of(types: &[Ty], values: &[Val]) -> bool
     }
 }
 
+// Whether the calendar has the day that is year * 10000 + month * 100 + day.
+fn is_day(number: i32) -> bool
+    ensures { IsTrue result → IsDay number }
+{
+    number > 0 && names_day(number.unsigned_abs())
+}
+
+fn names_day(number: u32) -> bool
+    ensures { result ≡ tells_day (pos number) }
+{
+    let (year, month, day) = (number / 10_000, number / 100 % 100, number % 100);
+    let days = if month == 2 {
+        if year % 4 == 0 && (year % 100 != 0 || year % 400 == 0) {
+            29
+        } else {
+            28
+        }
+    } else if month == 4 || month == 6 || month == 9 || month == 11 {
+        30
+    } else {
+        31
+    };
+    1 <= year && year <= 9999 && 1 <= month && month <= 12 && 1 <= day && day <= days
+}
+
 fn is_of_kind(kind: Kind, value: &Val) -> bool
     ensures { IsTrue result → IsOfKind kind value.now }
 {
     match (kind, value) {
         (_, Val::Null) | (Kind::Text, Val::Text(_)) => true,
         (Kind::Number(_), Val::Num(number)) => number.unsigned_abs() < 1_000_000_000_000_000_000,
-        (Kind::Date, Val::Date(day)) => 10_101 <= *day && *day <= 99_991_231,
+        (Kind::Date, Val::Date(day)) => is_day(*day),
         _ => false,
     }
 }

@@ -1,11 +1,10 @@
-// Columns of all kinds of values and literals: what `qwasm` prints of each, beside the plain program's rows.
+// Columns of all kinds of values and literals: what `qwasm` prints of each, beside the values that compare so.
 
-use super::{next_random, plain_numbers, query_text, table_file};
-use crate::tables::{WORDS, asking, call, shelf, sink};
+use super::{kept_numbers, next_random, query_text, table_file};
+use crate::tables::{WORDS, call, shelf, sink};
 use qw_io::MemorySink;
-use qw_meaning::query::Comparison;
+use qw_meaning::comparison::Comparison;
 use qw_top::status::Status;
-use qw_types::NoMemory;
 use std::alloc::{AllocError, Global};
 use std::process::Abort;
 use std::test::Fail;
@@ -136,16 +135,6 @@ fn printed(
     Ok((status, out))
 }
 
-// The values that compare so with the literal, by the plain program.
-fn plain(
-    alloc: Global,
-    column: &[i32],
-    comparison: Comparison,
-    literal: i64,
-) -> Result<Vec<i64>, NoMemory> {
-    plain_numbers(alloc, &asking(alloc, comparison, literal)?, column)
-}
-
 // The report of these numbers, a line each.
 fn report_of(alloc: Global, numbers: &[i64]) -> Result<String, AllocError> {
     let count = numbers.len();
@@ -156,7 +145,7 @@ fn report_of(alloc: Global, numbers: &[i64]) -> Result<String, AllocError> {
     Ok(report)
 }
 
-// Asserts that a run over a column prints what the plain program answers, and answers how many rows these are. A failure shows the
+// Asserts that a run over a column prints the values that compare so, and answers how many rows these are. A failure shows the
 // literal too.
 fn compared(
     rt: &impl Abort,
@@ -165,7 +154,7 @@ fn compared(
     comparison: Comparison,
     literal: i64,
 ) -> Result<usize, Fail> {
-    let numbers = plain(alloc, column, comparison, literal)?;
+    let numbers = kept_numbers(alloc, comparison, literal, column)?;
     let report = report_of(alloc, numbers.as_slice())?;
     let (status, out) = printed(alloc, column, comparison, literal)?;
     assert_eq!(rt;

@@ -1,12 +1,12 @@
-// Three instances of unlike statements over one memory, in 300 orders of turns: each comes to the rows, the end and the count of
-// instructions that it comes to alone.
+// Three instances of unlike statements over one memory, in 300 orders of turns, and beside another table: each comes to the rows, the
+// end and the counts of instructions and pages that it comes to alone.
 
 ghost use Rattle.std.specs.Prelude.{◌≤◌};
 
 use super::next_random;
 use crate::expressions::compared::same_rows;
-use crate::tables::bench_over;
-use qw_bench::bench::{Bench, DEFAULT_LIMITS, Ended};
+use crate::tables::{DEFAULT_LIMITS, bench_over, bench_over_two, differs, sevens};
+use qw_bench::bench::{Bench, Ended};
 use qw_parse::parse::schema_of;
 use qw_sink::results::received;
 use qw_types::{Code, NoMemory, Row, Schema};
@@ -99,13 +99,19 @@ fn alone(alloc: Global, schema: &Schema, file: &[u8]) -> Result<Vec<Came>, Fail>
     Ok(all)
 }
 
-// A bench of the three statements, before its first turn.
-fn together(alloc: Global, schema: &Schema, file: &[u8]) -> Result<Bench, Fail> {
+// The script of the three statements.
+fn script(alloc: Global) -> Result<Vec<u8>, AllocError> {
     let mut script = Vec::new(alloc);
     for &statement in &STATEMENTS {
         script.extend_from_slice(statement)?;
         script.push(b';')?;
     }
+    Ok(script)
+}
+
+// A bench of the three statements, before its first turn.
+fn together(alloc: Global, schema: &Schema, file: &[u8]) -> Result<Bench, Fail> {
+    let script = script(alloc)?;
     let limits = [DEFAULT_LIMITS; 3];
     Ok(bench_over(alloc, schema, file, script.as_slice(), &limits)??)
 }
@@ -198,5 +204,41 @@ fn turns_change_nothing(rt: HostRuntime) -> Result<(), Fail> {
         let bench = together(alloc, &schema, file.as_bytes())?;
         random = one_order(&rt, bench, alloc, alone.as_slice(), order, random)?;
     }
+    Ok(())
+}
+
+// T stands behind another table.
+const BEHIND: &[u8] = b"CREATE TABLE S (A INTEGER NOT NULL); \
+      CREATE TABLE T (K INTEGER NOT NULL, P DECIMAL(9,2), D DATE, L VARCHAR(5))";
+
+// As many rows of the other table as put the first column of T, and the first page behind all columns, one page further on.
+const OTHER_ROWS: usize = 20_000;
+
+// The first octets of the other table's column, and of the first column of T.
+const COLUMNS: [(u64, [u8; 8]); 2] = [
+    (64, [7, 0, 0, 0, 7, 0, 0, 0]),
+    (80_064, [1, 0, 0, 0, 2, 0, 0, 0]),
+];
+
+// A bench of the three statements over T behind the other table, before its first turn.
+fn behind_another(alloc: Global, file: &[u8]) -> Result<Bench, Fail> {
+    let schema = schema_of(alloc, BEHIND)?;
+    let other = sevens(alloc, OTHER_ROWS)?;
+    let script = script(alloc)?;
+    let limits = [DEFAULT_LIMITS; 3];
+    let files = (other.as_slice(), file);
+    Ok(bench_over_two(alloc, &schema, files, script.as_slice(), &limits)??)
+}
+
+#[test]
+fn another_table_changes_nothing(rt: HostRuntime) -> Result<(), Fail> {
+    let alloc = rt.alloc();
+    let file = file(alloc)?;
+    let alone = alone(alloc, &schema_of(alloc, SCHEMA)?, file.as_bytes())?;
+    let mut bench = behind_another(alloc, file.as_bytes())?;
+    bench.run_all(u64::MAX);
+    let other = first_other(alloc, &bench, alone.as_slice())?;
+    let elsewhere = differs(bench.memory(), &COLUMNS);
+    assert_eq!(rt; (bench.len(), other, elsewhere), (3, None, None));
     Ok(())
 }

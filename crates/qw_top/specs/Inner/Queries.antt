@@ -2,7 +2,7 @@
 use Rattle.std.specs.Prelude.{◌≡◌, ◌⊎◌, ℕ, List, [], ◌∷◌, Some, map, slice_get, unwrap_or}
 use Rattle.std.specs.List.{AllByRecursion}
 use Rattle.std.specs.Option.{option_map_or}
-use Rattle.qw_types.specs.Contents.{Contents}
+use Rattle.qw_types.specs.Contents.{Contents, column_type}
 use Rattle.qw_types.specs.declared.kind.Kind.TheVariants as kind
 use Rattle.qw_types.specs.declared.schema.Column.{Column}
 use Rattle.qw_types.specs.declared.schema.Table.{Table}
@@ -44,11 +44,11 @@ asked_of query = record { specification = specification_of query.select; header 
 abbrev pub columns_of : List Table → ℕ → List Column
 columns_of schema table = option_map_or (λ (t : Table). t.columns) (slice_get schema table) []
 
--- Its table is one of the schema's, whose columns have the types that it says; and it isn't too long to be compiled.
+-- Its table is one of the schema's, whose columns are those that it says; and it isn't too long to be compiled.
 pub record IsOver (schema : List Table) (query : TypedSelect) : Type 0 where
   pub table : Table
   pub there : slice_get schema query.select.table ≡ Some table
-  pub types_are : query.select.types ≡ map (λ (c : Column). c.ty) table.columns
+  pub columns_are : query.select.columns ≡ map column_type table.columns
   pub short : IsShort query.select
 
 -- a text is refused for a fault, or memory was wanted

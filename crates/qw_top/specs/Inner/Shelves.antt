@@ -1,21 +1,23 @@
 -- What reading leaves of a shelf.
 use Rattle.std.specs.Prelude.{◌≡◌, ℕ, ◌≤◌, List, Option, Some, None, IfSome, Result, Err}
 use Rattle.qw_io.specs.Faults.{IsCounted}
+use Rattle.qw_io.specs.Files.{Watched}
 use Rattle.qw_io.specs.declared.shelf.Shelf.{Ghosts}
 use Rattle.qw_io.specs.declared.fault.IoFault.{IoFault}
 use Rattle.qw_io.specs.declared.fault.IoFault.TheVariants.{Failed as DeviceFailed, NoMemory as NoMemoryLeft}
 use Rattle.qw_top.specs.declared.files.ReadFault.{ReadFault}
 use Rattle.qw_top.specs.declared.files.ReadFault.TheVariants.{Failed, NoMemory}
 
--- what a shelf tells: its files, its count of faults, and the name of the file that the last one was at
+-- what a shelf tells: its files, its count of faults, the name of the file that the last one was at, and how far one file was asked for
 pub record Told : Type 0 where
   pub files : Option (List ℕ → Option (List ℕ))
   pub faults : ℕ
   pub fault_name : Option (List ℕ)
+  pub watched : Option Watched
 
 -- that of a shelf
 abbrev pub told_by : {S : Type 0} → Ghosts S → S → Told
-told_by shelf s = record { files = shelf.files s; faults = shelf.faults s; fault_name = shelf.fault_name s }
+told_by shelf s = record { files = shelf.files s; faults = shelf.faults s; fault_name = shelf.fault_name s; watched = shelf.watched s }
 
 -- a fault of a shelf as a fault of the reading
 abbrev pub read_fault_of : IoFault → ReadFault

@@ -1,28 +1,36 @@
 -- Mirrors what the stages of a run hand on (`top::run::run`, `top::report::deliver`), and how they stop.
-use Rattle.std.specs.Prelude.{◌≡◌, ◌⊎◌, ◌<◌, ℕ, List, [], ◌∷◌, Option, map, length}
-use Rattle.qw_types.specs.Contents.{Contents, column_type}
+use Rattle.std.specs.Prelude.{◌≡◌, ◌⊎◌, ◌<◌, ◌≤◌, ℕ, List, [], ◌∷◌, Option, map, length}
+use Rattle.std.specs.List.{AllByRecursion, AllZip}
+use Rattle.qw_types.specs.Contents.{Contents, IsOfColumnType, column_type}
+use Rattle.qw_types.specs.Limits.{most_rows}
 use Rattle.qw_types.specs.declared.schema.Table.{Table}
 use Rattle.qw_linear.specs.Memory.{most_pages}
 use Rattle.qw_bench.specs.Standing.{Standing, total_pages as pages_in_all}
+use Rattle.qw_bench.specs.declared.bench.Limits.{Limits}
 use Rattle.qw_top.specs.declared.status.Status.{Status}
 use Rattle.qw_top.specs.declared.status.Status.TheVariants.{Done, Raised, PageLimitMet, StepLimitMet, WriteFailed, NoMemory as EndsInWant}
 use Rattle.qw_top.specs.declared.stop.Stop.{Stop}
 use Rattle.qw_top.specs.declared.stop.Stop.TheVariants.{NoMemory}
 use Rattle.qw_top.specs.Causes.{total_pages}
 use Rattle.qw_top.specs.Delivered.{HasRun, ShowsEnds, ends_below, status_of_ends}
-use Rattle.qw_top.specs.Limits.{default_limits, quantum}
 use Rattle.qw_top.specs.Output.{TookFront, with_text}
 use Rattle.qw_top.specs.Top.{Asked, Files, FilesSettle, HasQueries, IsFileOf, Names, same_limits}
 use Rattle.qw_top.specs.Inner.Stop.{StopsBy, StopsFor}
 
--- the files of these names explain a stop of a run
-abbrev pub FilesStop : Files → Names → Stop → Type 0
-FilesStop files names stop = StopsBy (FilesSettle default_limits files names) (IsFileOf files names) stop
+-- the files of these names explain a stop of a run under limits
+abbrev pub FilesStop : Limits → Files → Names → Stop → Type 0
+FilesStop limits files names stop = StopsBy (FilesSettle limits files names) (IsFileOf files names) stop
 
--- the rows of tables are of their columns
+-- the rows of a table are of its columns, and no more than a table may have
+pub record IsContentsOf (table : Table) (one : Contents) : Type 0 where
+  pub columns : one.columns ≡ map column_type table.columns
+  pub few : length one.rows ≤ most_rows
+  pub typed : AllByRecursion (AllZip IsOfColumnType (map column_type table.columns)) one.rows
+
+-- so are those of tables
 abbrev pub AreContentsOf : List Table → List Contents → Type 0
 AreContentsOf [] [] = Unit {0}
-AreContentsOf (table ∷ tables) (one ∷ contents) = (one.columns ≡ map column_type table.columns) × AreContentsOf tables contents
+AreContentsOf (table ∷ tables) (one ∷ contents) = IsContentsOf table one × AreContentsOf tables contents
 AreContentsOf _ _ = ⊥
 
 -- a stop as so many pages are needed, which are more than there can be
@@ -30,20 +38,22 @@ abbrev pub StopsForPages : (need : ℕ) → Stop → Type 0
 StopsForPages need stop = (most_pages < need) × StopsFor (total_pages need) stop
 
 -- why a run of queries over tables stopped before its bench: for want of memory, or as they need too many pages
-abbrev pub StopsToRun : List Contents → List Asked → Stop → Type 0
-StopsToRun tables queries stop = (stop ≡ NoMemory) ⊎ StopsForPages (pages_in_all tables (same_limits default_limits queries)) stop
+abbrev pub StopsToRun : Limits → List Contents → List Asked → Stop → Type 0
+StopsToRun limits tables queries stop = (stop ≡ NoMemory) ⊎ StopsForPages (pages_in_all tables (same_limits limits queries)) stop
 
 -- a bench has run these queries, which the files ask for
-pub record HasAsked (files : Files) (names : Names) (queries : List Asked) (b : Standing) : Type 0 where
+pub record HasAsked (limits : Limits) (quantum : ℕ) (files : Files) (names : Names) (queries : List Asked) (b : Standing) : Type 0 where
   pub schema : List Table
   pub tables : List Contents
   pub asks : HasQueries files names schema tables queries
-  pub run : HasRun default_limits quantum tables queries b
+  pub run : HasRun limits quantum tables queries b
 
--- a bench has run these queries
+-- a bench has run these queries, whatever the limits and the turns
 pub record Ran (queries : List Asked) (b : Standing) : Type 0 where
+  pub limits : Limits
+  pub quantum : ℕ
   pub tables : List Contents
-  pub run : HasRun default_limits quantum tables queries b
+  pub run : HasRun limits quantum tables queries b
 
 -- the report that shows the ends of queries, over whichever tables they ran, and the status of a run with those ends
 abbrev pub IsReport : (queries : List Asked) → Standing → (report : List ℕ) → Status → Type 0

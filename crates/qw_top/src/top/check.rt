@@ -2,11 +2,13 @@
 
 ghost use Rattle.std.specs.Prelude.{◌≡◌, ◌≢◌, ◌⊎◌, IfErr, IfSome, IsTrue, OnOk};
 ghost use Rattle.qw_io.specs.Faults.{IsCounted};
+ghost use Rattle.qw_top.specs.Asking.{AsksWithin, IsOne};
 ghost use Rattle.qw_top.specs.Call.{CheckSettles, CheckWrites, IsValidFile, LeavesText, TextExplains, TookFrontOf};
 ghost use Rattle.qw_top.specs.Causes.{module_refused};
 ghost use Rattle.qw_top.specs.Delivered.{CommandNotes};
 ghost use Rattle.qw_top.specs.Inner.Shelves.{HasRead, told_by};
 ghost use Rattle.qw_top.specs.Inner.Stop.{StopsAs, StopsFor, failed_stop};
+ghost use Rattle.qw_top.specs.Limits.{most_module_octets};
 ghost use Rattle.qw_top.specs.Notes.{want_of_memory_line};
 ghost use Rattle.qw_top.specs.Output.{with_text};
 
@@ -42,6 +44,7 @@ pub(super) fn check_file<F: Shelf, O: Sink, E: Sink>(
     ensures want_hides_none { (IsTrue E.takes_memory → ⊥) → result ≡ Status.NoMemory → F.faults files.new ≡ F.faults files.old }
     ensures fault_name { F.faults files.new ≢ F.faults files.old → IfSome (F.fault_name files.new) (λ other. other ≡ name.now) }
     ensures same_files { F.files files.new ≡ F.files files.old }
+    ensures asked { AsksWithin (IsOne name.now most_module_octets) (F.watched files.old) (F.watched files.new) }
     ensures write_fault { result ≡ Status.WriteFailed
         → IsCounted (O.faults out.old) (O.faults out.new) ⊎ IsCounted (E.faults notes.old) (E.faults notes.new) }
     ensures no_write_fault { result ≢ Status.WriteFailed
@@ -62,6 +65,7 @@ fn checked<'a, F: Shelf>(alloc: Global, name: &'a str, files: &mut F) -> Result<
     ensures accepted { OnOk result (IsValidFile (F.files files.old) name.now) }
     ensures stops { IfErr result (λ stop. StopsAs (CheckSettles (F.files files.old) name.now) name.now stop) }
     ensures shelf { HasRead (failed_stop result) (told_by F.Shelf files.old) (told_by F.Shelf files.new) }
+    ensures within { AsksWithin (IsOne name.now most_module_octets) (F.watched files.old) (F.watched files.new) }
 {
     let name = FileName::Given(name);
     let octets = read_file(alloc, files, name, MAX_MODULE_FILE, Cause::ModuleTooLong)?;

@@ -3,7 +3,8 @@
 ghost use Rattle.std.specs.Prelude.{◌≡◌, ◌≢◌, ◌⊎◌, ◌-◌, ◌≤◌, ◌<◌, None, Some, IfErr, IfOk, IfSome, IsTrue, length, slice_get};
 ghost use Rattle.qw_io.specs.Faults.{IsCounted};
 ghost use Rattle.qw_words.specs.Read.{texts_of};
-ghost use Rattle.qw_top.specs.Call.{CompileSettles, CompileWrites, HasStatement, IsScriptFile, LeavesText, SpellsCompiled, TextExplains, TookFrontOf};
+ghost use Rattle.qw_top.specs.Asking.{AsksWithin};
+ghost use Rattle.qw_top.specs.Call.{CompileSettles, CompileWrites, HasStatement, IsScriptFile, IsTextLimit, LeavesText, SpellsCompiled, TextExplains, TookFrontOf};
 ghost use Rattle.qw_top.specs.Delivered.{CommandNotes};
 ghost use Rattle.qw_top.specs.Inner.Queries.{IsOver, asked_of};
 ghost use Rattle.qw_top.specs.Inner.Shelves.{HasRead, told_by};
@@ -20,6 +21,7 @@ use crate::notes::note_stop;
 use crate::status::Status;
 use crate::stop::{Stop, refused};
 use qw_binary::encode::encode;
+use qw_grammar::write::WriteFault;
 use qw_io::{Shelf, Sink};
 use qw_typer::query::TypedSelect;
 use qw_types::{NoMemory, Schema};
@@ -47,6 +49,7 @@ pub(super) fn compile_statement<F: Shelf, O: Sink, E: Sink>(
     ensures want_hides_none { (IsTrue E.takes_memory → ⊥) → result ≡ Status.NoMemory → F.faults files.new ≡ F.faults files.old }
     ensures fault_name { F.faults files.new ≢ F.faults files.old → IfSome (F.fault_name files.new) (IsScriptFile (F.files files.old) (texts_of names.now)) }
     ensures same_files { F.files files.new ≡ F.files files.old }
+    ensures asked { AsksWithin (IsTextLimit names.now.schema.now names.now.queries.now) (F.watched files.old) (F.watched files.new) }
     ensures write_fault { result ≡ Status.WriteFailed
         → IsCounted (O.faults out.old) (O.faults out.new) ⊎ IsCounted (E.faults notes.old) (E.faults notes.new) }
     ensures no_write_fault { result ≢ Status.WriteFailed
@@ -72,6 +75,7 @@ fn octets_of_statement<'a, F: Shelf>(
     ensures stops { IfErr result (λ stop. StopsBy (CompileSettles (F.files files.old) (texts_of names.now) names.now.statement)
         (IsScriptFile (F.files files.old) (texts_of names.now)) stop) }
     ensures shelf { HasRead (failed_stop result) (told_by F.Shelf files.old) (told_by F.Shelf files.new) }
+    ensures within { AsksWithin (IsTextLimit names.now.schema.now names.now.queries.now) (F.watched files.old) (F.watched files.new) }
 {
     let schema = read_schema(alloc, names.schema, files)?;
     let queries = read_queries(alloc, names.queries, &schema, files)?;
@@ -90,7 +94,7 @@ fn statement_of(queries: &[TypedSelect], statement: u64) -> Option<&TypedSelect>
     queries.get(statement.saturating_sub(1) as usize)
 }
 
-/// The octets of the module of a query over a schema.
+/// The octets of the module of a query over a schema. A compiled module is always spelled.
 fn octets_of(alloc: Global, schema: &Schema, query: &TypedSelect) -> Result<Vec<u8>, NoMemory>
     requires { IsOver schema.now query.now }
     ensures { IfOk result (λ octets. SpellsCompiled (asked_of query.now) octets.items) }
@@ -98,7 +102,7 @@ fn octets_of(alloc: Global, schema: &Schema, query: &TypedSelect) -> Result<Vec<
     let compiled = compiled(alloc, schema, query)?;
     match encode(alloc, &compiled.module) {
         Ok(octets) => Ok(octets),
-        // The writer has no clause by which a module that was compiled is always spelled.
-        Err(_) => Err(NoMemory),
+        Err(WriteFault::NoMemory) => Err(NoMemory),
+        Err(WriteFault::NotSpelled) => unreachable!(),
     }
 }

@@ -7,7 +7,10 @@ ghost use Rattle.qw_top.specs.FileNames.{table_file_of};
 ghost use Rattle.qw_top.specs.Inner.Causes.{cause_of};
 ghost use Rattle.qw_top.specs.Inner.Inputs.{IsNoSchema, IsNoScript, IsNoTable, StopsAtTables};
 ghost use Rattle.qw_top.specs.Inner.Queries.{IsOver, StopsForFault, asked_of};
-ghost use Rattle.qw_words.specs.Read.{names_of};
+ghost use Rattle.qw_words.specs.Read.{names_of, options_of};
+ghost use Rattle.qw_top.specs.Asking.{AsksWithin, IsOne};
+ghost use Rattle.qw_top.specs.Call.{IsRunLimit, IsTableLimit};
+ghost use Rattle.qw_top.specs.Limits.{limits_of, most_table_octets, most_text_octets};
 ghost use Rattle.qw_top.specs.Inner.Stages.{FilesStop};
 ghost use Rattle.qw_top.specs.Inner.Shelves.{HasRead, told_by};
 ghost use Rattle.qw_top.specs.Inner.Stop.{StopsAs, StopsFor, failed_stop, octets_of};
@@ -53,8 +56,9 @@ pub fn prepare<'a, F: Shelf>(
     ensures accepted { IfOk result (λ run. HasQueries (F.files files.old) (names_of names.now) run.schema run.tables.items (map asked_of run.queries.items)) }
     ensures over { IfOk result (λ run. AllByRecursion (IsOver run.schema) run.queries.items) }
     ensures few { IfOk result (λ run. length run.queries.items ≤ 64) }
-    ensures stops { IfErr result (λ stop. FilesStop (F.files files.old) (names_of names.now) stop) }
+    ensures stops { IfErr result (λ stop. FilesStop (limits_of (options_of names.now.options)) (F.files files.old) (names_of names.now) stop) }
     ensures shelf { HasRead (failed_stop result) (told_by F.Shelf files.old) (told_by F.Shelf files.new) }
+    ensures within { AsksWithin (IsRunLimit (names_of names.now)) (F.watched files.old) (F.watched files.new) }
 {
     let schema = read_schema(alloc, names.schema, files)?;
     let tables = read_tables(alloc, names.folder, schema.as_slice(), files)?;
@@ -75,6 +79,7 @@ pub(super) fn read_schema<'a, F: Shelf>(
     ensures accepted { IfOk result (λ schema. SchemaIs (F.files files.old) name.now schema) }
     ensures stops { IfErr result (λ stop. StopsAs (IsNoSchema (F.files files.old) name.now) name.now stop) }
     ensures shelf { HasRead (failed_stop result) (told_by F.Shelf files.old) (told_by F.Shelf files.new) }
+    ensures within { AsksWithin (IsOne name.now most_text_octets) (F.watched files.old) (F.watched files.new) }
 {
     let name = FileName::Given(name);
     let text = read_file(alloc, files, name, MAX_TEXT_FILE, Cause::SchemaTooLong)?;
@@ -105,6 +110,7 @@ fn read_tables<'a, F: Shelf>(
     ensures accepted { IfOk result (λ tables. TablesAre (F.files files.old) folder.now schema.now tables.items) }
     ensures stops { IfErr result (λ stop. StopsAtTables (F.files files.old) folder.now schema.now stop) }
     ensures shelf { HasRead (failed_stop result) (told_by F.Shelf files.old) (told_by F.Shelf files.new) }
+    ensures within { AsksWithin (IsTableLimit folder.now) (F.watched files.old) (F.watched files.new) }
 {
     let mut tables = Vec::with_capacity(alloc, schema.len()).map_err(|_| Stop::NoMemory)?;
     for table in schema {
@@ -127,6 +133,7 @@ fn read_table<'a, F: Shelf>(
     ensures stops { IfErr result (λ stop.
         StopsAs (IsNoTable (F.files files.old) folder.now table.now) (table_file_of folder.now table.now.name) stop) }
     ensures shelf { HasRead (failed_stop result) (told_by F.Shelf files.old) (told_by F.Shelf files.new) }
+    ensures within { AsksWithin (IsOne (table_file_of folder.now table.now.name) most_table_octets) (F.watched files.old) (F.watched files.new) }
 {
     let name = table_file_name(alloc, folder, table.name.as_str()).map_err(|_| Stop::NoMemory)?;
     let name = FileName::Made(name);
@@ -162,6 +169,7 @@ pub(super) fn read_queries<'a, F: Shelf>(
     ensures few { IfOk result (λ queries. length queries.items ≤ 64) }
     ensures stops { IfErr result (λ stop. StopsAs (IsNoScript (F.files files.old) name.now schema.now) name.now stop) }
     ensures shelf { HasRead (failed_stop result) (told_by F.Shelf files.old) (told_by F.Shelf files.new) }
+    ensures within { AsksWithin (IsOne name.now most_text_octets) (F.watched files.old) (F.watched files.new) }
 {
     let name = FileName::Given(name);
     let text = read_file(alloc, files, name, MAX_TEXT_FILE, Cause::QueriesTooLong)?;
@@ -196,6 +204,7 @@ pub(super) fn read_file<'a, F: Shelf>(
     ensures stops { IfErr result (λ stop. StopsAs (λ cause. (cause ≡ cause_of too_long.entry) × IsTooLong (F.files files.old) (octets_of name.entry) limit)
         (octets_of name.entry) stop) }
     ensures shelf { HasRead (failed_stop result) (told_by F.Shelf files.old) (told_by F.Shelf files.new) }
+    ensures within { AsksWithin (IsOne (octets_of name.entry) limit) (F.watched files.old) (F.watched files.new) }
 {
     match read_whole(alloc, files, name.as_str(), limit) {
         Ok(bytes) => Ok(bytes),

@@ -3,10 +3,11 @@
 ghost use Rattle.std.specs.Prelude.{◌≡◌, ◌≢◌, ◌⊎◌, map, IfSome, IsTrue, None};
 ghost use Rattle.std.specs.String.{string_bytes};
 ghost use Rattle.qw_io.specs.Faults.{IsCounted};
-ghost use Rattle.qw_words.specs.Read.{names_of};
-ghost use Rattle.qw_top.specs.Call.{Explains, IsNamed, Leaves, LeavesFront, Notes};
+ghost use Rattle.qw_words.specs.Read.{names_of, options_of};
+ghost use Rattle.qw_top.specs.Asking.{AsksWithin};
+ghost use Rattle.qw_top.specs.Call.{Explains, IsLimit, IsNamed, IsRunLimit, Leaves, LeavesFront, Notes};
 ghost use Rattle.qw_top.specs.Delivered.{CommandNotes, LeavesBench, RunLeaves};
-ghost use Rattle.qw_top.specs.Limits.{default_limits, quantum};
+ghost use Rattle.qw_top.specs.Limits.{limits_of};
 ghost use Rattle.qw_top.specs.Notes.{want_of_memory_line};
 ghost use Rattle.qw_top.specs.Output.{TookFront, with_text};
 ghost use Rattle.qw_top.specs.Top.{FilesSettle, IsFileOf, RunExplains};
@@ -32,11 +33,11 @@ pub(super) fn perform<F: Shelf, O: Sink, E: Sink>(
     notes: &mut E,
     kept: &mut Option<Bench>,
 ) -> Status
-    ensures explained { Explains default_limits (F.files files.old) (map string_bytes words.now) result }
-    ensures left { Leaves default_limits quantum (F.files files.old) (map string_bytes words.now) result kept.new (O.taken out.old) (O.taken out.new) }
+    ensures explained { Explains (F.files files.old) (map string_bytes words.now) kept.new result }
+    ensures left { Leaves (F.files files.old) (map string_bytes words.now) result kept.new (O.taken out.old) (O.taken out.new) }
     ensures kept_at_fault { O.faults out.new ≢ O.faults out.old
-        → LeavesFront default_limits quantum (F.files files.old) (map string_bytes words.now) kept.new (O.taken out.old) (O.taken out.new) }
-    ensures noted { Notes default_limits (F.files files.old) (map string_bytes words.now) (F.fault_name files.new) result (E.taken notes.old) (E.taken notes.new) }
+        → LeavesFront (F.files files.old) (map string_bytes words.now) kept.new (O.taken out.old) (O.taken out.new) }
+    ensures noted { Notes (F.files files.old) (map string_bytes words.now) (F.fault_name files.new) result (E.taken notes.old) (E.taken notes.new) }
     ensures noted_whole { (IsTrue E.takes_memory → ⊥) → result ≡ Status.NoMemory
         → E.taken notes.new ≡ with_text (E.taken notes.old) want_of_memory_line }
     ensures silent_at_fault { O.faults out.new ≢ O.faults out.old → E.taken notes.new ≡ E.taken notes.old }
@@ -47,6 +48,7 @@ pub(super) fn perform<F: Shelf, O: Sink, E: Sink>(
     ensures fault_name { F.faults files.new ≢ F.faults files.old
         → IfSome (F.fault_name files.new) (λ name. IsNamed (F.files files.old) (map string_bytes words.now) name) }
     ensures same_files { F.files files.new ≡ F.files files.old }
+    ensures asked { AsksWithin (IsLimit (map string_bytes words.now)) (F.watched files.old) (F.watched files.new) }
     ensures write_fault { result ≡ Status.WriteFailed
         → IsCounted (O.faults out.old) (O.faults out.new) ⊎ IsCounted (E.faults notes.old) (E.faults notes.new) }
     ensures no_write_fault { result ≢ Status.WriteFailed
@@ -71,12 +73,12 @@ fn run_queries<F: Shelf, O: Sink, E: Sink>(
     kept: &mut Option<Bench>,
 ) -> Status
     requires { kept.old ≡ None }
-    ensures explained { RunExplains default_limits (F.files files.old) (names_of names.now) result }
-    ensures left { RunLeaves default_limits quantum (F.files files.old) (names_of names.now) result kept.new (O.taken out.old) (O.taken out.new) }
+    ensures explained { RunExplains (limits_of (options_of names.now.options)) (F.files files.old) (names_of names.now) kept.new result }
+    ensures left { RunLeaves (limits_of (options_of names.now.options)) names.now.options.quantum (F.files files.old) (names_of names.now) result kept.new (O.taken out.old) (O.taken out.new) }
     ensures kept_at_fault { O.faults out.new ≢ O.faults out.old
-        → LeavesBench default_limits quantum (F.files files.old) (names_of names.now) kept.new
+        → LeavesBench (limits_of (options_of names.now.options)) names.now.options.quantum (F.files files.old) (names_of names.now) kept.new
         (λ status report. TookFront (O.taken out.old) (O.taken out.new) report) }
-    ensures noted { CommandNotes (FilesSettle default_limits (F.files files.old) (names_of names.now)) (IsFileOf (F.files files.old) (names_of names.now))
+    ensures noted { CommandNotes (FilesSettle (limits_of (options_of names.now.options)) (F.files files.old) (names_of names.now)) (IsFileOf (F.files files.old) (names_of names.now))
         (F.fault_name files.new) result (E.taken notes.old) (E.taken notes.new) }
     ensures noted_whole { (IsTrue E.takes_memory → ⊥) → result ≡ Status.NoMemory
         → E.taken notes.new ≡ with_text (E.taken notes.old) want_of_memory_line }
@@ -88,6 +90,7 @@ fn run_queries<F: Shelf, O: Sink, E: Sink>(
     ensures fault_name { F.faults files.new ≢ F.faults files.old
         → IfSome (F.fault_name files.new) (λ name. IsFileOf (F.files files.old) (names_of names.now) name) }
     ensures same_files { F.files files.new ≡ F.files files.old }
+    ensures asked { AsksWithin (IsRunLimit (names_of names.now)) (F.watched files.old) (F.watched files.new) }
     ensures write_fault { result ≡ Status.WriteFailed
         → IsCounted (O.faults out.old) (O.faults out.new) ⊎ IsCounted (E.faults notes.old) (E.faults notes.new) }
     ensures no_write_fault { result ≢ Status.WriteFailed

@@ -1,10 +1,10 @@
 //! The modules that queries are compiled to.
 
-ghost use Rattle.std.specs.Prelude.{◌≡◌, List, IfOk, map};
+ghost use Rattle.std.specs.Prelude.{List, IfOk};
 ghost use Rattle.std.specs.List.{AllByRecursion};
 ghost use Rattle.qw_types.specs.Contents.{Contents};
-ghost use Rattle.qw_types.specs.declared.schema.Column.{Column};
 ghost use Rattle.qw_emit.specs.Compiled.{IsCompiled};
+ghost use Rattle.qw_emit.specs.Queries.{promise_of};
 ghost use Rattle.qw_bench.specs.Bench.{IsColumnIn};
 ghost use Rattle.qw_top.specs.Inner.Queries.{IsJobOf, IsOver, asked_of};
 ghost use Rattle.qw_top.specs.Inner.Stages.{AreContentsOf};
@@ -14,7 +14,7 @@ use qw_bench::bench::Job;
 use qw_compile::compile::{CompileFault, Compiled, compile};
 use qw_fold::fold::fold;
 use qw_typer::query::TypedSelect;
-use qw_types::{Column, NoMemory, Schema};
+use qw_types::{NoMemory, Schema};
 use qw_valid::valid::{ValidFault, validate};
 use std::alloc::Global;
 
@@ -26,13 +26,13 @@ use std::alloc::Global;
 /// [`NoMemory`] where memory does not suffice.
 pub fn compiled(alloc: Global, schema: &Schema, query: &TypedSelect) -> Result<Compiled, NoMemory>
     requires { IsOver schema.now query.now }
-    ensures compiled { IfOk result (λ made. IsCompiled (asked_of query.now).specification made.layout made.module) }
+    ensures compiled { IfOk result (λ made. IsCompiled (promise_of (asked_of query.now).specification) made.layout made.module) }
     ensures columns { IfOk result (λ made. (tables : List Contents) → AreContentsOf schema.now tables → AllByRecursion (IsColumnIn tables) made.layout.columns) }
 {
-    let columns = columns_of(schema, query.select.table());
-    let not_null = not_null_of(alloc, columns)?;
+    // For its clause: the columns of a table of the schema keep the limits that the compiler asks for.
+    columns_of(schema, query.select.table());
     let folded = fold(alloc, &query.select)?;
-    match compile(alloc, &folded, &not_null) {
+    match compile(alloc, &folded) {
         Ok(compiled) => Ok(compiled),
         Err(CompileFault::NoMemory) => Err(NoMemory),
         Err(CompileFault::TooLong) => unreachable!(),
@@ -55,12 +55,4 @@ pub fn job_of(alloc: Global, schema: &Schema, query: &TypedSelect) -> Result<Job
         Err(ValidFault::Part(_)) => unreachable!(),
         Err(ValidFault::Body { .. }) => unreachable!(),
     }
-}
-
-/// Which columns are declared NOT NULL.
-fn not_null_of(alloc: Global, columns: &[Column]) -> Result<Vec<bool>, NoMemory>
-    ensures { IfOk result (λ not_null. not_null.items ≡ map (λ (column : Column). column.not_null) columns.now) }
-{
-    let not_null = columns.iter().map(|column| column.not_null).collect(alloc)?;
-    Ok(not_null)
 }

@@ -1,6 +1,6 @@
 -- Mirrors the functions of src/query.rt and script.rt.
 use Rattle.std.specs.Prelude.{◌≡◌, ℕ, List, [], ◌∷◌, ◌++◌, map, Contains}
-use Rattle.qw_types.specs.declared.schema.Column.{Column}
+use Rattle.qw_types.specs.Contents.{column_type}
 use Rattle.qw_types.specs.declared.schema.Table.{Table}
 use Rattle.qw_ast.specs.Syntax.{Select}
 use Rattle.qw_meaning.specs.Select.{Specification}
@@ -33,7 +33,7 @@ over_faults table s = selected_faults (scope_of s table) s.selected ++ filter_fa
 -- what a query without a fault is over the columns of its table
 pub record IsOver (scope : Scope) (s : Select) (over : Over) : Type 0 where
   pub faultless : selected_faults scope s.selected ++ filter_faults scope s ≡ []
-  pub types_are : over.types.items ≡ map (λ (c : Column). c.ty) scope.columns
+  pub columns_are : over.columns.items ≡ map column_type scope.columns
   pub conjuncts_are : map condition_of over.conjuncts.items ≡ map (condition_meant scope) (conjuncts s)
   pub items_are : map expression_of over.items.items ≡ items_meant scope s.selected
   pub names_are : over.names.items ≡ result_names scope s.selected
@@ -41,7 +41,7 @@ pub record IsOver (scope : Scope) (s : Select) (over : Over) : Type 0 where
 -- what a query means over its table, which has this place
 pub record MeansOver (place : ℕ) (table : Table) (s : Select) (specification : Specification) (names : List (List ℕ)) : Type 0 where
   pub faultless : over_faults table s ≡ []
-  pub entries_are : specification.entries ≡ record { table = place; types = map (λ (c : Column). c.ty) table.columns } ∷ []
+  pub entries_are : specification.entries ≡ record { table = place; columns = map column_type table.columns } ∷ []
   pub conjuncts_are : specification.conjuncts ≡ map (condition_meant (scope_of s table)) (conjuncts s)
   pub items_are : specification.items ≡ items_meant (scope_of s table) s.selected
   pub names_are : names ≡ result_names (scope_of s table) s.selected

@@ -2,11 +2,11 @@
 use Rattle.std.specs.Prelude.{◌≡◌, ℕ, Bool, List, [], ◌∷◌, ◌++◌, Option, Some, None, Result, Ok, Err, MatchResult, ◌&&◌, if◌then◌else◌}
 use Rattle.qw_types.specs.declared.kind.Kind.{Kind}
 use Rattle.qw_types.specs.declared.kind.Kind.TheVariants as kind
-use Rattle.qw_meaning.specs.declared.query.Comparison.TheVariants.{Equal}
+use Rattle.qw_meaning.specs.declared.comparison.Comparison.TheVariants.{Equal}
 use Rattle.qw_meaning.specs.Expression as meaning
 use Rattle.qw_meaning.specs.Tree as tree
 use Rattle.qw_meaning.specs.Typing.{are_comparable, kind_of}
-use Rattle.qw_meaning.specs.declared.query.Comparison.{Comparison}
+use Rattle.qw_meaning.specs.declared.comparison.Comparison.{Comparison}
 use Rattle.qw_meaning.specs.declared.expression.Operator.{Operator}
 use Rattle.qw_meaning.specs.declared.expression.Field.{Field}
 use Rattle.qw_meaning.specs.declared.expression.Cond.{Cond}

@@ -1,13 +1,14 @@
 use Rattle.std.proofs.Common.{◌≡◌, List, [], ℕ, map, refl, subst, inl, inr}
+use Rattle.std.specs.List.{AllByRecursion}
 use Rattle.std.proofs.lemmas.Result.{err_from_is_err_and}
 use Rattle.qw_grammar.specs.Grammar.{Spells}
 use Rattle.qw_module.specs.Validity.{signature_of}
-use Rattle.qw_binary.specs.Contents.{Contents, contents_of, function_contents, export_contents}
+use Rattle.qw_binary.specs.Contents.{Contents, contents_of, function_contents, global_contents, export_contents}
 use Rattle.qw_binary.specs.Sections.{imports, functions, no_sections}
-use Rattle.qw_binary.specs.Inner.Parts.{type_index_of}
+use Rattle.qw_binary.specs.Inner.Parts.{IsInitSpelled, type_index_of}
 use Rattle.qw_binary.specs.Inner.Written.{Written}
 use Rattle.qw_binary.proofs.WriteSections.{header_written, whole_written}
-use Rattle.qw_binary.proofs.Refusals.{module_imports, module_code, none_of}
+use Rattle.qw_binary.proofs.Refusals.{module_imports, module_globals, module_code, none_of}
 use Rattle.qw_binary.proofs.encode.encode.Goals as goal
 
 pub returns-clause-written : goal.returns-clause-written
@@ -26,7 +27,7 @@ returns-clause-written c =
     let s2 = subst (λ xs. (indices : List ℕ) (c : Contents) → c.imports ≡ [] → Written 1 indices c o1 → Written 2 indices (record c { imports = xs }) o2) c.deref-2.ensures.value c.in_ok-put_import_section.ensures.written in
     let s3 = subst (λ xs. (c : Contents) → Written 2 [] c o2 → Written 3 (map type_index_of xs) c o3) c.deref-3.ensures.value c.in_ok-put_function_section.ensures in
     let s5 = subst (λ xs. (indices : List ℕ) (c : Contents) → c.memories ≡ [] → Written 3 indices c o3 → Written 5 indices (record c { memories = xs }) o5) c.deref-4.ensures.value c.in_ok-put_memory_section.ensures in
-    let s6 = subst (λ xs. (indices : List ℕ) (c : Contents) → c.globals ≡ [] → Written 5 indices c o5 → Written 6 indices (record c { globals = xs }) o6) c.deref-5.ensures.value c.in_ok-put_global_section.ensures in
+    let s6 = subst (λ xs. (indices : List ℕ) (c : Contents) → c.globals ≡ [] → Written 5 indices c o5 → Written 6 indices (record c { globals = map global_contents xs }) o6) c.deref-5.ensures.value c.in_ok-put_global_section.ensures.written in
     let s7 = subst (λ xs. (indices : List ℕ) (c : Contents) → c.exports ≡ [] → Written 6 indices c o6 → Written 7 indices (record c { exports = map export_contents xs }) o7) c.deref-6.ensures.value c.in_ok-put_export_section.ensures in
     let s10 = subst (λ xs. (c : Contents) → c.functions ≡ [] → Written 7 (map type_index_of xs) c o7 → Written 10 (map type_index_of xs) (record c { functions = map function_contents xs }) o10) c.deref-7.ensures.value c.in_ok-put_code_section.ensures.written in
     let indices : List ℕ = map type_index_of m.functions.items in
@@ -49,6 +50,14 @@ returns-in_err-put_import_section-clause-refused c =
       | inl none ↦ never.0 none
       | inr some ↦ never.1 some.0 some.1
     ])
+
+pub returns-in_err-put_global_section-clause-refused : goal.returns-in_err-put_global_section-clause-refused
+returns-in_err-put_global_section-clause-refused c =
+    let m = c.args.module.now in
+    let p = err_from_is_err_and c.from_residual-in_err-put_global_section.result c.from_residual-in_err-put_global_section.ensures.1 in
+    rw (p.1, p.2) (λ e spelled.
+    let never = subst (λ gs. AllByRecursion IsInitSpelled (map global_contents gs) → ⊥) c.deref-5.ensures.value (c.in_err-put_global_section.ensures.refused e) in
+    never (module_globals (contents_of m) spelled))
 
 pub returns-in_err-put_code_section-clause-refused : goal.returns-in_err-put_code_section-clause-refused
 returns-in_err-put_code_section-clause-refused c =

@@ -1,4 +1,4 @@
-use Rattle.std.proofs.Common.{◌+◌, List, take, refl, sym, ◌∙◌, subst}
+use Rattle.std.proofs.Common.{◌+◌, List, length, take, refl, sym, ◌∙◌, subst}
 use Rattle.std.specs.List.{AllByRecursion}
 use Rattle.qw_meaning.specs.Nodes.{nodes_of}
 use Rattle.qw_meaning.specs.Tree.{condition_of}
@@ -37,7 +37,8 @@ returns-clause-emits c =
 pub returns-clause-short : goal.returns-clause-short
 returns-clause-short c =
     let upto = c.needed_for-upto.result in
-    conjunct_short c.args.emitter.now.block.code.items c.emit_reads.new.block.code.items c.emit_test.new.emitter.block.code.items c.open_test.new.block.code.items c.args.done upto (nodes_of c.args.conjunct.now)
+    conjunct_short (length c.args.emitter.now.block.code.items) (length c.emit_reads.new.block.code.items) (length c.emit_test.new.emitter.block.code.items) (length c.open_test.new.block.code.items)
+    (length c.args.emitter.now.own.items) (length c.emit_test.new.emitter.own.items) c.args.done upto (nodes_of c.args.conjunct.now)
     (part_short c.args.readers.now _ c.args.done upto c.in_ok-emit_reads.ensures.0 c.args.emitter.now.block.code.items c.emit_reads.new.block.code.items (between c.args.readers.now c.args.done upto c.needed_for-upto.ensures.ahead) c.needed_for-upto.ensures.ahead
     c.needed_for-upto.ensures.within c.in_ok-emit_reads.ensures.2.short c.in_ok-emit_reads.ensures.1)
     c.in_ok-test.ensures.short c.in_ok-open_test.ensures.short (some_nodes_of c.args.conjunct.now)

@@ -1,7 +1,7 @@
-use Rattle.std.proofs.Common.{length, map, take, arith}
+use Rattle.std.proofs.Common.{map, take, arith}
 use Rattle.qw_meaning.specs.Tree.{condition_of}
 use Rattle.qw_expr.specs.Bindings.{known_of}
-use Rattle.qw_expr.specs.Emits.{free_of}
+use Rattle.qw_expr.specs.Emits.{extent, free_of}
 use Rattle.qw_compile.proofs.Listed.{next_test, served_later, tests_free, tests_none}
 use Rattle.qw_compile.proofs.Shortness.{next_test_short}
 use Rattle.qw_compile.proofs.lists.emit_tests.Goals as goal
@@ -24,6 +24,6 @@ loop-conjunct-preserved c = record {
   emits = next_test (take c.args.literals (known_of c.args.known.now)) c.args.readers.now c.args.conjuncts.now c.loop-conjunct.conjunct-index c.conjunct-item.result c.args.emitter.now c.loop-conjunct.emitter c.emit_conjunct.new.emitter c.loop-conjunct.done
       c.in_ok-done.done c.loop-conjunct-test.true c.conjunct-item.is c.loop-conjunct.invariant.emits c.in_ok-done.ensures.emits;
   within = c.in_ok-done.ensures.within;
-  short = next_test_short c.args.conjuncts.now c.loop-conjunct.conjunct-index c.conjunct-item.result (length c.args.emitter.now.block.code.items) (length c.loop-conjunct.emitter.block.code.items) (length c.emit_conjunct.new.emitter.block.code.items) c.loop-conjunct.done
+  short = next_test_short c.args.conjuncts.now c.loop-conjunct.conjunct-index c.conjunct-item.result (extent c.args.emitter.now) (extent c.loop-conjunct.emitter) (extent c.emit_conjunct.new.emitter) c.loop-conjunct.done
       c.in_ok-done.done c.loop-conjunct-test.true c.conjunct-item.is c.loop-conjunct.invariant.short c.in_ok-done.ensures.short;
 }

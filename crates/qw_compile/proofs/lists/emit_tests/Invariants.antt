@@ -2,6 +2,7 @@ use Rattle.std.proofs.Common.{◌≤◌, ◌+◌, ◌*◌, length, map, sum_by, 
 use Rattle.qw_meaning.specs.Nodes.{nodes_of}
 use Rattle.qw_meaning.specs.Tree.{condition_of}
 use Rattle.qw_expr.specs.Bindings.{known_of}
+use Rattle.qw_expr.specs.Emits.{extent}
 use Rattle.qw_compile.specs.Emitted.{EmitsTests}
 use Rattle.qw_compile.proofs.lists.emit_tests.Given as goal
 
@@ -9,5 +10,5 @@ abbrev pub invariant-loop-conjunct : goal.invariant-loop-conjunct
 invariant-loop-conjunct l = record {
   emits : EmitsTests (take l.literals (known_of l.known)) l.readers (map condition_of (take l.conjunct-index l.conjuncts)) l.initial.emitter l.emitter l.done;
   within : l.done ≤ length l.readers;
-  short : length l.emitter.block.code.items ≤ length l.initial.emitter.block.code.items + 117 * l.done + 304 * sum_by nodes_of (take l.conjunct-index l.conjuncts);
+  short : extent l.emitter ≤ extent l.initial.emitter + 117 * l.done + 404 * sum_by nodes_of (take l.conjunct-index l.conjuncts);
 }

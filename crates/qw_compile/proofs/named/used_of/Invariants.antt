@@ -1,6 +1,7 @@
 use Rattle.std.proofs.Common.{◌≡◌, [], drop}
 use Rattle.std.specs.List.{AllByRecursion}
 use Rattle.qw_meaning.specs.Columns.{IsColumnOf}
+use Rattle.qw_meaning.specs.Select.{types_of}
 use Rattle.qw_compile.specs.Leaves.{OfColumn}
 use Rattle.qw_compile.specs.Named.{IsOfTable, and_named, columns_of}
 use Rattle.qw_compile.proofs.named.used_of.Given as goal
@@ -8,6 +9,6 @@ use Rattle.qw_compile.proofs.named.used_of.Given as goal
 abbrev pub invariant-loop-leaf : goal.invariant-loop-leaf
 invariant-loop-leaf l = record {
   named : and_named (columns_of l.used.items) (drop l.leaf-index l.leaves) ≡ and_named [] l.leaves;
-  of_table : AllByRecursion (IsOfTable l.table l.types l.not_null) l.used.items;
-  over : AllByRecursion (OfColumn (IsColumnOf l.types)) (drop l.leaf-index l.leaves);
+  of_table : AllByRecursion (IsOfTable l.table l.columns) l.used.items;
+  over : AllByRecursion (OfColumn (IsColumnOf (types_of l.columns))) (drop l.leaf-index l.leaves);
 }

@@ -41,7 +41,7 @@ returns-clause-short c =
     let all = length-map c.args.items.now expression_of in
     let rs = c.args.readers.now in
     let done = c.in_ok-done.done in
-    row_short c.args.conjuncts.now c.args.items.now (sources_of c.in_ok-outs.outs.items) _ done (length rs) c.args.emitter.now.block.code.items c.emit_tests.new.emitter.block.code.items c.emit_reads.new.block.code.items c.emit_items.new.emitter.block.code.items
+    row_short c.args.conjuncts.now c.args.items.now (sources_of c.in_ok-outs.outs.items) _ done (length rs) (length c.args.emitter.now.own.items) (length c.emit_tests.new.emitter.own.items) (length c.emit_items.new.emitter.own.items) c.args.emitter.now.block.code.items c.emit_tests.new.emitter.block.code.items c.emit_reads.new.block.code.items c.emit_items.new.emitter.block.code.items
     c.push_row.new.block.code.items c.close_tests.new.block.code.items (sources_many c.in_ok-outs.outs.items ∙ (many ∙ all)) c.in_ok-done.ensures.short
     (part_short rs _ done (length rs) c.in_ok-emit_reads.ensures.0 c.emit_tests.new.emitter.block.code.items c.emit_reads.new.block.code.items (between rs done (length rs) c.in_ok-done.ensures.within) c.in_ok-done.ensures.within (omega arith) c.in_ok-emit_reads.ensures.2.short
     c.in_ok-emit_reads.ensures.1)

@@ -1,5 +1,4 @@
-use Rattle.qw_emit.proofs.CompiledLemmas.{compiled-behaves}
 use Rattle.qw_emit.proofs.compiled_laws.compiled_behaves.Goals as goal
 
 pub returns : goal.returns
-returns c = compiled-behaves
+returns c = λ promise layout m is. is.is_job

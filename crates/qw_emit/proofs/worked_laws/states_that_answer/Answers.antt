@@ -8,5 +8,5 @@ returns-clause-past_the_limit c out layout most descriptor b at refused held lim
     (Pages b.world.held 1 b.world.limit, rw (at, refused) refl, (refl, refl, omega (arith, held, limit), omega (arith, held)))
 
 pub returns-clause-raised : goal.returns-clause-raised
-returns-clause-raised c layout most pages descriptor b at =
-    (Exception 2, rw at refl, (OutOfRange ∷ [], OutOfRange, refl, (0, omega arith, refl), refl))
+returns-clause-raised c layout most pages descriptor b at none =
+    (Exception 2, rw at refl, (none, (OutOfRange ∷ [], OutOfRange, refl, (0, omega arith, refl), refl)))

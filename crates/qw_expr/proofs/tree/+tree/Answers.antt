@@ -1,6 +1,7 @@
 use Rattle.std.proofs.Common.{rules, ◌≤◌, IfOk, sym, subst, inr, w32, w64}
+use Rattle.qw_types.proofs.KindLemmas.{day_number}
 use Rattle.qw_meaning.specs.declared.expression.Expr.{the_lemmas}
-use Rattle.qw_meaning.specs.declared.query.Comparison.TheVariants.{Equal, GreaterOrEqual, LessOrEqual}
+use Rattle.qw_meaning.specs.declared.comparison.Comparison.TheVariants.{Equal, GreaterOrEqual, LessOrEqual}
 use Rattle.qw_meaning.specs.Expression.{among, arithmetic, between, both, brought, case, cases, coalesced, column, comparison, date, either, extract, is, is_null, largest_result, negation_of, negative, null, null_if, number}
 use Rattle.qw_meaning.specs.Tree.{choices_of, condition_of, expression_of, expressions_of, matches_of}
 use Rattle.qw_meaning.specs.Typing.{IsTyped, kind_of}
@@ -639,7 +640,7 @@ pub expression-date_of-requires : goal.expression-date_of-requires
 expression-date_of-requires t c =
     let typed = rw c.in-Date.is at c.requires.typed in
     let takes = rw c.in-Date.is at c.requires.known in
-    subst (λ z. Knows (known_of c.args.known.now) (date z)) (sym (to_z-of_z w32 c.in-Date.day (date_small c.in-Date.day typed))) takes
+    subst (λ z. Knows (known_of c.args.known.now) (date z)) (sym (to_z-of_z w32 c.in-Date.day (date_small c.in-Date.day (day_number c.in-Date.day typed)))) takes
 
 pub expression-returns-in-Number-clause-emits : goal.expression-returns-in-Number-clause-emits
 expression-returns-in-Number-clause-emits t c =
@@ -655,7 +656,7 @@ pub expression-returns-in-Date-clause-emits : goal.expression-returns-in-Date-cl
 expression-returns-in-Date-clause-emits t c =
     let d = c.in-Date.day in
     let typed = rw c.in-Date.is at c.requires.typed in
-    let same = to_z-of_z w32 d (date_small d typed) in
+    let same = to_z-of_z w32 d (date_small d (day_number d typed)) in
     rw c.in-Date.is
     (leaf_made (known_of c.args.known.now) (date d) c.args.emitter.now c.date_of.result typed c.requires.served
     (subst (λ z. IsAmong (record { expression = date z; operand = c.date_of.result }) (known_of c.args.known.now)) same c.date_of.ensures))

@@ -13,10 +13,10 @@ items_of-requires c = record { typed = rw c.items.ensures.items (items_typed c.a
 
 pub new-requires : goal.new-requires
 new-requires c =
-    let made : Parts = record { table = c.table.result; types = c.in_ok-types.types.items; conjuncts = c.in_ok-conjuncts.conjuncts.items; items = c.in_ok-items.items.items } in
+    let made : Parts = record { table = c.table.result; columns = c.in_ok-columns.columns.items; conjuncts = c.in_ok-conjuncts.conjuncts.items; items = c.in_ok-items.items.items } in
     let folds : FoldsTo c.args.select.now made = record {
       table = c.table.ensures.table;
-      types = c.in_ok-types.ensures ∙ c.types.ensures.types;
+      columns = c.in_ok-columns.ensures ∙ c.columns.ensures.columns;
       conjuncts = rw c.conjuncts.ensures.conjuncts at c.in_ok-conjuncts.ensures;
       items = rw c.items.ensures.items at c.in_ok-items.ensures;
     } in
@@ -25,7 +25,7 @@ new-requires c =
 folds_to : (c : goal.After-new) → FoldsTo c.args.select.now c.new.result
 folds_to c = record {
   table = ap (λ (p : Parts). p.table) c.new.ensures ∙ c.table.ensures.table;
-  types = ap (λ (p : Parts). p.types) c.new.ensures ∙ (c.in_ok-types.ensures ∙ c.types.ensures.types);
+  columns = ap (λ (p : Parts). p.columns) c.new.ensures ∙ (c.in_ok-columns.ensures ∙ c.columns.ensures.columns);
   conjuncts = rw c.new.ensures (rw c.conjuncts.ensures.conjuncts at c.in_ok-conjuncts.ensures);
   items = rw c.new.ensures (rw c.items.ensures.items at c.in_ok-items.ensures);
 }

@@ -1,3 +1,4 @@
+use Rattle.qw_meaning.specs.Evaluation.{at_row}
 use Rattle.std.proofs.Common.{◌≡◌, pos, [], Result, Ok, Err}
 use Rattle.qw_types.specs.declared.code.Code.{Code}
 use Rattle.qw_types.specs.declared.code.Code.TheVariants.{DivZero}
@@ -7,10 +8,10 @@ use Rattle.qw_fold.proofs.worked_laws.literals_of_operations.Goals as goal
 
 pub returns-clause-other : goal.returns-clause-other
 returns-clause-other c = λ h.
-    let seven : ◌≡◌ {A = Result Val Code} (Ok (Num (pos 7))) (Ok (Num (pos 8))) = h.value (record { row = [] }) in
+    let seven : ◌≡◌ {A = Result Val Code} (Ok (Num (pos 7))) (Ok (Num (pos 8))) = h.value (at_row []) in
     cc
 
 pub returns-clause-raises : goal.returns-clause-raises
 returns-clause-raises c = λ v s h.
-    let raised : ◌≡◌ {A = Result Val Code} (Err DivZero) (Ok (Num v)) = h.value (record { row = [] }) in
+    let raised : ◌≡◌ {A = Result Val Code} (Err DivZero) (Ok (Num v)) = h.value (at_row []) in
     cc

@@ -1,7 +1,7 @@
 use Rattle.std.proofs.Common.{◌∷◌, [], refl}
 use Rattle.std.specs.Prelude.{codes}
 use Rattle.qw_meaning.specs.declared.expression.Operator.TheVariants.{Add}
-use Rattle.qw_meaning.specs.declared.query.Comparison.TheVariants.{Greater}
+use Rattle.qw_meaning.specs.declared.comparison.Comparison.TheVariants.{Greater}
 use Rattle.qw_ast.specs.Syntax.{arithmetic, both, bracketed, comparison, condition, number}
 use Rattle.qw_script.specs.Worked.{equals, n, s, the_column, w}
 use Rattle.qw_script.specs.Inner.Readers.{nested_at, clause_at, boolean_term_at, boolean_factor_at, test_at, truth_test_at, predicate_at, tail_at, ranged_at, between_at, compare_at, condition_clause, condition_at, expression_at, not_at, sum_at, term_at, factor_at, primary_at, brackets_at, column_at, as_clause, token_at, one_at, steps_within}

@@ -2,7 +2,7 @@ use Rattle.std.proofs.Common.{sym, arith, inr}
 use Rattle.std.proofs.lemmas.Bool.{eqb-true}
 use Rattle.std.proofs.lemmas.Result.{err_from_is_err_and}
 use Rattle.qw_token.specs.Token.{lexemes}
-use Rattle.qw_script.proofs.AcceptLemmas.{fault_refused, many_refused, none_refused, script_read, selects, some_left, tokens_refused}
+use Rattle.qw_script.proofs.AcceptLemmas.{fault_refused, many_refused, none_refused, queries_kept, script_read, selects, some_left, tokens_refused}
 use Rattle.qw_script.proofs.script.script_of.Goals as goal
 
 pub returns-in_err-tokens-clause-refused : goal.returns-in_err-tokens-clause-refused
@@ -27,8 +27,14 @@ returns-in_err-queries-clause-refused c =
     let fault = rw c.deref-2.ensures.value at c.in_err-queries.ensures.refused in
     rw (p.1, p.2) (fault_refused c.args.text.now (lexemes c.in_ok-tokens.tokens.items) c.in_ok-statements.statements.items c.in_err-queries.field-0.0 c.in_ok-tokens.ensures.read split (omega (arith, c.if-len-gt-MAX_STATEMENTS.false, c.len.ensures)) fault)
 
+pub new-requires : goal.new-requires
+new-requires c =
+    let accepted = rw c.deref-2.ensures.value at c.in_ok-queries.ensures.accepted in
+    queries_kept c.in_ok-statements.statements.items (selects c.in_ok-queries.queries.items) accepted (omega (arith, some_left _ c.if-is_empty.ensures)) (omega (arith, c.if-len-gt-MAX_STATEMENTS.false, c.len.ensures))
+
 pub returns-clause-script : goal.returns-clause-script
 returns-clause-script c =
     let split = rw c.deref.ensures.value at c.in_ok-statements.ensures in
     let accepted = rw c.deref-2.ensures.value at c.in_ok-queries.ensures.accepted in
-    script_read c.args.text.now (lexemes c.in_ok-tokens.tokens.items) c.in_ok-statements.statements.items (selects c.in_ok-queries.queries.items) c.in_ok-tokens.ensures.read split (omega (arith, c.if-len-gt-MAX_STATEMENTS.false, c.len.ensures)) (omega (arith, some_left _ c.if-is_empty.ensures)) accepted
+    rw c.new.ensures
+    (script_read c.args.text.now (lexemes c.in_ok-tokens.tokens.items) c.in_ok-statements.statements.items (selects c.in_ok-queries.queries.items) c.in_ok-tokens.ensures.read split (omega (arith, c.if-len-gt-MAX_STATEMENTS.false, c.len.ensures)) (omega (arith, some_left _ c.if-is_empty.ensures)) accepted)

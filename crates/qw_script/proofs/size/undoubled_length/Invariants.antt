@@ -1,5 +1,5 @@
 use Rattle.std.proofs.Common.{◌≡◌, ◌+◌, ◌≤◌, length}
-use Rattle.qw_script.specs.Script.{undoubled}
+use Rattle.qw_ast.specs.Limits.{undoubled}
 use Rattle.qw_script.proofs.size.undoubled_length.Given as goal
 
 abbrev pub invariant-loop-rest : goal.invariant-loop-rest

@@ -2,7 +2,7 @@ use Rattle.std.proofs.Common.{map, subst, Some}
 use Rattle.std.specs.String.{string_bytes}
 use Rattle.qw_words.specs.Words.{Reading, reading}
 use Rattle.qw_top.specs.Call.{Explains, ExplainsBy}
-use Rattle.qw_top.specs.Limits.{default_limits}
+use Rattle.qw_top.specs.Limits.{limits_of}
 use Rattle.qw_top.specs.Top.{Files}
 use Rattle.qw_top.proofs.CallLemmas.{check_ends, compile_ends, ends_by}
 use Rattle.qw_top.proofs.SettleLemmas.{enough_explained, plain_explained, runs_explained}
@@ -11,30 +11,35 @@ use Rattle.qw_top.proofs.top.qwasm.Goals as goal
 pub returns-clause-exactly : goal.returns-clause-exactly
 returns-clause-exactly g c told cause is h =
     let words = map string_bytes c.args.words.now in
-    ends_by told c.one_answer.ensures.one c.one_answer.ensures.never_both default_limits (reading words) cause c.perform.result h
-    (subst (λ (f : Files). Explains default_limits f words c.perform.result) is c.perform.ensures.explained)
+    ends_by told c.one_answer.ensures.one c.one_answer.ensures.never_both (reading words) cause c.perform.new.kept c.perform.result h
+    (subst (λ (f : Files). Explains f words c.perform.new.kept c.perform.result) is c.perform.ensures.explained)
 
 pub returns-clause-runs : goal.returns-clause-runs
-returns-clause-runs g c told schema tables queries is (names, are, held) room =
+returns-clause-runs g c told options schema tables queries is (names, are, held) room =
     let files = g.F.Shelf.files c.args.files.now in
-    runs_explained default_limits files names c.perform.result (subst (λ (r : Reading). ExplainsBy default_limits files r c.perform.result) are c.perform.ensures.explained) told schema tables queries is held room
+    runs_explained (limits_of options) files names c.perform.new.kept c.perform.result (subst (λ (r : Reading). ExplainsBy files r c.perform.new.kept c.perform.result) are c.perform.ensures.explained)
+    told schema tables queries is held room
 
 pub returns-clause-enough : goal.returns-clause-enough
-returns-clause-enough g c told schema tables queries is (names, are, held) room enough =
+returns-clause-enough g c told options schema tables queries b is (names, are, held) kept enough =
     let files = g.F.Shelf.files c.args.files.now in
-    enough_explained default_limits files names c.perform.result (subst (λ (r : Reading). ExplainsBy default_limits files r c.perform.result) are c.perform.ensures.explained) told schema tables queries is held room enough
+    enough_explained (limits_of options) files names c.perform.new.kept c.perform.result (subst (λ (r : Reading). ExplainsBy files r c.perform.new.kept c.perform.result) are c.perform.ensures.explained)
+    told schema tables queries is held b kept enough
 
 pub returns-clause-plain : goal.returns-clause-plain
-returns-clause-plain g c told schema tables queries is (names, are, held) none =
+returns-clause-plain g c told options schema tables queries is (names, are, held) none =
     let files = g.F.Shelf.files c.args.files.now in
-    plain_explained default_limits files names c.perform.result (subst (λ (r : Reading). ExplainsBy default_limits files r c.perform.result) are c.perform.ensures.explained) told schema tables queries is held none
+    plain_explained (limits_of options) files names c.perform.new.kept c.perform.result (subst (λ (r : Reading). ExplainsBy files r c.perform.new.kept c.perform.result) are c.perform.ensures.explained)
+    told schema tables queries is held none
 
 pub returns-clause-compiles : goal.returns-clause-compiles
 returns-clause-compiles g c told one is (names, k, are, has) =
-    let told_here = subst (λ (f : Files). Explains default_limits f (map string_bytes c.args.words.now) c.perform.result) is c.perform.ensures.explained in
-    compile_ends told c.one_answer.ensures.one c.one_answer.ensures.never_both default_limits names k one c.perform.result has (subst (λ (r : Reading). ExplainsBy default_limits (Some told) r c.perform.result) are told_here)
+    let told_here = subst (λ (f : Files). Explains f (map string_bytes c.args.words.now) c.perform.new.kept c.perform.result) is c.perform.ensures.explained in
+    compile_ends told c.one_answer.ensures.one c.one_answer.ensures.never_both names k one c.perform.new.kept c.perform.result has
+    (subst (λ (r : Reading). ExplainsBy (Some told) r c.perform.new.kept c.perform.result) are told_here)
 
 pub returns-clause-checks : goal.returns-clause-checks
 returns-clause-checks g c told is (name, are, valid) =
-    let told_here = subst (λ (f : Files). Explains default_limits f (map string_bytes c.args.words.now) c.perform.result) is c.perform.ensures.explained in
-    check_ends told c.one_answer.ensures.one c.one_answer.ensures.never_both default_limits name c.perform.result valid (subst (λ (r : Reading). ExplainsBy default_limits (Some told) r c.perform.result) are told_here)
+    let told_here = subst (λ (f : Files). Explains f (map string_bytes c.args.words.now) c.perform.new.kept c.perform.result) is c.perform.ensures.explained in
+    check_ends told c.one_answer.ensures.one c.one_answer.ensures.never_both name c.perform.new.kept c.perform.result valid
+    (subst (λ (r : Reading). ExplainsBy (Some told) r c.perform.new.kept c.perform.result) are told_here)

@@ -1,6 +1,6 @@
 use Rattle.std.proofs.Common.{◌≡◌, map, length}
 use Rattle.qw_ast.specs.SyntaxTree as syntax
-use Rattle.qw_script.specs.Script.{octets, over_items}
+use Rattle.qw_ast.specs.Limits.{octets, over_items}
 use Rattle.qw_typer.specs.Inner.Sizes.{nodes}
 use Rattle.qw_typer.specs.Inner.Typing.{entry, typed_items}
 use Rattle.qw_typer.proofs.FitLemmas.{FitsWith}

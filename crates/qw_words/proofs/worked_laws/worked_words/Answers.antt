@@ -7,6 +7,9 @@ pub returns-clause-run : goal.returns-clause-run
 unfolding reading clap_on_literals
 returns-clause-run c = refl
 
+pub returns-clause-defaults : goal.returns-clause-defaults
+returns-clause-defaults c = refl
+
 pub returns-clause-compile : goal.returns-clause-compile
 unfolding reading clap_on_literals
 returns-clause-compile c = refl

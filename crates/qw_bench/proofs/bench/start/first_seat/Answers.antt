@@ -69,11 +69,11 @@ abbrev program : goal.After-from → Program
 program c = record { layout = c.job.inside.layout; module' = c.job.inside.valid }
 
 abbrev number : goal.After-from → ℕ
-number c = c.job.invariant.runnable.shaped.0
+number c = c.job.invariant.shaped.0
 
 made : (c : goal.After-from) (at : length c.args.memory.now.octets ≡ 65536 * c.size.result) → c.in_ok-instance.instance ≡ record { program = c.job.inside.valid; state = begun c.job.inside.valid (number c) (length c.args.memory.now.octets) }
 made c at =
-    c.in_ok-instance.ensures (number c) c.job.invariant.runnable.shaped.1
+    c.in_ok-instance.ensures (number c) c.job.invariant.shaped.1
     ∙ ap (λ (d : ℕ). record { program = c.job.inside.valid; state = begun c.job.inside.valid (number c) d }) (sym at)
 
 end : (c : goal.After-from) (at : length c.args.memory.now.octets ≡ 65536 * c.size.result) → IsEndOf (seat c) (state_in (seat c)) c.match-last.ended
@@ -100,10 +100,9 @@ first c at are = record {
   limits_are = refl;
   placed = are;
   descriptor_is = c.from.ensures ∙ sym at;
-  small = c.begin_page.ensures.small;
   fresh = fresh c at;
   number = number c;
-  shaped = c.job.invariant.runnable.shaped.1;
+  shaped = c.job.invariant.shaped.1;
   state_is = ap (λ (i : Called). i.state) (made c at);
   granted = c.in_ok-granted.ensures.items;
   room = c.in_ok-granted.ensures.capacity;

@@ -19,6 +19,9 @@ operator-done-requires-clause-ready c =
     let found = instruction-there c.requires.sequence c.requires.unfinished _ c.in-Op.is in
     operator-ready c.args.spare c.requires.point found
 
+pub operator-done-requires-clause-room : goal.operator-done-requires-clause-room
+operator-done-requires-clause-room c = operand-room c.requires.point c.requires.unfinished
+
 pub returns-in-Op-clause-done : goal.returns-in-Op-clause-done
 returns-in-Op-clause-done c =
     let found = instruction-there c.requires.sequence c.requires.unfinished _ c.in-Op.is in

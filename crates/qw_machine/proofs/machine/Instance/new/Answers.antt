@@ -8,7 +8,7 @@ use Rattle.qw_machine.specs.Instance.{Called}
 use Rattle.qw_module.specs.Start.{begun}
 use Rattle.qw_module.specs.Validity.{IsDescending}
 use Rattle.qw_machine.proofs.Descents.{first-unique, none-first}
-use Rattle.qw_machine.proofs.ShapeFacts.{shape-unique}
+use Rattle.qw_module.proofs.ShapeLemmas.{shape-unique}
 use Rattle.qw_machine.proofs.machine.Instance.new.Goals as goal
 
 -- what a value is stays where an error is told as another

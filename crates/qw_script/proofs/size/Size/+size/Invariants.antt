@@ -4,7 +4,7 @@ use Rattle.qw_ast.specs.declared.script.Branches.{size-Branches}
 use Rattle.qw_ast.specs.declared.script.Cond.{size-Cond}
 use Rattle.qw_ast.specs.declared.script.Expr.{size-Expr}
 use Rattle.qw_ast.specs.declared.script.Exprs.{size-Exprs}
-use Rattle.qw_script.specs.Script.{nodes, octets, nodes_condition, octets_condition, nodes_all, octets_all, nodes_branches, octets_branches}
+use Rattle.qw_ast.specs.Limits.{nodes, octets, nodes_condition, octets_condition, nodes_all, octets_all, nodes_branches, octets_branches}
 use Rattle.qw_script.specs.Inner.Sizes.{GoesOn}
 use Rattle.qw_script.proofs.size.Size.+size.Given as goal
 

@@ -1,6 +1,6 @@
 use Rattle.std.proofs.Common.{map, drop}
 use Rattle.qw_ast.specs.SyntaxTree.{item_of}
-use Rattle.qw_script.specs.Script.{nodes, octets, over_items}
+use Rattle.qw_ast.specs.Limits.{nodes, octets, over_items}
 use Rattle.qw_script.specs.Inner.Sizes.{GoesOn}
 use Rattle.qw_script.proofs.size.Size.items.Given as goal
 

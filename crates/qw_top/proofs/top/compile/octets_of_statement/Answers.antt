@@ -1,10 +1,11 @@
-use Rattle.std.proofs.Common.{◌≡◌, ◌<◌, ◌-◌, Some, length, map, refl}
+use Rattle.std.proofs.Common.{◌≡◌, ◌<◌, ◌-◌, Some, inl, length, map, refl}
 use Rattle.std.specs.Prelude.{slice_get}
 use Rattle.std.proofs.lemmas.List.{length-map}
 use Rattle.std.proofs.lemmas.Option.{slice_get-map}
 use Rattle.std.proofs.lemmas.Result.{err_from_is_err_and}
 use Rattle.qw_words.specs.Read.{texts_of}
 use Rattle.qw_top.specs.Inner.Queries.{IsOver, asked_of}
+use Rattle.qw_top.proofs.AskingLemmas.{text_asked, texts_asked}
 use Rattle.qw_top.proofs.BenchLemmas.{all_at}
 use Rattle.qw_top.proofs.CommandLemmas.{compile_query_stops, no_statement_stops, statement_compiled}
 use Rattle.qw_top.proofs.top.compile.octets_of_statement.Goals as goal
@@ -42,3 +43,15 @@ returns-clause-stops g c =
     let missing : length (map asked_of queries) < k = rw (length-map queries asked_of) few in
     no_statement_stops (g.F.Shelf.files c.args.files.now) (texts_of c.args.names.now) k (g.F.Shelf.files c.read_schema.new.files) c.in_ok-schema.schema (map asked_of queries) c.refused.result
     c.in_ok-schema.ensures.shelf.same_files c.in_ok-schema.ensures.accepted c.in_ok-queries.ensures.accepted missing c.refused.ensures
+
+pub returns-in_err-schema-clause-within : goal.returns-in_err-schema-clause-within
+returns-in_err-schema-clause-within g c = text_asked _ _ c.args.names.now.schema.now _ _ (inl refl) c.in_err-schema.ensures.within
+
+pub returns-in_err-queries-clause-within : goal.returns-in_err-queries-clause-within
+returns-in_err-queries-clause-within g c = texts_asked _ _ _ _ _ c.in_ok-schema.ensures.within c.in_err-queries.ensures.within
+
+pub returns-in-Some-clause-within : goal.returns-in-Some-clause-within
+returns-in-Some-clause-within g c = texts_asked _ _ _ _ _ c.in_ok-schema.ensures.within c.in_ok-queries.ensures.within
+
+pub returns-clause-within : goal.returns-clause-within
+returns-clause-within g c = texts_asked _ _ _ _ _ c.in_ok-schema.ensures.within c.in_ok-queries.ensures.within

@@ -2,7 +2,9 @@ use Rattle.std.proofs.Common.{◌≡◌, ◌+◌, ◌++◌, ◌∷◌, [], ◌�
 use Rattle.std.proofs.lemmas.List.{take_more}
 use Rattle.std.proofs.lemmas.Result.{err_from_is_err_and}
 use Rattle.qw_types.specs.declared.schema.Table.{Table}
+use Rattle.qw_top.specs.Call.{IsTableLimit}
 use Rattle.qw_top.specs.Top.{Files, TableIs}
+use Rattle.qw_top.proofs.AskingLemmas.{asks_none, asks_then, table_asked}
 use Rattle.qw_top.proofs.StopLemmas.{TablesAre-more, tables_stop_at}
 use Rattle.qw_top.proofs.WholeFileLemmas.{HasRead-then}
 use Rattle.qw_top.proofs.top.inputs.read_tables.Goals as goal
@@ -21,5 +23,16 @@ loop-table-preserved g c =
     let table = c.table-item.result in
     let is = subst (λ (f : Files). TableIs f c.args.folder.now table c.in_ok-loaded.loaded) c.loop-table.invariant.1.same_files c.in_ok-loaded.ensures.accepted in
     let more = TablesAre-more files c.args.folder.now (take i schema) c.loop-table.tables.items table c.in_ok-loaded.loaded c.loop-table.invariant.0 is in
-    let last : take (i + 1) schema ≡ take i schema ++ table ∷ [] = take_more schema i table c.loop-table-test.true ∙ ap (λ (t : Table). take i schema ++ t ∷ []) (sym c.table-item.is) in
-    (rw (last, c.in-Ok.ensures.items) more, HasRead-then None _ _ _ c.loop-table.invariant.1 c.in_ok-loaded.ensures.shelf)
+    let last : take (i + 1) schema ≡ take i schema ++ table ∷ [] = take_more schema i table c.loop-table-test.true ∙ ap (λ (t : Table). take i schema ++ t ∷ []) (sym c.table-item.is) in (
+      rw (last, c.in-Ok.ensures.items) more,
+      HasRead-then None _ _ _ c.loop-table.invariant.1 c.in_ok-loaded.ensures.shelf,
+      asks_then (IsTableLimit c.args.folder.now) _ _ _ c.loop-table.invariant.2 (table_asked c.args.folder.now c.table-item.result.name _ _ c.in_ok-loaded.ensures.within),
+    )
+
+pub returns-in_err-loaded-clause-within : goal.returns-in_err-loaded-clause-within
+returns-in_err-loaded-clause-within g c =
+    asks_then (IsTableLimit c.args.folder.now) _ _ _ c.loop-table.invariant.2 (table_asked c.args.folder.now c.table-item.result.name _ _ c.in_err-loaded.ensures.within)
+
+pub returns-in_default-clause-within : goal.returns-in_default-clause-within
+returns-in_default-clause-within g c =
+    asks_then (IsTableLimit c.args.folder.now) _ _ _ c.loop-table.invariant.2 (table_asked c.args.folder.now c.table-item.result.name _ _ c.in_ok-loaded.ensures.within)

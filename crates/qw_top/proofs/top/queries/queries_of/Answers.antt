@@ -1,9 +1,6 @@
 use Rattle.qw_ast.specs.SyntaxTree.{selects_of}
-use Rattle.qw_top.proofs.QueryLemmas.{all_over, asks_for, few_queries, sizes_within, some_queries}
+use Rattle.qw_top.proofs.QueryLemmas.{all_over, asks_for, few_queries, some_queries}
 use Rattle.qw_top.proofs.top.queries.queries_of.Goals as goal
-
-pub type_script-requires : goal.type_script-requires
-type_script-requires c = record { sizes = sizes_within c.args.text.now (selects_of c.in-Ok.script) c.in-Ok.ensures.script }
 
 pub returns-in-Ok-type_script-clause-asks : goal.returns-in-Ok-type_script-clause-asks
 returns-in-Ok-type_script-clause-asks c =
@@ -11,7 +8,7 @@ returns-in-Ok-type_script-clause-asks c =
 
 pub returns-in-Ok-type_script-clause-over : goal.returns-in-Ok-type_script-clause-over
 returns-in-Ok-type_script-clause-over c =
-    all_over c.args.schema.now c.args.text.now (selects_of c.in-Ok.script) c.in-Ok-type_script.queries.items c.in-Ok.ensures.script c.in-Ok-type_script.ensures.meanings c.in-Ok-type_script.ensures.small
+    all_over c.args.schema.now (selects_of c.in-Ok.script) c.in-Ok-type_script.queries.items c.in-Ok-type_script.ensures.meanings c.in-Ok-type_script.ensures.small
 
 pub returns-in-Ok-type_script-clause-some : goal.returns-in-Ok-type_script-clause-some
 returns-in-Ok-type_script-clause-some c =

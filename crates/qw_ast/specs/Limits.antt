@@ -1,0 +1,151 @@
+-- How large a query is, and which queries a script may have (ISO/IEC 9075:1992, 7.9). The standard leaves the limits to the implementation.
+use Rattle.std.specs.Prelude.{◌≤◌, ◌+◌, ◌-◌, ◌==◌, ℕ, if◌then◌else◌, List, [], ◌∷◌, length, take, drop, Option, Some, None}
+use Rattle.std.specs.List.{AllByRecursion}
+use Rattle.qw_types.specs.Octets.{single_quote}
+use Rattle.qw_token.specs.Token.{Lexeme}
+use Rattle.qw_ast.specs.SchemaGrammar.{IsTooDeep}
+use Rattle.qw_ast.specs.ScriptGrammar.{IsSelectOf}
+use Rattle.qw_ast.specs.Syntax.{Expression, null, number, text, date, column, signed, arithmetic, extract, searched_case, simple_case, coalesce, null_if, Condition, comparison, between, among, is_null, both, either, negation_of, is, bracketed, Clause, condition, expression, Expressions, last, further, Branching, otherwise, when, SelectItem, Selected, all_columns, items, Select}
+
+-- ---- how large a query is
+
+-- with each two octets of which the first is a quote as that quote
+abbrev pub undoubled : List ℕ → List ℕ
+undoubled [] = []
+undoubled (b ∷ []) = b ∷ []
+undoubled (b ∷ c ∷ bs) = if b == single_quote then b ∷ undoubled bs else b ∷ undoubled (c ∷ bs)
+
+-- the value of a character string (5.3): what stands between its quotes, two quotes there being one
+abbrev pub string_value : List ℕ → List ℕ
+string_value octets = undoubled (take (length octets - 2) (drop 1 octets))
+
+-- Nodes: each literal, column reference, operator, predicate, function and CASE. A date with its intervals is one literal; the word
+-- NULL as a result is none, and brackets are none.
+abbrev mutual
+  pub nodes : Expression → ℕ
+  nodes null = 0
+  nodes (number digits) = 1
+  nodes (text octets) = 1
+  nodes (date octets intervals) = 1
+  nodes (column qualifier name) = 1
+  nodes (signed sign a) = 1 + nodes a
+  nodes (arithmetic operator a b) = 1 + (nodes a + nodes b)
+  nodes (extract field a) = 1 + nodes a
+  nodes (searched_case branches) = 1 + nodes_branches branches
+  nodes (simple_case x branches) = 1 + (nodes x + nodes_branches branches)
+  nodes (coalesce es) = 1 + nodes_all es
+  nodes (null_if a b) = 1 + (nodes a + nodes b)
+
+  pub nodes_condition : Condition → ℕ
+  nodes_condition (comparison op a b) = 1 + (nodes a + nodes b)
+  nodes_condition (between negated x a b) = 1 + (nodes x + (nodes a + nodes b))
+  nodes_condition (among negated x es) = 1 + (nodes x + nodes_all es)
+  nodes_condition (is_null negated a) = 1 + nodes a
+  nodes_condition (both c d) = 1 + (nodes_condition c + nodes_condition d)
+  nodes_condition (either c d) = 1 + (nodes_condition c + nodes_condition d)
+  nodes_condition (negation_of c) = 1 + nodes_condition c
+  nodes_condition (is negated c truth) = 1 + nodes_condition c
+  nodes_condition (bracketed c) = nodes_condition c
+
+  pub nodes_clause : Clause → ℕ
+  nodes_clause (condition c) = nodes_condition c
+  nodes_clause (expression e) = nodes e
+
+  pub nodes_all : Expressions → ℕ
+  nodes_all (last e) = nodes e
+  nodes_all (further e es) = nodes e + nodes_all es
+
+  pub nodes_branches : Branching → ℕ
+  nodes_branches (otherwise e) = nodes e
+  nodes_branches (when c e rest) = nodes_clause c + (nodes e + nodes_branches rest)
+
+-- the octets of the values of all character strings that are in no date
+abbrev mutual
+  pub octets : Expression → ℕ
+  octets null = 0
+  octets (number digits) = 0
+  octets (text string) = length (string_value string)
+  octets (date string intervals) = 0
+  octets (column qualifier name) = 0
+  octets (signed sign a) = octets a
+  octets (arithmetic operator a b) = octets a + octets b
+  octets (extract field a) = octets a
+  octets (searched_case branches) = octets_branches branches
+  octets (simple_case x branches) = octets x + octets_branches branches
+  octets (coalesce es) = octets_all es
+  octets (null_if a b) = octets a + octets b
+
+  pub octets_condition : Condition → ℕ
+  octets_condition (comparison op a b) = octets a + octets b
+  octets_condition (between negated x a b) = octets x + (octets a + octets b)
+  octets_condition (among negated x es) = octets x + octets_all es
+  octets_condition (is_null negated a) = octets a
+  octets_condition (both c d) = octets_condition c + octets_condition d
+  octets_condition (either c d) = octets_condition c + octets_condition d
+  octets_condition (negation_of c) = octets_condition c
+  octets_condition (is negated c truth) = octets_condition c
+  octets_condition (bracketed c) = octets_condition c
+
+  pub octets_clause : Clause → ℕ
+  octets_clause (condition c) = octets_condition c
+  octets_clause (expression e) = octets e
+
+  pub octets_all : Expressions → ℕ
+  octets_all (last e) = octets e
+  octets_all (further e es) = octets e + octets_all es
+
+  pub octets_branches : Branching → ℕ
+  octets_branches (otherwise e) = octets e
+  octets_branches (when c e rest) = octets_clause c + (octets e + octets_branches rest)
+
+-- the items of a select list; `*` is none
+abbrev pub items_of : Selected → List SelectItem
+items_of all_columns = []
+items_of (items list) = list
+
+-- a number of each item and of the condition, in all
+abbrev pub over_items : (Expression → ℕ) → List SelectItem → ℕ
+over_items size [] = 0
+over_items size (i ∷ others) = size i.value + over_items size others
+
+abbrev pub over_filter : (Condition → ℕ) → Option Condition → ℕ
+over_filter size None = 0
+over_filter size (Some c) = size c
+
+abbrev pub query_items : Select → ℕ
+query_items s = length (items_of s.selected)
+
+abbrev pub query_nodes : Select → ℕ
+query_nodes s = over_items nodes (items_of s.selected) + over_filter nodes_condition s.filter
+
+abbrev pub query_octets : Select → ℕ
+query_octets s = over_items octets (items_of s.selected) + over_filter octets_condition s.filter
+
+-- ---- limits
+
+-- the sizes of a query that are taken: the items of its select list, its nodes, the octets of its character strings
+pub record AreTaken (items nodes octets : ℕ) : Type 0 where
+  pub few_items : items ≤ 64
+  pub few_nodes : nodes ≤ 1000
+  pub few_octets : octets ≤ 16384
+
+-- how many statements a text may have
+pub record IsScriptLength (statements : ℕ) : Type 0 where
+  pub some : 1 ≤ statements
+  pub few : statements ≤ 64
+
+-- The tokens are this query, and it keeps each limit.
+pub record IsAccepted (tokens : List Lexeme) (s : Select) : Type 0 where
+  pub shallow : IsTooDeep tokens → ⊥
+  pub query : IsSelectOf tokens s
+  pub sizes : AreTaken (query_items s) (query_nodes s) (query_octets s)
+  pub open sizes use *
+
+-- Some tokens are this query, and it keeps each limit.
+abbrev pub IsQuery : Select → Type 0
+IsQuery s = (tokens : List Lexeme) × IsAccepted tokens s
+
+-- The queries are those of a script.
+pub record AreQueries (queries : List Select) : Type 0 where
+  pub length_is : IsScriptLength (length queries)
+  pub each : AllByRecursion IsQuery queries

@@ -1,0 +1,19 @@
+//! Worked cases of the definitions, with numbers, stated as contracts. No function here computes anything.
+
+ghost use Rattle.qw_ast.specs.Limits.{AreTaken, IsScriptLength};
+
+/// A query of 64 items, 1,000 nodes and 16,384 literal octets is taken; one item, node or octet more is too many.
+pub fn sizes_of_a_query()
+    ensures most { AreTaken 64 1000 16384 }
+    ensures items { AreTaken 65 1000 16384 → ⊥ }
+    ensures nodes { AreTaken 64 1001 16384 → ⊥ }
+    ensures octets { AreTaken 64 1000 16385 → ⊥ }
+{}
+
+/// A text may have 1 to 64 statements.
+pub fn statements_of_a_text()
+    ensures least { IsScriptLength 1 }
+    ensures most { IsScriptLength 64 }
+    ensures none { IsScriptLength 0 → ⊥ }
+    ensures more { IsScriptLength 65 → ⊥ }
+{}

@@ -1,0 +1,6 @@
+//! Want of memory as an error.
+#![tactic(auto)]
+
+pub mod memory;
+
+pub use memory::NoMemory;

@@ -1,0 +1,2 @@
+-- What restates code for proofs. No public clause rests on it.
+pub mod Opened

@@ -1,0 +1,44 @@
+//! Worked cases of specifications and of the rows of their tables. No function here computes anything.
+
+ghost use Rattle.std.specs.Prelude.{◌≡◌, pos, negsuc, [], ◌∷◌, length, map, List};
+ghost use Rattle.qw_types.specs.Kind.{IsRowOf, type_kind};
+ghost use Rattle.qw_types.specs.declared.value.Ty.TheVariants as type;
+ghost use Rattle.qw_types.specs.declared.value.Val.{Val};
+ghost use Rattle.qw_types.specs.declared.value.Val.TheVariants.{Null, Num, Date, Text};
+ghost use Rattle.qw_meaning.specs.Expression.{column, null};
+ghost use Rattle.qw_meaning.specs.Select.{AreOfEntries, IsSpecification, row_types};
+ghost use Rattle.qw_meaning.specs.WorkedRows.{first_item, item_entry, note_entry, numbers, pen};
+
+/// `SELECT ID FROM ITEM` is a specification; `SELECT NULL`, `SELECT LABEL` as a number, a second column of a table of one and an empty
+/// list aren't.
+pub fn specifications()
+    ensures taken { IsSpecification (record { entries = item_entry ∷ []; conjuncts = []; items = column 0 type.Integer ∷ [] }) }
+    ensures null_item { IsSpecification (record { entries = numbers ∷ []; conjuncts = []; items = null ∷ [] }) → ⊥ }
+    ensures other_type { IsSpecification (record { entries = item_entry ∷ []; conjuncts = []; items = column 3 type.Integer ∷ [] }) → ⊥ }
+    ensures no_column { IsSpecification (record { entries = numbers ∷ []; conjuncts = []; items = column 1 type.Integer ∷ [] }) → ⊥ }
+    ensures no_item { IsSpecification (record { entries = numbers ∷ []; conjuncts = []; items = [] }) → ⊥ }
+{}
+
+/// (1, 10.00, 1998-09-02, 'pen') is a row of ITEM's columns; of one column more it isn't.
+pub fn rows()
+    ensures row { IsRowOf (map type_kind (type.Integer ∷ type.Decimal 9 2 ∷ type.Date ∷ type.Varchar 20 ∷ [])) first_item.row }
+    ensures short_row { IsRowOf (map type_kind (type.Integer ∷ type.Decimal 9 2 ∷ type.Date ∷ type.Varchar 20 ∷ type.Integer ∷ [])) first_item.row → ⊥ }
+    ensures columns { row_types (item_entry ∷ note_entry ∷ []) ≡ type.Integer ∷ type.Decimal 9 2 ∷ type.Date ∷ type.Varchar 20 ∷ type.Integer ∷ type.Decimal 3 1 ∷ [] }
+{}
+
+/// Over NOTE (ITEM INTEGER NOT NULL, RATE DECIMAL(3, 1)), the second table of the schema: (1, -99.9) and (1, null) are its rows, whatever
+/// the first table has. A table isn't NOTE where a row has a null in ITEM, no RATE, a third value, a text or 2147483648 in ITEM, 100.0 in
+/// RATE, or where it has more than 1,000,000 rows; nor are the tables those of two entries where one of the two isn't.
+pub fn tables()
+    ensures taken { (other : List (List Val)) → AreOfEntries (note_entry ∷ []) (other ∷ ((Num (pos 1) ∷ Num (negsuc 998) ∷ []) ∷ (Num (pos 1) ∷ Null ∷ []) ∷ []) ∷ []) }
+    ensures no_table { AreOfEntries (note_entry ∷ []) [] }
+    ensures null_in_not_null { (other : List (List Val)) → AreOfEntries (note_entry ∷ []) (other ∷ ((Num (pos 1) ∷ Null ∷ []) ∷ (Null ∷ Null ∷ []) ∷ []) ∷ []) → ⊥ }
+    ensures short_row { (other : List (List Val)) → AreOfEntries (note_entry ∷ []) (other ∷ ((Num (pos 1) ∷ []) ∷ []) ∷ []) → ⊥ }
+    ensures long_row { (other : List (List Val)) → AreOfEntries (note_entry ∷ []) (other ∷ ((Num (pos 1) ∷ Null ∷ Null ∷ []) ∷ []) ∷ []) → ⊥ }
+    ensures other_kind { (other : List (List Val)) → AreOfEntries (note_entry ∷ []) (other ∷ ((Text pen ∷ Null ∷ []) ∷ []) ∷ []) → ⊥ }
+    ensures too_large { (other : List (List Val)) → AreOfEntries (note_entry ∷ []) (other ∷ ((Num (pos 2147483648) ∷ Null ∷ []) ∷ []) ∷ []) → ⊥ }
+    ensures too_long { (other : List (List Val)) → AreOfEntries (note_entry ∷ []) (other ∷ ((Num (pos 1) ∷ Num (pos 1000) ∷ []) ∷ []) ∷ []) → ⊥ }
+    ensures too_many { (other rows : List (List Val)) → length rows ≡ 1000001 → AreOfEntries (note_entry ∷ []) (other ∷ rows ∷ []) → ⊥ }
+    ensures second_entry { AreOfEntries (numbers ∷ note_entry ∷ []) ([] ∷ ((Null ∷ Null ∷ []) ∷ []) ∷ []) → ⊥ }
+    ensures first_entry { AreOfEntries (numbers ∷ note_entry ∷ []) (((Date (pos 19980902) ∷ []) ∷ []) ∷ [] ∷ []) → ⊥ }
+{}
