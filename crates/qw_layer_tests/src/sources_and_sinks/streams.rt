@@ -67,8 +67,9 @@ const LARGE: &str = "std-sink-large.txt";
 
 // Writes the rest of a text to a sink, from where it took the front.
 fn put_on<O: Sink>(sink: &mut O, text: &[u8], taken: usize) -> Result<usize, Fail> {
-    let count = sink.put(&text[taken..]).ok().ok_or("a fault")?;
-    Ok(taken + count)
+    let rest = text.get(taken..).ok_or("past its end")?;
+    let count = sink.put(rest).ok().ok_or("a fault")?;
+    Ok(taken.saturating_add(count))
 }
 
 // A piece of 1 MB goes to a file of the system, in as few writes as that takes.
