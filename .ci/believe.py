@@ -2,8 +2,9 @@
 """What a reader must believe: the definitions that public clauses rest on.
 
 From the clauses of public functions, through the imports of their files, to each definition of specs/ that they reach.
-Prints a line for each spec file that has such definitions: their number and lines. With --check compares these with the
-tables of docs/BELIEVE.md instead, and ends with 1 where they differ, where a public clause rests on specs/Inner, or where the
+Prints a line for each spec file that has such definitions: their number and lines. With --write brings the numbers of
+docs/BELIEVE.md up to date; a file that has no row there gets one behind its crate's other rows, with its first comment as
+what it says. With --check compares these with the tables of that page instead, and ends with 1 where they differ, where a public clause rests on specs/Inner, or where the
 promise of docs/THEOREMS.md names a definition, a file, a function or clause, a test or an edit that isn't there.
 """
 import os
@@ -179,6 +180,37 @@ def rows(specs, found):
             yield specs[module].path, len(here), sum(len(d.lines) for d in here)
 
 
+def first_comment(path):
+    """What a spec file says of itself, up to its first stop."""
+    text = open(os.path.join(CRATES, path), encoding="utf-8").read()
+    comment = " ".join(line[3:] for line in text.partition("\nuse ")[0].split("\n") if line.startswith("-- "))
+    return re.split(r"\.(?: |$)| \(ISO", comment)[0]
+
+
+def written(page, told):
+    """The page of what must be believed, with these rows; those that stand there keep their places and words."""
+    for part, lines in told.items():
+        head, mark, rest = page.partition(f"## {part}\n")
+        section, end, tail = rest.partition("\n## ")
+        counts = f"{len(lines)} files, {sum(n for _, n, _ in lines)} definitions, {sum(n for _, _, n in lines)} lines"
+        section = re.sub(r"\d+ files, \d+ definitions, \d+ lines", counts, section, count=1)
+        row = re.compile(r"^\| `([^`]+)` \| \d+ \| \d+ \| (.*) \|$")
+        sizes, made, places = {p: (d, n) for p, d, n in lines}, [], []
+        for line in section.split("\n"):
+            found = row.match(line)
+            if not found:
+                made.append(line)
+            elif found.group(1) in sizes:
+                d, n = sizes.pop(found.group(1))
+                made.append(f"| `{found.group(1)}` | {d} | {n} | {found.group(2)} |")
+        for path, (d, n) in sizes.items():
+            places = [i for i, line in enumerate(made) if line.startswith(f"| `{path.split(os.sep)[0]}/")]
+            places = places or [i for i, line in enumerate(made) if line.startswith("| `")]
+            made.insert(places[-1] + 1, f"| `{path}` | {d} | {n} | {first_comment(path)} |")
+        page = head + mark + "\n".join(made) + end + tail
+    return page
+
+
 def lacking():
     """What the rows of docs/THEOREMS.md name that isn't there."""
     read = lambda path: open(path, encoding="utf-8").read()
@@ -228,13 +260,18 @@ def main():
     every = closure(specs, values, [r for c in crates for r in roots(c)]) | call
     told = {"The call": list(rows(specs, call)), "Beside the call": list(rows(specs, every - call))}
     checks = "--check" in sys.argv
+    place = os.path.join(TOP, "docs", "BELIEVE.md")
+    if "--write" in sys.argv:
+        page = written(open(place, encoding="utf-8").read(), told)
+        open(place, "w", encoding="utf-8").write(page)
+        return 0
     for part, lines in told.items():
         print(f"{part}: {len(lines)} files, {sum(n for _, n, _ in lines)} definitions, {sum(n for _, _, n in lines)} lines")
         for path, definitions, length in [] if checks else lines:
             print(f"  {path} {definitions} {length}")
     if not checks:
         return 0
-    page = open(os.path.join(TOP, "docs", "BELIEVE.md"), encoding="utf-8").read()
+    page = open(place, encoding="utf-8").read()
     bad = [f"{p}: a public clause rests on it" for part in told.values() for p, _, _ in part if "/Inner/" in p]
     for part, lines in told.items():
         section = page.partition(f"## {part}\n")[2].partition("\n## ")[0]

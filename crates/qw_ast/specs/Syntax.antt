@@ -1,9 +1,9 @@
 -- What a script says, apart from any tree of the code: no addresses. Names and literals are octets as they stand in the text.
 use Rattle.std.specs.Prelude.{ℕ, Bool, List, Option}
 use Rattle.qw_types.specs.declared.truth.Truth.{Truth}
-use Rattle.qw_meaning.specs.declared.expression.Operator.{Operator}
-use Rattle.qw_meaning.specs.declared.expression.Field.{Field}
-use Rattle.qw_meaning.specs.declared.comparison.Comparison.{Comparison}
+use Rattle.qw_scalar.specs.declared.expression.Operator.{Operator}
+use Rattle.qw_scalar.specs.declared.expression.Field.{Field}
+use Rattle.qw_scalar.specs.declared.comparison.Comparison.{Comparison}
 use Rattle.qw_ast.specs.declared.script.Sign.{Sign}
 
 -- a sign and the string of an interval of days (ISO/IEC 9075:1992, 5.3)

@@ -1,11 +1,11 @@
-//! The trees of a script. Names and literals are slices of the text, as they stand there.
+//! The code's trees of a script: queries, expressions and conditions. Names and literals are slices of the text, as they stand there.
 
 ghost use Rattle.std.specs.Prelude.{◌≡◌};
 ghost use Rattle.qw_ast.specs.Limits.{AreQueries};
 ghost use Rattle.qw_ast.specs.SyntaxTree.{selects_of};
 
-use qw_meaning::comparison::Comparison;
-use qw_meaning::expression::{Field, Operator};
+use qw_scalar::comparison::Comparison;
+use qw_scalar::expression::{Field, Operator};
 use qw_types::Truth;
 use std::marker::Model;
 

@@ -1,4 +1,4 @@
-//! The trees of a schema.
+//! The code's trees of a schema: table and column definitions.
 
 use qw_types::{Text, Ty};
 

@@ -1,4 +1,4 @@
--- Rounds of turns.
+-- Rounds of turns: turns after turns, and how many instructions are left after each.
 use Rattle.std.proofs.Common.{◌≡◌, ◌≢◌, ℕ, zero, suc, ◌+◌, ◌-◌, ◌<◌, ◌≤◌, Bool, true, false, not, ⊎_elim, List, [], ◌∷◌, ◌++◌, length, map, Option, Some, IsSome, is_some, slice_get, slice_set, refl, sym, ap, ◌∙◌, subst, arith, add-one, append_assoc}
 use Rattle.std.specs.Prelude.{if◌then◌else◌}
 use Rattle.std.specs.List.{list_any}

@@ -25,8 +25,8 @@ use Rattle.qw_map.proofs.LayoutLemmas.{areas-all}
 use Rattle.qw_map.proofs.ResultLemmas.{results_stay}
 use Rattle.qw_map.proofs.Separate.{runs-turns}
 use Rattle.qw_map.proofs.TurnSteps.{turns-whole, limits-turns}
-use Rattle.qw_emit.specs.Compiled.{Answers, AnswersAt, IsCompiled, bound}
-use Rattle.qw_emit.specs.Promise.{Promise}
+use Rattle.qw_promise.specs.Compiled.{Answers, AnswersAt, IsCompiled, bound}
+use Rattle.qw_promise.specs.Promise.{Promise}
 use Rattle.qw_bench.specs.Bench.{AreServing, EachTask, IsAt, IsStart, IsStarting, Serves, Task, rows_in_tables}
 use Rattle.qw_bench.proofs.LayoutLemmas.{all-get, lies-between, placed-get}
 use Rattle.qw_bench.proofs.Serving.{before, each-whole, task-of}

@@ -18,8 +18,8 @@ use Rattle.qw_map.specs.declared.layout.Used.{Used}
 use Rattle.qw_map.proofs.ResultLemmas.{results_stay}
 use Rattle.qw_map.proofs.Separate.{runs-turns}
 use Rattle.qw_map.proofs.TurnSteps.{turns-whole, limits-turns}
-use Rattle.qw_emit.specs.Compiled.{GoesWith, IsCompiled, IsUsedOf}
-use Rattle.qw_emit.specs.Promise.{Promise}
+use Rattle.qw_promise.specs.Compiled.{GoesWith, IsCompiled, IsUsedOf}
+use Rattle.qw_promise.specs.Promise.{Promise}
 use Rattle.qw_bench.specs.Alike.{AreAlike, AreEqual, EndAlike}
 use Rattle.qw_bench.specs.Bench.{EachTask, IsStart, IsStarting, Program, Task, rows_in_tables}
 use Rattle.qw_bench.proofs.LayoutLemmas.{all-get}

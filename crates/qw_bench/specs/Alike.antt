@@ -5,7 +5,7 @@ use Rattle.qw_meaning.specs.Select.{Entry}
 use Rattle.qw_map.specs.Layout.{rows_at}
 use Rattle.qw_map.specs.Turns.{Done, Instance}
 use Rattle.qw_map.specs.declared.layout.Used.{Used}
-use Rattle.qw_emit.specs.Promise.{Promise}
+use Rattle.qw_promise.specs.Promise.{Promise}
 use Rattle.qw_bench.specs.Bench.{Task, rows_in_tables}
 
 -- The same module with the same layout, equal limits, and equal rows in each table of which the layout has a column; the other tables may

@@ -17,8 +17,8 @@ use Rattle.qw_map.specs.Runs.{Behaves, most_run}
 use Rattle.qw_map.specs.Turns.{End, Instance, Shared, Act, turn, end_at, turns, may_ask, IsWhole, AreSafe, moment_of}
 use Rattle.qw_map.specs.declared.layout.Placed.{Placed}
 use Rattle.qw_map.specs.declared.layout.Used.{Used}
-use Rattle.qw_emit.specs.Compiled.{Answers, bound}
-use Rattle.qw_emit.specs.Promise.{Promise}
+use Rattle.qw_promise.specs.Compiled.{Answers, bound}
+use Rattle.qw_promise.specs.Promise.{Promise}
 
 -- a module and the layout that it behaves with
 pub record Program : Type 0 where

@@ -3,7 +3,7 @@ pub mod Bench
 pub mod FirstPage
 pub mod Inner
 pub mod Standing
-pub use Rattle.qw_emit.specs.Compiled
+pub use Rattle.qw_promise.specs.Compiled
 pub use Rattle.qw_linear.specs.Memory
 pub use Rattle.qw_map.specs.Areas
 pub use Rattle.qw_map.specs.Columns

@@ -8,7 +8,7 @@ use Rattle.qw_map.specs.Columns.{column_pages}
 use Rattle.qw_map.specs.Layout.{rows_at}
 use Rattle.qw_map.specs.Runs.{most_run}
 use Rattle.qw_map.specs.Turns.{Done, Exception, Pages, Steps, End, Instance, Shared, may_ask}
-use Rattle.qw_emit.specs.Compiled.{raised_for}
+use Rattle.qw_promise.specs.Compiled.{raised_for}
 use Rattle.qw_bench.specs.declared.bench.Ended.{Ended}
 use Rattle.qw_bench.specs.declared.bench.Ended.TheVariants as ended
 use Rattle.qw_bench.specs.declared.bench.Limits.{Limits}

@@ -3,8 +3,8 @@
 ghost use Rattle.std.specs.Prelude.{◌≡◌, ℕ, List, IsSome};
 ghost use Rattle.qw_types.specs.Contents.{Contents};
 ghost use Rattle.qw_meaning.specs.Select.{AreOfEntries};
-ghost use Rattle.qw_emit.specs.Compiled.{IsCompiled};
-ghost use Rattle.qw_emit.specs.Promise.{Promise};
+ghost use Rattle.qw_promise.specs.Compiled.{IsCompiled};
+ghost use Rattle.qw_promise.specs.Promise.{Promise};
 ghost use Rattle.qw_map.specs.Seen.{IsSteady};
 ghost use Rattle.qw_map.specs.Turns.{Shared, Act, turns};
 ghost use Rattle.qw_module.specs.Validity.{IsShaped};

@@ -2,10 +2,10 @@
 use Rattle.std.proofs.Common.{◌≡◌, ℕ, zero, suc, Bool, true, false, cond, List, [], ◌∷◌, ◌++◌, Option, Some, None, Result, Ok, Err, refl, ap, subst}
 use Rattle.std.specs.Prelude.{◌==◌}
 use Rattle.std.specs.List.{AllByRecursion}
-use Rattle.qw_grammar.specs.declared.fault.BinaryFault.{BinaryFault}
-use Rattle.qw_grammar.specs.Grammar.{Grammar, is, refuse, after, pick, settle, Spells}
-use Rattle.qw_grammar.specs.Numbers.{u32, s32, s64}
-use Rattle.qw_grammar.specs.Vectors.{counted, one_more, vector}
+use Rattle.qw_octet_grammar.specs.declared.fault.BinaryFault.{BinaryFault}
+use Rattle.qw_octet_grammar.specs.Grammar.{Grammar, is, refuse, after, pick, settle, Spells}
+use Rattle.qw_octet_grammar.specs.Numbers.{u32, s32, s64}
+use Rattle.qw_octet_grammar.specs.Vectors.{counted, one_more, vector}
 use Rattle.qw_module.specs.declared.instruction.Const.TheVariants as const
 use Rattle.qw_module.specs.declared.instruction.Op.{Op}
 use Rattle.qw_module.specs.declared.instruction.Op.TheVariants as o

@@ -2,8 +2,8 @@
 use Rattle.std.proofs.Common.{◌≡◌, ◌⊎◌, ℕ, ◌+◌, ◌<◌, ◌≤◌, List, [], ◌∷◌, ◌++◌, length, take, drop, map, reverse, slice_get, Option, Some, None, refl, sym, ap, subst, ◌∙◌, arith, inl, inr}
 use Rattle.std.proofs.lemmas.List.{length-take-le, take_all, map_push, reverse-append, length-drop}
 use Rattle.std.proofs.Math.Seq.{take-add}
-use Rattle.qw_grammar.specs.Grammar.{Next, goes_on, ends, octet, Spells}
-use Rattle.qw_grammar.specs.Writing.{Puts}
+use Rattle.qw_octet_grammar.specs.Grammar.{Next, goes_on, ends, octet, Spells}
+use Rattle.qw_octet_grammar.specs.Writing.{Puts}
 use Rattle.qw_module.specs.declared.instruction.ValType.{ValType}
 use Rattle.qw_module.specs.declared.instruction.Instr.{Instr}
 use Rattle.qw_module.specs.declared.instruction.Instr.TheVariants as i

@@ -1,10 +1,10 @@
 -- The code of functions one after the other, as a loop reads it.
 use Rattle.std.proofs.Common.{◌≡◌, ℕ, ◌-◌, ◌+◌, ◌<◌, List, [], ◌∷◌, ◌++◌, length, map, get_or, subst, Result, Ok, sym, ap, ◌∙◌}
 use Rattle.std.proofs.lemmas.List.{length-map}
-use Rattle.qw_grammar.specs.declared.fault.BinaryFault.{BinaryFault}
-use Rattle.qw_grammar.specs.Vectors.{counted}
-use Rattle.qw_grammar.specs.Reading.{Fails, read}
-use Rattle.qw_grammar.proofs.Loops.{goes_on_counted, ends_counted, one_more_ok, one_more_fails}
+use Rattle.qw_octet_grammar.specs.declared.fault.BinaryFault.{BinaryFault}
+use Rattle.qw_octet_grammar.specs.Vectors.{counted}
+use Rattle.qw_octet_grammar.specs.Reading.{Fails, read}
+use Rattle.qw_octet_grammar.proofs.Loops.{goes_on_counted, ends_counted, one_more_ok, one_more_fails}
 use Rattle.qw_module.specs.declared.module.Function.{Function}
 use Rattle.qw_binary.specs.Contents.{FunctionContents, function_contents}
 use Rattle.qw_binary.specs.Sections.{code, next_function}

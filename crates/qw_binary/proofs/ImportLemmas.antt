@@ -3,9 +3,9 @@ use Rattle.std.proofs.Common.{◌≡◌, ℕ, zero, suc, ◌+◌, ◌<◌, ◌�
 use Rattle.qw_module.specs.declared.module.Import.{Import}
 use Rattle.std.specs.Prelude.{nat_eq, not, ◌&&◌, codes, Result, Err}
 use lib.Pointwise.{pointwise}
-use Rattle.qw_grammar.specs.declared.fault.BinaryFault.{BinaryFault}
-use Rattle.qw_grammar.specs.declared.fault.BinaryFault.TheVariants.{OutOfProfile}
-use Rattle.qw_grammar.specs.declared.fault.What.TheVariants.{Import as outside}
+use Rattle.qw_octet_grammar.specs.declared.fault.BinaryFault.{BinaryFault}
+use Rattle.qw_octet_grammar.specs.declared.fault.BinaryFault.TheVariants.{OutOfProfile}
+use Rattle.qw_octet_grammar.specs.declared.fault.What.TheVariants.{Import as outside}
 use Rattle.qw_binary.specs.Sections.{Imported, imported, is_same, is_among, equal, named_by}
 
 chosen : (b : Bool) (x : Bool) → b ≡ true → cond b true x ≡ true

@@ -3,11 +3,11 @@ use Rattle.std.proofs.Common.{◌≡◌, ℕ, Bool, true, false, cond, eqb, List
 use Rattle.std.specs.Prelude.{IfOk, IfErr}
 use Rattle.std.proofs.lemmas.Bool.{eqb-true, eq-eqb}
 use Rattle.std.proofs.lemmas.List.{take_at, drop_at, take-append-drop, length-append, length-drop}
-use Rattle.qw_grammar.specs.declared.fault.BinaryFault.{BinaryFault}
-use Rattle.qw_grammar.specs.declared.fault.BinaryFault.TheVariants.{NoMemory, NotModule, OutOfProfile}
-use Rattle.qw_grammar.specs.Reading.{◌>>=◌, read_all, Gives}
-use Rattle.qw_grammar.proofs.GrammarLaws.{bind_ok, bind_err, ok_is}
-use Rattle.qw_grammar.proofs.AllLaws.{all_takes, all_again, all_stuck, all_fails}
+use Rattle.qw_octet_grammar.specs.declared.fault.BinaryFault.{BinaryFault}
+use Rattle.qw_octet_grammar.specs.declared.fault.BinaryFault.TheVariants.{NoMemory, NotModule, OutOfProfile}
+use Rattle.qw_octet_grammar.specs.Reading.{◌>>=◌, read_all, Gives}
+use Rattle.qw_octet_grammar.proofs.GrammarLaws.{bind_ok, bind_err, ok_is}
+use Rattle.qw_octet_grammar.proofs.AllLaws.{all_takes, all_again, all_stuck, all_fails}
 use Rattle.qw_module.specs.declared.module.Module.{Module}
 use Rattle.qw_binary.specs.Contents.{Contents, contents_of}
 use Rattle.qw_binary.specs.Sections.{equal, Sections, no_sections, section}

@@ -7,12 +7,12 @@ use Rattle.std.proofs.lemmas.List.{append-nil}
 use Rattle.std.proofs.lemmas.List.Sums.{sum_by-cons}
 use Rattle.std.proofs.lemmas.Nat.{pow-add}
 use Rattle.std.proofs.Math.Pow.{pow_mono}
-use Rattle.qw_grammar.specs.declared.fault.BinaryFault.{BinaryFault}
-use Rattle.qw_grammar.specs.Grammar.{Grammar, is, octet, after, within, pick, settle, Spells}
-use Rattle.qw_grammar.specs.Numbers.{leb, last_octet, u32, s32, s64}
-use Rattle.qw_grammar.specs.Vectors.{counted, one_more, vector, name}
-use Rattle.qw_grammar.specs.Writing.{Puts}
-use Rattle.qw_grammar.proofs.WriteLaws.{puts_name}
+use Rattle.qw_octet_grammar.specs.declared.fault.BinaryFault.{BinaryFault}
+use Rattle.qw_octet_grammar.specs.Grammar.{Grammar, is, octet, after, within, pick, settle, Spells}
+use Rattle.qw_octet_grammar.specs.Numbers.{leb, last_octet, u32, s32, s64}
+use Rattle.qw_octet_grammar.specs.Vectors.{counted, one_more, vector, name}
+use Rattle.qw_octet_grammar.specs.Writing.{Puts}
+use Rattle.qw_octet_grammar.proofs.WriteLaws.{puts_name}
 use Rattle.qw_binary.specs.Inner.Short.{IsShort, AreShort}
 
 pub short_is : {A : Type 0} (x : A) → IsShort (is x) x 0

@@ -4,9 +4,9 @@ use Rattle.std.specs.Option.{option_map}
 use Rattle.std.specs.List.{AllByRecursion, sum_by}
 use Rattle.std.proofs.lemmas.List.{append-nil}
 use Rattle.std.proofs.lemmas.List.Sums.{sum_by-cons}
-use Rattle.qw_grammar.specs.Grammar.{Next, goes_on, ends, is, octet, items, Spells}
-use Rattle.qw_grammar.specs.Numbers.{u32}
-use Rattle.qw_grammar.specs.Vectors.{vector}
+use Rattle.qw_octet_grammar.specs.Grammar.{Next, goes_on, ends, is, octet, items, Spells}
+use Rattle.qw_octet_grammar.specs.Numbers.{u32}
+use Rattle.qw_octet_grammar.specs.Vectors.{vector}
 use Rattle.qw_module.specs.declared.instruction.ValType.{ValType}
 use Rattle.qw_module.specs.declared.instruction.Instr.TheVariants as i
 use Rattle.qw_module.specs.Start.{weight}

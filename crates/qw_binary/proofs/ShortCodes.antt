@@ -1,9 +1,9 @@
 -- Short spellings of instructions that hold no sequence.
 use Rattle.std.proofs.Common.{◌≡◌, ℕ, ◌==◌, ◌+◌, ◌≤◌, false, List, [], ◌∷◌, length, Option, Some, None, Ok, refl, arith}
 use Rattle.std.specs.Option.{option_map}
-use Rattle.qw_grammar.specs.Grammar.{Grammar, goes_on, is, octet, after}
-use Rattle.qw_grammar.specs.Numbers.{u32, s32, s64}
-use Rattle.qw_grammar.specs.Writing.{Puts}
+use Rattle.qw_octet_grammar.specs.Grammar.{Grammar, goes_on, is, octet, after}
+use Rattle.qw_octet_grammar.specs.Numbers.{u32, s32, s64}
+use Rattle.qw_octet_grammar.specs.Writing.{Puts}
 use Rattle.qw_module.specs.declared.instruction.ValType.{ValType}
 use Rattle.qw_module.specs.declared.instruction.ValType.TheVariants.{I32, I64}
 use Rattle.qw_module.specs.declared.instruction.Sign.TheVariants.{Signed, Unsigned}

@@ -4,9 +4,9 @@ use Rattle.std.specs.List.{AllByRecursion, sum_by}
 use Rattle.std.proofs.lemmas.List.{length-map}
 use Rattle.std.proofs.lemmas.List.Sums.{sum_by-cons}
 use Rattle.std.proofs.lemmas.Str.{IsUtf8-string_bytes}
-use Rattle.qw_grammar.specs.Grammar.{Grammar}
-use Rattle.qw_grammar.specs.Numbers.{u32}
-use Rattle.qw_grammar.specs.Vectors.{vector}
+use Rattle.qw_octet_grammar.specs.Grammar.{Grammar}
+use Rattle.qw_octet_grammar.specs.Numbers.{u32}
+use Rattle.qw_octet_grammar.specs.Vectors.{vector}
 use Rattle.qw_module.specs.declared.module.Limits.{Limits}
 use Rattle.qw_module.specs.declared.module.Import.{Import}
 use Rattle.qw_module.specs.declared.module.Import.TheVariants as import

@@ -9,10 +9,10 @@ use Rattle.std.proofs.lemmas.List.Sums.{sum_by-cons}
 use Rattle.std.proofs.lemmas.Str.{IsUtf8-from_ascii}
 use Rattle.std.proofs.lemmas.Str.Ascii.{IsAscii-nil, IsAscii-cons}
 use Rattle.std.proofs.Math.Seq.{get_or-append_seam}
-use Rattle.qw_grammar.specs.declared.fault.BinaryFault.TheVariants.{NotModule}
-use Rattle.qw_grammar.specs.Grammar.{Grammar, is, refuse, octet, after, pick, settle}
-use Rattle.qw_grammar.specs.Numbers.{u32}
-use Rattle.qw_grammar.specs.Vectors.{counted, vector, name}
+use Rattle.qw_octet_grammar.specs.declared.fault.BinaryFault.TheVariants.{NotModule}
+use Rattle.qw_octet_grammar.specs.Grammar.{Grammar, is, refuse, octet, after, pick, settle}
+use Rattle.qw_octet_grammar.specs.Numbers.{u32}
+use Rattle.qw_octet_grammar.specs.Vectors.{counted, vector, name}
 use Rattle.qw_module.specs.declared.instruction.ValType.{ValType}
 use Rattle.qw_module.specs.declared.module.Limits.{Limits}
 use Rattle.qw_module.specs.declared.module.Import.{Import}

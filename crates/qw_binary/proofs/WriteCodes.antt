@@ -1,12 +1,12 @@
 -- What stands behind a code is put by its own grammar.
 use Rattle.std.proofs.Common.{◌≡◌, ℕ, ◌==◌, Bool, true, false, List, [], ◌∷◌, ◌++◌, Option, Some, None, Result, Ok, refl, sym, subst}
 use Rattle.std.specs.Option.{option_map}
-use Rattle.qw_grammar.specs.declared.fault.BinaryFault.{BinaryFault}
-use Rattle.qw_grammar.specs.Grammar.{Grammar, goes_on, is, octet, after, pick, settle}
-use Rattle.qw_grammar.specs.Numbers.{u32, s32, s64}
-use Rattle.qw_grammar.specs.Vectors.{vector}
-use Rattle.qw_grammar.specs.Writing.{Puts}
-use Rattle.qw_grammar.proofs.WriteLaws.{puts_octet, puts_is, puts_after, puts_made}
+use Rattle.qw_octet_grammar.specs.declared.fault.BinaryFault.{BinaryFault}
+use Rattle.qw_octet_grammar.specs.Grammar.{Grammar, goes_on, is, octet, after, pick, settle}
+use Rattle.qw_octet_grammar.specs.Numbers.{u32, s32, s64}
+use Rattle.qw_octet_grammar.specs.Vectors.{vector}
+use Rattle.qw_octet_grammar.specs.Writing.{Puts}
+use Rattle.qw_octet_grammar.proofs.WriteLaws.{puts_octet, puts_is, puts_after, puts_made}
 use Rattle.qw_module.specs.declared.instruction.ValType.{ValType}
 use Rattle.qw_module.specs.declared.instruction.Const.TheVariants as const
 use Rattle.qw_module.specs.declared.instruction.MemArg.{MemArg}

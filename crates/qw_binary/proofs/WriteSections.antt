@@ -2,11 +2,11 @@
 use Rattle.std.proofs.Common.{◌≡◌, ℕ, ◌==◌, ◌<◌, ◌≤◌, false, List, [], ◌∷◌, ◌++◌, length, map, Ok, refl, sym, ap, subst, ◌∙◌, arith}
 use Rattle.std.proofs.lemmas.Bool.{lt-ltb}
 use Rattle.std.proofs.lemmas.List.{length-map}
-use Rattle.qw_grammar.specs.Grammar.{Grammar, is, after, within, settle, Spells}
-use Rattle.qw_grammar.specs.Numbers.{u32}
-use Rattle.qw_grammar.specs.Vectors.{vector}
-use Rattle.qw_grammar.specs.Writing.{Puts}
-use Rattle.qw_grammar.proofs.WriteLaws.{puts_is, puts_octet, puts_after, puts_made, puts_within, spelled, all_begin, all_next, all_end}
+use Rattle.qw_octet_grammar.specs.Grammar.{Grammar, is, after, within, settle, Spells}
+use Rattle.qw_octet_grammar.specs.Numbers.{u32}
+use Rattle.qw_octet_grammar.specs.Vectors.{vector}
+use Rattle.qw_octet_grammar.specs.Writing.{Puts}
+use Rattle.qw_octet_grammar.proofs.WriteLaws.{puts_is, puts_octet, puts_after, puts_made, puts_within, spelled, all_begin, all_next, all_end}
 use Rattle.qw_module.specs.declared.module.Limits.{Limits}
 use Rattle.qw_module.specs.declared.module.Import.{Import}
 use Rattle.qw_module.specs.declared.module.Function.{Function}

@@ -3,14 +3,14 @@ use Rattle.std.proofs.Common.{◌≡◌, ℕ, ◌==◌, ◌+◌, ◌-◌, ◌^�
 use Rattle.std.proofs.lemmas.Bool.{eq-eqb}
 use Rattle.std.proofs.lemmas.List.{length-map, length-take-le, get_or-map, take_all}
 use Rattle.std.proofs.Math.Seq.{take-suc}
-use Rattle.qw_grammar.specs.declared.fault.BinaryFault.{BinaryFault}
-use Rattle.qw_grammar.specs.declared.fault.BinaryFault.TheVariants.{NotModule}
-use Rattle.qw_grammar.specs.Grammar.{is, refuse, after, pick, settle, Spells}
-use Rattle.qw_grammar.specs.Numbers.{u32}
-use Rattle.qw_grammar.specs.Vectors.{counted, vector, name}
-use Rattle.qw_grammar.specs.Writing.{Puts}
-use Rattle.qw_grammar.specs.Inner.Awaiting.{Awaits}
-use Rattle.qw_grammar.proofs.WriteLaws.{puts_is, puts_octet, puts_after, puts_made, puts_within, spelled, spells_first, awaits_behind, awaits_next, awaits_all}
+use Rattle.qw_octet_grammar.specs.declared.fault.BinaryFault.{BinaryFault}
+use Rattle.qw_octet_grammar.specs.declared.fault.BinaryFault.TheVariants.{NotModule}
+use Rattle.qw_octet_grammar.specs.Grammar.{is, refuse, after, pick, settle, Spells}
+use Rattle.qw_octet_grammar.specs.Numbers.{u32}
+use Rattle.qw_octet_grammar.specs.Vectors.{counted, vector, name}
+use Rattle.qw_octet_grammar.specs.Writing.{Puts}
+use Rattle.qw_octet_grammar.specs.Inner.Awaiting.{Awaits}
+use Rattle.qw_octet_grammar.proofs.WriteLaws.{puts_is, puts_octet, puts_after, puts_made, puts_within, spelled, spells_first, awaits_behind, awaits_next, awaits_all}
 use Rattle.qw_module.specs.declared.instruction.ValType.{ValType}
 use Rattle.qw_module.specs.declared.instruction.MemArg.{MemArg}
 use Rattle.qw_module.specs.declared.module.Limits.{Limits}

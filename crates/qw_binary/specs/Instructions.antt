@@ -1,11 +1,11 @@
 -- Instructions and expressions in the binary format (WebAssembly Core Specification 1.0, 5.4).
 use Rattle.std.specs.Prelude.{ℕ, ◌-◌, ◌==◌, if◌then◌else◌, nat_lt, nat_le, Bool, true, false, List, [], ◌∷◌, ◌++◌, length, slice_get, Option, Some, None, Result, Ok, Err}
-use Rattle.qw_grammar.specs.declared.fault.BinaryFault.{BinaryFault}
-use Rattle.qw_grammar.specs.declared.fault.BinaryFault.TheVariants.{NotModule, OutOfProfile}
-use Rattle.qw_grammar.specs.declared.fault.What.TheVariants.{Float, CallIndirect}
-use Rattle.qw_grammar.specs.Grammar.{Next, goes_on, ends, Grammar, is, refuse, octet, after, items, pick, settle}
-use Rattle.qw_grammar.specs.Numbers.{u32, s32, s64}
-use Rattle.qw_grammar.specs.Vectors.{vector}
+use Rattle.qw_octet_grammar.specs.declared.fault.BinaryFault.{BinaryFault}
+use Rattle.qw_octet_grammar.specs.declared.fault.BinaryFault.TheVariants.{NotModule, OutOfProfile}
+use Rattle.qw_octet_grammar.specs.declared.fault.What.TheVariants.{Float, CallIndirect}
+use Rattle.qw_octet_grammar.specs.Grammar.{Next, goes_on, ends, Grammar, is, refuse, octet, after, items, pick, settle}
+use Rattle.qw_octet_grammar.specs.Numbers.{u32, s32, s64}
+use Rattle.qw_octet_grammar.specs.Vectors.{vector}
 use Rattle.qw_module.specs.declared.instruction.ValType.{ValType}
 use Rattle.qw_module.specs.declared.instruction.ValType.TheVariants.{I32, I64}
 use Rattle.qw_module.specs.declared.instruction.Sign.TheVariants.{Signed, Unsigned}

@@ -5,10 +5,10 @@ pub mod Modules
 pub mod Sections
 pub mod Sizes
 pub mod Types
-pub use Rattle.qw_grammar.specs.Grammar
-pub use Rattle.qw_grammar.specs.Numbers
-pub use Rattle.qw_grammar.specs.Reading
-pub use Rattle.qw_grammar.specs.Vectors
+pub use Rattle.qw_octet_grammar.specs.Grammar
+pub use Rattle.qw_octet_grammar.specs.Numbers
+pub use Rattle.qw_octet_grammar.specs.Reading
+pub use Rattle.qw_octet_grammar.specs.Vectors
 pub use Rattle.qw_module.specs.Syntax
 pub use Rattle.qw_module.specs.Typing
 pub use Rattle.qw_module.specs.Validity

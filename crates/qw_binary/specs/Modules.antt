@@ -1,8 +1,8 @@
 -- Modules in the binary format (WebAssembly Core Specification 1.0, 5.5.15).
 use Rattle.std.specs.Prelude.{◌≡◌, ◌≢◌, ℕ, List, [], ◌∷◌, ◌++◌, length, take, drop}
-use Rattle.qw_grammar.specs.declared.fault.BinaryFault.{BinaryFault}
-use Rattle.qw_grammar.specs.declared.fault.BinaryFault.TheVariants.{NoMemory, NotModule, OutOfProfile}
-use Rattle.qw_grammar.specs.Grammar.{SpellsAll, StuckAmong}
+use Rattle.qw_octet_grammar.specs.declared.fault.BinaryFault.{BinaryFault}
+use Rattle.qw_octet_grammar.specs.declared.fault.BinaryFault.TheVariants.{NoMemory, NotModule, OutOfProfile}
+use Rattle.qw_octet_grammar.specs.Grammar.{SpellsAll, StuckAmong}
 use Rattle.qw_binary.specs.Contents.{Contents}
 use Rattle.qw_binary.specs.Sections.{Sections, no_sections, section}
 

@@ -1,11 +1,11 @@
 -- Sections in the binary format (WebAssembly Core Specification 1.0, 5.5).
 use Rattle.std.specs.Prelude.{ℕ, ◌+◌, ◌^◌, ◌==◌, if◌then◌else◌, nat_lt, Bool, true, false, List, [], ◌∷◌, length, get_or, codes, Result, Ok, Err}
-use Rattle.qw_grammar.specs.declared.fault.BinaryFault.{BinaryFault}
-use Rattle.qw_grammar.specs.declared.fault.BinaryFault.TheVariants.{NotModule, OutOfProfile}
-use Rattle.qw_grammar.specs.declared.fault.What.TheVariants as what
-use Rattle.qw_grammar.specs.Grammar.{Grammar, is, refuse, octet, after, within, pick, settle}
-use Rattle.qw_grammar.specs.Numbers.{u32}
-use Rattle.qw_grammar.specs.Vectors.{counted, one_more, vector, name}
+use Rattle.qw_octet_grammar.specs.declared.fault.BinaryFault.{BinaryFault}
+use Rattle.qw_octet_grammar.specs.declared.fault.BinaryFault.TheVariants.{NotModule, OutOfProfile}
+use Rattle.qw_octet_grammar.specs.declared.fault.What.TheVariants as what
+use Rattle.qw_octet_grammar.specs.Grammar.{Grammar, is, refuse, octet, after, within, pick, settle}
+use Rattle.qw_octet_grammar.specs.Numbers.{u32}
+use Rattle.qw_octet_grammar.specs.Vectors.{counted, one_more, vector, name}
 use Rattle.qw_module.specs.declared.instruction.ValType.{ValType}
 use Rattle.qw_module.specs.declared.module.Limits.{Limits}
 use Rattle.qw_module.specs.declared.module.Locals.{Locals}

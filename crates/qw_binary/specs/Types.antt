@@ -1,11 +1,11 @@
 -- Types in the binary format (WebAssembly Core Specification 1.0, 5.3).
 use Rattle.std.specs.Prelude.{ℕ, ◌==◌, if◌then◌else◌, Bool, true, false, Option, Some, None, Result, Ok, Err}
-use Rattle.qw_grammar.specs.declared.fault.BinaryFault.{BinaryFault}
-use Rattle.qw_grammar.specs.declared.fault.BinaryFault.TheVariants.{NotModule, OutOfProfile}
-use Rattle.qw_grammar.specs.declared.fault.What.TheVariants.{Float}
-use Rattle.qw_grammar.specs.Grammar.{Grammar, is, refuse, octet, after, pick, settle}
-use Rattle.qw_grammar.specs.Numbers.{u32}
-use Rattle.qw_grammar.specs.Vectors.{vector}
+use Rattle.qw_octet_grammar.specs.declared.fault.BinaryFault.{BinaryFault}
+use Rattle.qw_octet_grammar.specs.declared.fault.BinaryFault.TheVariants.{NotModule, OutOfProfile}
+use Rattle.qw_octet_grammar.specs.declared.fault.What.TheVariants.{Float}
+use Rattle.qw_octet_grammar.specs.Grammar.{Grammar, is, refuse, octet, after, pick, settle}
+use Rattle.qw_octet_grammar.specs.Numbers.{u32}
+use Rattle.qw_octet_grammar.specs.Vectors.{vector}
 use Rattle.qw_module.specs.declared.instruction.ValType.{ValType}
 use Rattle.qw_module.specs.declared.instruction.ValType.TheVariants.{I32, I64}
 use Rattle.qw_module.specs.declared.module.Limits.{Limits}

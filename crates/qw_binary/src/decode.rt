@@ -1,16 +1,16 @@
-//! Reading a module.
+//! `decode`: the module that octets spell, or the first construct from the left that no rule allows.
 
 ghost use Rattle.std.specs.Prelude.{◌≡◌, MatchOption, IfOk, IfErr, Ok, Err, ℕ, List, take, drop, true, false};
-ghost use Rattle.qw_grammar.specs.declared.fault.BinaryFault.{BinaryFault as Fault};
-ghost use Rattle.qw_grammar.specs.Reading.{Gives};
+ghost use Rattle.qw_octet_grammar.specs.declared.fault.BinaryFault.{BinaryFault as Fault};
+ghost use Rattle.qw_octet_grammar.specs.Reading.{Gives};
 ghost use Rattle.qw_binary.specs.Contents.{Contents, contents_of};
 ghost use Rattle.qw_binary.specs.Sections.{equal};
 ghost use Rattle.qw_binary.specs.Modules.{header, SpellsModule, FirstStuck, IsFirstStuck};
 ghost use Rattle.qw_binary.specs.Inner.Decoding.{module_in};
 
 use crate::read::sections::sections_at;
-use qw_grammar::fault::BinaryFault;
 use qw_module::module::Module;
+use qw_octet_grammar::fault::BinaryFault;
 use std::alloc::Global;
 
 /// What follows the header.

@@ -1,7 +1,7 @@
-//! Writing a module.
+//! `encode`: octets that spell a module.
 
 ghost use Rattle.std.specs.Prelude.{◌≡◌, IfErr, IfOk};
-ghost use Rattle.qw_grammar.specs.declared.write.WriteFault.TheVariants.{NotSpelled};
+ghost use Rattle.qw_octet_grammar.specs.declared.write.WriteFault.TheVariants.{NotSpelled};
 ghost use Rattle.qw_binary.specs.Contents.{contents_of};
 ghost use Rattle.qw_binary.specs.Modules.{IsSpelled, SpellsModule};
 
@@ -9,8 +9,8 @@ use crate::write::sections::{
     put_code_section, put_export_section, put_function_section, put_global_section,
     put_import_section, put_memory_section, put_type_section,
 };
-use qw_grammar::write::WriteFault;
 use qw_module::module::Module;
+use qw_octet_grammar::write::WriteFault;
 use std::alloc::Global;
 
 /// Octets that spell the module: each section that holds something, once and in order, no custom section, and each number in the

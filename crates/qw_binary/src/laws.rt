@@ -1,7 +1,7 @@
 //! Laws of the binary format, each the contract of a function that does nothing.
 
 ghost use Rattle.std.specs.Prelude.{◌≡◌, ℕ, List};
-ghost use Rattle.qw_grammar.specs.declared.fault.BinaryFault.{BinaryFault};
+ghost use Rattle.qw_octet_grammar.specs.declared.fault.BinaryFault.{BinaryFault};
 ghost use Rattle.std.specs.List.{AllByRecursion};
 ghost use Rattle.qw_module.specs.Syntax.{IsNumbered};
 ghost use Rattle.qw_binary.specs.Contents.{Contents, FunctionContents, GlobalContents};

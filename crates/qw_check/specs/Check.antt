@@ -1,6 +1,6 @@
 -- Octets that are a valid module, and octets that aren't (WebAssembly Core Specification 1.0, 3.4 and 5.5.15).
 use Rattle.std.specs.Prelude.{ℕ, List}
-use Rattle.qw_grammar.specs.declared.fault.BinaryFault.TheVariants as reading
+use Rattle.qw_octet_grammar.specs.declared.fault.BinaryFault.TheVariants as reading
 use Rattle.qw_module.specs.declared.module.Module.{Module}
 use Rattle.qw_module.specs.Validity.{IsValid}
 use Rattle.qw_binary.specs.Contents.{contents_of}

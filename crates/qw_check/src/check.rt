@@ -6,8 +6,8 @@ ghost use Rattle.qw_check.specs.Check.{HasFault, SpellsValid};
 ghost use Rattle.qw_check.specs.Inner.Faults.{IsModuleFault};
 
 use qw_binary::decode::decode;
-use qw_grammar::fault::{BinaryFault, What};
 use qw_module::module::Module;
+use qw_octet_grammar::fault::{BinaryFault, What};
 use qw_valid::valid::{Part, ValidFault, validate};
 use std::alloc::Global;
 use thiserror::Error;

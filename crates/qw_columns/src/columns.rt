@@ -1,4 +1,4 @@
-//! The columns in the linear memory.
+//! `place`: the columns of loaded tables, put into the linear memory.
 
 ghost use Rattle.std.specs.Prelude.{◌≡◌, ◌≤◌, ◌<◌, ◌*◌, ◌^◌, ◌↔◌, ℕ, Err, length, map, IfErr, IfOk};
 ghost use Rattle.std.specs.List.{AllByRecursion};

@@ -5,8 +5,8 @@ use Rattle.qw_types.specs.declared.truth.Truth.TheVariants.{True, False, Unknown
 use Rattle.qw_low.specs.State.{LowState}
 use Rattle.qw_low.specs.Held.{SaysNull, SaysValue}
 use Rattle.qw_expr.specs.Tests as exprs
-use Rattle.qw_code.specs.RowCells.{Says, Lacks}
-use Rattle.qw_code.proofs.RowRuns.{truth_word}
+use Rattle.qw_emit.specs.RowCells.{Says, Lacks}
+use Rattle.qw_emit.proofs.RowRuns.{truth_word}
 
 -- the word of a truth
 pub same_word : (v : Truth) → exprs.truth_word v ≡ truth_word v

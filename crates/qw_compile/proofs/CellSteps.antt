@@ -5,8 +5,8 @@ use Rattle.qw_low.specs.declared.step.LowStep.{LowStep}
 use Rattle.qw_low.specs.Steps.{steps_of}
 use Rattle.qw_expr.specs.declared.operand.Operand.{Operand}
 use Rattle.qw_map.specs.declared.layout.Used.{Used}
-use Rattle.qw_rows.specs.declared.reader.Reader.{Reader}
-use Rattle.qw_code.specs.RowCells.{cell_block, cells_block, plain_block}
+use Rattle.qw_read.specs.declared.reader.Reader.{Reader}
+use Rattle.qw_emit.specs.RowCells.{cell_block, cells_block, plain_block}
 use Rattle.qw_compile.specs.Emitted.{sources_of}
 use Rattle.qw_compile.specs.Readers.{reader_of, readers_from}
 

@@ -10,12 +10,12 @@ use Rattle.qw_expr.specs.declared.known.Leaf.TheVariants as leaf
 use Rattle.qw_expr.specs.declared.operand.Operand.{Operand}
 use Rattle.qw_expr.specs.Bindings as bindings
 use Rattle.qw_expr.specs.Computes.{Known}
-use Rattle.qw_rows.specs.declared.reader.Reader.{Reader}
-use Rattle.qw_meaning.specs.Expression.{Expression}
-use Rattle.qw_rows.specs.Constants.{constant_operand, known_constant, literal_of}
-use Rattle.qw_rows.specs.declared.constant.Constant.{Constant}
-use Rattle.qw_rows.specs.Reading.{known_of, operand_of}
-use Rattle.qw_code.specs.RowCells.{Source, kinds_of}
+use Rattle.qw_read.specs.declared.reader.Reader.{Reader}
+use Rattle.qw_scalar.specs.Expression.{Expression}
+use Rattle.qw_read.specs.Constants.{constant_operand, known_constant, literal_of}
+use Rattle.qw_read.specs.declared.constant.Constant.{Constant}
+use Rattle.qw_read.specs.Reading.{known_of, operand_of}
+use Rattle.qw_emit.specs.RowCells.{Source, kinds_of}
 use Rattle.qw_compile.specs.Emitted.{source_of, sources_of}
 use Rattle.qw_compile.specs.Readers.{base_types}
 use Rattle.qw_compile.proofs.Listed.{sources_end}

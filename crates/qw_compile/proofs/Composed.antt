@@ -1,8 +1,8 @@
 -- The scan of a specification: its plan, and what is promised of the plan's blocks.
-use Rattle.std.proofs.Common.{◌≡◌, ℕ, zero, suc, ◌+◌, ◌-◌, ◌*◌, ◌^◌, ◌≤◌, nat_le, ◌&&◌, if◌then◌else◌, Bool, true, false, inl, inr, IsUtf8, Ok, sum_by, Option, Some, None, List, [], ◌∷◌, ◌++◌, length, map, take, replicate, slice_get, Contains, refl, sym, ap, ap₂, ◌∙◌, subst, arith}
+use Rattle.std.proofs.Common.{◌≡◌, ℕ, zero, suc, ◌+◌, ◌-◌, ◌*◌, ◌^◌, ◌≤◌, nat_le, ◌&&◌, if◌then◌else◌, Bool, true, false, inl, inr, IsUtf8, Ok, sum_by, Option, Some, None, List, [], ◌∷◌, ◌++◌, length, map, take, replicate, slice_get, Contains, refl, sym, ap, ◌∙◌, subst, arith}
 use Rattle.std.specs.List.{AllByRecursion, concat, flat_map}
 use Rattle.std.proofs.lemmas.Bool.{and_from, and_parts, le-leb, leb-true}
-use Rattle.std.proofs.lemmas.List.{append-nil, length-map, length-replicate}
+use Rattle.std.proofs.lemmas.List.{length-map, length-replicate}
 use Rattle.std.proofs.lemmas.Option.{same_Some, get_or_from_slice_get, slice_get_within}
 use Rattle.qw_types.specs.Kind.{IsOfKind, type_kind}
 use Rattle.qw_types.specs.Value.{IsSized}
@@ -15,17 +15,19 @@ use Rattle.qw_linear.specs.Memory.{page}
 use Rattle.qw_module.specs.declared.instruction.ValType.{ValType}
 use Rattle.qw_module.specs.declared.instruction.ValType.TheVariants.{I32, I64}
 use Rattle.qw_module.specs.Execution.{Returned}
-use Rattle.qw_meaning.specs.Columns.{HasColumns, HaveColumns, HoldsIn}
-use Rattle.qw_meaning.specs.Evaluation.{cell_of, value_of, at_row}
-use Rattle.qw_meaning.specs.Expression.{Condition, Expression}
+use Rattle.qw_scalar.specs.Columns.{HasColumns, HaveColumns, HoldsIn}
+use Rattle.qw_scalar.specs.Evaluation.{cell_of, value_of, at_row}
+use Rattle.qw_scalar.specs.Expression.{Condition, Expression}
 use Rattle.qw_types.specs.Contents.{rows_of}
-use Rattle.qw_meaning.specs.Flow.{kept, product, rows_given}
+use Rattle.qw_meaning.specs.Flow.{Flow, kept, rows_given}
 use Rattle.qw_meaning.specs.Select.{Parts, specification_of}
-use Rattle.qw_meaning.specs.Typing.{HasKind, IsTyped, kind_of}
-use Rattle.qw_meaning.specs.Units as text
-use Rattle.qw_meaning.specs.Units.{units_of, units_of_all, units_of_items}
-use Rattle.qw_meaning.proofs.SelectLemmas.{columns_more, conditions_more}
-use Rattle.qw_meaning.proofs.UnitsLemmas.{most_each}
+use Rattle.qw_meaning.proofs.FlowLemmas.{from_one}
+use Rattle.qw_meaning.proofs.SelectLemmas.{entry_of}
+use Rattle.qw_scalar.specs.Typing.{HasKind, IsTyped, kind_of}
+use Rattle.qw_scalar.specs.Units as text
+use Rattle.qw_scalar.specs.Units.{units_of, units_of_all, units_of_items}
+use Rattle.qw_scalar.proofs.ColumnLemmas.{columns_more, conditions_more}
+use Rattle.qw_scalar.proofs.UnitsLemmas.{most_each}
 use Rattle.qw_map.specs.Areas.{World}
 use Rattle.qw_map.specs.Columns.{column_values, values_size}
 use Rattle.qw_map.specs.Layout.{Layout, HasColumn, IsReady, IsReadyColumn, descriptor_size, entry_offset, first_world, text_areas, text_cell}
@@ -48,29 +50,29 @@ use Rattle.qw_low.proofs.Results.{Kept-then}
 use Rattle.qw_expr.specs.Cells.{DeclaresValue, Holds, IsBelow}
 use Rattle.qw_expr.specs.Computes.{Known, AreBelow, AreHeld, AreDeclared}
 use Rattle.qw_expr.proofs.Nulls.{known_below_more, known_kept}
-use Rattle.qw_rows.specs.Reading.{known_of, IsThere, StandsAt, HasBases, HasOctets, BeginsAll}
-use Rattle.qw_rows.specs.declared.reader.Reader.{Reader}
-use Rattle.qw_rows.specs.Texts.{HasPlace, LeadsToAll, LieThere, known_texts}
-use Rattle.qw_rows.specs.Constants.{IsSet, IsSmall, SetsAll, known_constant}
-use Rattle.qw_rows.specs.declared.constant.Constant.{Constant}
-use Rattle.qw_rows.specs.declared.constant.Word.{Word}
-use Rattle.qw_rows.specs.declared.literal.Literal.{Literal}
-use Rattle.qw_rows.proofs.ConstantRuns.{constants_declared, constants_held, sets_same}
-use Rattle.qw_rows.proofs.Several.{known_declared}
-use Rattle.qw_rows.proofs.TextPlaces.{lie_there_kept, lie_there_within, places_same, ready_texts, texts_declared, texts_held}
-use Rattle.qw_rows.proofs.ReadyColumns.{ready_long, ready_stands_at}
-use Rattle.qw_rows.proofs.Elsewhere.{stands_same}
-use Rattle.qw_emit.specs.Compiled.{IsUsedOf}
-use Rattle.qw_emit.specs.Queries.{page_bound}
-use Rattle.qw_code.specs.RowCells.{Test, Item, begin_block, kinds_of, outs_of, row_block, scan_block}
-use Rattle.qw_code.proofs.PushRuns.{Never}
-use Rattle.qw_code.proofs.RowRuns.{Kept-less, all_true}
-use Rattle.qw_code.proofs.RunWorlds.{Keeps}
-use Rattle.qw_code.proofs.ScanAnswers.{pages-are, truths_of, values_in}
-use Rattle.qw_code.proofs.ScanCompiled.{Run, Sound, Planned}
-use Rattle.qw_code.proofs.ScanLoop.{spend}
-use Rattle.qw_code.proofs.ScanRuns.{Plan, Promises, Since, Finished, IsShown}
-use Rattle.qw_code.proofs.StartRuns.{Started}
+use Rattle.qw_read.specs.Reading.{known_of, IsThere, StandsAt, HasBases, HasOctets, BeginsAll}
+use Rattle.qw_read.specs.declared.reader.Reader.{Reader}
+use Rattle.qw_read.specs.Texts.{HasPlace, LeadsToAll, LieThere, known_texts}
+use Rattle.qw_read.specs.Constants.{IsSet, IsSmall, SetsAll, known_constant}
+use Rattle.qw_read.specs.declared.constant.Constant.{Constant}
+use Rattle.qw_read.specs.declared.constant.Word.{Word}
+use Rattle.qw_read.specs.declared.literal.Literal.{Literal}
+use Rattle.qw_read.proofs.ConstantRuns.{constants_declared, constants_held, sets_same}
+use Rattle.qw_read.proofs.Several.{known_declared}
+use Rattle.qw_read.proofs.TextPlaces.{lie_there_kept, lie_there_within, places_same, ready_texts, texts_declared, texts_held}
+use Rattle.qw_read.proofs.ReadyColumns.{ready_long, ready_stands_at}
+use Rattle.qw_read.proofs.Elsewhere.{stands_same}
+use Rattle.qw_promise.specs.Compiled.{IsUsedOf}
+use Rattle.qw_promise.specs.Queries.{page_bound}
+use Rattle.qw_emit.specs.RowCells.{Test, Item, begin_block, kinds_of, outs_of, row_block, scan_block}
+use Rattle.qw_emit.proofs.PushRuns.{Never}
+use Rattle.qw_emit.proofs.RowRuns.{Kept-less, all_true}
+use Rattle.qw_emit.proofs.RunWorlds.{Keeps}
+use Rattle.qw_emit.proofs.ScanAnswers.{pages-are, truths_of, values_in}
+use Rattle.qw_emit.proofs.ScanCompiled.{Run, Sound, Planned}
+use Rattle.qw_emit.proofs.ScanLoop.{spend}
+use Rattle.qw_emit.proofs.ScanRuns.{Plan, Promises, Since, Finished, IsShown}
+use Rattle.qw_emit.proofs.StartRuns.{Started}
 use Rattle.qw_compile.specs.Emitted.{known_after, last_end, ReadsPart, AreDecided, AreComputed}
 use Rattle.qw_compile.specs.Readers.{IsRead, readers_from, readers_of, first_text, first_word, first_cell, first_own, base_types, text_types, word_types, cell_types}
 use Rattle.qw_compile.specs.Constants.{constants_from}
@@ -110,11 +112,6 @@ inside_of base a b tested = let tests = and_parts (nat_le 24 a) (nat_le (a + b) 
 
 inside_from : (base a b : ℕ) → 24 ≤ a → a + b ≤ base → (nat_le 24 a && nat_le (a + b) base) ≡ true
 inside_from base a b low high = and_from (nat_le 24 a) (nat_le (a + b) base) (le-leb 24 a low) (le-leb (a + b) base high)
-
--- the product of one table
-product-one : (rows : List (List Val)) → product (rows ∷ []) ≡ rows
-product-one [] = refl
-product-one (row ∷ rows) = ap₂ (λ (r : List Val) (rest : List (List Val)). r ∷ rest) (append-nil row) (product-one rows)
 
 column_at : (rows : List (List Val)) (i c : ℕ) (row : List Val) (v : Val) → slice_get rows i ≡ Some row → slice_get row c ≡ Some v → slice_get (column_values rows c) i ≡ Some v
 column_at [] i c row v there held = absurd cc
@@ -655,14 +652,15 @@ module _ (parts : Parts) (used : List Used) (texts : List (List ℕ)) (words : L
         promises = promised;
         spent =
             let all = all_compared cs es rows in
-            let tests = ap (λ (rs : List (List Val)). sum_by (λ (row : List Val). units_of_all cs (at_row row)) rs) (product-one rows) in
-            let items = ap (λ (rs : List (List Val)). sum_by (λ (row : List Val). units_of_items es (at_row row)) (flat_map (λ row. rows_given (kept cs row)) rs)) (product-one rows) in
+            let from = from_one (entry_of parts) r.tables in
+            let tests = ap (λ (f : Flow (List Val)). sum_by (λ (row : List Val). units_of_all cs (at_row row)) f.rows) from in
+            let items = ap (λ (f : Flow (List Val)). sum_by (λ (row : List Val). units_of_items es (at_row row)) (flat_map (λ row. rows_given (kept cs row)) f.rows)) from in
             omega (arith, all, tests, items);
         texts = read_back;
       }
 
-    one_entry : (u : Used) → IsColumnIn parts u → IsUsedOf (specification_of parts).entries u
-    one_entry u in_table = (record { table = parts.table; columns = parts.columns }, itself (record { table = parts.table; columns = parts.columns }), sym in_table.0, in_table.1)
+    one_entry : (u : Used) → IsColumnIn parts u → IsUsedOf (entry_of parts ∷ []) u
+    one_entry u in_table = (entry_of parts, itself (entry_of parts), sym in_table.0, in_table.1)
 
     pub planned : size (scan_block plan.start (row_block plan.tests plan.reads plan.items (8 + 16 * length (kinds_of (outs_of plan.items))))) ≤ 2 ^ 22 →
         Planned parts layout plan firsts others h.first_column (λ q. StandsIn (memory_of q)) each Held Bases
@@ -674,7 +672,7 @@ module _ (parts : Parts) (used : List Used) (texts : List (List ℕ)) (words : L
       first_is = h.first_is;
       table_is = (one_of (IsColumnIn parts) used 0 h.first_column h.columns h.first_is).0;
       kinds_are = kinds-are;
-      goes_with = record { columns = all_more (IsColumnIn parts) (IsUsedOf (specification_of parts).entries) used one_entry h.columns; cells = h.kinds_are; small = h.small };
+      goes_with = record { columns = all_more (IsColumnIn parts) (IsUsedOf (entry_of parts ∷ [])) used one_entry h.columns; cells = h.kinds_are; small = h.small };
       short = short;
       each_alike = λ r q same. refl;
     }

@@ -3,10 +3,10 @@ use Rattle.std.proofs.Common.{◌≡◌, ◌⊎◌, ℕ, zero, suc, ◌+◌, ◌
 use Rattle.std.specs.List.{AllByRecursion, list_any}
 use Rattle.std.proofs.lemmas.Option.{get_or_from_slice_get, same_Some, slice_get_within}
 use Rattle.qw_types.specs.declared.value.Ty.{Ty}
-use Rattle.qw_meaning.specs.Expression.{column, scale_of}
-use Rattle.qw_meaning.specs.Tree.{condition_of}
-use Rattle.qw_meaning.specs.Typing.{kind_of}
-use Rattle.qw_meaning.specs.declared.expression.Cond.{Cond}
+use Rattle.qw_scalar.specs.Expression.{column, scale_of}
+use Rattle.qw_scalar.specs.Tree.{condition_of}
+use Rattle.qw_scalar.specs.Typing.{kind_of}
+use Rattle.qw_scalar.specs.declared.expression.Cond.{Cond}
 use Rattle.qw_map.proofs.AreaLemmas.{all-append}
 use Rattle.qw_expr.specs.declared.known.Binding.{Binding}
 use Rattle.qw_expr.specs.declared.known.Leaf.{Leaf}
@@ -15,8 +15,8 @@ use Rattle.qw_expr.specs.Bindings as bindings
 use Rattle.qw_expr.specs.Bindings.{IsAmong, IsServed, Knows, TakeKnown}
 use Rattle.qw_expr.specs.Cells.{IsBelow}
 use Rattle.qw_expr.specs.Computes.{Known}
-use Rattle.qw_rows.specs.Reading.{known_of}
-use Rattle.qw_rows.specs.declared.reader.Reader.{Reader}
+use Rattle.qw_read.specs.Reading.{known_of}
+use Rattle.qw_read.specs.declared.reader.Reader.{Reader}
 use Rattle.qw_compile.specs.Emitted.{AreOrdered, known_after}
 use Rattle.qw_compile.specs.Leaves.{leaves_within}
 use Rattle.qw_compile.specs.Needed.{IsWithin, names}

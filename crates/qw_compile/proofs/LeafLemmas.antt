@@ -3,28 +3,28 @@ use Rattle.std.proofs.Common.{◌≡◌, ℕ, ℤ, zero, suc, ◌+◌, ◌<◌, 
 use Rattle.std.specs.List.{AllByRecursion, flat_map}
 use Rattle.qw_types.proofs.KindLemmas.{day_number}
 use Rattle.qw_types.specs.declared.value.Ty.{Ty}
-use Rattle.qw_meaning.specs.declared.expression.Expr.{Expr}
-use Rattle.qw_meaning.specs.declared.expression.Cond.{Cond}
-use Rattle.qw_meaning.specs.declared.expression.Exprs.{Exprs}
-use Rattle.qw_meaning.specs.declared.expression.Branches.{Branches}
-use Rattle.qw_meaning.specs.declared.expression.Matches.{Matches}
-use Rattle.qw_meaning.specs.declared.expression.Expr.TheVariants.{Null, Number, Date, Text, Column, Arithmetic', Negative', Extract', Case', Match', Coalesce', NullIf'}
-use Rattle.qw_meaning.specs.declared.expression.Cond.TheVariants.{Compare', Between', In', IsNull', And', Or', Not', Is'}
-use Rattle.qw_meaning.specs.declared.expression.Exprs.TheVariants as Exprs
-use Rattle.qw_meaning.specs.declared.expression.Branches.TheVariants as Branches
-use Rattle.qw_meaning.specs.declared.expression.Matches.TheVariants as Matches
-use Rattle.qw_meaning.specs.Columns.{HasColumns, HaveColumns}
-use Rattle.qw_meaning.specs.Expression.{Expression, Condition, null, number, date, text, column, arithmetic, negative, extract, brought, choice, comparison, is_null, both, either, negation_of, is, among, cases, coalesced}
-use Rattle.qw_meaning.specs.Typing.{AreTyped, IsTyped}
-use Rattle.qw_meaning.specs.Tree.{choices_of, condition_of, expression_of, expressions_of, matches_of}
+use Rattle.qw_scalar.specs.declared.expression.Expr.{Expr}
+use Rattle.qw_scalar.specs.declared.expression.Cond.{Cond}
+use Rattle.qw_scalar.specs.declared.expression.Exprs.{Exprs}
+use Rattle.qw_scalar.specs.declared.expression.Branches.{Branches}
+use Rattle.qw_scalar.specs.declared.expression.Matches.{Matches}
+use Rattle.qw_scalar.specs.declared.expression.Expr.TheVariants.{Null, Number, Date, Text, Column, Arithmetic', Negative', Extract', Case', Match', Coalesce', NullIf'}
+use Rattle.qw_scalar.specs.declared.expression.Cond.TheVariants.{Compare', Between', In', IsNull', And', Or', Not', Is'}
+use Rattle.qw_scalar.specs.declared.expression.Exprs.TheVariants as Exprs
+use Rattle.qw_scalar.specs.declared.expression.Branches.TheVariants as Branches
+use Rattle.qw_scalar.specs.declared.expression.Matches.TheVariants as Matches
+use Rattle.qw_scalar.specs.Columns.{HasColumns, HaveColumns}
+use Rattle.qw_scalar.specs.Expression.{Expression, Condition, null, number, date, text, column, arithmetic, negative, extract, brought, choice, comparison, is_null, both, either, negation_of, is, among, cases, coalesced}
+use Rattle.qw_scalar.specs.Typing.{AreTyped, IsTyped}
+use Rattle.qw_scalar.specs.Tree.{choices_of, condition_of, expression_of, expressions_of, matches_of}
 use Rattle.qw_map.proofs.AreaLemmas.{all-append}
 use Rattle.qw_expr.specs.declared.known.Leaf.{Leaf}
 use Rattle.qw_expr.specs.declared.known.Leaf.TheVariants as leaf
 use Rattle.qw_expr.specs.Bindings.{Knows, TakesKnown, TakeKnown, named}
 use Rattle.qw_expr.specs.Computes.{Known}
-use Rattle.qw_rows.specs.Constants.{IsSmall}
-use Rattle.qw_rows.specs.declared.constant.Word.{Word}
-use Rattle.qw_rows.specs.declared.constant.Word.TheVariants as word
+use Rattle.qw_read.specs.Constants.{IsSmall}
+use Rattle.qw_read.specs.declared.constant.Word.{Word}
+use Rattle.qw_read.specs.declared.constant.Word.TheVariants as word
 use Rattle.qw_compile.specs.Leaves.{Gathers, OfColumn, OfText, OfWord, leaves_in, leaves_of_all, leaves_of_branches, leaves_of_matches, leaves_within, texts_among, words_among}
 
 -- ---- of an expression

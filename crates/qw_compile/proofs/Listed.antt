@@ -3,10 +3,10 @@ use Rattle.std.proofs.Common.{◌≡◌, ℕ, ◌+◌, ◌≤◌, List, [], ◌�
 use Rattle.std.proofs.Common.{length-append, map, take, get_or, ◌<◌}
 use Rattle.std.proofs.lemmas.List.{map_more}
 use Rattle.qw_module.specs.declared.instruction.ValType.{ValType}
-use Rattle.qw_meaning.specs.declared.expression.Expr.{Expr}
-use Rattle.qw_meaning.specs.declared.expression.Cond.{Cond}
-use Rattle.qw_meaning.specs.Tree.{condition_of, expression_of}
-use Rattle.qw_meaning.specs.Expression.{Condition, Expression}
+use Rattle.qw_scalar.specs.declared.expression.Expr.{Expr}
+use Rattle.qw_scalar.specs.declared.expression.Cond.{Cond}
+use Rattle.qw_scalar.specs.Tree.{condition_of, expression_of}
+use Rattle.qw_scalar.specs.Expression.{Condition, Expression}
 use Rattle.qw_low.specs.declared.step.LowStep.{LowStep}
 use Rattle.qw_low.specs.Steps.{steps_of}
 use Rattle.qw_low.specs.Syntax.{Statement, seq}
@@ -17,9 +17,9 @@ use Rattle.qw_expr.specs.declared.test.Test as exprs
 use Rattle.qw_expr.specs.Computes.{Known, Computes}
 use Rattle.qw_expr.specs.Emits.{Emits, free_of}
 use Rattle.qw_expr.specs.Tests.{DecidesTest, EmitsTest, tested}
-use Rattle.qw_rows.specs.declared.reader.Reader.{Reader}
+use Rattle.qw_read.specs.declared.reader.Reader.{Reader}
 use Rattle.qw_expr.proofs.Nulls.{known_below_more}
-use Rattle.qw_code.specs.RowCells.{Source, Test, Item, items_block, outs_of}
+use Rattle.qw_emit.specs.RowCells.{Source, Test, Item, items_block, outs_of}
 use Rattle.qw_compile.specs.Nesting.{opening, openings}
 use Rattle.qw_compile.specs.Emitted.{source_of, sources_of, known_after, last_end, ReadsPart, IsDecided, AreDecided, AreComputed, EmitsConjunct, EmitsTests, EmitsItems}
 

@@ -9,12 +9,11 @@ use Rattle.qw_types.specs.declared.schema.ColumnType.{ColumnType}
 use Rattle.qw_types.specs.declared.value.Ty.{Ty}
 use Rattle.qw_map.specs.declared.layout.Used.{Used}
 use Rattle.qw_map.proofs.AreaLemmas.{all-append}
-use Rattle.qw_meaning.specs.Columns.{IsColumnOf}
 use Rattle.qw_meaning.specs.Select.{Parts, types_of}
 use Rattle.qw_expr.specs.declared.known.Leaf.{Leaf}
 use Rattle.qw_expr.specs.declared.known.Leaf.TheVariants as leaf
 use Rattle.qw_compile.specs.Leaves.{OfColumn, leaves_of}
-use Rattle.qw_compile.specs.Named.{IsOfTable, and_column, and_named, columns_named, columns_of, or_first}
+use Rattle.qw_compile.specs.Named.{IsColumnAt, IsOfTable, and_column, and_named, columns_named, columns_of, or_first}
 use Rattle.qw_compile.specs.Readers.{IsRead}
 
 -- ---- tests
@@ -206,7 +205,7 @@ module _ (table : ℕ) (columns : List ColumnType) where
 
   module _ (used : List Used) (all : AllByRecursion (IsOfTable table columns) used) where
     read_from : (seen : List ℕ) (ls : List Leaf) → ((i : ℕ) → list_any (λ (j : ℕ). j == i) (and_named seen ls) ≡ true → list_any (λ (j : ℕ). j == i) (columns_of used) ≡ true) →
-        AllByRecursion (OfColumn (IsColumnOf (types_of columns))) ls → AllByRecursion (OfColumn (IsRead used)) ls
+        AllByRecursion (OfColumn (IsColumnAt columns)) ls → AllByRecursion (OfColumn (IsRead used)) ls
     read_from seen [] up over = tt
     read_from seen (leaf.Text t ∷ ls) up over = (tt, read_from seen ls up over.1)
     read_from seen (leaf.Number v s ∷ ls) up over = (tt, read_from seen ls up over.1)
@@ -225,7 +224,7 @@ module _ (parts : Parts) (used : List Used) (named : columns_of used ≡ columns
       let few = length-le_from_distinct_below (columns_of used) (length parts.columns) distinct (below parts.table parts.columns used all) in
       omega (arith, few, columns_many used)
 
-  pub leaves_read : AllByRecursion (OfColumn (IsColumnOf (types_of parts.columns))) (leaves_of parts) → AllByRecursion (OfColumn (IsRead used)) (leaves_of parts)
+  pub leaves_read : AllByRecursion (OfColumn (IsColumnAt parts.columns)) (leaves_of parts) → AllByRecursion (OfColumn (IsRead used)) (leaves_of parts)
   leaves_read over =
       read_from parts.table parts.columns used all [] (leaves_of parts)
       (λ i there. ap (λ (l : List ℕ). list_any (λ (j : ℕ). j == i) l) named ∙ first_kept (and_named [] (leaves_of parts)) i there) over

@@ -4,7 +4,7 @@ use Rattle.qw_low.specs.declared.step.LowStep.{LowStep}
 use Rattle.qw_low.specs.declared.step.LowStep.TheVariants as step
 use Rattle.qw_low.specs.Steps.{expression_steps, steps_of}
 use Rattle.qw_low.specs.Syntax.{Statement}
-use Rattle.qw_code.specs.RowCells.{Test, tests_block}
+use Rattle.qw_emit.specs.RowCells.{Test, tests_block}
 use Rattle.qw_compile.specs.Nesting.{opening, openings, closings}
 
 closings-end : (n : ℕ) → closings n ++ (step.Else ∷ step.End ∷ []) ≡ step.Else ∷ step.End ∷ closings n

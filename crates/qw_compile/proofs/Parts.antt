@@ -5,9 +5,9 @@ use Rattle.qw_map.specs.declared.layout.Used.{Used}
 use Rattle.qw_low.specs.State.{LowState}
 use Rattle.qw_low.specs.Syntax.{Statement}
 use Rattle.qw_expr.specs.Computes.{AreBelow}
-use Rattle.qw_rows.specs.Reading.{AreCellsIn, HasBases, known_of}
-use Rattle.qw_rows.specs.declared.reader.Reader.{Reader}
-use Rattle.qw_rows.proofs.Several.{known_below}
+use Rattle.qw_read.specs.Reading.{AreCellsIn, HasBases, known_of}
+use Rattle.qw_read.specs.declared.reader.Reader.{Reader}
+use Rattle.qw_read.proofs.Several.{known_below}
 use Rattle.qw_compile.specs.Emitted.{ReadsPart, last_end}
 use Rattle.qw_compile.specs.Readers.{reader_of, readers_from}
 use Rattle.qw_compile.proofs.ReadersLaid.{cells_in}

@@ -9,12 +9,12 @@ use Rattle.qw_types.specs.declared.value.Val.{Val}
 use Rattle.qw_types.specs.declared.value.Val.TheVariants as val
 use Rattle.qw_module.specs.declared.instruction.ValType.{ValType}
 use Rattle.qw_module.specs.declared.instruction.ValType.TheVariants.{I32, I64}
-use Rattle.qw_meaning.specs.Columns.{HasColumns, HaveColumns, HoldsIn}
-use Rattle.qw_meaning.specs.Evaluation.{truth_of, value_of, at_row}
-use Rattle.qw_meaning.specs.Expression.{Condition, Expression}
-use Rattle.qw_meaning.specs.Typing.{HasKind, IsTyped, IsValueOf, kind_of, has_kind}
-use Rattle.qw_meaning.specs.Units.{units, units_of}
-use Rattle.qw_meaning.proofs.TypingLemmas.{typed_value}
+use Rattle.qw_scalar.specs.Columns.{HasColumns, HaveColumns, HoldsIn}
+use Rattle.qw_scalar.specs.Evaluation.{truth_of, value_of, at_row}
+use Rattle.qw_scalar.specs.Expression.{Condition, Expression}
+use Rattle.qw_scalar.specs.Typing.{HasKind, IsTyped, IsValueOf, kind_of, has_kind}
+use Rattle.qw_scalar.specs.Units.{units, units_of}
+use Rattle.qw_scalar.proofs.TypingLemmas.{typed_value}
 use Rattle.qw_low.specs.declared.cell.Cell.{Cell}
 use Rattle.qw_low.specs.Syntax.{Statement, seq}
 use Rattle.qw_low.specs.State.{Part, Column, Own, Value, Number, Cells, LowState}
@@ -29,15 +29,15 @@ use Rattle.qw_low.proofs.Results.{Kept-then, at_least}
 use Rattle.qw_expr.specs.declared.test.Test as exprs
 use Rattle.qw_expr.specs.Tests as expr_tests
 use Rattle.qw_expr.specs.Tests.{tested}
-use Rattle.qw_rows.specs.declared.reader.Reader.{Reader}
+use Rattle.qw_read.specs.declared.reader.Reader.{Reader}
 use Rattle.qw_expr.specs.declared.operand.Operand.{Operand}
 use Rattle.qw_expr.specs.Cells.{Holds, HoldsValue, IsBelow, IsBelowNull, DeclaresKind, DeclaresNull}
 use Rattle.qw_expr.specs.Computes.{Known, AreHeld, AreDeclared, Computes}
-use Rattle.qw_code.specs.RowCells.{Source, Supplies, UsesNull, Test, Item, items_block, outs_of, cell_block, cells_block, plain_block, kinds_of}
-use Rattle.qw_code.proofs.PushRuns.{Never}
-use Rattle.qw_code.proofs.RowRuns.{AreTests, HasItem, AreItems, AllUse, Kept-less, truth_word}
-use Rattle.qw_code.proofs.Spending.{spread}
-use Rattle.qw_code.proofs.ScanAnswers.{truths_of, values_in}
+use Rattle.qw_emit.specs.RowCells.{Source, Supplies, UsesNull, Test, Item, items_block, outs_of, cell_block, cells_block, plain_block, kinds_of}
+use Rattle.qw_emit.proofs.PushRuns.{Never}
+use Rattle.qw_emit.proofs.RowRuns.{AreTests, HasItem, AreItems, AllUse, Kept-less, truth_word}
+use Rattle.qw_emit.proofs.Spending.{spread}
+use Rattle.qw_emit.proofs.ScanAnswers.{truths_of, values_in}
 use Rattle.qw_compile.specs.Emitted.{source_of, known_after, ReadsPart, IsDecided, AreDecided, AreComputed}
 use Rattle.qw_compile.proofs.Bridge.{lacks-there, same_word, says-there}
 use Rattle.qw_compile.proofs.Parts.{read_at}

@@ -9,8 +9,8 @@ use Rattle.qw_types.specs.declared.value.Ty.TheVariants as ty
 use Rattle.qw_types.specs.declared.value.Val.{Val}
 use Rattle.qw_module.specs.declared.instruction.ValType.{ValType}
 use Rattle.qw_module.specs.declared.instruction.ValType.TheVariants.{I32, I64}
-use Rattle.qw_meaning.specs.Expression.{column, scale_of}
-use Rattle.qw_meaning.specs.Typing.{kind_of}
+use Rattle.qw_scalar.specs.Expression.{column, scale_of}
+use Rattle.qw_scalar.specs.Typing.{kind_of}
 use Rattle.qw_map.proofs.AreaLemmas.{all-append}
 use Rattle.qw_map.specs.Columns.{values_size}
 use Rattle.qw_map.specs.declared.layout.Used.{Used}
@@ -19,17 +19,17 @@ use Rattle.qw_low.specs.Begin.{KnowsEntry}
 use Rattle.qw_expr.specs.Bindings.{Knows, IsServed}
 use Rattle.qw_expr.specs.Cells.{IsBelow, DeclaresValue, DeclaresKind, DeclaresNull}
 use Rattle.qw_expr.specs.Computes.{Known, AreBelow}
-use Rattle.qw_rows.specs.declared.reader.Reader.{Reader}
-use Rattle.qw_rows.specs.Reading.{known_of, operand_of, HasNullWord, HasOctets, StandsAt, AreBases, IsCellIn, HasBases, DeclaresBases, AreBasesIn, AreCellsIn, HasEntryOf, IsThere}
-use Rattle.qw_rows.specs.Texts.{text_operand, known_texts, AreFrom, AreTextsIn}
-use Rattle.qw_rows.specs.Constants.{AreConstantsIn, constant_operand, known_constant, literal_of, operand_at}
-use Rattle.qw_rows.specs.declared.constant.Constant.{Constant}
-use Rattle.qw_rows.specs.declared.constant.Word.{Word}
-use Rattle.qw_rows.specs.declared.constant.Word.TheVariants as word
-use Rattle.qw_rows.specs.declared.literal.Literal.{Literal}
-use Rattle.qw_rows.proofs.ConstantRuns.{constants_below, constants_described}
-use Rattle.qw_rows.proofs.Several.{known_below}
-use Rattle.qw_rows.proofs.TextPlaces.{texts_below}
+use Rattle.qw_read.specs.declared.reader.Reader.{Reader}
+use Rattle.qw_read.specs.Reading.{known_of, operand_of, HasNullWord, HasOctets, StandsAt, AreBases, IsCellIn, HasBases, DeclaresBases, AreBasesIn, AreCellsIn, HasEntryOf, IsThere}
+use Rattle.qw_read.specs.Texts.{text_operand, known_texts, AreFrom, AreTextsIn}
+use Rattle.qw_read.specs.Constants.{AreConstantsIn, constant_operand, known_constant, literal_of, operand_at}
+use Rattle.qw_read.specs.declared.constant.Constant.{Constant}
+use Rattle.qw_read.specs.declared.constant.Word.{Word}
+use Rattle.qw_read.specs.declared.constant.Word.TheVariants as word
+use Rattle.qw_read.specs.declared.literal.Literal.{Literal}
+use Rattle.qw_read.proofs.ConstantRuns.{constants_below, constants_described}
+use Rattle.qw_read.proofs.Several.{known_below}
+use Rattle.qw_read.proofs.TextPlaces.{texts_below}
 use Rattle.qw_compile.specs.Readers.{IsRead, null_word, reader_of, readers_from, first_text, first_word, first_cell, first_own, readers_of, value_type, base_types, text_types, word_types, cell_types}
 use Rattle.qw_compile.specs.Constants.{constants_from}
 use Rattle.qw_compile.specs.Texts.{literals_from}

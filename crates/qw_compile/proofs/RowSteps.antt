@@ -1,7 +1,7 @@
 -- The steps of a row's block, and of a scan's.
 use Rattle.std.proofs.Common.{◌≡◌, ℕ, ◌+◌, ◌*◌, List, [], ◌∷◌, ◌++◌, length, map, refl, sym, ap, ap₂, ◌∙◌, subst, append_assoc, arith}
 use Rattle.qw_module.specs.declared.instruction.ValType.{ValType}
-use Rattle.qw_meaning.specs.Expression.{Condition, Expression}
+use Rattle.qw_scalar.specs.Expression.{Condition, Expression}
 use Rattle.qw_low.specs.declared.step.LowStep.{LowStep}
 use Rattle.qw_low.specs.Syntax.{Statement, seq, while}
 use Rattle.qw_low.specs.Syntax as low
@@ -10,10 +10,10 @@ use Rattle.qw_expr.specs.declared.emitter.Emitter.{Emitter}
 use Rattle.qw_expr.specs.declared.operand.Operand.{Operand}
 use Rattle.qw_expr.specs.Computes.{Known}
 use Rattle.qw_expr.specs.Emits.{free_of}
-use Rattle.qw_rows.specs.Reading.{known_of}
-use Rattle.qw_rows.specs.declared.reader.Reader.{Reader}
-use Rattle.qw_code.specs.Results.{start_block, push_block, finish_block}
-use Rattle.qw_code.specs.RowCells.{Source, Test, Item, items_block, outs_of, cells_block, row_block, end_block, begin_block, more_rows, next_row, turn_block, scan_block}
+use Rattle.qw_read.specs.Reading.{known_of}
+use Rattle.qw_read.specs.declared.reader.Reader.{Reader}
+use Rattle.qw_emit.specs.Results.{start_block, push_block, finish_block}
+use Rattle.qw_emit.specs.RowCells.{Source, Test, Item, items_block, outs_of, cells_block, row_block, end_block, begin_block, more_rows, next_row, turn_block, scan_block}
 use Rattle.qw_compile.specs.Nesting.{openings, closings}
 use Rattle.qw_compile.specs.Emitted.{sources_of, ReadsPart, AreDecided, AreComputed, EmitsTests, EmitsItems, EmitsRow}
 use Rattle.qw_compile.proofs.NestingSteps.{tests-steps}

@@ -4,14 +4,14 @@ use Rattle.std.specs.List.{flat_map}
 use Rattle.std.proofs.lemmas.List.Sums.{sum_by-append, sum_by-cons}
 use Rattle.qw_types.specs.declared.code.Code.{Code}
 use Rattle.qw_types.specs.declared.value.Val.{Val}
-use Rattle.qw_meaning.specs.Conjuncts.{passes}
-use Rattle.qw_meaning.specs.Evaluation.{at_row}
-use Rattle.qw_meaning.specs.Expression.{Condition, Expression}
+use Rattle.qw_scalar.specs.Conjuncts.{passes}
+use Rattle.qw_scalar.specs.Evaluation.{at_row}
+use Rattle.qw_scalar.specs.Expression.{Condition, Expression}
 use Rattle.qw_meaning.specs.Flow.{kept, rows_given}
-use Rattle.qw_meaning.specs.Units.{units_of_all, units_of_items}
-use Rattle.qw_code.proofs.RowRuns.{all_true}
-use Rattle.qw_code.proofs.ScanAnswers.{passes-truths, truths_of}
-use Rattle.qw_code.proofs.ScanLoop.{spend}
+use Rattle.qw_scalar.specs.Units.{units_of_all, units_of_items}
+use Rattle.qw_emit.proofs.RowRuns.{all_true}
+use Rattle.qw_emit.proofs.ScanAnswers.{passes-truths, truths_of}
+use Rattle.qw_emit.proofs.ScanLoop.{spend}
 
 abbrev pub compared_at : List Condition → List Expression → List Val → ℕ
 compared_at cs es row = units_of_all cs (at_row row) + sum_by (λ (r : List Val). units_of_items es (at_row r)) (rows_given (kept cs row))

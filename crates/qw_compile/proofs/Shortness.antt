@@ -4,17 +4,17 @@ use Rattle.std.specs.List.{flat_map}
 use Rattle.std.proofs.lemmas.List.Sums.{sum_by-cons}
 use Rattle.qw_types.specs.declared.kind.Kind.{Kind}
 use Rattle.qw_types.specs.declared.kind.Kind.TheVariants as kind
-use Rattle.qw_meaning.specs.declared.expression.Expr.{Expr}
-use Rattle.qw_meaning.specs.declared.expression.Cond.{Cond}
-use Rattle.qw_meaning.specs.declared.expression.Expr.TheVariants.{Null, Number, Date, Text, Column, Arithmetic', Negative', Extract', Case', Match', Coalesce', NullIf'}
-use Rattle.qw_meaning.specs.declared.expression.Cond.TheVariants.{Compare', Between', In', IsNull', And', Or', Not', Is'}
-use Rattle.qw_meaning.specs.declared.expression.Exprs.{Exprs}
-use Rattle.qw_meaning.specs.declared.expression.Branches.{Branches}
-use Rattle.qw_meaning.specs.declared.expression.Matches.{Matches}
-use Rattle.qw_meaning.specs.declared.expression.Exprs.TheVariants as Exprs
-use Rattle.qw_meaning.specs.declared.expression.Branches.TheVariants as Branches
-use Rattle.qw_meaning.specs.declared.expression.Matches.TheVariants as Matches
-use Rattle.qw_meaning.specs.Nodes.{nodes, nodes_of, nodes_of_all, nodes_of_branches, nodes_of_matches}
+use Rattle.qw_scalar.specs.declared.expression.Expr.{Expr}
+use Rattle.qw_scalar.specs.declared.expression.Cond.{Cond}
+use Rattle.qw_scalar.specs.declared.expression.Expr.TheVariants.{Null, Number, Date, Text, Column, Arithmetic', Negative', Extract', Case', Match', Coalesce', NullIf'}
+use Rattle.qw_scalar.specs.declared.expression.Cond.TheVariants.{Compare', Between', In', IsNull', And', Or', Not', Is'}
+use Rattle.qw_scalar.specs.declared.expression.Exprs.{Exprs}
+use Rattle.qw_scalar.specs.declared.expression.Branches.{Branches}
+use Rattle.qw_scalar.specs.declared.expression.Matches.{Matches}
+use Rattle.qw_scalar.specs.declared.expression.Exprs.TheVariants as Exprs
+use Rattle.qw_scalar.specs.declared.expression.Branches.TheVariants as Branches
+use Rattle.qw_scalar.specs.declared.expression.Matches.TheVariants as Matches
+use Rattle.qw_scalar.specs.Nodes.{nodes, nodes_of, nodes_of_all, nodes_of_branches, nodes_of_matches}
 use Rattle.qw_meaning.specs.Select.{Parts}
 use Rattle.qw_map.specs.declared.layout.Used.{Used}
 use Rattle.qw_module.specs.declared.instruction.ValType.{ValType}
@@ -27,9 +27,9 @@ use Rattle.qw_low.specs.Size.{size}
 use Rattle.qw_low.specs.Steps.{expression_steps, request_steps, steps_of}
 use Rattle.qw_low.specs.Translation.{unaligned}
 use Rattle.qw_expr.specs.declared.operand.Operand.{Operand}
-use Rattle.qw_rows.specs.declared.reader.Reader.{Reader}
-use Rattle.qw_code.specs.Results.{finish_block, push_block, room_block, link_block, start_block}
-use Rattle.qw_code.specs.RowCells.{Source, begin_block, cell_block, cells_block, end_block, more_rows, next_row, plain_block, scan_block, turn_block}
+use Rattle.qw_read.specs.declared.reader.Reader.{Reader}
+use Rattle.qw_emit.specs.Results.{finish_block, push_block, room_block, link_block, start_block}
+use Rattle.qw_emit.specs.RowCells.{Source, begin_block, cell_block, cells_block, end_block, more_rows, next_row, plain_block, scan_block, turn_block}
 use Rattle.qw_compile.specs.Emitted.{sources_of}
 use Rattle.qw_compile.specs.Limits.{all_nodes}
 use Rattle.qw_compile.specs.Constants.{words_of}

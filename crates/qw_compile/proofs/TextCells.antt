@@ -11,7 +11,7 @@ use Rattle.qw_map.specs.Layout.{Layout, descriptor_size, text_areas, text_cell}
 use Rattle.qw_map.proofs.AccessLemmas.{covered-after, covered-first}
 use Rattle.qw_low.specs.State.{Part, Column, Own, Number, Address, LowState}
 use Rattle.qw_low.specs.Places.{Holds, Means, StandsFor, area_of}
-use Rattle.qw_code.proofs.ScanRuns.{IsShown}
+use Rattle.qw_emit.proofs.ScanRuns.{IsShown}
 
 number-one : (m : List ℕ) (at : ℕ) → number_at m at 1 ≡ slice_index m at
 unfolding number_at

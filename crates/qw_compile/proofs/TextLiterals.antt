@@ -10,14 +10,14 @@ use Rattle.qw_types.specs.declared.value.Ty.TheVariants as ty
 use Rattle.qw_types.specs.declared.value.Val.{Val}
 use Rattle.qw_types.specs.declared.value.Val.TheVariants as val
 use Rattle.qw_types.specs.Value.{IsOfTypeOrNull}
-use Rattle.qw_meaning.specs.declared.expression.Operator.{Operator}
-use Rattle.qw_meaning.specs.declared.expression.Field.{Field}
-use Rattle.qw_meaning.specs.Columns.{HasColumns}
-use Rattle.qw_meaning.specs.Evaluation.{applied, as_number, cell_of, chosen, combined, extracted, negated, raised, truth_of, value_of, at_row}
-use Rattle.qw_meaning.specs.Expression.{Expression, null, number, date, text, column, arithmetic, negative, extract, brought, choice}
+use Rattle.qw_scalar.specs.declared.expression.Operator.{Operator}
+use Rattle.qw_scalar.specs.declared.expression.Field.{Field}
+use Rattle.qw_scalar.specs.Columns.{HasColumns}
+use Rattle.qw_scalar.specs.Evaluation.{applied, as_number, cell_of, chosen, combined, extracted, negated, raised, truth_of, value_of, at_row}
+use Rattle.qw_scalar.specs.Expression.{Expression, null, number, date, text, column, arithmetic, negative, extract, brought, choice}
 use Rattle.qw_expr.specs.Bindings.{IsAmong, Knows}
 use Rattle.qw_expr.specs.Computes.{Known}
-use Rattle.qw_rows.specs.Texts.{known_texts, text_operand}
+use Rattle.qw_read.specs.Texts.{known_texts, text_operand}
 use Rattle.qw_compile.specs.Leaves.{OfText}
 use Rattle.qw_compile.specs.Texts.{literals_from}
 use Rattle.qw_compile.proofs.LeafLemmas.{HasLeaves}

@@ -9,9 +9,9 @@ use Rattle.qw_expr.specs.declared.known.Leaf.TheVariants as leaf
 use Rattle.qw_expr.specs.declared.operand.Operand.{Operand}
 use Rattle.qw_expr.specs.Bindings as bindings
 use Rattle.qw_expr.specs.Computes.{Known}
-use Rattle.qw_meaning.specs.Expression.{text}
-use Rattle.qw_rows.specs.declared.literal.Literal.{Literal}
-use Rattle.qw_rows.specs.Texts.{known_texts, text_operand}
+use Rattle.qw_scalar.specs.Expression.{text}
+use Rattle.qw_read.specs.declared.literal.Literal.{Literal}
+use Rattle.qw_read.specs.Texts.{known_texts, text_operand}
 use Rattle.qw_compile.specs.Readers.{text_types, word_types}
 use Rattle.qw_compile.specs.Texts.{literals_from}
 use Rattle.qw_compile.proofs.ColumnSteps.{known_end}

@@ -1,7 +1,7 @@
 -- The blocks of conjuncts and of a select list, as they are emitted one after another.
 use Rattle.std.specs.Prelude.{◌≡◌, ◌≤◌, ℕ, ◌+◌, ◌*◌, List, [], ◌∷◌, ◌++◌, length, map, take}
 use Rattle.qw_module.specs.declared.instruction.ValType.{ValType}
-use Rattle.qw_meaning.specs.Expression.{Condition, Expression}
+use Rattle.qw_scalar.specs.Expression.{Condition, Expression}
 use Rattle.qw_low.specs.Steps.{steps_of}
 use Rattle.qw_low.specs.Syntax.{Statement, seq}
 use Rattle.qw_expr.specs.Bindings as bindings
@@ -12,9 +12,9 @@ use Rattle.qw_expr.specs.declared.test.Test as exprs
 use Rattle.qw_expr.specs.Computes.{Known, Computes}
 use Rattle.qw_expr.specs.Emits.{free_of}
 use Rattle.qw_expr.specs.Tests.{DecidesTest, tested}
-use Rattle.qw_rows.specs.Reading.{ReadsAll, known_of}
-use Rattle.qw_rows.specs.declared.reader.Reader.{Reader}
-use Rattle.qw_code.specs.RowCells.{Source, Test, Item, items_block, outs_of, row_block}
+use Rattle.qw_read.specs.Reading.{ReadsAll, known_of}
+use Rattle.qw_read.specs.declared.reader.Reader.{Reader}
+use Rattle.qw_emit.specs.RowCells.{Source, Test, Item, items_block, outs_of, row_block}
 use Rattle.qw_compile.specs.Nesting.{opening, openings}
 
 -- where a value that was computed is stored from

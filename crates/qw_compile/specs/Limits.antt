@@ -1,7 +1,7 @@
 -- A specification of a size that is always compiled.
 use Rattle.std.specs.Prelude.{ℕ, ◌+◌, ◌≤◌, length, sum_by}
 use Rattle.std.specs.List.{concat}
-use Rattle.qw_meaning.specs.Nodes.{nodes, nodes_of}
+use Rattle.qw_scalar.specs.Nodes.{nodes, nodes_of}
 use Rattle.qw_meaning.specs.Select.{Parts}
 use Rattle.qw_compile.specs.Texts.{texts_of}
 

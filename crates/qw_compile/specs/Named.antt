@@ -2,11 +2,16 @@
 use Rattle.std.specs.Prelude.{◌≡◌, ℕ, ◌==◌, if◌then◌else◌, List, [], ◌∷◌, ◌++◌, Some, map, slice_get}
 use Rattle.std.specs.List.{list_any}
 use Rattle.qw_types.specs.declared.schema.ColumnType.{ColumnType}
+use Rattle.qw_types.specs.declared.value.Ty.{Ty}
 use Rattle.qw_map.specs.declared.layout.Used.{Used}
-use Rattle.qw_meaning.specs.Select.{Parts}
+use Rattle.qw_meaning.specs.Select.{Parts, types_of}
 use Rattle.qw_expr.specs.declared.known.Leaf.{Leaf}
 use Rattle.qw_expr.specs.declared.known.Leaf.TheVariants as leaf
 use Rattle.qw_compile.specs.Leaves.{leaves_of}
+
+-- a table of these columns has one of this number, of this type
+abbrev pub IsColumnAt : List ColumnType → ℕ → Ty → Type 0
+IsColumnAt columns i ty = slice_get (types_of columns) i ≡ Some ty
 
 -- a column behind others, where it isn't one of them
 abbrev pub and_column : List ℕ → ℕ → List ℕ

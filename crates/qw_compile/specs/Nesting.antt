@@ -4,7 +4,7 @@ use Rattle.qw_low.specs.declared.step.LowStep.{LowStep}
 use Rattle.qw_low.specs.declared.step.LowStep.TheVariants as step
 use Rattle.qw_low.specs.Steps.{expression_steps, steps_of}
 use Rattle.qw_low.specs.Syntax.{Expression}
-use Rattle.qw_code.specs.RowCells.{Test}
+use Rattle.qw_emit.specs.RowCells.{Test}
 
 -- behind a conjunct's block, with an expression that is 1 where it is true
 abbrev pub opening : Expression → List LowStep

@@ -5,7 +5,7 @@ use Rattle.qw_types.specs.declared.value.Ty.TheVariants as ty
 use Rattle.qw_module.specs.declared.instruction.ValType.{ValType}
 use Rattle.qw_module.specs.declared.instruction.ValType.TheVariants.{I32, I64}
 use Rattle.qw_map.specs.declared.layout.Used.{Used}
-use Rattle.qw_rows.specs.declared.reader.Reader.{Reader}
+use Rattle.qw_read.specs.declared.reader.Reader.{Reader}
 
 -- a column is among those that are read
 abbrev pub IsRead : List Used → (column : ℕ) → Ty → Type 0

@@ -1,7 +1,7 @@
 -- The text literals of a specification (ISO/IEC 9075:1992, 5.3), in the order in which they stand in its trees.
 use Rattle.std.specs.Prelude.{ℕ, ◌+◌, List, [], ◌∷◌, length, None}
 use Rattle.qw_meaning.specs.Select.{Parts}
-use Rattle.qw_rows.specs.declared.literal.Literal.{Literal}
+use Rattle.qw_read.specs.declared.literal.Literal.{Literal}
 use Rattle.qw_compile.specs.Leaves.{leaves_of, texts_among}
 
 abbrev pub texts_of : Parts → List (List ℕ)

@@ -5,10 +5,10 @@ ghost use Rattle.qw_module.specs.declared.instruction.Store.TheVariants as store
 ghost use Rattle.qw_low.specs.Syntax.{local, store};
 ghost use Rattle.qw_low.specs.Steps.{steps_of};
 ghost use Rattle.qw_low.specs.Translation.{unaligned};
-ghost use Rattle.qw_code.specs.RowCells.{cell_block, cells_block, plain_block};
+ghost use Rattle.qw_emit.specs.RowCells.{cell_block, cells_block, plain_block};
 ghost use Rattle.qw_compile.specs.Emitted.{sources_of};
 
-use qw_code::results::FREE;
+use qw_emit::results::FREE;
 use qw_expr::operand::Operand;
 use qw_low::block::Block;
 use qw_low::cell::Local;

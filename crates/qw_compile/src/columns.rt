@@ -3,7 +3,7 @@
 ghost use Rattle.std.specs.Prelude.{◌≡◌, ◌++◌, List, Some, length, map, IfOk, OnOk, IsSome};
 ghost use Rattle.std.specs.List.{All};
 ghost use Rattle.qw_module.specs.declared.instruction.ValType.{ValType};
-ghost use Rattle.qw_code.specs.RowCells as cells;
+ghost use Rattle.qw_emit.specs.RowCells as cells;
 ghost use Rattle.qw_compile.specs.Emitted.{sources_of};
 ghost use Rattle.qw_compile.specs.Readers as readers;
 

@@ -1,13 +1,13 @@
 //! The numbers and the dates of a specification (ISO/IEC 9075:1992, 5.3), and the locals for them.
 
 ghost use Rattle.std.specs.Prelude.{◌≡◌, ◌≤◌, ◌+◌, ◌++◌, IfOk, OnOk, length};
-ghost use Rattle.qw_rows.specs.declared.constant.Word.{Word};
+ghost use Rattle.qw_read.specs.declared.constant.Word.{Word};
 ghost use Rattle.qw_compile.specs.Constants.{constants_from};
 ghost use Rattle.qw_compile.specs.Leaves.{words_among};
 
 use qw_expr::known::Leaf;
 use qw_low::cell::Local;
-use qw_rows::constant::{Constant, Word};
+use qw_read::constant::{Constant, Word};
 use qw_types::NoMemory;
 use std::alloc::Global;
 

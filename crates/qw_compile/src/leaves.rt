@@ -7,7 +7,7 @@ ghost use Rattle.qw_compile.specs.Leaves.{Gathers, leaves_in, leaves_of_all, lea
 
 use crate::texts::copy_of;
 use qw_expr::known::Leaf;
-use qw_meaning::expression::{Branches, Cond, Expr, Exprs, Matches};
+use qw_scalar::expression::{Branches, Cond, Expr, Exprs, Matches};
 use qw_types::NoMemory;
 use std::alloc::Global;
 

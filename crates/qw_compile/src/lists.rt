@@ -2,12 +2,12 @@
 
 ghost use Rattle.std.specs.Prelude.{◌≡◌, ◌≤◌, ◌+◌, ◌*◌, ◌++◌, length, map, sum_by, take, OnOk, IfOk};
 ghost use Rattle.std.specs.List.{All, AllByRecursion};
-ghost use Rattle.qw_meaning.specs.Nodes.{nodes, nodes_of};
-ghost use Rattle.qw_meaning.specs.Tree.{condition_of, expression_of};
-ghost use Rattle.qw_meaning.specs.Typing.{AreTyped, IsTyped};
+ghost use Rattle.qw_scalar.specs.Nodes.{nodes, nodes_of};
+ghost use Rattle.qw_scalar.specs.Tree.{condition_of, expression_of};
+ghost use Rattle.qw_scalar.specs.Typing.{AreTyped, IsTyped};
 ghost use Rattle.qw_expr.specs.Bindings.{known_of, IsServed, TakeKnown, TakesKnown};
 ghost use Rattle.qw_expr.specs.Emits.{extent, free_of};
-ghost use Rattle.qw_rows.specs.Reading.{HasNullWord};
+ghost use Rattle.qw_read.specs.Reading.{HasNullWord};
 ghost use Rattle.qw_compile.specs.Emitted.{AreOrdered, EmitsConjunct, EmitsTests, EmitsItems};
 
 use crate::leaves::leaves_within;
@@ -18,9 +18,9 @@ use qw_expr::known::Binding;
 use qw_expr::operand::Operand;
 use qw_expr::test::emit_test;
 use qw_expr::tree::emit_expr;
-use qw_meaning::expression::{Cond, Expr};
-use qw_rows::read::emit_reads;
-use qw_rows::reader::Reader;
+use qw_read::read::emit_reads;
+use qw_read::reader::Reader;
+use qw_scalar::expression::{Cond, Expr};
 use qw_types::NoMemory;
 use std::alloc::Global;
 

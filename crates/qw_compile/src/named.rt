@@ -3,10 +3,8 @@
 ghost use Rattle.std.specs.Prelude.{◌≡◌, ◌≤◌, ◌<◌, ◌==◌, [], ◌∷◌, List, length, IfOk, OnOk};
 ghost use Rattle.std.specs.List.{AllByRecursion, list_any};
 ghost use Rattle.qw_map.specs.declared.layout.Used as layouts;
-ghost use Rattle.qw_meaning.specs.Columns.{IsColumnOf};
-ghost use Rattle.qw_meaning.specs.Select.{types_of};
 ghost use Rattle.qw_compile.specs.Leaves.{OfColumn};
-ghost use Rattle.qw_compile.specs.Named.{IsOfTable, and_named, columns_of, or_first};
+ghost use Rattle.qw_compile.specs.Named.{IsColumnAt, IsOfTable, and_named, columns_of, or_first};
 
 use qw_expr::known::Leaf;
 use qw_map::layout::Used;
@@ -60,7 +58,7 @@ pub fn used_of(
     leaves: &[Leaf],
 ) -> Result<Vec<Used>, NoMemory>
     requires some { 1 ≤ length columns.now }
-    requires over { AllByRecursion (OfColumn (IsColumnOf (types_of columns.now))) leaves.now }
+    requires over { AllByRecursion (OfColumn (IsColumnAt columns.now)) leaves.now }
     ensures named { IfOk result (λ used. columns_of used.items ≡ or_first (and_named [] leaves.now)) }
     ensures of_table { IfOk result (λ used. AllByRecursion (IsOfTable table columns.now) used.items) }
 {

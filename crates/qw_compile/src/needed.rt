@@ -6,7 +6,7 @@ ghost use Rattle.qw_expr.specs.declared.known.Leaf as leaves;
 ghost use Rattle.qw_compile.specs.Needed.{IsWithin, names};
 
 use qw_expr::known::Leaf;
-use qw_rows::reader::Reader;
+use qw_read::reader::Reader;
 
 /// Whether a leaf is this column.
 fn is_column(leaf: &Leaf, column: usize) -> bool

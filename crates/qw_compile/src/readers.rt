@@ -4,18 +4,18 @@ ghost use Rattle.std.specs.Prelude.{◌≡◌, ◌≤◌, ◌+◌, ◌*◌, ◌+
 ghost use Rattle.std.specs.List.{All};
 ghost use Rattle.qw_types.specs.Value.{IsSized};
 ghost use Rattle.qw_expr.specs.Bindings as bindings;
-ghost use Rattle.qw_rows.specs.Constants.{known_constant, literal_of};
-ghost use Rattle.qw_rows.specs.Reading.{known_of};
-ghost use Rattle.qw_rows.specs.Texts.{known_texts};
+ghost use Rattle.qw_read.specs.Constants.{known_constant, literal_of};
+ghost use Rattle.qw_read.specs.Reading.{known_of};
+ghost use Rattle.qw_read.specs.Texts.{known_texts};
 ghost use Rattle.qw_compile.specs.Readers as readers;
 
 use crate::texts::copy_of;
 use qw_expr::known::{Binding, Leaf};
 use qw_low::cell::{Cell, Local};
 use qw_map::layout::Used;
-use qw_rows::constant::{Constant, Word};
-use qw_rows::literal::Literal;
-use qw_rows::reader::Reader;
+use qw_read::constant::{Constant, Word};
+use qw_read::literal::Literal;
+use qw_read::reader::Reader;
 use qw_types::{NoMemory, Text};
 use std::alloc::Global;
 

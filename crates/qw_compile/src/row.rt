@@ -2,26 +2,26 @@
 
 ghost use Rattle.std.specs.Prelude.{◌≡◌, ◌≤◌, ◌+◌, ◌*◌, length, map, sum_by, take, IfOk, OnOk};
 ghost use Rattle.std.specs.List.{All, AllByRecursion};
-ghost use Rattle.qw_meaning.specs.Nodes.{nodes, nodes_of};
-ghost use Rattle.qw_meaning.specs.Tree.{condition_of, expression_of};
-ghost use Rattle.qw_meaning.specs.Typing.{AreTyped, IsTyped};
+ghost use Rattle.qw_scalar.specs.Nodes.{nodes, nodes_of};
+ghost use Rattle.qw_scalar.specs.Tree.{condition_of, expression_of};
+ghost use Rattle.qw_scalar.specs.Typing.{AreTyped, IsTyped};
 ghost use Rattle.qw_expr.specs.Bindings.{known_of, IsServed, TakeKnown, TakesKnown};
 ghost use Rattle.qw_expr.specs.Emits.{extent, free_of};
-ghost use Rattle.qw_rows.specs.Reading.{HasNullWord};
+ghost use Rattle.qw_read.specs.Reading.{HasNullWord};
 ghost use Rattle.qw_compile.specs.Emitted.{AreOrdered, EmitsRow};
 
 use crate::cells::store_cells;
 use crate::lists::{emit_items, emit_tests};
 use crate::nesting::close_tests;
-use qw_code::results::push_row;
+use qw_emit::results::push_row;
 use qw_expr::emitter::Emitter;
 use qw_expr::known::Binding;
 use qw_expr::operand::Operand;
 use qw_low::block::Block;
 use qw_map::layout::{CELL_OFFSET, CELL_SIZE};
-use qw_meaning::expression::{Cond, Expr};
-use qw_rows::read::emit_reads;
-use qw_rows::reader::Reader;
+use qw_read::read::emit_reads;
+use qw_read::reader::Reader;
+use qw_scalar::expression::{Cond, Expr};
 use qw_types::NoMemory;
 use std::alloc::Global;
 

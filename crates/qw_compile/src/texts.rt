@@ -7,7 +7,7 @@ ghost use Rattle.qw_compile.specs.Texts as gathered;
 
 use qw_expr::known::Leaf;
 use qw_low::cell::{Cell, Local};
-use qw_rows::literal::Literal;
+use qw_read::literal::Literal;
 use qw_types::{NoMemory, Text};
 use std::alloc::Global;
 

@@ -1,4 +1,4 @@
-//! A table of rows in memory.
+//! `Loaded`: the rows of a table, kept column by column.
 
 ghost use Rattle.std.specs.Prelude.{◌≡◌, ◌<◌, ◌↔◌, ℕ, List, [], length, map, IsTrue, Some, slice_get};
 ghost use Rattle.std.specs.List.{AllByRecursion, AllZip};

@@ -1,5 +1,21 @@
-pub mod CompiledLemmas
-mod EmptyModules
-mod OwnWeights
-pub mod SameLemmas
-mod UnitsLaws
+pub mod Answered
+mod Around
+pub mod CellsRead
+mod FormLemmas
+mod Locals
+mod ModuleRuns
+mod ModuleSpelled
+mod ModuleValid
+pub mod PushRuns
+pub mod Refusals
+pub mod ReturnRuns
+pub mod RowResults
+pub mod RowRuns
+pub mod RunWorlds
+pub mod ScanAnswers
+pub mod ScanCompiled
+pub mod ScanLoop
+pub mod ScanRuns
+pub mod ScanTyped
+pub mod Spending
+pub mod StartRuns

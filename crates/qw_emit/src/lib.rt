@@ -1,8 +1,8 @@
-//! When a module is the compiled form of a query specification (`specs/Compiled`). No function here computes anything.
+//! What all compiled queries are made of: the module around a block of Low, and the rows that are added to the result.
 //!
-//! - [`compiled_laws`]: a compiled module behaves with its layout; the bounds of a statement's runs.
-//! - [`worked_laws`]: worked cases of the definitions, with numbers.
+//! - [`module::module_of`]: the module whose function `run` is a block's code.
+//! - [`results`]: the blocks that add a row to the result, and end it (`specs/Results`).
 #![tactic(auto)]
 
-pub mod compiled_laws;
-pub mod worked_laws;
+pub mod module;
+pub mod results;

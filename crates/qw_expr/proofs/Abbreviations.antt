@@ -2,17 +2,17 @@
 use Rattle.std.proofs.Common.{◌≡◌, ℕ, ◌≤◌, List, Err, ◌∙◌, refl, arith}
 use Rattle.qw_types.specs.declared.code.Code.{Code}
 use Rattle.qw_types.specs.declared.value.Val.{Val}
-use Rattle.qw_meaning.specs.declared.comparison.Comparison.{Comparison}
-use Rattle.qw_meaning.specs.declared.expression.Matches.{Matches}
-use Rattle.qw_meaning.specs.declared.expression.Matches.TheVariants as Matches
-use Rattle.qw_meaning.specs.Columns.{HasColumns, HaveColumns, HoldsIn}
-use Rattle.qw_meaning.specs.Evaluation.{Environment, truth_of, value_of}
-use Rattle.qw_meaning.specs.Expression.{Expression, Condition, Expressions, last, more, Choices, otherwise, when, scale_of, among, between, case, cases, largest_result, choice, comparison, is_null, negation_of, null_if}
-use Rattle.qw_meaning.specs.Tree.{matches_of}
-use Rattle.qw_meaning.specs.Typing.{AreTyped, IsTyped}
+use Rattle.qw_scalar.specs.declared.comparison.Comparison.{Comparison}
+use Rattle.qw_scalar.specs.declared.expression.Matches.{Matches}
+use Rattle.qw_scalar.specs.declared.expression.Matches.TheVariants as Matches
+use Rattle.qw_scalar.specs.Columns.{HasColumns, HaveColumns, HoldsIn}
+use Rattle.qw_scalar.specs.Evaluation.{Environment, truth_of, value_of}
+use Rattle.qw_scalar.specs.Expression.{Expression, Condition, Expressions, last, more, Choices, otherwise, when, scale_of, among, between, case, cases, largest_result, choice, comparison, is_null, negation_of, null_if}
+use Rattle.qw_scalar.specs.Tree.{matches_of}
+use Rattle.qw_scalar.specs.Typing.{AreTyped, IsTyped}
 use Rattle.qw_expr.specs.Bindings.{TakeKnown, TakesKnown}
 use Rattle.qw_expr.specs.Computes.{Known}
-use Rattle.qw_meaning.specs.Units.{units, units_of}
+use Rattle.qw_scalar.specs.Units.{units, units_of}
 
 -- what a condition and an expression need of an operand that they evaluate first
 pub record First (x : Expression) (c : Condition) : Type 0 where

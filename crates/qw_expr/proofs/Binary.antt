@@ -6,12 +6,12 @@ use Rattle.qw_types.specs.declared.kind.Kind.{Kind}
 use Rattle.qw_types.specs.declared.kind.Kind.TheVariants as kind
 use Rattle.qw_types.specs.declared.value.Val.{Val}
 use Rattle.qw_types.specs.declared.value.Val.TheVariants as val
-use Rattle.qw_meaning.specs.declared.expression.Operator.{Operator}
-use Rattle.qw_meaning.specs.Columns.{HasColumns, HoldsIn}
-use Rattle.qw_meaning.specs.Evaluation.{Environment, applied, as_number, combined, value_of, at_row}
-use Rattle.qw_meaning.specs.Expression.{Expression, arithmetic, scale_of, scale_after}
-use Rattle.qw_meaning.specs.Typing.{IsTyped, IsValueOf, is_number, kind_of}
-use Rattle.qw_meaning.proofs.TypingLemmas.{typed_value}
+use Rattle.qw_scalar.specs.declared.expression.Operator.{Operator}
+use Rattle.qw_scalar.specs.Columns.{HasColumns, HoldsIn}
+use Rattle.qw_scalar.specs.Evaluation.{Environment, applied, as_number, combined, value_of, at_row}
+use Rattle.qw_scalar.specs.Expression.{Expression, arithmetic, scale_of, scale_after}
+use Rattle.qw_scalar.specs.Typing.{IsTyped, IsValueOf, is_number, kind_of}
+use Rattle.qw_scalar.proofs.TypingLemmas.{typed_value}
 use Rattle.qw_module.specs.declared.instruction.ValType.{ValType}
 use Rattle.qw_module.specs.declared.instruction.ValType.TheVariants.{I32, I64}
 use Rattle.qw_low.specs.declared.cell.Cell.{Cell}
@@ -28,7 +28,7 @@ use Rattle.qw_low.proofs.Results.{Kept-then, at_least, Comes, comes_weaker, come
 use Rattle.qw_wide.specs.Numbers.{HasNumber, Operates}
 use Rattle.qw_expr.specs.declared.operand.Operand.{Operand}
 use Rattle.qw_expr.specs.Cells.{Holds, IsBelow, IsBelowNull, DeclaresNull, DeclaresKind, DeclaresValue, Declares}
-use Rattle.qw_meaning.specs.Units.{units}
+use Rattle.qw_scalar.specs.Units.{units}
 use Rattle.qw_expr.specs.Computes.{Known, AreHeld, AreBelow, Computes}
 use Rattle.qw_expr.specs.Inner.Operated.{number_at}
 use Rattle.qw_expr.specs.Inner.Nulls.{join_block, joined_null, unless_null}

@@ -8,11 +8,11 @@ use Rattle.qw_types.specs.declared.truth.Truth.{Truth}
 use Rattle.qw_types.specs.declared.truth.Truth.TheVariants.{True, False, Unknown}
 use Rattle.qw_types.specs.declared.value.Val.{Val}
 use Rattle.qw_types.specs.declared.value.Val.TheVariants as val
-use Rattle.qw_meaning.specs.Columns.{HasColumns, HoldsIn}
-use Rattle.qw_meaning.specs.Evaluation.{Environment, chosen, same_truth, truth_of, value_of, at_row}
-use Rattle.qw_meaning.specs.Expression.{Expression, Condition, choice}
-use Rattle.qw_meaning.specs.Typing.{IsTyped, IsValueOf, agree, joined, kind_of}
-use Rattle.qw_meaning.proofs.TypingLemmas.{typed_value}
+use Rattle.qw_scalar.specs.Columns.{HasColumns, HoldsIn}
+use Rattle.qw_scalar.specs.Evaluation.{Environment, chosen, same_truth, truth_of, value_of, at_row}
+use Rattle.qw_scalar.specs.Expression.{Expression, Condition, choice}
+use Rattle.qw_scalar.specs.Typing.{IsTyped, IsValueOf, agree, joined, kind_of}
+use Rattle.qw_scalar.proofs.TypingLemmas.{typed_value}
 use Rattle.qw_map.proofs.TurnFacts.{slice_get-set_same}
 use Rattle.qw_module.specs.declared.instruction.ValType.{ValType}
 use Rattle.qw_module.specs.declared.instruction.ValType.TheVariants.{I32, I64}
@@ -29,7 +29,7 @@ use Rattle.qw_low.proofs.Results.{Kept-same, Kept-set, Kept-then, Comes, comes_w
 use Rattle.qw_expr.specs.declared.choice.Place.{Place}
 use Rattle.qw_expr.specs.declared.operand.Operand.{Operand}
 use Rattle.qw_expr.specs.Cells.{Holds, HoldsValue, HoldsTruth, IsWithin, IsBelowNull, DeclaresNull, DeclaresKind, Declares}
-use Rattle.qw_meaning.specs.Units.{units}
+use Rattle.qw_scalar.specs.Units.{units}
 use Rattle.qw_expr.specs.Computes.{Known, AreHeld, AreBelow, Computes, Decides}
 use Rattle.qw_expr.specs.Inner.Truths.{unknown_word, junction_null}
 use Rattle.qw_expr.specs.Inner.Choices.{Suits, place_types, place_at, copy_block, chosen_at}

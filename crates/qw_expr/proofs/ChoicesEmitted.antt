@@ -1,8 +1,8 @@
 -- Choices that are emitted.
 use Rattle.std.proofs.Common.{◌≡◌, ◌+◌, ◌≤◌, Bool, List, [], ◌∷◌, ◌++◌, length, length-append, sym, ap, ◌∙◌, subst, arith}
 use Rattle.std.proofs.lemmas.List.{append_assoc}
-use Rattle.qw_meaning.specs.Expression.{Expression, Condition, choice}
-use Rattle.qw_meaning.specs.Typing.{IsTyped, kind_of}
+use Rattle.qw_scalar.specs.Expression.{Expression, Condition, choice}
+use Rattle.qw_scalar.specs.Typing.{IsTyped, kind_of}
 use Rattle.qw_module.specs.declared.instruction.ValType.{ValType}
 use Rattle.qw_module.specs.declared.instruction.Op.TheVariants as o
 use Rattle.qw_low.specs.declared.cell.Cell.{Cell}

@@ -2,7 +2,7 @@
 use Rattle.std.proofs.Common.{◌≡◌, ℕ, IsTrue, Option, Some, None, ap, ◌∙◌, refl}
 use Rattle.qw_types.specs.declared.kind.Kind.{Kind}
 use Rattle.qw_types.specs.declared.kind.Kind.TheVariants as kind
-use Rattle.qw_meaning.specs.Typing.{are_comparable, is_date, is_number}
+use Rattle.qw_scalar.specs.Typing.{are_comparable, is_date, is_number}
 
 pub some_is : (k : Option Kind) (f g : Kind) → k ≡ Some f → f ≡ g → k ≡ Some g
 some_is k f g is same = is ∙ ap (λ x. Some x) same

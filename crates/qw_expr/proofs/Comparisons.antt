@@ -1,8 +1,8 @@
 -- What comparisons come to.
 use Rattle.std.proofs.Common.{◌≡◌, ℕ, ℤ, ◌+◌, ◌*◌, ◌<◌, ◌≤◌, Ordering, Bool, true, false, length, Option, Some, Ok, slice_get, arith}
 use Rattle.qw_types.specs.declared.truth.Truth.{Truth}
-use Rattle.qw_meaning.specs.declared.comparison.Comparison.{Comparison}
-use Rattle.qw_meaning.specs.Evaluation.{answers, truth_if}
+use Rattle.qw_scalar.specs.declared.comparison.Comparison.{Comparison}
+use Rattle.qw_scalar.specs.Evaluation.{answers, truth_if}
 use Rattle.qw_module.specs.Numbers.{truth}
 use Rattle.qw_low.specs.declared.cell.Cell.{Cell}
 use Rattle.qw_low.specs.Syntax.{Statement, skip}

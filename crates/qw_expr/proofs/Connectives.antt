@@ -6,9 +6,9 @@ use Rattle.qw_types.specs.declared.code.Code.{Code}
 use Rattle.qw_types.specs.declared.truth.Truth.{Truth}
 use Rattle.qw_types.specs.declared.truth.Truth.TheVariants.{True, False, Unknown}
 use Rattle.qw_types.specs.declared.value.Val.{Val}
-use Rattle.qw_meaning.specs.Columns.{HaveColumns, HoldsIn}
-use Rattle.qw_meaning.specs.Evaluation.{Environment, same_truth, truth_if, truth_of, at_row}
-use Rattle.qw_meaning.specs.Expression.{Condition, negation_of, is}
+use Rattle.qw_scalar.specs.Columns.{HaveColumns, HoldsIn}
+use Rattle.qw_scalar.specs.Evaluation.{Environment, same_truth, truth_if, truth_of, at_row}
+use Rattle.qw_scalar.specs.Expression.{Condition, negation_of, is}
 use Rattle.qw_map.proofs.TurnFacts.{slice_get-set_same}
 use Rattle.qw_module.specs.declared.instruction.ValType.{ValType}
 use Rattle.qw_module.specs.declared.instruction.ValType.TheVariants.{I32}
@@ -24,7 +24,7 @@ use Rattle.qw_low.specs.Raising.{Kept}
 use Rattle.qw_low.specs.Held.{SaysNull}
 use Rattle.qw_low.proofs.Results.{Kept-set, Kept-one, Comes, comes_then, comes_assign}
 use Rattle.qw_expr.specs.Cells.{HoldsTruth, IsBelowNull, DeclaresNull, DeclaresTruth}
-use Rattle.qw_meaning.specs.Units.{units_of}
+use Rattle.qw_scalar.specs.Units.{units_of}
 use Rattle.qw_expr.specs.Computes.{Known, Decides}
 use Rattle.qw_expr.specs.Inner.Truths.{is_false}
 use Rattle.qw_expr.proofs.Nulls.{value_says, null_below_more}

@@ -6,11 +6,11 @@ use Rattle.qw_types.specs.declared.kind.Kind.{Kind}
 use Rattle.qw_types.specs.declared.kind.Kind.TheVariants as kind
 use Rattle.qw_types.specs.declared.value.Val.{Val}
 use Rattle.qw_types.specs.declared.value.Val.TheVariants as val
-use Rattle.qw_meaning.specs.declared.expression.Field.{Field}
-use Rattle.qw_meaning.specs.Evaluation.{raised, value_of, at_row}
-use Rattle.qw_meaning.specs.Expression.{Expression, null, extract, brought, scale_of}
-use Rattle.qw_meaning.specs.Typing.{IsTyped, IsValueOf, at_scale, is_number, kind_of}
-use Rattle.qw_meaning.proofs.TypingLemmas.{typed_value}
+use Rattle.qw_scalar.specs.declared.expression.Field.{Field}
+use Rattle.qw_scalar.specs.Evaluation.{raised, value_of, at_row}
+use Rattle.qw_scalar.specs.Expression.{Expression, null, extract, brought, scale_of}
+use Rattle.qw_scalar.specs.Typing.{IsTyped, IsValueOf, at_scale, is_number, kind_of}
+use Rattle.qw_scalar.proofs.TypingLemmas.{typed_value}
 use Rattle.qw_map.proofs.TurnFacts.{slice_get-set_same}
 use Rattle.qw_module.specs.declared.instruction.ValType.TheVariants.{I32, I64}
 use Rattle.qw_low.specs.Syntax.{Statement, seq, assign}

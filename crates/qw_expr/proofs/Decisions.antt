@@ -7,12 +7,12 @@ use Rattle.qw_types.specs.declared.truth.Truth.{Truth}
 use Rattle.qw_types.specs.declared.truth.Truth.TheVariants.{Unknown}
 use Rattle.qw_types.specs.declared.value.Val.{Val}
 use Rattle.qw_types.specs.declared.value.Val.TheVariants as val
-use Rattle.qw_meaning.specs.declared.comparison.Comparison.{Comparison}
-use Rattle.qw_meaning.specs.Columns.{HasColumns, HaveColumns, HoldsIn}
-use Rattle.qw_meaning.specs.Evaluation.{Environment, answers, compared, truth_if, value_of, truth_of, at_row}
-use Rattle.qw_meaning.specs.Expression.{Expression, comparison, scale_of}
-use Rattle.qw_meaning.specs.Typing.{AreTyped, IsTyped, IsValueOf, is_date, is_number, kind_of}
-use Rattle.qw_meaning.proofs.TypingLemmas.{typed_value}
+use Rattle.qw_scalar.specs.declared.comparison.Comparison.{Comparison}
+use Rattle.qw_scalar.specs.Columns.{HasColumns, HaveColumns, HoldsIn}
+use Rattle.qw_scalar.specs.Evaluation.{Environment, answers, compared, truth_if, value_of, truth_of, at_row}
+use Rattle.qw_scalar.specs.Expression.{Expression, comparison, scale_of}
+use Rattle.qw_scalar.specs.Typing.{AreTyped, IsTyped, IsValueOf, is_date, is_number, kind_of}
+use Rattle.qw_scalar.proofs.TypingLemmas.{typed_value}
 use Rattle.qw_module.specs.declared.instruction.ValType.{ValType}
 use Rattle.qw_module.specs.declared.instruction.ValType.TheVariants.{I32, I64}
 use Rattle.qw_low.specs.declared.cell.Cell.{Cell}
@@ -27,7 +27,7 @@ use Rattle.qw_wide.proofs.OrderRuns.{same_scale}
 use Rattle.qw_wide.proofs.Words.{below_fits}
 use Rattle.qw_expr.specs.declared.operand.Operand.{Operand}
 use Rattle.qw_expr.specs.Cells.{Holds, HoldsTruth, IsBelowNull, DeclaresNull, DeclaresKind, DeclaresValue, Declares}
-use Rattle.qw_meaning.specs.Units.{octets_in, octets_of, units_of}
+use Rattle.qw_scalar.specs.Units.{octets_in, octets_of, units_of}
 use Rattle.qw_expr.specs.Computes.{Known, AreHeld, AreBelow, Computes, Decides}
 use Rattle.qw_expr.specs.Inner.Nulls.{join_block, joined_null}
 use Rattle.qw_expr.specs.Inner.Truths.{zero_if_null}

@@ -2,10 +2,10 @@
 use Rattle.std.proofs.Common.{◌≡◌, ℕ, ℤ, neg_ℤ, ◌+◌, List, [], ◌∷◌, ◌++◌, length, length-append, IsTrue, Option, Some, None, Result, Ok, refl, sym, ap, ◌∙◌, subst, arith}
 use Rattle.qw_types.specs.Arithmetic.{bring}
 use Rattle.qw_types.specs.declared.code.Code.{Code}
-use Rattle.qw_meaning.specs.declared.expression.Operator.{Operator}
-use Rattle.qw_meaning.specs.Evaluation.{applied}
-use Rattle.qw_meaning.specs.Expression.{Expression, arithmetic, negative, brought, scale_of, scale_after}
-use Rattle.qw_meaning.specs.Typing.{IsTyped, is_number, kind_of}
+use Rattle.qw_scalar.specs.declared.expression.Operator.{Operator}
+use Rattle.qw_scalar.specs.Evaluation.{applied}
+use Rattle.qw_scalar.specs.Expression.{Expression, arithmetic, negative, brought, scale_of, scale_after}
+use Rattle.qw_scalar.specs.Typing.{IsTyped, is_number, kind_of}
 use Rattle.qw_module.specs.declared.instruction.ValType.{ValType}
 use Rattle.qw_module.specs.declared.instruction.ValType.TheVariants.{I32, I64}
 use Rattle.qw_low.specs.declared.step.LowStep.{LowStep}

@@ -6,9 +6,9 @@ use Rattle.qw_types.specs.declared.code.Code.{Code}
 use Rattle.qw_types.specs.declared.truth.Truth.{Truth}
 use Rattle.qw_types.specs.declared.truth.Truth.TheVariants.{True, False, Unknown}
 use Rattle.qw_types.specs.declared.value.Val.{Val}
-use Rattle.qw_meaning.specs.Columns.{HaveColumns, HoldsIn}
-use Rattle.qw_meaning.specs.Evaluation.{Environment, and_then, or_else, same_truth, truth_of, at_row}
-use Rattle.qw_meaning.specs.Expression.{Condition, both, either}
+use Rattle.qw_scalar.specs.Columns.{HaveColumns, HoldsIn}
+use Rattle.qw_scalar.specs.Evaluation.{Environment, and_then, or_else, same_truth, truth_of, at_row}
+use Rattle.qw_scalar.specs.Expression.{Condition, both, either}
 use Rattle.qw_module.specs.declared.instruction.ValType.{ValType}
 use Rattle.qw_module.specs.declared.instruction.ValType.TheVariants.{I32}
 use Rattle.qw_module.specs.declared.instruction.Binary.TheVariants.{And, Or}
@@ -19,7 +19,7 @@ use Rattle.qw_low.specs.State.{LowState}
 use Rattle.qw_low.specs.Raising.{Kept}
 use Rattle.qw_low.proofs.Results.{Kept-same, Kept-then, Comes, comes_weaker, comes_then, comes_choose}
 use Rattle.qw_expr.specs.Cells.{HoldsTruth, IsBelow, IsBelowNull, DeclaresNull, Declares}
-use Rattle.qw_meaning.specs.Units.{units_of}
+use Rattle.qw_scalar.specs.Units.{units_of}
 use Rattle.qw_expr.specs.Computes.{Known, AreHeld, AreBelow, Decides}
 use Rattle.qw_expr.specs.Inner.Truths.{i32, may_hold, unknown_word, junction_null, set_truth, and_block, or_block}
 use Rattle.qw_expr.proofs.Nulls.{truth_kept, known_kept, below_more}

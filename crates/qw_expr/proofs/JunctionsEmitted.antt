@@ -1,7 +1,7 @@
 -- AND and OR that are emitted.
 use Rattle.std.proofs.Common.{◌≡◌, ℕ, ◌+◌, List, [], ◌∷◌, ◌++◌, length, Option, sym, ap, ◌∙◌, subst, arith}
 use Rattle.std.proofs.lemmas.List.{append_assoc}
-use Rattle.qw_meaning.specs.Expression.{Condition, both, either}
+use Rattle.qw_scalar.specs.Expression.{Condition, both, either}
 use Rattle.qw_module.specs.declared.instruction.ValType.{ValType}
 use Rattle.qw_module.specs.declared.instruction.ValType.TheVariants.{I32}
 use Rattle.qw_low.specs.declared.cell.Cell.{Cell}

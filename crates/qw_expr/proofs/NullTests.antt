@@ -6,8 +6,8 @@ use Rattle.qw_types.specs.declared.truth.Truth.{Truth}
 use Rattle.qw_types.specs.declared.truth.Truth.TheVariants.{True, False, Unknown}
 use Rattle.qw_types.specs.declared.value.Val.{Val}
 use Rattle.qw_types.specs.declared.value.Val.TheVariants as val
-use Rattle.qw_meaning.specs.Evaluation.{same_truth, tested_null, truth_if, truth_of, value_of, at_row}
-use Rattle.qw_meaning.specs.Expression.{Expression, Condition, is_null, is}
+use Rattle.qw_scalar.specs.Evaluation.{same_truth, tested_null, truth_if, truth_of, value_of, at_row}
+use Rattle.qw_scalar.specs.Expression.{Expression, Condition, is_null, is}
 use Rattle.qw_map.proofs.TurnFacts.{slice_get-set_same}
 use Rattle.qw_module.specs.declared.instruction.ValType.{ValType}
 use Rattle.qw_module.specs.declared.instruction.ValType.TheVariants.{I32}

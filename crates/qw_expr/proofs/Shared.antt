@@ -3,10 +3,10 @@ use Rattle.std.proofs.Common.{◌≡◌, ℕ, ◌+◌, ◌≤◌, List, [], ◌�
 use Rattle.qw_types.specs.Arithmetic.{◌>>=◌}
 use Rattle.qw_types.specs.declared.code.Code.{Code}
 use Rattle.qw_types.specs.declared.value.Val.{Val}
-use Rattle.qw_meaning.specs.Columns.{HasColumns, HaveColumns, HoldsIn}
-use Rattle.qw_meaning.specs.Evaluation.{Environment, truth_of, value_of, at_row}
-use Rattle.qw_meaning.specs.Expression.{Expression, Condition, scale_of}
-use Rattle.qw_meaning.specs.Typing.{kind_of}
+use Rattle.qw_scalar.specs.Columns.{HasColumns, HaveColumns, HoldsIn}
+use Rattle.qw_scalar.specs.Evaluation.{Environment, truth_of, value_of, at_row}
+use Rattle.qw_scalar.specs.Expression.{Expression, Condition, scale_of}
+use Rattle.qw_scalar.specs.Typing.{kind_of}
 use Rattle.qw_module.specs.declared.instruction.ValType.{ValType}
 use Rattle.qw_low.specs.declared.cell.Cell.{Cell}
 use Rattle.qw_low.specs.Syntax.{Statement, skip, seq}
@@ -19,7 +19,7 @@ use Rattle.qw_expr.specs.declared.emitter.Emitter.{Emitter}
 use Rattle.qw_expr.specs.declared.operand.Operand.{Operand}
 use Rattle.qw_expr.specs.Bindings.{IsAmong}
 use Rattle.qw_expr.specs.Cells.{Holds, HoldsTruth, IsBelow, DeclaresValue}
-use Rattle.qw_meaning.specs.Units.{units, units_of}
+use Rattle.qw_scalar.specs.Units.{units, units_of}
 use Rattle.qw_expr.specs.Computes.{Known, AreHeld, AreBelow, AreDeclared, Computes, Decides}
 use Rattle.qw_expr.specs.Emits.{Emits, EmitsTruth, free_of}
 use Rattle.qw_expr.proofs.Binary.{declares_first, declares_rest}

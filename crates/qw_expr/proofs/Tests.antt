@@ -10,11 +10,11 @@ use Rattle.qw_types.specs.declared.truth.Truth.{Truth}
 use Rattle.qw_types.specs.declared.truth.Truth.TheVariants.{True, False, Unknown}
 use Rattle.qw_types.specs.declared.value.Val.{Val}
 use Rattle.qw_types.specs.declared.value.Val.TheVariants as val
-use Rattle.qw_meaning.specs.declared.comparison.Comparison.{Comparison}
-use Rattle.qw_meaning.specs.Columns.{HaveColumns, HoldsIn}
-use Rattle.qw_meaning.specs.Evaluation.{Environment, answers, compared, truth_if, truth_of, value_of, at_row}
-use Rattle.qw_meaning.specs.Expression.{Expression, Condition, comparison, negation_of, scale_of}
-use Rattle.qw_meaning.specs.Typing.{AreTyped, IsTyped, kind_of}
+use Rattle.qw_scalar.specs.declared.comparison.Comparison.{Comparison}
+use Rattle.qw_scalar.specs.Columns.{HaveColumns, HoldsIn}
+use Rattle.qw_scalar.specs.Evaluation.{Environment, answers, compared, truth_if, truth_of, value_of, at_row}
+use Rattle.qw_scalar.specs.Expression.{Expression, Condition, comparison, negation_of, scale_of}
+use Rattle.qw_scalar.specs.Typing.{AreTyped, IsTyped, kind_of}
 use Rattle.qw_module.specs.declared.instruction.ValType.{ValType}
 use Rattle.qw_module.specs.declared.instruction.ValType.TheVariants.{I32, I64}
 use Rattle.qw_module.specs.Numbers.{truth}

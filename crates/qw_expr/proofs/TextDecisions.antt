@@ -1,4 +1,4 @@
--- Comparisons of texts.
+-- The blocks that compare texts decide the comparison.
 use Rattle.std.proofs.Common.{◌≡◌, ℕ, ◌+◌, ◌*◌, ◌≤◌, Bool, FitsSigned, List, ◌∷◌, ◌++◌, length, Option, Some, Ok, slice_get, refl, sym, ap, ap₂, ◌∙◌, subst, arith, w64}
 use Rattle.std.specs.Ordering.{is_eq}
 use Rattle.qw_types.specs.TextOrder.{text_order}
@@ -7,13 +7,13 @@ use Rattle.qw_types.specs.declared.kind.Kind.TheVariants as kind
 use Rattle.qw_types.specs.declared.truth.Truth.{Truth}
 use Rattle.qw_types.specs.declared.value.Val.{Val}
 use Rattle.qw_types.specs.declared.value.Val.TheVariants as val
-use Rattle.qw_meaning.specs.declared.comparison.Comparison.{Comparison}
-use Rattle.qw_meaning.specs.declared.comparison.Comparison.TheVariants as op
-use Rattle.qw_meaning.specs.Columns.{HasColumns, HoldsIn}
-use Rattle.qw_meaning.specs.Evaluation.{answers, compared, truth_if, value_of, at_row}
-use Rattle.qw_meaning.specs.Expression.{Expression, comparison, scale_of}
-use Rattle.qw_meaning.specs.Typing.{AreTyped, IsTyped, IsValueOf, kind_of}
-use Rattle.qw_meaning.proofs.TypingLemmas.{typed_value}
+use Rattle.qw_scalar.specs.declared.comparison.Comparison.{Comparison}
+use Rattle.qw_scalar.specs.declared.comparison.Comparison.TheVariants as op
+use Rattle.qw_scalar.specs.Columns.{HasColumns, HoldsIn}
+use Rattle.qw_scalar.specs.Evaluation.{answers, compared, truth_if, value_of, at_row}
+use Rattle.qw_scalar.specs.Expression.{Expression, comparison, scale_of}
+use Rattle.qw_scalar.specs.Typing.{AreTyped, IsTyped, IsValueOf, kind_of}
+use Rattle.qw_scalar.proofs.TypingLemmas.{typed_value}
 use Rattle.qw_map.proofs.TurnFacts.{slice_get-set_same}
 use Rattle.qw_module.specs.declared.instruction.ValType.{ValType}
 use Rattle.qw_module.specs.declared.instruction.ValType.TheVariants.{I32, I64}
@@ -31,13 +31,13 @@ use Rattle.qw_low.specs.Held.{HoldsText, SaysValue}
 use Rattle.qw_low.proofs.Appended.{four}
 use Rattle.qw_low.proofs.Promises.{Ends-weaker}
 use Rattle.qw_low.proofs.Results.{Kept-same, Kept-set, Kept-then, Comes, comes_then, comes_assign}
-use Rattle.qw_text.specs.Texts.{Compares, DeclaresText, SaysSame, SaysOrder, own_types}
+use Rattle.qw_text.specs.Texts.{Compares, DeclaresText, SaysSame, SaysOrder, of_both, of_left, own_types}
 use Rattle.qw_wide.proofs.Words.{held_word}
 use Rattle.qw_expr.specs.declared.emitter.Emitter.{Emitter}
 use Rattle.qw_expr.specs.declared.text.TextLocals.{TextLocals}
 use Rattle.qw_expr.specs.declared.operand.Operand.{Operand}
 use Rattle.qw_expr.specs.Cells.{Holds, HoldsTruth, DeclaresKind, DeclaresValue, Declares}
-use Rattle.qw_meaning.specs.Units.{octets_in}
+use Rattle.qw_scalar.specs.Units.{octets_in}
 use Rattle.qw_expr.specs.Computes.{Known, AreBelow, Computes, Decides}
 use Rattle.qw_expr.specs.Emits.{Emits, EmitsTruth, free_of}
 use Rattle.qw_expr.specs.Inner.Nulls.{join_block, joined_null, after_unless}
@@ -54,14 +54,14 @@ use Rattle.qw_expr.proofs.TruthsEmitted.{pair_emits, zero_steps}
 use Rattle.qw_expr.proofs.Unknowns.{null_low}
 
 -- ---- the tests
-tests_by : (operator : Comparison) (says : (v w : List ℕ) → LowState → Type 0) (left right : Cell) (free t : ℕ) (a : Statement) (e : LowExpression) → Compares says left right free a →
-    ((u : LowState) (v w : List ℕ) → says v w u → value u e ≡ Some (Number (truth (answers operator (text_order v w))))) → ((types : List ValType) → Declares types free own_types → low.HasType types e I32) → TestsTexts operator left right free t (seq a (assign t e))
-tests_by operator says left right free t a e compares is typed = record {
+tests_by : (octets : (v w : List ℕ) → ℕ) (operator : Comparison) (says : (v w : List ℕ) → LowState → Type 0) (left right : Cell) (free t : ℕ) (a : Statement) (e : LowExpression) → ((v w : List ℕ) → octets v w ≤ length v + length w) →
+    Compares octets says left right free a → ((u : LowState) (v w : List ℕ) → says v w u → value u e ≡ Some (Number (truth (answers operator (text_order v w))))) → ((types : List ValType) → Declares types free own_types → low.HasType types e I32) → TestsTexts operator left right free t (seq a (assign t e))
+tests_by octets operator says left right free t a e fewer compares is typed = record {
   runs = λ pages fuel more s v w enough within held_v held_w before room.
       let n : ℕ = truth (answers operator (text_order v w)) in
       let Post : ℕ → LowState → Type 0 = λ k u. Kept t s u × (slice_get u.locals t ≡ Some (Number n)) in
       comes_then pages fuel more {A = ℕ} (λ k u. Kept free s u × says v w u) Post (Ok 0) (λ k. Ok 0) a (assign t e) s
-      (compares.runs pages fuel more s v w enough within held_v held_w room)
+      (compares.runs pages fuel more s v w (omega (arith, enough, fewer v w)) within held_v held_w room)
       (λ k u same left.
       comes_assign pages fuel more (omega (arith, enough)) Post 0 t e (Number n) u (is u v w left.1) (omega (arith, before, room, left.0.many)) (
         Kept-set t s u t (Number n) (Kept-then t free s s u (omega (arith, before)) (Kept-same t s) left.0) (omega arith),
@@ -75,18 +75,18 @@ first_own types free declares =
     let zeroth : free + 0 ≡ free = omega arith in
     subst (λ k. slice_get types k ≡ Some I32) zeroth (declares 0 I32 refl)
 
-pub tests_same : (left right : Cell) (free t out : ℕ) (a : Statement) → out ≡ free → Compares (SaysSame out) left right free a → TestsTexts op.Equal left right free t (seq a (assign t (local out)))
+pub tests_same : (left right : Cell) (free t out : ℕ) (a : Statement) → out ≡ free → Compares of_left (SaysSame out) left right free a → TestsTexts op.Equal left right free t (seq a (assign t (local out)))
 tests_same left right free t out a place compares =
-    tests_by op.Equal (SaysSame out) left right free t a (local out) compares (λ u v w says. says) (λ types declares. subst (λ k. slice_get types k ≡ Some I32) (sym place) (first_own types free declares))
+    tests_by of_left op.Equal (SaysSame out) left right free t a (local out) (λ v w. omega arith) compares (λ u v w says. says) (λ types declares. subst (λ k. slice_get types k ≡ Some I32) (sym place) (first_own types free declares))
 
-pub tests_other : (left right : Cell) (free t out : ℕ) (a : Statement) → out ≡ free → Compares (SaysSame out) left right free a → TestsTexts op.NotEqual left right free t (seq a (assign t (is_zero I32 (local out))))
+pub tests_other : (left right : Cell) (free t out : ℕ) (a : Statement) → out ≡ free → Compares of_left (SaysSame out) left right free a → TestsTexts op.NotEqual left right free t (seq a (assign t (is_zero I32 (local out))))
 tests_other left right free t out a place compares =
-    tests_by op.NotEqual (SaysSame out) left right free t a (is_zero I32 (local out)) compares (λ u v w says. not_is u (local out) (is_eq (text_order v w)) says)
+    tests_by of_left op.NotEqual (SaysSame out) left right free t a (is_zero I32 (local out)) (λ v w. omega arith) compares (λ u v w says. not_is u (local out) (is_eq (text_order v w)) says)
     (λ types declares. (subst (λ k. slice_get types k ≡ Some I32) (sym place) (first_own types free declares), refl))
 
-pub tests_order : (operator : Comparison) (left right : Cell) (free t out : ℕ) (a : Statement) → out ≡ free + 2 → Compares (SaysOrder out) left right free a → TestsTexts operator left right free t (seq a (assign t (zero_test operator out)))
+pub tests_order : (operator : Comparison) (left right : Cell) (free t out : ℕ) (a : Statement) → out ≡ free + 2 → Compares of_both (SaysOrder out) left right free a → TestsTexts operator left right free t (seq a (assign t (zero_test operator out)))
 tests_order operator left right free t out a place compares =
-    tests_by operator (SaysOrder out) left right free t a (zero_test operator out) compares
+    tests_by of_both operator (SaysOrder out) left right free t a (zero_test operator out) (λ v w. omega arith) compares
     (λ u v w says.
     let fit : FitsSigned w64 says.0 = fits_back says.1.0 says.0 says.1.2 says.1.3 in
     rw (held_word u out says.0 says.1) (ap (λ (n : ℕ). Some (Number n)) (zero_told operator says.0 (text_order v w) fit says.2)))

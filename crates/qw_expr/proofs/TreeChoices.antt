@@ -1,7 +1,7 @@
 -- What the functions over trees make of choices.
 use Rattle.std.proofs.Common.{◌≡◌, ℕ, ◌+◌, ◌≤◌, Bool, List, length, length-append, ap, ◌∙◌, arith}
-use Rattle.qw_meaning.specs.Expression.{Expression, Condition, brought, choice, is_null, negation_of, null}
-use Rattle.qw_meaning.specs.Typing.{IsTyped}
+use Rattle.qw_scalar.specs.Expression.{Expression, Condition, brought, choice, is_null, negation_of, null}
+use Rattle.qw_scalar.specs.Typing.{IsTyped}
 use Rattle.qw_low.specs.declared.cell.Cell.{Cell}
 use Rattle.qw_expr.specs.declared.choice.Place.{Place}
 use Rattle.qw_expr.specs.declared.emitter.Emitter.{Emitter}

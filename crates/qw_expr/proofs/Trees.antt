@@ -2,20 +2,20 @@
 use Rattle.std.proofs.Common.{◌≡◌, ℕ, ◌≤◌, List, [], ◌∷◌, length, Err, refl, sym, ap, subst, inl, inr, arith}
 use Rattle.qw_types.specs.declared.code.Code.{Code}
 use Rattle.qw_types.specs.declared.value.Val.{Val}
-use Rattle.qw_meaning.specs.declared.expression.Operator.{Operator}
-use Rattle.qw_meaning.specs.declared.expression.Operator.TheVariants as op
-use Rattle.qw_meaning.specs.declared.comparison.Comparison.{Comparison}
-use Rattle.qw_meaning.specs.Columns.{HasColumns, HaveColumns, HoldsIn}
-use Rattle.qw_meaning.specs.Evaluation.{Environment, truth_of, value_of}
-use Rattle.qw_meaning.specs.Expression.{Expression, Condition, null, number, date, text, column, arithmetic, negative, extract, brought, choice, comparison, scale_after, scale_of}
-use Rattle.qw_meaning.specs.Typing.{IsTyped, ScalesAllowed, kind_of}
+use Rattle.qw_scalar.specs.declared.expression.Operator.{Operator}
+use Rattle.qw_scalar.specs.declared.expression.Operator.TheVariants as op
+use Rattle.qw_scalar.specs.declared.comparison.Comparison.{Comparison}
+use Rattle.qw_scalar.specs.Columns.{HasColumns, HaveColumns, HoldsIn}
+use Rattle.qw_scalar.specs.Evaluation.{Environment, truth_of, value_of}
+use Rattle.qw_scalar.specs.Expression.{Expression, Condition, null, number, date, text, column, arithmetic, negative, extract, brought, choice, comparison, scale_after, scale_of}
+use Rattle.qw_scalar.specs.Typing.{IsTyped, ScalesAllowed, kind_of}
 use Rattle.qw_low.specs.declared.cell.Cell.{Cell}
 use Rattle.qw_low.specs.Syntax as low
 use Rattle.qw_expr.specs.declared.emitter.Emitter.{Emitter}
 use Rattle.qw_expr.specs.declared.operand.Operand.{Operand}
 use Rattle.qw_expr.specs.Bindings.{IsAmong, IsServed}
 use Rattle.qw_expr.specs.Cells.{IsBelow}
-use Rattle.qw_meaning.specs.Units.{units, units_of}
+use Rattle.qw_scalar.specs.Units.{units, units_of}
 use Rattle.qw_expr.specs.Computes.{Known, AreBelow}
 use Rattle.qw_expr.specs.Emits.{Emits, EmitsTruth, free_of}
 use Rattle.qw_expr.specs.Inner.Junctions.{Begins}

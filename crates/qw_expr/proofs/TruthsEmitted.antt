@@ -1,9 +1,9 @@
 -- Conditions that are emitted.
 use Rattle.std.proofs.Common.{◌≡◌, ℕ, ℤ, ◌+◌, List, [], ◌∷◌, ◌++◌, length, length-append, IsTrue, Ordering, Option, Some, None, refl, sym, ap, ◌∙◌, subst, arith}
 use Rattle.qw_types.specs.Arithmetic.{order_of}
-use Rattle.qw_meaning.specs.declared.comparison.Comparison.{Comparison}
-use Rattle.qw_meaning.specs.Expression.{Expression, Condition, comparison, negation_of, is, scale_of}
-use Rattle.qw_meaning.specs.Typing.{AreTyped, is_date, is_number, kind_of}
+use Rattle.qw_scalar.specs.declared.comparison.Comparison.{Comparison}
+use Rattle.qw_scalar.specs.Expression.{Expression, Condition, comparison, negation_of, is, scale_of}
+use Rattle.qw_scalar.specs.Typing.{AreTyped, is_date, is_number, kind_of}
 use Rattle.qw_module.specs.declared.instruction.ValType.{ValType}
 use Rattle.qw_module.specs.declared.instruction.ValType.TheVariants.{I32, I64}
 use Rattle.qw_low.specs.declared.cell.Cell.{Cell}

@@ -9,13 +9,13 @@ use Rattle.qw_types.specs.declared.kind.Kind.{Kind}
 use Rattle.qw_types.specs.declared.kind.Kind.TheVariants as kind
 use Rattle.qw_types.specs.declared.value.Val.{Val}
 use Rattle.qw_types.specs.declared.value.Val.TheVariants as val
-use Rattle.qw_meaning.specs.declared.expression.Field.{Field}
-use Rattle.qw_meaning.specs.declared.expression.Field.TheVariants.{Year, Month, Day}
-use Rattle.qw_meaning.specs.Columns.{HasColumns, HoldsIn}
-use Rattle.qw_meaning.specs.Evaluation.{Environment, as_number, negated, extracted, field_of, raised, value_of, at_row}
-use Rattle.qw_meaning.specs.Expression.{Expression, negative, extract, brought, scale_of}
-use Rattle.qw_meaning.specs.Typing.{IsTyped, IsValueOf, at_scale, is_date, is_number, kind_of}
-use Rattle.qw_meaning.proofs.TypingLemmas.{typed_value}
+use Rattle.qw_scalar.specs.declared.expression.Field.{Field}
+use Rattle.qw_scalar.specs.declared.expression.Field.TheVariants.{Year, Month, Day}
+use Rattle.qw_scalar.specs.Columns.{HasColumns, HoldsIn}
+use Rattle.qw_scalar.specs.Evaluation.{Environment, as_number, negated, extracted, field_of, raised, value_of, at_row}
+use Rattle.qw_scalar.specs.Expression.{Expression, negative, extract, brought, scale_of}
+use Rattle.qw_scalar.specs.Typing.{IsTyped, IsValueOf, at_scale, is_date, is_number, kind_of}
+use Rattle.qw_scalar.proofs.TypingLemmas.{typed_value}
 use Rattle.qw_map.proofs.TurnFacts.{slice_get-set_same}
 use Rattle.qw_module.specs.declared.instruction.ValType.{ValType}
 use Rattle.qw_module.specs.declared.instruction.ValType.TheVariants.{I64}
@@ -31,7 +31,7 @@ use Rattle.qw_wide.specs.Numbers.{HasNumber, Converts}
 use Rattle.qw_wide.proofs.Words.{word, small, word_back, below_fits, quotient_below, word-div, held_word, word_held}
 use Rattle.qw_expr.specs.declared.operand.Operand.{Operand}
 use Rattle.qw_expr.specs.Cells.{Holds, DeclaresKind}
-use Rattle.qw_meaning.specs.Units.{units}
+use Rattle.qw_scalar.specs.Units.{units}
 use Rattle.qw_expr.specs.Computes.{Known, AreBelow, Computes}
 use Rattle.qw_expr.specs.Inner.Operated.{number_at}
 use Rattle.qw_expr.specs.Inner.Nulls.{unless_null}

@@ -3,10 +3,10 @@ use Rattle.std.specs.Prelude.{◌≡◌, ℕ, ◌+◌, ◌*◌, ◌≤◌, List,
 use Rattle.std.specs.List.{AllByRecursion}
 use Rattle.qw_types.specs.declared.value.Val.{Val}
 use Rattle.qw_module.specs.declared.instruction.ValType.{ValType}
-use Rattle.qw_meaning.specs.Columns.{HasColumns, HaveColumns, HoldsIn}
-use Rattle.qw_meaning.specs.Evaluation.{value_of, truth_of, at_row}
-use Rattle.qw_meaning.specs.Expression.{Expression, Condition, scale_of}
-use Rattle.qw_meaning.specs.Typing.{kind_of}
+use Rattle.qw_scalar.specs.Columns.{HasColumns, HaveColumns, HoldsIn}
+use Rattle.qw_scalar.specs.Evaluation.{value_of, truth_of, at_row}
+use Rattle.qw_scalar.specs.Expression.{Expression, Condition, scale_of}
+use Rattle.qw_scalar.specs.Typing.{kind_of}
 use Rattle.qw_low.specs.declared.cell.Cell.{Cell}
 use Rattle.qw_low.specs.Syntax.{Statement}
 use Rattle.qw_low.specs.State.{LowState}
@@ -17,7 +17,7 @@ use Rattle.qw_low.specs.Promise.{Ends}
 use Rattle.qw_low.specs.Raising.{Leaves, Raises, Kept}
 use Rattle.qw_expr.specs.declared.operand.Operand.{Operand}
 use Rattle.qw_expr.specs.Cells.{Holds, HoldsTruth, IsBelow, DeclaresValue, DeclaresTruth, Declares}
-use Rattle.qw_meaning.specs.Units.{units, units_of}
+use Rattle.qw_scalar.specs.Units.{units, units_of}
 
 -- An expression whose value is in locals when a block begins: a column of the row, a literal, or what was computed before.
 pub record Known : Type 0 where

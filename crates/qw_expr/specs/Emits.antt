@@ -1,7 +1,7 @@
 -- What emitting an expression or a condition does to an emitter.
 use Rattle.std.specs.Prelude.{◌≡◌, ℕ, ◌+◌, ◌++◌, List, length}
 use Rattle.qw_module.specs.declared.instruction.ValType.{ValType}
-use Rattle.qw_meaning.specs.Expression.{Expression, Condition}
+use Rattle.qw_scalar.specs.Expression.{Expression, Condition}
 use Rattle.qw_low.specs.declared.cell.Cell.{Cell}
 use Rattle.qw_low.specs.Syntax.{Statement}
 use Rattle.qw_low.specs.Steps.{steps_of}

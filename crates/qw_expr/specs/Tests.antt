@@ -5,10 +5,10 @@ use Rattle.qw_types.specs.declared.truth.Truth.TheVariants.{True, False, Unknown
 use Rattle.qw_types.specs.declared.value.Val.{Val}
 use Rattle.qw_module.specs.declared.instruction.ValType.{ValType}
 use Rattle.qw_module.specs.declared.instruction.ValType.TheVariants.{I32, I64}
-use Rattle.qw_meaning.specs.Columns.{HaveColumns, HoldsIn}
-use Rattle.qw_meaning.specs.Evaluation.{truth_of, at_row}
-use Rattle.qw_meaning.specs.Expression.{Condition}
-use Rattle.qw_meaning.specs.Units.{units_of}
+use Rattle.qw_scalar.specs.Columns.{HaveColumns, HoldsIn}
+use Rattle.qw_scalar.specs.Evaluation.{truth_of, at_row}
+use Rattle.qw_scalar.specs.Expression.{Condition}
+use Rattle.qw_scalar.specs.Units.{units_of}
 use Rattle.qw_low.specs.Syntax.{Expression, local, is_zero, relop, Statement}
 use Rattle.qw_low.specs.State.{Number, LowState}
 use Rattle.qw_low.specs.Meaning.{value, meaning}

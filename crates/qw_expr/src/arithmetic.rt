@@ -2,9 +2,9 @@
 
 ghost use Rattle.std.specs.Prelude.{◌≡◌, ◌+◌, ◌<◌, ◌≤◌, ◌^◌, ◌++◌, List, neg_ℤ, Ok, IfOk, length, OnOk};
 ghost use Rattle.qw_types.specs.Arithmetic.{bring};
-ghost use Rattle.qw_meaning.specs.Evaluation.{applied};
-ghost use Rattle.qw_meaning.specs.Expression.{Expression, arithmetic, negative, scale_after};
-ghost use Rattle.qw_meaning.specs.Typing.{IsTyped, ScalesAllowed};
+ghost use Rattle.qw_scalar.specs.Evaluation.{applied};
+ghost use Rattle.qw_scalar.specs.Expression.{Expression, arithmetic, negative, scale_after};
+ghost use Rattle.qw_scalar.specs.Typing.{IsTyped, ScalesAllowed};
 ghost use Rattle.qw_low.specs.Syntax.{Statement};
 ghost use Rattle.qw_low.specs.Steps.{steps_of};
 ghost use Rattle.qw_wide.specs.Numbers.{Operates};
@@ -17,8 +17,8 @@ use crate::emitter::Emitter;
 use crate::operand::Operand;
 use qw_low::block::Block;
 use qw_low::cell::{Cell, Local};
-use qw_meaning::expression::Operator;
 use qw_module::instruction::ValType;
+use qw_scalar::expression::Operator;
 use qw_types::{Kind, NoMemory};
 use qw_wide::arithmetic::{Scaled, add, bring, divide, multiply, negate, subtract};
 

@@ -1,8 +1,8 @@
 //! Choices between two results (ISO/IEC 9075:1992, 6.9): only the chosen one is evaluated, and left in a place of the choice's own.
 
 ghost use Rattle.std.specs.Prelude.{◌≡◌, ◌<◌, ◌≤◌, ◌++◌, max, Bool, List, IfOk, OnOk, ◌+◌, length};
-ghost use Rattle.qw_meaning.specs.Expression.{Expression, Condition, brought, choice, null};
-ghost use Rattle.qw_meaning.specs.Typing.{IsTyped, joined, kind_of};
+ghost use Rattle.qw_scalar.specs.Expression.{Expression, Condition, brought, choice, null};
+ghost use Rattle.qw_scalar.specs.Typing.{IsTyped, joined, kind_of};
 ghost use Rattle.qw_low.specs.declared.cell.Cell.{Cell};
 ghost use Rattle.qw_low.specs.Steps.{steps_of};
 ghost use Rattle.qw_expr.specs.declared.emitter.Emitter.{Emitter};

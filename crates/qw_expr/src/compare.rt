@@ -2,8 +2,8 @@
 
 ghost use Rattle.std.specs.Prelude.{◌≡◌, ◌+◌, ◌<◌, ◌≤◌, ◌^◌, ◌++◌, List, IsTrue, IfOk, OnOk, length};
 ghost use Rattle.qw_types.specs.Arithmetic.{order_of};
-ghost use Rattle.qw_meaning.specs.Expression.{Expression, comparison};
-ghost use Rattle.qw_meaning.specs.Typing.{AreTyped, are_comparable, is_date, is_number, kind_of};
+ghost use Rattle.qw_scalar.specs.Expression.{Expression, comparison};
+ghost use Rattle.qw_scalar.specs.Typing.{AreTyped, are_comparable, is_date, is_number, kind_of};
 ghost use Rattle.qw_expr.specs.Cells.{IsBelow};
 ghost use Rattle.qw_expr.specs.declared.emitter.Emitter.{Emitter};
 ghost use Rattle.qw_expr.specs.Computes.{Known, AreBelow};
@@ -15,8 +15,8 @@ use crate::emitter::Emitter;
 use crate::operand::Operand;
 use qw_low::cell::{Cell, Local};
 use qw_low::step::LowStep;
-use qw_meaning::comparison::Comparison;
 use qw_module::instruction::{Const, Op, ValType};
+use qw_scalar::comparison::Comparison;
 use qw_types::{Kind, NoMemory};
 use qw_wide::arithmetic::Scaled;
 use qw_wide::order::emit_cmp_scaled;

@@ -1,7 +1,7 @@
 //! AND and OR (ISO/IEC 9075:1992, 8.12), which skip their right sides where the left ones decide.
 
 ghost use Rattle.std.specs.Prelude.{◌≡◌, ◌+◌, ◌++◌, [], ◌∷◌, List, IfOk, OnOk, ◌≤◌, length};
-ghost use Rattle.qw_meaning.specs.Expression.{Condition, both, either};
+ghost use Rattle.qw_scalar.specs.Expression.{Condition, both, either};
 ghost use Rattle.qw_module.specs.declared.instruction.ValType.TheVariants.{I32};
 ghost use Rattle.qw_module.specs.declared.instruction.Binary.TheVariants.{And, Or};
 ghost use Rattle.qw_low.specs.Syntax.{local, binop, is_zero};

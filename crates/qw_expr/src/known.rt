@@ -1,7 +1,7 @@
 //! Where the columns and the literals of expressions are.
 
 ghost use Rattle.std.specs.Prelude.{◌≡◌, IsTrue, false};
-ghost use Rattle.qw_meaning.specs.Expression.{column, date, number, text};
+ghost use Rattle.qw_scalar.specs.Expression.{column, date, number, text};
 ghost use Rattle.qw_expr.specs.declared.known.Leaf.TheVariants as leaf;
 ghost use Rattle.qw_expr.specs.Bindings.{IsAmong, Knows, known_of};
 

@@ -1,8 +1,8 @@
 //! Literals, fields of dates, and numbers at another scale.
 
 ghost use Rattle.std.specs.Prelude.{◌≡◌, ◌<◌, ◌≤◌, ◌++◌, List, IfOk, OnOk, ◌+◌, length};
-ghost use Rattle.qw_meaning.specs.Expression.{Expression, null, extract, brought};
-ghost use Rattle.qw_meaning.specs.Typing.{IsTyped, is_number};
+ghost use Rattle.qw_scalar.specs.Expression.{Expression, null, extract, brought};
+ghost use Rattle.qw_scalar.specs.Typing.{IsTyped, is_number};
 ghost use Rattle.qw_low.specs.Steps.{steps_of};
 ghost use Rattle.qw_expr.specs.Computes.{Known, AreBelow};
 ghost use Rattle.qw_expr.specs.Emits.{Emits, extent, free_of};
@@ -15,8 +15,8 @@ use crate::emitter::Emitter;
 use crate::operand::Operand;
 use qw_low::cell::{Cell, Local};
 use qw_low::step::LowStep;
-use qw_meaning::expression::Field;
 use qw_module::instruction::{Const, Division, Op, Sign, ValType};
+use qw_scalar::expression::Field;
 use qw_types::{Kind, NoMemory};
 
 /// A divisor and the remainder's, by which a field of a date is found.

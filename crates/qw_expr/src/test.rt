@@ -2,10 +2,10 @@
 //! What one relation tells needs no local of its own.
 
 ghost use Rattle.std.specs.Prelude.{◌≡◌, ◌+◌, ◌*◌, ◌≤◌, ◌++◌, List, IsTrue, IfOk, OnOk, length};
-ghost use Rattle.qw_meaning.specs.Expression.{Expression, Condition, comparison, negation_of};
-ghost use Rattle.qw_meaning.specs.Nodes.{nodes_of};
-ghost use Rattle.qw_meaning.specs.Tree.{condition_of};
-ghost use Rattle.qw_meaning.specs.Typing.{AreTyped, are_comparable};
+ghost use Rattle.qw_scalar.specs.Expression.{Expression, Condition, comparison, negation_of};
+ghost use Rattle.qw_scalar.specs.Nodes.{nodes_of};
+ghost use Rattle.qw_scalar.specs.Tree.{condition_of};
+ghost use Rattle.qw_scalar.specs.Typing.{AreTyped, are_comparable};
 ghost use Rattle.qw_low.specs.Steps.{expression_steps};
 ghost use Rattle.qw_expr.specs.declared.emitter.Emitter.{Emitter};
 ghost use Rattle.qw_expr.specs.Bindings.{IsServed, TakeKnown, known_of};
@@ -22,9 +22,9 @@ use crate::tree::{emit_expr, emit_truth};
 use qw_low::block::Block;
 use qw_low::cell::{Cell, Local};
 use qw_low::step::LowStep;
-use qw_meaning::comparison::Comparison;
-use qw_meaning::expression::Cond;
 use qw_module::instruction::{Op, Relation, ValType};
+use qw_scalar::comparison::Comparison;
+use qw_scalar::expression::Cond;
 use qw_types::{Kind, NoMemory};
 use qw_wide::order::relation_of;
 

@@ -2,8 +2,8 @@
 
 ghost use Rattle.std.specs.Prelude.{◌≡◌, ◌+◌, ◌<◌, ◌^◌, ◌++◌, List, Some, IfOk, OnOk, ◌≤◌, length};
 ghost use Rattle.qw_types.specs.declared.kind.Kind.TheVariants as kind;
-ghost use Rattle.qw_meaning.specs.Expression.{Expression, comparison};
-ghost use Rattle.qw_meaning.specs.Typing.{AreTyped, kind_of};
+ghost use Rattle.qw_scalar.specs.Expression.{Expression, comparison};
+ghost use Rattle.qw_scalar.specs.Typing.{AreTyped, kind_of};
 ghost use Rattle.qw_module.specs.declared.instruction.ValType.TheVariants.{I32};
 ghost use Rattle.qw_low.specs.Syntax.{Statement, assign, is_zero, local};
 ghost use Rattle.qw_low.specs.Steps.{steps_of};
@@ -18,8 +18,8 @@ use crate::emitter::Emitter;
 use crate::operand::Operand;
 use qw_low::cell::{Cell, Local};
 use qw_low::step::LowStep;
-use qw_meaning::comparison::Comparison;
 use qw_module::instruction::{Const, Op, ValType};
+use qw_scalar::comparison::Comparison;
 use qw_text::equality::emit_text_eq;
 use qw_text::order::emit_text_order;
 use qw_types::NoMemory;

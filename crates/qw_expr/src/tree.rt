@@ -3,10 +3,10 @@
 //! What an abbreviation names twice, as the operand of BETWEEN, IN, CASE and NULLIF, is evaluated once: its operand is handed on.
 
 ghost use Rattle.std.specs.Prelude.{◌≡◌, ◌≤◌, IfOk, IsTrue, ◌+◌, ◌*◌, length, OnOk};
-ghost use Rattle.qw_meaning.specs.Expression.{among, brought, cases, coalesced, comparison, scale_of};
-ghost use Rattle.qw_meaning.specs.Nodes.{nodes, nodes_of, nodes_of_all, nodes_of_branches, nodes_of_matches};
-ghost use Rattle.qw_meaning.specs.Tree.{choices_of, condition_of, expression_of, expressions_of, matches_of};
-ghost use Rattle.qw_meaning.specs.Typing.{AreTyped, IsTyped, kind_of};
+ghost use Rattle.qw_scalar.specs.Expression.{among, brought, cases, coalesced, comparison, scale_of};
+ghost use Rattle.qw_scalar.specs.Nodes.{nodes, nodes_of, nodes_of_all, nodes_of_branches, nodes_of_matches};
+ghost use Rattle.qw_scalar.specs.Tree.{choices_of, condition_of, expression_of, expressions_of, matches_of};
+ghost use Rattle.qw_scalar.specs.Typing.{AreTyped, IsTyped, kind_of};
 ghost use Rattle.qw_expr.specs.Cells.{IsBelow};
 ghost use Rattle.qw_expr.specs.Bindings.{IsServed, TakeKnown, TakesKnown, known_of};
 ghost use Rattle.qw_expr.specs.Emits.{Emits, EmitsTruth, extent, free_of};
@@ -18,10 +18,10 @@ use crate::emitter::Emitter;
 use crate::known::{Binding, column_of, date_of, number_of, text_of};
 use crate::operand::Operand;
 use qw_low::cell::Cell;
-use qw_meaning::comparison::Comparison;
-use qw_meaning::evaluate::scale;
-use qw_meaning::expression::{Branches, Cond, Expr, Exprs, Matches};
-use qw_meaning::kind::of_expression;
+use qw_scalar::comparison::Comparison;
+use qw_scalar::evaluate::scale;
+use qw_scalar::expression::{Branches, Cond, Expr, Exprs, Matches};
+use qw_scalar::kind::of_expression;
 use qw_types::{Kind, NoMemory};
 
 /// What a choice leaves: the scale that its results are brought to, and whether they are texts.

@@ -2,7 +2,7 @@
 
 ghost use Rattle.std.specs.Prelude.{◌≡◌, ◌++◌, List, None, IfOk, OnOk, ◌≤◌, ◌+◌, length};
 ghost use Rattle.qw_types.specs.declared.truth.Truth.TheVariants.{True, False, Unknown};
-ghost use Rattle.qw_meaning.specs.Expression.{Expression, Condition, is_null, negation_of, is};
+ghost use Rattle.qw_scalar.specs.Expression.{Expression, Condition, is_null, negation_of, is};
 ghost use Rattle.qw_low.specs.Syntax.{assign};
 ghost use Rattle.qw_low.specs.Steps.{steps_of};
 ghost use Rattle.qw_expr.specs.declared.emitter.Emitter.{Emitter};

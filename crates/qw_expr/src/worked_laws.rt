@@ -3,9 +3,9 @@
 ghost use Rattle.std.specs.Prelude.{◌≡◌, pos, negsuc, [], ◌∷◌, length, Some, None};
 ghost use Rattle.qw_types.specs.declared.truth.Truth.TheVariants.{True, False, Unknown};
 ghost use Rattle.qw_types.specs.declared.value.Val.TheVariants.{Null, Num, Date};
-ghost use Rattle.qw_meaning.specs.Evaluation.{at_row};
-ghost use Rattle.qw_meaning.specs.declared.comparison.Comparison.TheVariants.{Equal};
-ghost use Rattle.qw_meaning.specs.Expression.{number, text, comparison, negation_of};
+ghost use Rattle.qw_scalar.specs.Evaluation.{at_row};
+ghost use Rattle.qw_scalar.specs.declared.comparison.Comparison.TheVariants.{Equal};
+ghost use Rattle.qw_scalar.specs.Expression.{number, text, comparison, negation_of};
 ghost use Rattle.qw_module.specs.declared.instruction.Sign.TheVariants.{Signed};
 ghost use Rattle.qw_module.specs.declared.instruction.Relation.TheVariants.{Lt};
 ghost use Rattle.qw_low.specs.State.{Number};
@@ -17,7 +17,7 @@ ghost use Rattle.qw_expr.specs.Literals.{number_operand};
 ghost use Rattle.qw_expr.specs.Tests.{tested, truth_word};
 ghost use Rattle.qw_expr.specs.declared.emitter.Emitter.{Emitter};
 ghost use Rattle.qw_expr.specs.declared.test.Test.TheVariants as test;
-ghost use Rattle.qw_meaning.specs.Units.{units_of};
+ghost use Rattle.qw_scalar.specs.Units.{units_of};
 
 /// -5 is 2^64 - 5 with 0 in the null word, which isn't null; null is 1 in the null word, whatever the value's local holds; a truth of 0 is
 /// unknown with 1 in the null word, and false with 0.

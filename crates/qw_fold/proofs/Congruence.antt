@@ -1,24 +1,24 @@
 -- An expression or a condition over parts that stand for others can stand for what is over those.
 use Rattle.std.proofs.Common.{ℕ, refl, ◌∙◌}
 use Rattle.qw_types.specs.declared.truth.Truth.{Truth}
-use Rattle.qw_meaning.specs.declared.expression.Operator.{Operator}
-use Rattle.qw_meaning.specs.declared.expression.Field.{Field}
-use Rattle.qw_meaning.specs.declared.comparison.Comparison.{Comparison}
-use Rattle.qw_meaning.specs.Expression.{Condition, Expression, arithmetic, negative, extract, brought, choice, comparison, is_null, both, either, negation_of, is}
+use Rattle.qw_scalar.specs.declared.expression.Operator.{Operator}
+use Rattle.qw_scalar.specs.declared.expression.Field.{Field}
+use Rattle.qw_scalar.specs.declared.comparison.Comparison.{Comparison}
+use Rattle.qw_scalar.specs.Expression.{Condition, Expression, arithmetic, negative, extract, brought, choice, comparison, is_null, both, either, negation_of, is}
 use Rattle.qw_fold.specs.Inner.Made.{Follows, FollowsTruth}
 
 pub itself : (e : Expression) → Follows e e
 itself e = record {
   same = record { value = λ env. refl; kind = refl; scale = refl; units = λ env. refl };
   typed = λ h. h;
-  columns = λ types h. h;
+  columns = λ columns h. h;
 }
 
 pub truth_itself : (c : Condition) → FollowsTruth c c
 truth_itself c = record {
   same = record { truth = λ env. refl; units = λ env. refl };
   typed = λ h. h;
-  columns = λ types h. h;
+  columns = λ columns h. h;
 }
 
 pub then : (e f g : Expression) → Follows e f → Follows f g → Follows e g
@@ -30,14 +30,14 @@ then e f g p q = record {
     units = λ env. p.same.units env ∙ q.same.units env;
   };
   typed = λ h. q.typed (p.typed h);
-  columns = λ types h. q.columns types (p.columns types h);
+  columns = λ columns h. q.columns columns (p.columns columns h);
 }
 
 pub truth_then : (c d e : Condition) → FollowsTruth c d → FollowsTruth d e → FollowsTruth c e
 truth_then c d e p q = record {
   same = record { truth = λ env. p.same.truth env ∙ q.same.truth env; units = λ env. p.same.units env ∙ q.same.units env };
   typed = λ h. q.typed (p.typed h);
-  columns = λ types h. q.columns types (p.columns types h);
+  columns = λ columns h. q.columns columns (p.columns columns h);
 }
 
 pub arithmetic_follows : (operator : Operator) (a b x y : Expression) → Follows a x → Follows b y → Follows (arithmetic operator a b) (arithmetic operator x y)
@@ -49,7 +49,7 @@ arithmetic_follows operator a b x y p q = record {
     units = λ env. rw (p.same.units env, q.same.units env) refl;
   };
   typed = λ h. ((p.typed h.0.0, q.typed h.0.1), rw (← p.same.kind, ← q.same.kind, ← p.same.scale, ← q.same.scale) h.1);
-  columns = λ types h. (p.columns types h.0, q.columns types h.1);
+  columns = λ columns h. (p.columns columns h.0, q.columns columns h.1);
 }
 
 pub negative_follows : (a x : Expression) → Follows a x → Follows (negative a) (negative x)
@@ -97,7 +97,7 @@ choice_follows c d a b x y r p q = record {
     units = λ env. rw (r.same.units env, p.same.units env, q.same.units env) refl;
   };
   typed = λ h. (r.typed h.0, ((p.typed h.1.0.0, q.typed h.1.0.1), rw (← p.same.kind, ← q.same.kind) h.1.1));
-  columns = λ types h. (r.columns types h.0, (p.columns types h.1.0, q.columns types h.1.1));
+  columns = λ columns h. (r.columns columns h.0, (p.columns columns h.1.0, q.columns columns h.1.1));
 }
 
 pub comparison_follows : (op : Comparison) (a b x y : Expression) → Follows a x → Follows b y → FollowsTruth (comparison op a b) (comparison op x y)
@@ -107,7 +107,7 @@ comparison_follows op a b x y p q = record {
     units = λ env. rw (p.same.units env, q.same.units env, p.same.value env, q.same.value env) refl;
   };
   typed = λ h. ((p.typed h.0.0, q.typed h.0.1), rw (← p.same.kind, ← q.same.kind) h.1);
-  columns = λ types h. (p.columns types h.0, q.columns types h.1);
+  columns = λ columns h. (p.columns columns h.0, q.columns columns h.1);
 }
 
 pub is_null_follows : (a x : Expression) → Follows a x → FollowsTruth (is_null a) (is_null x)
@@ -124,7 +124,7 @@ both_follows c d e f p q = record {
     units = λ env. rw (p.same.units env, q.same.units env) refl;
   };
   typed = λ h. (p.typed h.0, q.typed h.1);
-  columns = λ types h. (p.columns types h.0, q.columns types h.1);
+  columns = λ columns h. (p.columns columns h.0, q.columns columns h.1);
 }
 
 pub either_follows : (c d e f : Condition) → FollowsTruth c e → FollowsTruth d f → FollowsTruth (either c d) (either e f)
@@ -134,7 +134,7 @@ either_follows c d e f p q = record {
     units = λ env. rw (p.same.units env, q.same.units env) refl;
   };
   typed = λ h. (p.typed h.0, q.typed h.1);
-  columns = λ types h. (p.columns types h.0, q.columns types h.1);
+  columns = λ columns h. (p.columns columns h.0, q.columns columns h.1);
 }
 
 pub negation_follows : (c d : Condition) → FollowsTruth c d → FollowsTruth (negation_of c) (negation_of d)

@@ -1,8 +1,8 @@
 -- Predicates and choices over operands that stand for others (ISO/IEC 9075:1992, 6.9, 8.2 to 8.4).
 use Rattle.std.proofs.Common.{◌≡◌, ℕ, ◌≤◌, max, refl, arith}
-use Rattle.qw_meaning.specs.declared.comparison.Comparison.{Comparison}
-use Rattle.qw_meaning.specs.declared.comparison.Comparison.TheVariants.{Equal, GreaterOrEqual, LessOrEqual}
-use Rattle.qw_meaning.specs.Expression.{Choices, Condition, Expression, Expressions, last, more, otherwise, when, among, between, case, coalesced, comparison, is_null, largest_result, negation_of, null, null_if, scale_of}
+use Rattle.qw_scalar.specs.declared.comparison.Comparison.{Comparison}
+use Rattle.qw_scalar.specs.declared.comparison.Comparison.TheVariants.{Equal, GreaterOrEqual, LessOrEqual}
+use Rattle.qw_scalar.specs.Expression.{Choices, Condition, Expression, Expressions, last, more, otherwise, when, among, between, case, coalesced, comparison, is_null, largest_result, negation_of, null, null_if, scale_of}
 use Rattle.qw_fold.specs.Inner.Made.{AllStandAt, Follows, FollowsResults, FollowsTruth, StandsAt}
 use Rattle.qw_fold.proofs.Congruence.{both_follows, choice_follows, comparison_follows, either_follows, itself, negation_follows, truth_then}
 use Rattle.qw_fold.proofs.Literals.{compared_brought, result_stands}

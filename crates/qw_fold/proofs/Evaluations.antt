@@ -5,18 +5,18 @@ use Rattle.qw_types.specs.Arithmetic.{fits}
 use Rattle.qw_types.specs.declared.code.Code.{Code}
 use Rattle.qw_types.specs.declared.kind.Kind.TheVariants as kind
 use Rattle.qw_types.specs.declared.value.Val.TheVariants as val
-use Rattle.qw_meaning.specs.declared.expression.Expr.{Expr}
-use Rattle.qw_meaning.specs.declared.expression.Expr.TheVariants.{Number, Date}
-use Rattle.qw_meaning.specs.declared.expression.Field.{Field}
-use Rattle.qw_meaning.specs.declared.expression.Operator.{Operator}
-use Rattle.qw_meaning.specs.declared.expression.Operator.TheVariants as op
-use Rattle.qw_meaning.specs.Columns.{HasColumns, HoldsIn}
-use Rattle.qw_meaning.specs.Evaluation.{Environment, applied, as_number, field_of, value_of, at_row}
-use Rattle.qw_meaning.specs.Expression.{Expression, arithmetic, date, extract, negative, number, scale_after, scale_of}
-use Rattle.qw_meaning.specs.Nodes.{nodes}
-use Rattle.qw_meaning.specs.Tree.{expression_of}
-use Rattle.qw_meaning.specs.Typing.{IsTyped, ScalesAllowed, kind_of}
-use Rattle.qw_meaning.specs.Units as text
+use Rattle.qw_scalar.specs.declared.expression.Expr.{Expr}
+use Rattle.qw_scalar.specs.declared.expression.Expr.TheVariants.{Number, Date}
+use Rattle.qw_scalar.specs.declared.expression.Field.{Field}
+use Rattle.qw_scalar.specs.declared.expression.Operator.{Operator}
+use Rattle.qw_scalar.specs.declared.expression.Operator.TheVariants as op
+use Rattle.qw_scalar.specs.Columns.{HasColumns, HoldsIn}
+use Rattle.qw_scalar.specs.Evaluation.{Environment, applied, as_number, field_of, value_of, at_row}
+use Rattle.qw_scalar.specs.Expression.{Expression, arithmetic, date, extract, negative, number, scale_after, scale_of}
+use Rattle.qw_scalar.specs.Nodes.{nodes}
+use Rattle.qw_scalar.specs.Tree.{expression_of}
+use Rattle.qw_scalar.specs.Typing.{IsTyped, ScalesAllowed, kind_of}
+use Rattle.qw_scalar.specs.Units as text
 use Rattle.qw_fold.specs.Folded.{IsFolded, IsLeft}
 use Rattle.qw_fold.specs.Texts.{texts_in}
 use Rattle.qw_fold.specs.Inner.Made.{BroughtTogether, Follows, IsBuilt, IsFoldOf, is_date, is_number, number_in}
@@ -30,7 +30,7 @@ literal_for e v s count value kind' scale units fit near some = record {
   follows = record {
     same = record { value = value; kind = kind'; scale = scale; units = units };
     typed = λ h. (fit, near);
-    columns = λ types h. tt;
+    columns = λ columns h. tt;
   };
   folded = tt;
   short = some;

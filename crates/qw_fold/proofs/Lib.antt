@@ -4,4 +4,5 @@ mod Constructs
 mod Evaluations
 mod Lists
 mod Literals
+mod Named
 mod Trees

@@ -7,13 +7,13 @@ use Rattle.qw_types.specs.declared.kind.Kind.{Kind}
 use Rattle.qw_types.specs.declared.kind.Kind.TheVariants as kind
 use Rattle.qw_types.specs.declared.value.Val.{Val}
 use Rattle.qw_types.specs.declared.value.Val.TheVariants as val
-use Rattle.qw_meaning.specs.declared.expression.Operator.{Operator}
-use Rattle.qw_meaning.specs.declared.expression.Operator.TheVariants.{Add, Subtract}
-use Rattle.qw_meaning.specs.declared.comparison.Comparison.{Comparison}
-use Rattle.qw_meaning.specs.Evaluation.{as_number, combined, compared, value_of}
-use Rattle.qw_meaning.specs.Expression.{Expression, number, arithmetic, brought, comparison, is_null, scale_after, scale_of}
-use Rattle.qw_meaning.specs.Typing.{IsTyped, ScalesAllowed, are_comparable, kind_of}
-use Rattle.qw_meaning.specs.Units.{octets_of}
+use Rattle.qw_scalar.specs.declared.expression.Operator.{Operator}
+use Rattle.qw_scalar.specs.declared.expression.Operator.TheVariants.{Add, Subtract}
+use Rattle.qw_scalar.specs.declared.comparison.Comparison.{Comparison}
+use Rattle.qw_scalar.specs.Evaluation.{as_number, combined, compared, value_of}
+use Rattle.qw_scalar.specs.Expression.{Expression, number, arithmetic, brought, comparison, is_null, scale_after, scale_of}
+use Rattle.qw_scalar.specs.Typing.{IsTyped, ScalesAllowed, are_comparable, kind_of}
+use Rattle.qw_scalar.specs.Units.{octets_of}
 use Rattle.qw_fold.specs.Inner.Made.{Follows, FollowsTruth, IsBrought, IsRaised, StandsAt}
 use Rattle.qw_fold.proofs.Bringing.{brought_again, difference_left, difference_right, order_left, order_right, sum_left, sum_right}
 use Rattle.qw_fold.proofs.Congruence.{brought_follows, is_null_follows, itself, then, truth_itself, truth_then}
@@ -98,7 +98,7 @@ right_compared op a v w t s up near h e = record {
     units = λ env. rw (no_octets_right (value_of a env) v, no_octets_right (value_of a env) w) refl;
   };
   typed = λ k. ((k.0.0, (h, near)), rw (comparable_right (kind_of a) t s) k.1);
-  columns = λ types k. (k.0, tt);
+  columns = λ columns k. (k.0, tt);
 }
 
 left_compared : (op : Comparison) (b : Expression) (v w : ℤ) (t s : ℕ) → t ≤ s → s ≤ 18 → IsTrue (fits w) → bring v t s ≡ Ok w →
@@ -109,7 +109,7 @@ left_compared op b v w t s up near h e = record {
     units = λ env. rw (no_octets_left (value_of b env) v) refl;
   };
   typed = λ k. (((h, near), k.0.1), rw (comparable_left (kind_of b) t s) k.1);
-  columns = λ types k. (tt, k.1);
+  columns = λ columns k. (tt, k.1);
 }
 
 -- the scale of both
@@ -137,7 +137,7 @@ right_combined operator a v w t s l is up near h e =
         units = λ env. refl;
       };
       typed = λ k. ((k.0.0, (h, near)), (k.1.0, linear_allowed operator (scale_of a) s l));
-      columns = λ types k. (k.0, tt);
+      columns = λ columns k. (k.0, tt);
     }
 
 left_combined : (operator : Operator) (b : Expression) (v w : ℤ) (t s : ℕ) → IsLinear operator → scale_of b ≡ s → t ≤ s → s ≤ 18 → IsTrue (fits w) → bring v t s ≡ Ok w →
@@ -152,7 +152,7 @@ left_combined operator b v w t s l is up near h e =
         units = λ env. refl;
       };
       typed = λ k. (((h, near), k.0.1), (k.1.0, linear_allowed operator s (scale_of b) l));
-      columns = λ types k. (tt, k.1);
+      columns = λ columns k. (tt, k.1);
     }
 
 result_brought : (v w : ℤ) (t s : ℕ) → s ≤ 18 → IsTrue (fits w) → bring v t s ≡ Ok w → Follows (brought (number v t) s) (brought (number w s) s)
@@ -164,14 +164,14 @@ result_brought v w t s near h e = record {
     units = λ env. refl;
   };
   typed = λ k. ((h, near), (le_refl s, near));
-  columns = λ types k. tt;
+  columns = λ columns k. tt;
 }
 
 null_tested : (v w : ℤ) (t s : ℕ) → s ≤ 18 → IsTrue (fits w) → FollowsTruth (is_null (number v t)) (is_null (number w s))
 null_tested v w t s near h = record {
   same = record { truth = λ env. refl; units = λ env. refl };
   typed = λ k. (h, near);
-  columns = λ types k. tt;
+  columns = λ columns k. tt;
 }
 
 -- ---- an expression that may have been brought

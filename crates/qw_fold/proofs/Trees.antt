@@ -1,19 +1,19 @@
 -- What is made of trees that stand for others, arm by arm of src/tree.rt.
 use Rattle.std.proofs.Common.{◌≡◌, ℕ, ◌+◌, ◌≤◌, ◌++◌, IfOk, List, Result, Ok, Err, refl, sym, subst, ◌∙◌, arith}
 use Rattle.qw_types.specs.declared.memory.NoMemory.{NoMemory}
-use Rattle.qw_meaning.specs.declared.expression.Expr.{Expr}
-use Rattle.qw_meaning.specs.declared.expression.Cond.{Cond}
-use Rattle.qw_meaning.specs.declared.expression.Exprs.{Exprs}
-use Rattle.qw_meaning.specs.declared.expression.Branches.{Branches}
-use Rattle.qw_meaning.specs.declared.expression.Matches.{Matches}
-use Rattle.qw_meaning.specs.declared.expression.Matches.TheVariants as Matches
-use Rattle.qw_meaning.specs.declared.expression.Operator.{Operator}
-use Rattle.qw_meaning.specs.declared.comparison.Comparison.{Comparison}
-use Rattle.qw_meaning.specs.declared.comparison.Comparison.TheVariants.{Equal}
-use Rattle.qw_meaning.specs.Expression.{Choices, Condition, Expression, Expressions, last, more, otherwise, when, among, arithmetic, between, both, case, cases, coalesced, comparison, either, largest_result, null_if, scale_of}
-use Rattle.qw_meaning.specs.Nodes.{nodes, nodes_of, nodes_of_all, nodes_of_branches, nodes_of_matches}
-use Rattle.qw_meaning.specs.Tree.{choices_of, condition_of, expression_of, expressions_of, matches_of}
-use Rattle.qw_meaning.specs.Typing.{AreTyped, IsTyped}
+use Rattle.qw_scalar.specs.declared.expression.Expr.{Expr}
+use Rattle.qw_scalar.specs.declared.expression.Cond.{Cond}
+use Rattle.qw_scalar.specs.declared.expression.Exprs.{Exprs}
+use Rattle.qw_scalar.specs.declared.expression.Branches.{Branches}
+use Rattle.qw_scalar.specs.declared.expression.Matches.{Matches}
+use Rattle.qw_scalar.specs.declared.expression.Matches.TheVariants as Matches
+use Rattle.qw_scalar.specs.declared.expression.Operator.{Operator}
+use Rattle.qw_scalar.specs.declared.comparison.Comparison.{Comparison}
+use Rattle.qw_scalar.specs.declared.comparison.Comparison.TheVariants.{Equal}
+use Rattle.qw_scalar.specs.Expression.{Choices, Condition, Expression, Expressions, last, more, otherwise, when, among, arithmetic, between, both, case, cases, coalesced, comparison, either, largest_result, null_if, scale_of}
+use Rattle.qw_scalar.specs.Nodes.{nodes, nodes_of, nodes_of_all, nodes_of_branches, nodes_of_matches}
+use Rattle.qw_scalar.specs.Tree.{choices_of, condition_of, expression_of, expressions_of, matches_of}
+use Rattle.qw_scalar.specs.Typing.{AreTyped, IsTyped}
 use Rattle.qw_fold.specs.Folded.{AllFolded, AreAtOneScale, AreFolded, BranchesFolded, IsAtScale, IsFolded, MatchesFolded}
 use Rattle.qw_fold.specs.Texts.{texts_in, texts_of_all, texts_of_branches, texts_of_matches, texts_within}
 use Rattle.qw_fold.specs.Inner.Made.{AllFoldAt, AreBuilt, AreFoldOf, BranchesFold, BroughtTogether, ChoicesBuilt, Follows, FollowsTruth, IsBuilt, IsFoldAt, IsFoldOf, MatchesBuilt, MatchesFold, StandsAt}

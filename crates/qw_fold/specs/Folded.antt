@@ -4,21 +4,21 @@ use Rattle.std.specs.Prelude.{◌≡◌, ◌⊎◌, ◌≤◌, ℕ, max, Err}
 use Rattle.qw_types.specs.Arithmetic.{bring}
 use Rattle.qw_types.specs.declared.code.Code.{Code}
 use Rattle.qw_types.specs.declared.code.Code.TheVariants.{OutOfRange}
-use Rattle.qw_meaning.specs.declared.expression.Operator.{Operator}
-use Rattle.qw_meaning.specs.declared.expression.Operator.TheVariants.{Add, Subtract, Multiply, Divide}
-use Rattle.qw_meaning.specs.declared.expression.Expr.{Expr}
-use Rattle.qw_meaning.specs.declared.expression.Cond.{Cond}
-use Rattle.qw_meaning.specs.declared.expression.Exprs.{Exprs}
-use Rattle.qw_meaning.specs.declared.expression.Branches.{Branches}
-use Rattle.qw_meaning.specs.declared.expression.Matches.{Matches}
-use Rattle.qw_meaning.specs.declared.expression.Expr.TheVariants.{Null, Number, Date, Text, Column, Arithmetic', Negative', Extract', Case', Match', Coalesce', NullIf'}
-use Rattle.qw_meaning.specs.declared.expression.Cond.TheVariants.{Compare', Between', In', IsNull', And', Or', Not', Is'}
-use Rattle.qw_meaning.specs.declared.expression.Exprs.TheVariants as Exprs
-use Rattle.qw_meaning.specs.declared.expression.Branches.TheVariants as Branches
-use Rattle.qw_meaning.specs.declared.expression.Matches.TheVariants as Matches
-use Rattle.qw_meaning.specs.Evaluation.{applied}
-use Rattle.qw_meaning.specs.Expression.{coalesced, largest_result, scale_of}
-use Rattle.qw_meaning.specs.Tree.{choices_of, expression_of, expressions_of, matches_of}
+use Rattle.qw_scalar.specs.declared.expression.Operator.{Operator}
+use Rattle.qw_scalar.specs.declared.expression.Operator.TheVariants.{Add, Subtract, Multiply, Divide}
+use Rattle.qw_scalar.specs.declared.expression.Expr.{Expr}
+use Rattle.qw_scalar.specs.declared.expression.Cond.{Cond}
+use Rattle.qw_scalar.specs.declared.expression.Exprs.{Exprs}
+use Rattle.qw_scalar.specs.declared.expression.Branches.{Branches}
+use Rattle.qw_scalar.specs.declared.expression.Matches.{Matches}
+use Rattle.qw_scalar.specs.declared.expression.Expr.TheVariants.{Null, Number, Date, Text, Column, Arithmetic', Negative', Extract', Case', Match', Coalesce', NullIf'}
+use Rattle.qw_scalar.specs.declared.expression.Cond.TheVariants.{Compare', Between', In', IsNull', And', Or', Not', Is'}
+use Rattle.qw_scalar.specs.declared.expression.Exprs.TheVariants as Exprs
+use Rattle.qw_scalar.specs.declared.expression.Branches.TheVariants as Branches
+use Rattle.qw_scalar.specs.declared.expression.Matches.TheVariants as Matches
+use Rattle.qw_scalar.specs.Evaluation.{applied}
+use Rattle.qw_scalar.specs.Expression.{coalesced, largest_result, scale_of}
+use Rattle.qw_scalar.specs.Tree.{choices_of, expression_of, expressions_of, matches_of}
 
 -- A literal of a number is of this scale or of a larger one, or has no value of 18 digits at it.
 abbrev pub IsAtScale : ℕ → Expr → Type 0

@@ -1,15 +1,15 @@
 -- The text literals of trees (ISO/IEC 9075:1992, 5.3), in the order in which they stand there.
 use Rattle.std.specs.Prelude.{ℕ, List, [], ◌∷◌, ◌++◌}
-use Rattle.qw_meaning.specs.declared.expression.Expr.{Expr}
-use Rattle.qw_meaning.specs.declared.expression.Cond.{Cond}
-use Rattle.qw_meaning.specs.declared.expression.Exprs.{Exprs}
-use Rattle.qw_meaning.specs.declared.expression.Branches.{Branches}
-use Rattle.qw_meaning.specs.declared.expression.Matches.{Matches}
-use Rattle.qw_meaning.specs.declared.expression.Expr.TheVariants.{Null, Number, Date, Text, Column, Arithmetic', Negative', Extract', Case', Match', Coalesce', NullIf'}
-use Rattle.qw_meaning.specs.declared.expression.Cond.TheVariants.{Compare', Between', In', IsNull', And', Or', Not', Is'}
-use Rattle.qw_meaning.specs.declared.expression.Exprs.TheVariants as Exprs
-use Rattle.qw_meaning.specs.declared.expression.Branches.TheVariants as Branches
-use Rattle.qw_meaning.specs.declared.expression.Matches.TheVariants as Matches
+use Rattle.qw_scalar.specs.declared.expression.Expr.{Expr}
+use Rattle.qw_scalar.specs.declared.expression.Cond.{Cond}
+use Rattle.qw_scalar.specs.declared.expression.Exprs.{Exprs}
+use Rattle.qw_scalar.specs.declared.expression.Branches.{Branches}
+use Rattle.qw_scalar.specs.declared.expression.Matches.{Matches}
+use Rattle.qw_scalar.specs.declared.expression.Expr.TheVariants.{Null, Number, Date, Text, Column, Arithmetic', Negative', Extract', Case', Match', Coalesce', NullIf'}
+use Rattle.qw_scalar.specs.declared.expression.Cond.TheVariants.{Compare', Between', In', IsNull', And', Or', Not', Is'}
+use Rattle.qw_scalar.specs.declared.expression.Exprs.TheVariants as Exprs
+use Rattle.qw_scalar.specs.declared.expression.Branches.TheVariants as Branches
+use Rattle.qw_scalar.specs.declared.expression.Matches.TheVariants as Matches
 
 abbrev mutual
   pub texts_in : Expr → List (List ℕ)

@@ -1,16 +1,16 @@
 //! Trees from their parts, each in a box of its own.
 
 ghost use Rattle.std.specs.Prelude.{◌≡◌, ◌+◌, ◌++◌, ℕ, IfOk};
-ghost use Rattle.qw_meaning.specs.declared.comparison.Comparison.TheVariants.{Equal};
-ghost use Rattle.qw_meaning.specs.Expression.{Expression, among, arithmetic, between, both, case, coalesced, comparison, either, extract, is, is_null, largest_result, last, more, negation_of, negative, null_if, otherwise, scale_of, when};
-ghost use Rattle.qw_meaning.specs.Nodes.{nodes, nodes_of, nodes_of_all, nodes_of_branches, nodes_of_matches};
-ghost use Rattle.qw_meaning.specs.Tree.{choices_of, condition_of, expression_of, expressions_of, matches_of};
+ghost use Rattle.qw_scalar.specs.declared.comparison.Comparison.TheVariants.{Equal};
+ghost use Rattle.qw_scalar.specs.Expression.{Expression, among, arithmetic, between, both, case, coalesced, comparison, either, extract, is, is_null, largest_result, last, more, negation_of, negative, null_if, otherwise, scale_of, when};
+ghost use Rattle.qw_scalar.specs.Nodes.{nodes, nodes_of, nodes_of_all, nodes_of_branches, nodes_of_matches};
+ghost use Rattle.qw_scalar.specs.Tree.{choices_of, condition_of, expression_of, expressions_of, matches_of};
 ghost use Rattle.qw_fold.specs.Folded.{AllFolded, AreAtOneScale, AreFolded, AreOperands, BranchesFolded, IsAtScale, IsFolded, IsLeft, IsNoDate, IsNoNumber, MatchesFolded};
 ghost use Rattle.qw_fold.specs.Texts.{texts_in, texts_of_all, texts_of_branches, texts_of_matches, texts_within};
 ghost use Rattle.qw_fold.specs.Inner.Made.{AllBuilt, AreBuilt, ChoicesBuilt, IsBuilt, MatchesBuilt};
 
-use qw_meaning::comparison::Comparison;
-use qw_meaning::expression::{Branches, Cond, Expr, Exprs, Field, Matches, Operator};
+use qw_scalar::comparison::Comparison;
+use qw_scalar::expression::{Branches, Cond, Expr, Exprs, Field, Matches, Operator};
 use qw_types::{NoMemory, Truth};
 use std::alloc::Global;
 

@@ -2,18 +2,18 @@
 
 ghost use Rattle.std.specs.Prelude.{◌≡◌, ◌≤◌, ◌+◌, IfOk, sum_by};
 ghost use Rattle.std.specs.List.{All, AllByRecursion, flat_map};
-ghost use Rattle.qw_meaning.specs.Nodes.{nodes, nodes_of};
+ghost use Rattle.qw_scalar.specs.Nodes.{nodes, nodes_of};
 ghost use Rattle.qw_meaning.specs.Select.{IsSpecification, specification_of};
-ghost use Rattle.qw_meaning.specs.Tree.{condition_of, expression_of};
-ghost use Rattle.qw_meaning.specs.Typing.{AreTyped, IsTyped};
+ghost use Rattle.qw_scalar.specs.Tree.{condition_of, expression_of};
+ghost use Rattle.qw_scalar.specs.Typing.{AreTyped, IsTyped};
 ghost use Rattle.qw_fold.specs.Folded.{AreFolded, IsFolded};
 ghost use Rattle.qw_meaning.specs.Same.{MeansTheSame};
 ghost use Rattle.qw_fold.specs.Texts.{texts_in, texts_within};
 ghost use Rattle.qw_fold.specs.Inner.Made.{ConjunctsFold, ItemsFold};
 
 use crate::tree::{condition, expression};
-use qw_meaning::expression::{Cond, Expr};
 use qw_meaning::select::Select;
+use qw_scalar::expression::{Cond, Expr};
 use qw_types::{ColumnType, NoMemory};
 use std::alloc::Global;
 

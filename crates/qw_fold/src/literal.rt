@@ -2,20 +2,20 @@
 
 ghost use Rattle.std.specs.Prelude.{◌≡◌, ◌≤◌, [], ℕ, IfOk, IsTrue, List, MatchOption, Option};
 ghost use Rattle.qw_types.specs.Arithmetic.{fits};
-ghost use Rattle.qw_meaning.specs.Columns.{HasColumns, HoldsIn};
-ghost use Rattle.qw_meaning.specs.Evaluation.{value_of, at_row};
-ghost use Rattle.qw_meaning.specs.Expression.{Expression, scale_of};
-ghost use Rattle.qw_meaning.specs.Nodes.{nodes};
-ghost use Rattle.qw_meaning.specs.Tree.{expression_of};
-ghost use Rattle.qw_meaning.specs.Typing.{IsTyped};
-ghost use Rattle.qw_meaning.specs.declared.expression.Expr.TheVariants.{Number};
+ghost use Rattle.qw_scalar.specs.Columns.{HasColumns, HoldsIn};
+ghost use Rattle.qw_scalar.specs.Evaluation.{value_of, at_row};
+ghost use Rattle.qw_scalar.specs.Expression.{Expression, scale_of};
+ghost use Rattle.qw_scalar.specs.Nodes.{nodes};
+ghost use Rattle.qw_scalar.specs.Tree.{expression_of};
+ghost use Rattle.qw_scalar.specs.Typing.{IsTyped};
+ghost use Rattle.qw_scalar.specs.declared.expression.Expr.TheVariants.{Number};
 ghost use Rattle.qw_fold.specs.Folded.{IsAtScale, IsFolded};
 ghost use Rattle.qw_fold.specs.Texts.{texts_in};
 ghost use Rattle.qw_fold.specs.Inner.Made.{IsBrought, IsFoldAt, IsFoldOf, number_in};
 
-use qw_meaning::evaluate::{scale, value};
-use qw_meaning::expression::Expr;
-use qw_meaning::value::Value;
+use qw_scalar::evaluate::{scale, value};
+use qw_scalar::expression::Expr;
+use qw_scalar::value::Value;
 use qw_types::{NoMemory, Text, arithmetic};
 use std::alloc::Global;
 

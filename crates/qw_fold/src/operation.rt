@@ -1,19 +1,19 @@
 //! Operators over operands that are folded (ISO/IEC 9075:1992, 6.6, 6.11, 6.12).
 
 ghost use Rattle.std.specs.Prelude.{◌≡◌, ◌+◌, ◌++◌, ◌&&◌, IfOk};
-ghost use Rattle.qw_meaning.specs.Expression.{arithmetic, comparison, extract, negative};
-ghost use Rattle.qw_meaning.specs.Nodes.{nodes};
-ghost use Rattle.qw_meaning.specs.Tree.{expression_of};
-ghost use Rattle.qw_meaning.specs.Typing.{IsTyped};
+ghost use Rattle.qw_scalar.specs.Expression.{arithmetic, comparison, extract, negative};
+ghost use Rattle.qw_scalar.specs.Nodes.{nodes};
+ghost use Rattle.qw_scalar.specs.Tree.{expression_of};
+ghost use Rattle.qw_scalar.specs.Typing.{IsTyped};
 ghost use Rattle.qw_fold.specs.Folded.{AreOperands, IsFolded, IsLeft, IsNoDate, IsNoNumber};
 ghost use Rattle.qw_fold.specs.Texts.{texts_in};
 ghost use Rattle.qw_fold.specs.Inner.Made.{AreFoldOf, BroughtTogether, IsBuilt, IsFoldOf};
 
 use crate::construct::{arithmetic_tree, compare_tree, extract_tree, negative_tree};
 use crate::literal::{at_scale, evaluated, is_date, is_number};
-use qw_meaning::comparison::Comparison;
-use qw_meaning::evaluate::scale;
-use qw_meaning::expression::{Cond, Expr, Field, Operator};
+use qw_scalar::comparison::Comparison;
+use qw_scalar::evaluate::scale;
+use qw_scalar::expression::{Cond, Expr, Field, Operator};
 use qw_types::NoMemory;
 use std::alloc::Global;
 

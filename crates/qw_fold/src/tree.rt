@@ -1,9 +1,9 @@
 //! Whole expressions and conditions (ISO/IEC 9075:1992, 6.11, 8.12): the operands first, then what is over them.
 
 ghost use Rattle.std.specs.Prelude.{◌≡◌, ◌≤◌, IfOk};
-ghost use Rattle.qw_meaning.specs.Nodes.{nodes, nodes_of, nodes_of_all, nodes_of_branches};
-ghost use Rattle.qw_meaning.specs.Tree.{choices_of, condition_of, expression_of, expressions_of};
-ghost use Rattle.qw_meaning.specs.Typing.{AreTyped, IsTyped};
+ghost use Rattle.qw_scalar.specs.Nodes.{nodes, nodes_of, nodes_of_all, nodes_of_branches};
+ghost use Rattle.qw_scalar.specs.Tree.{choices_of, condition_of, expression_of, expressions_of};
+ghost use Rattle.qw_scalar.specs.Typing.{AreTyped, IsTyped};
 ghost use Rattle.qw_fold.specs.Texts.{texts_in, texts_of_all, texts_of_branches, texts_within};
 ghost use Rattle.qw_fold.specs.Inner.Made.{AllFoldAt, AreFoldOf, BranchesFold, IsFoldOf, MatchesFold};
 ghost use Rattle.qw_fold.specs.Inner.Typed.{AllTyped, ChoicesTyped, MatchesTyped};
@@ -15,8 +15,8 @@ use crate::construct::{
 };
 use crate::literal::{at_scale, copy_of};
 use crate::operation::{arithmetic, compared, extract, negative};
-use qw_meaning::evaluate::scale;
-use qw_meaning::expression::{Branches, Cond, Expr, Exprs, Matches};
+use qw_scalar::evaluate::scale;
+use qw_scalar::expression::{Branches, Cond, Expr, Exprs, Matches};
 use qw_types::NoMemory;
 use std::alloc::Global;
 

@@ -2,14 +2,16 @@
 
 ghost use Rattle.std.specs.Prelude.{◌≡◌, ℕ, ℤ, pos, [], ◌∷◌};
 ghost use Rattle.qw_types.specs.declared.value.Ty.TheVariants.{Decimal, Integer};
-ghost use Rattle.qw_meaning.specs.declared.expression.Expr.TheVariants.{Column, Number};
-ghost use Rattle.qw_meaning.specs.declared.expression.Field.TheVariants.{Month};
-ghost use Rattle.qw_meaning.specs.declared.expression.Operator.TheVariants.{Add, Divide, Multiply, Subtract};
-ghost use Rattle.qw_meaning.specs.declared.comparison.Comparison.TheVariants.{Less};
-ghost use Rattle.qw_meaning.specs.Expression.{arithmetic, column, comparison, date, extract, number};
+ghost use Rattle.qw_scalar.specs.declared.expression.Expr.TheVariants.{Column, Number};
+ghost use Rattle.qw_scalar.specs.declared.expression.Field.TheVariants.{Month};
+ghost use Rattle.qw_scalar.specs.declared.expression.Operator.TheVariants.{Add, Divide, Multiply, Subtract};
+ghost use Rattle.qw_scalar.specs.declared.comparison.Comparison.TheVariants.{Less};
+ghost use Rattle.qw_scalar.specs.Expression.{arithmetic, column, comparison, date, extract, number};
 ghost use Rattle.qw_fold.specs.Folded.{AreAtOneScale, AreOperands, IsAtScale, IsLeft};
-ghost use Rattle.qw_meaning.specs.Same.{AreSame, IsSame, MeansTheSame};
-ghost use Rattle.qw_meaning.specs.WorkedRows.{nullable, numbers, required};
+ghost use Rattle.qw_scalar.specs.Same.{AreSame, IsSame};
+ghost use Rattle.qw_meaning.specs.Same.{MeansTheSame};
+ghost use Rattle.qw_meaning.specs.Select.{alone};
+ghost use Rattle.qw_meaning.specs.WorkedQueries.{nullable, numbers, required};
 
 /// `2 * 3 + 1` is 7, at the scale 0, `EXTRACT(MONTH FROM DATE '1998-09-02')` 9, and `1.5 - 1` 0.5. It is no 8, and no 7.0, which is of
 /// another scale; `1 / 0` is no literal.
@@ -48,10 +50,10 @@ pub fn literals_beside_a_price()
 
 /// A specification means the same as one over another table, with another NOT NULL or with one item more, in no case.
 pub fn other_specifications()
-    ensures table { MeansTheSame (record { entries = numbers ∷ []; conjuncts = []; items = column 0 Integer ∷ [] })
-        (record { entries = record { table = 1; columns = nullable Integer ∷ [] } ∷ []; conjuncts = []; items = column 0 Integer ∷ [] }) → ⊥ }
-    ensures not_null { MeansTheSame (record { entries = numbers ∷ []; conjuncts = []; items = column 0 Integer ∷ [] })
-        (record { entries = record { table = 0; columns = required Integer ∷ [] } ∷ []; conjuncts = []; items = column 0 Integer ∷ [] }) → ⊥ }
-    ensures items { MeansTheSame (record { entries = numbers ∷ []; conjuncts = []; items = column 0 Integer ∷ [] })
-        (record { entries = numbers ∷ []; conjuncts = []; items = column 0 Integer ∷ column 0 Integer ∷ [] }) → ⊥ }
+    ensures table { MeansTheSame (record { sources = alone numbers ∷ []; conjuncts = []; items = column 0 Integer ∷ [] })
+        (record { sources = alone (record { table = 1; columns = nullable Integer ∷ [] }) ∷ []; conjuncts = []; items = column 0 Integer ∷ [] }) → ⊥ }
+    ensures not_null { MeansTheSame (record { sources = alone numbers ∷ []; conjuncts = []; items = column 0 Integer ∷ [] })
+        (record { sources = alone (record { table = 0; columns = required Integer ∷ [] }) ∷ []; conjuncts = []; items = column 0 Integer ∷ [] }) → ⊥ }
+    ensures items { MeansTheSame (record { sources = alone numbers ∷ []; conjuncts = []; items = column 0 Integer ∷ [] })
+        (record { sources = alone numbers ∷ []; conjuncts = []; items = column 0 Integer ∷ column 0 Integer ∷ [] }) → ⊥ }
 {}

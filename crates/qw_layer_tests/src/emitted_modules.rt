@@ -1,13 +1,15 @@
+//! A module and its layout are made of a query specification over three columns.
+
 ghost use Rattle.std.specs.Prelude.{◌≡◌, negsuc, [], ◌∷◌, IfOk, true, false};
 ghost use Rattle.qw_types.specs.declared.value.Ty.TheVariants as type;
-ghost use Rattle.qw_meaning.specs.declared.comparison.Comparison.TheVariants.{NotEqual};
-ghost use Rattle.qw_meaning.specs.Expression.{column, comparison, number};
-ghost use Rattle.qw_meaning.specs.Tree.{condition_of};
+ghost use Rattle.qw_scalar.specs.declared.comparison.Comparison.TheVariants.{NotEqual};
+ghost use Rattle.qw_scalar.specs.Expression.{column, comparison, number};
+ghost use Rattle.qw_scalar.specs.Tree.{condition_of};
 
 use qw_compile::compile::compile;
-use qw_meaning::comparison::Comparison;
-use qw_meaning::expression::{Cond, Expr};
 use qw_meaning::select::Select;
+use qw_scalar::comparison::Comparison;
+use qw_scalar::expression::{Cond, Expr};
 use qw_types::{ColumnType, NoMemory, Ty};
 use std::alloc::Global;
 use std::test::Fail;

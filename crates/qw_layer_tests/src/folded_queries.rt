@@ -2,18 +2,18 @@
 
 ghost use Rattle.std.specs.Prelude.{◌≡◌, pos, [], ◌∷◌, IfOk};
 ghost use Rattle.qw_types.specs.declared.value.Ty.TheVariants as type;
-ghost use Rattle.qw_meaning.specs.declared.expression.Operator.TheVariants.{Add, Divide, Multiply, Subtract};
-ghost use Rattle.qw_meaning.specs.declared.comparison.Comparison.TheVariants.{Less};
-ghost use Rattle.qw_meaning.specs.Expression.{arithmetic, between, column, comparison, number};
+ghost use Rattle.qw_scalar.specs.declared.expression.Operator.TheVariants.{Add, Divide, Multiply, Subtract};
+ghost use Rattle.qw_scalar.specs.declared.comparison.Comparison.TheVariants.{Less};
+ghost use Rattle.qw_scalar.specs.Expression.{arithmetic, between, column, comparison, number};
 ghost use Rattle.qw_meaning.specs.Select.{IsSpecification, specification_of};
-ghost use Rattle.qw_meaning.specs.Tree.{condition_of, expression_of};
-ghost use Rattle.qw_meaning.specs.WorkedRows.{nullable};
+ghost use Rattle.qw_scalar.specs.Tree.{condition_of, expression_of};
+ghost use Rattle.qw_meaning.specs.WorkedQueries.{nullable};
 
 use crate::assertions::assert_text;
 use qw_fold::fold::fold;
 use qw_meaning::Select;
-use qw_meaning::comparison::Comparison;
-use qw_meaning::expression::{Cond, Expr, Operator};
+use qw_scalar::comparison::Comparison;
+use qw_scalar::expression::{Cond, Expr, Operator};
 use qw_types::{ColumnType, NoMemory, Ty};
 use std::alloc::{AllocError, Global};
 use std::test::Fail;

@@ -13,6 +13,8 @@ mod exact_comparisons;
 #[cfg(test)]
 mod folded_queries;
 #[cfg(test)]
+mod keys;
+#[cfg(test)]
 mod linear_memory;
 #[cfg(test)]
 mod scripts;

@@ -1,3 +1,5 @@
+//! The linear memory at its edges: accesses of each width at the last addresses, growth and copies.
+
 use qw_linear::linear::{Linear, MAX_PAGES};
 use qw_types::NoMemory;
 use std::alloc::Global;

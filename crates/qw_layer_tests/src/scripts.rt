@@ -4,8 +4,8 @@ mod shown;
 
 use crate::assertions::assert_octets;
 use crate::texts::joined;
-use qw_script::fault::{Count, ParseFault};
-use qw_script::script::script_of;
+use qw_parse::fault::{Count, ParseFault};
+use qw_parse::script::script_of;
 use shown::shown;
 use std::alloc::Global;
 use std::process::Abort;

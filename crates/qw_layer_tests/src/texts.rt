@@ -1,5 +1,7 @@
+//! Schemas: forms, reserved words and limits, and the cause of each refusal.
+
 use crate::assertions::assert_text;
-use qw_parse::parse::{Count, SchemaFault, schema_of};
+use qw_schema::parse::{Count, SchemaFault, schema_of};
 use qw_types::{Column, Table, Ty};
 use std::alloc::{AllocError, Global};
 use std::process::Abort;

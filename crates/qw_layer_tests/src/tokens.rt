@@ -1,3 +1,5 @@
+//! The tokens of texts, and where a text stops that has none.
+
 use crate::assertions::assert_octets;
 use qw_token::token::{Kind, TokenFault, tokens};
 use std::alloc::Global;

@@ -6,18 +6,18 @@ ghost use Rattle.qw_types.specs.Arithmetic.{fits};
 ghost use Rattle.qw_types.specs.Kind.{IsOfKind, IsRowOf, type_kind};
 ghost use Rattle.qw_types.specs.declared.kind.Kind.TheVariants as kind;
 ghost use Rattle.qw_types.specs.declared.value.Ty.TheVariants as type;
-ghost use Rattle.qw_meaning.specs.declared.expression.Operator.TheVariants.{Divide, Subtract};
-ghost use Rattle.qw_meaning.specs.declared.comparison.Comparison.TheVariants.{Equal, Greater};
-ghost use Rattle.qw_meaning.specs.Expression.{arithmetic, case, coalesced, column, comparison, last, more, negative, null_if, number, otherwise, text, when};
+ghost use Rattle.qw_scalar.specs.declared.expression.Operator.TheVariants.{Divide, Subtract};
+ghost use Rattle.qw_scalar.specs.declared.comparison.Comparison.TheVariants.{Equal, Greater};
+ghost use Rattle.qw_scalar.specs.Expression.{arithmetic, case, coalesced, column, comparison, last, more, negative, null_if, number, otherwise, text, when};
 ghost use Rattle.qw_meaning.specs.Select.{IsSpecification, specification_of};
-ghost use Rattle.qw_meaning.specs.Tree.{condition_of, expression_of};
-ghost use Rattle.qw_meaning.specs.WorkedRows.{item_entry};
+ghost use Rattle.qw_scalar.specs.Tree.{condition_of, expression_of};
+ghost use Rattle.qw_meaning.specs.WorkedQueries.{item_entry};
 
 use crate::assertions::assert_text;
 use qw_meaning::Select;
-use qw_meaning::comparison::Comparison;
-use qw_meaning::expression::{Branches, Cond, Expr, Exprs, Operator};
-use qw_meaning::outcome::{Answer, plain_outcome};
+use qw_plain::outcome::{Answer, plain_outcome};
+use qw_scalar::comparison::Comparison;
+use qw_scalar::expression::{Branches, Cond, Expr, Exprs, Operator};
 use qw_types::{ColumnType, NoMemory, Row, Text, Ty, Val};
 use std::alloc::Global;
 use std::process::Abort;
@@ -31,7 +31,7 @@ fn named(alloc: Global, text: &str) -> Result<Val, NoMemory>
 
 /// A column that may be null.
 fn nullable(ty: Ty) -> ColumnType
-    ensures { result ≡ Rattle.qw_meaning.specs.WorkedRows.nullable ty }
+    ensures { result ≡ Rattle.qw_meaning.specs.WorkedQueries.nullable ty }
 {
     ColumnType {
         ty,

@@ -1,6 +1,6 @@
 -- Promises of straight-line blocks, statement by statement: what follows keeps its promise at the state that a statement leaves.
 use Rattle.std.proofs.Common.{◌≡◌, ℕ, ◌+◌, ◌<◌, ◌≤◌, nat_le, length, Some, slice_get, slice_set, ⊎_elim, arith}
-use Rattle.std.proofs.lemmas.Bool.{lt-ltb, le-leb, cases_Bool}
+use Rattle.std.proofs.lemmas.Bool.{lt-ltb, le-leb, leb-true, cases_Bool}
 use Rattle.qw_module.specs.declared.instruction.Load.{Load}
 use Rattle.qw_module.specs.declared.instruction.Store as instruction
 use Rattle.qw_module.specs.Numbers.{load_width, store_width}
@@ -43,10 +43,10 @@ module _ (P X : LowState → Type 0) (R : ℕ → Type 0) (most fuel : ℕ) (s :
 
     -- granted, or 3 is raised
     pub request_then : (e : Expression) (x count : ℕ) → value s e ≡ Some (Number count) → x < length s.locals → 1 ≤ count → s.held + count ≤ most → R 3 →
-        Ends m P X R (meaning most fuel b (granting count x)) → Ends (cost e + 9 + m) P X R (meaning most fuel (seq (request e x) b) s)
+        (s.held + count ≤ s.limit → Ends m P X R (meaning most fuel b (granting count x))) → Ends (cost e + 9 + m) P X R (meaning most fuel (seq (request e x) b) s)
     request_then e x count is room some within refused onward =
         rw (is, lt-ltb x (length s.locals) room, le-leb 1 count some, le-leb (s.held + count) most within)
         (⊎_elim
-        (λ fits. rw fits (Ends-counting P X R (cost e + 9) (cost e + 9) m (meaning most fuel b (granting count x)) (omega arith) onward))
+        (λ fits. rw fits (Ends-counting P X R (cost e + 9) (cost e + 9) m (meaning most fuel b (granting count x)) (omega arith) (onward (leb-true (s.held + count) s.limit fits))))
         (λ past. rw past (omega arith, refused))
         (cases_Bool (nat_le (s.held + count) s.limit)))

@@ -1,4 +1,4 @@
--- How many steps were added.
+-- How many steps a block has after steps were added to it.
 use Rattle.std.proofs.Common.{◌≡◌, ℕ, ◌+◌, ◌≤◌, List, ◌++◌, length, length-append, Result, Ok, Err, IfOk, OnOk, ap, arith}
 use Rattle.qw_low.specs.declared.step.LowStep.{LowStep}
 use Rattle.qw_low.specs.Steps.{steps_of}

@@ -57,4 +57,4 @@ module _ (most fuel x y n : ℕ) (s : LowState) (x_there : x < length s.locals) 
       address-is refl refl refl (get-last s.own page) (omega arith) loaded
 
   pub page_used : Ends 16 HasNumber Never IsRefusal (meaning most fuel (seq (request (i32 1) x) (seq (store (stores.Full I32) 8 (local x) (i32 n)) loading)) s)
-  page_used = request_then HasNumber Never IsRefusal most fuel s 6 (seq (store (stores.Full I32) 8 (local x) (i32 n)) loading) (i32 1) x 1 refl x_there (omega arith) room refl stored_and_loaded
+  page_used = request_then HasNumber Never IsRefusal most fuel s 6 (seq (store (stores.Full I32) 8 (local x) (i32 n)) loading) (i32 1) x 1 refl x_there (omega arith) room refl (λ within. stored_and_loaded)

@@ -1,4 +1,4 @@
--- What the worked cases run in.
+-- The states, the world and the layout that the worked cases of Low run in.
 use Rattle.std.specs.Prelude.{ℕ, true, false, [], ◌∷◌, None}
 use Rattle.qw_types.specs.declared.value.Ty.TheVariants as ty
 use Rattle.qw_module.specs.declared.instruction.Const.TheVariants as const

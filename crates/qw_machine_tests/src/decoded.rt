@@ -1,7 +1,7 @@
 //! Octets written by hand from the WebAssembly Core Specification 1.0, chapter 5. What stands behind the header is given.
 
 use qw_binary::decode::decode;
-use qw_grammar::fault::{BinaryFault, What};
+use qw_octet_grammar::fault::{BinaryFault, What};
 use std::alloc::{AllocError, Global};
 use std::test::Fail;
 

@@ -2,9 +2,9 @@
 
 use qw_binary::decode::decode;
 use qw_binary::encode::encode;
-use qw_grammar::write::WriteFault;
 use qw_module::instruction::Instr;
 use qw_module::module::{Body, Function, Import, Module};
+use qw_octet_grammar::write::WriteFault;
 use std::alloc::{AllocError, Global};
 use std::test::Fail;
 

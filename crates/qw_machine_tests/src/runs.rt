@@ -1,4 +1,4 @@
-//! Runs of modules around a body.
+//! Modules around a body, their runs step by step, and what those come to.
 
 use crate::bodies::Token;
 use crate::modules::{IMPORTS, func_type, function, global};

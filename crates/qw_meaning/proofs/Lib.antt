@@ -1,8 +1,5 @@
-mod CaseLemmas
-mod EvaluationLemmas
-mod FlowLemmas
+pub mod FlowLemmas
+pub mod FromLemmas
 mod OutcomeLemmas
 pub mod SameLemmas
 pub mod SelectLemmas
-pub mod TypingLemmas
-pub mod UnitsLemmas

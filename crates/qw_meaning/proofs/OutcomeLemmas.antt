@@ -8,10 +8,10 @@ use Rattle.qw_types.specs.declared.code.Code.TheVariants.{DivZero, OutOfRange}
 use Rattle.qw_types.specs.declared.truth.Truth.{Truth}
 use Rattle.qw_types.specs.declared.truth.Truth.TheVariants.{True, False, Unknown}
 use Rattle.qw_types.specs.declared.value.Val.{Val}
-use Rattle.qw_meaning.specs.Conjuncts.{passes}
-use Rattle.qw_meaning.specs.Evaluation.{Environment, chosen, truth_of}
-use Rattle.qw_meaning.specs.Expression.{Condition}
-use Rattle.qw_meaning.specs.Flow.{Flow, codes_given, each, rows_given}
+use Rattle.qw_scalar.specs.Conjuncts.{passes}
+use Rattle.qw_scalar.specs.Evaluation.{Environment, chosen, truth_of}
+use Rattle.qw_scalar.specs.Expression.{Condition}
+use Rattle.qw_meaning.specs.Flow.{Flow, codes_given, each, given, rows_given, spread}
 use Rattle.qw_meaning.specs.Outcome.{IsSameOutcome, Raises, Rows}
 
 contains_nothing : {X : Type 0} (x : X) → Contains [] x → ⊥
@@ -38,42 +38,59 @@ in_flat_map f (z ∷ xs) x y h g = elim (Contains-append_cases (z ∷ []) xs x h
   | inr later ↦ Contains-append_right (f z) (flat_map f xs) y (in_flat_map f xs x y later g)
 ]
 
-code_given : (r : Result (List (List Val)) Code) (code : Code) → Contains (codes_given r) code → r ≡ Err code
+code_given : {A : Type 0} (r : Result (List A) Code) (code : Code) → Contains (codes_given r) code → r ≡ Err code
 code_given (Ok rows) code h = absurd (contains_nothing code h)
 code_given (Err other) code h = rw (contains_one other code h) refl
 
-row_given : (r : Result (List (List Val)) Code) (made : List Val) → Contains (rows_given r) made → (rows : List (List Val)) × ((r ≡ Ok rows) × Contains rows made)
+row_given : {A : Type 0} (r : Result (List A) Code) (made : A) → Contains (rows_given r) made → (rows : List A) × ((r ≡ Ok rows) × Contains rows made)
 row_given (Ok rows) made h = (rows, (refl, h))
 row_given (Err code) made h = absurd (contains_nothing made h)
 
-pub only_raised : (work : List Val → Result (List (List Val)) Code) (flow : Flow) (code : Code)
-    → Contains (each work flow).codes code → Contains flow.codes code ⊎ ((row : List Val) × (Contains flow.rows row × (work row ≡ Err code)))
-only_raised work flow code h =
-    elim (Contains-append_cases flow.codes (flat_map (λ row. codes_given (work row)) flow.rows) code h) as (λ _. Contains flow.codes code ⊎ ((row : List Val) × (Contains flow.rows row × (work row ≡ Err code)))) [
+-- a clause that makes a flow of each row
+pub spread_codes : {A B : Type 0} (work : A → Flow B) (flow : Flow A) (code : Code)
+    → Contains (spread work flow).codes code → Contains flow.codes code ⊎ ((row : A) × (Contains flow.rows row × Contains (work row).codes code))
+spread_codes work flow code h =
+    elim (Contains-append_cases flow.codes (flat_map (λ row. (work row).codes) flow.rows) code h) as (λ _. Contains flow.codes code ⊎ ((row : _) × (Contains flow.rows row × Contains (work row).codes code))) [
       | inl before ↦ inl before
-      | inr here ↦ let found = from_flat_map (λ row. codes_given (work row)) flow.rows code here in
-          inr (found.0, (found.1.0, code_given (work found.0) code found.1.1))
+      | inr here ↦ inr (from_flat_map (λ row. (work row).codes) flow.rows code here)
     ]
 
-pub raised : (work : List Val → Result (List (List Val)) Code) (flow : Flow) (row : List Val) (code : Code)
+pub spread_raised : {A B : Type 0} (work : A → Flow B) (flow : Flow A) (row : A) (code : Code) → Contains flow.rows row → Contains (work row).codes code → Contains (spread work flow).codes code
+spread_raised work flow row code h e =
+    Contains-append_right flow.codes (flat_map (λ r. (work r).codes) flow.rows) code (in_flat_map (λ r. (work r).codes) flow.rows row code h e)
+
+pub spread_before : {A B : Type 0} (work : A → Flow B) (flow : Flow A) (code : Code) → Contains flow.codes code → Contains (spread work flow).codes code
+spread_before work flow code h = Contains-append_left flow.codes (flat_map (λ row. (work row).codes) flow.rows) code h
+
+pub spread_rows : {A B : Type 0} (work : A → Flow B) (flow : Flow A) (made : B) → Contains (spread work flow).rows made → (row : A) × (Contains flow.rows row × Contains (work row).rows made)
+spread_rows work flow made h = from_flat_map (λ row. (work row).rows) flow.rows made h
+
+pub spread_given : {A B : Type 0} (work : A → Flow B) (flow : Flow A) (row : A) (made : B) → Contains flow.rows row → Contains (work row).rows made → Contains (spread work flow).rows made
+spread_given work flow row made h g = in_flat_map (λ r. (work r).rows) flow.rows row made h g
+
+-- one of which a row that raises goes no further
+pub only_raised : {A B : Type 0} (work : A → Result (List B) Code) (flow : Flow A) (code : Code)
+    → Contains (each work flow).codes code → Contains flow.codes code ⊎ ((row : A) × (Contains flow.rows row × (work row ≡ Err code)))
+only_raised work flow code h =
+    elim (spread_codes (λ row. given (work row)) flow code h) as (λ _. Contains flow.codes code ⊎ ((row : _) × (Contains flow.rows row × (work row ≡ Err code)))) [
+      | inl before ↦ inl before
+      | inr here ↦ inr (here.0, (here.1.0, code_given (work here.0) code here.1.1))
+    ]
+
+pub raised : {A B : Type 0} (work : A → Result (List B) Code) (flow : Flow A) (row : A) (code : Code)
     → Contains flow.rows row → work row ≡ Err code → Contains (each work flow).codes code
-raised work flow row code h e =
-    Contains-append_right flow.codes (flat_map (λ r. codes_given (work r)) flow.rows) code
-    (in_flat_map (λ r. codes_given (work r)) flow.rows row code h (rw e (contains_itself code)))
+raised work flow row code h e = spread_raised (λ r. given (work r)) flow row code h (rw e (contains_itself code))
 
-pub raised_before : (work : List Val → Result (List (List Val)) Code) (flow : Flow) (code : Code) → Contains flow.codes code → Contains (each work flow).codes code
-raised_before work flow code h = Contains-append_left flow.codes (flat_map (λ row. codes_given (work row)) flow.rows) code h
-
-pub only_given : (work : List Val → Result (List (List Val)) Code) (flow : Flow) (made : List Val)
-    → Contains (each work flow).rows made → (row : List Val) × (rows : List (List Val)) × (Contains flow.rows row × ((work row ≡ Ok rows) × Contains rows made))
+pub only_given : {A B : Type 0} (work : A → Result (List B) Code) (flow : Flow A) (made : B)
+    → Contains (each work flow).rows made → (row : A) × (rows : List B) × (Contains flow.rows row × ((work row ≡ Ok rows) × Contains rows made))
 only_given work flow made h =
-    let found = from_flat_map (λ row. rows_given (work row)) flow.rows made h in
+    let found = spread_rows (λ row. given (work row)) flow made h in
     let rows = row_given (work found.0) made found.1.1 in
     (found.0, rows.0, (found.1.0, rows.1))
 
-pub given : (work : List Val → Result (List (List Val)) Code) (flow : Flow) (row made : List Val) (rows : List (List Val))
+pub are_given : {A B : Type 0} (work : A → Result (List B) Code) (flow : Flow A) (row : A) (made : B) (rows : List B)
     → Contains flow.rows row → work row ≡ Ok rows → Contains rows made → Contains (each work flow).rows made
-given work flow row made rows h e g = in_flat_map (λ r. rows_given (work r)) flow.rows row made h (rw e g)
+are_given work flow row made rows h e g = spread_given (λ r. given (work r)) flow row made h (rw e g)
 
 two_tests : {A : Type 0} (t u : Truth) (next stop : A) → chosen t (chosen u next stop) stop ≡ chosen u (chosen t next stop) stop
 two_tests True True next stop = refl

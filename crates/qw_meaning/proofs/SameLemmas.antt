@@ -5,15 +5,17 @@ use Rattle.std.proofs.lemmas.List.Sums.{sum_by-cons}
 use Rattle.std.specs.List.{AllZip, flat_map}
 use Rattle.qw_types.specs.declared.code.Code.{Code}
 use Rattle.qw_types.specs.declared.value.Val.{Val}
-use Rattle.qw_meaning.specs.Conjuncts.{passes}
-use Rattle.qw_meaning.specs.Evaluation.{Environment, at_row}
-use Rattle.qw_meaning.specs.Expression.{Condition, Expression}
-use Rattle.qw_meaning.specs.Flow.{Flow, codes_given, each, flow, from_entries, kept, rows_given, selected, values_of}
-use Rattle.qw_meaning.specs.Outcome.{ended, outcome}
-use Rattle.qw_meaning.specs.Select.{Entry, Specification}
-use Rattle.qw_meaning.specs.Typing.{kind_of}
-use Rattle.qw_meaning.specs.Units as text
-use Rattle.qw_meaning.specs.Same.{AreSame, IsSame, MeansTheSame}
+use Rattle.qw_scalar.specs.Conjuncts.{passes}
+use Rattle.qw_scalar.specs.Evaluation.{Environment, at_row}
+use Rattle.qw_scalar.specs.Expression.{Condition, Expression}
+use Rattle.qw_meaning.specs.Flow.{Flow, codes_given, each, kept, rows_given, selected, values_of}
+use Rattle.qw_meaning.specs.From.{from_sources}
+use Rattle.qw_meaning.specs.Outcome.{ended, flow, outcome}
+use Rattle.qw_meaning.specs.Select.{Source, Specification}
+use Rattle.qw_scalar.specs.Typing.{kind_of}
+use Rattle.qw_scalar.specs.Units as text
+use Rattle.qw_scalar.specs.Same.{AreSame, IsSame}
+use Rattle.qw_meaning.specs.Same.{MeansTheSame}
 
 passes_same : (cs ds : List Condition) (env : Environment) → AllZip AreSame cs ds → passes cs env ≡ passes ds env
 passes_same [] [] env h = refl
@@ -41,22 +43,22 @@ pub sum_same : {X : Type 0} (f g : X → ℕ) (xs : List X) → ((x : X) → f x
 sum_same f g [] h = refl
 sum_same f g (x ∷ xs) h = sum_by-cons f x xs ∙ rw (h x, sum_same f g xs h) (sym (sum_by-cons g x xs))
 
-pub each_same : (f g : List Val → Result (List (List Val)) Code) (flow : Flow) → ((row : List Val) → f row ≡ g row) → each f flow ≡ each g flow
-each_same f g flow h =
+pub each_same : (f g : List Val → Result (List (List Val)) Code) (before : Flow (List Val)) → ((row : List Val) → f row ≡ g row) → each f before ≡ each g before
+each_same f g before h =
     rw (
-      flat_map_same (λ row. rows_given (f row)) (λ row. rows_given (g row)) flow.rows (λ row. ap rows_given (h row)),
-      flat_map_same (λ row. codes_given (f row)) (λ row. codes_given (g row)) flow.rows (λ row. ap codes_given (h row)),
+      flat_map_same (λ row. rows_given (f row)) (λ row. rows_given (g row)) before.rows (λ row. ap rows_given (h row)),
+      flat_map_same (λ row. codes_given (f row)) (λ row. codes_given (g row)) before.rows (λ row. ap codes_given (h row)),
     ) refl
 
 pub flow_same : (query other : Specification) (tables : List (List (List Val))) → MeansTheSame query other → flow query tables ≡ flow other tables
 flow_same query other tables h =
-    let from : from_entries query.entries tables ≡ from_entries other.entries tables = ap (λ (entries : List Entry). from_entries entries tables) h.entries in
-    ap (λ (f : Flow). each (selected query.items) (each (kept query.conjuncts) f)) from
-    ∙ ap (each (selected query.items)) (each_same (kept query.conjuncts) (kept other.conjuncts) (from_entries other.entries tables) (λ row. kept_same query.conjuncts other.conjuncts row h.conjuncts))
-    ∙ each_same (selected query.items) (selected other.items) (each (kept other.conjuncts) (from_entries other.entries tables)) (λ row. selected_same query.items other.items row h.items)
+    let from : from_sources query.sources tables ≡ from_sources other.sources tables = ap (λ (sources : List Source). from_sources sources tables) h.sources in
+    ap (λ (f : Flow (List Val)). each (selected query.items) (each (kept query.conjuncts) f)) from
+    ∙ ap (each (selected query.items)) (each_same (kept query.conjuncts) (kept other.conjuncts) (from_sources other.sources tables) (λ row. kept_same query.conjuncts other.conjuncts row h.conjuncts))
+    ∙ each_same (selected query.items) (selected other.items) (each (kept other.conjuncts) (from_sources other.sources tables)) (λ row. selected_same query.items other.items row h.items)
 
 pub outcome_same : (query other : Specification) (tables : List (List (List Val))) → MeansTheSame query other → outcome query tables ≡ outcome other tables
-outcome_same query other tables h = ap (λ (f : Flow). ended f.rows f.codes) (flow_same query other tables h)
+outcome_same query other tables h = ap (λ (f : Flow (List Val)). ended f.rows f.codes) (flow_same query other tables h)
 
 pub conjuncts_units : (cs ds : List Condition) (env : Environment) → AllZip AreSame cs ds → text.units_of_all cs env ≡ text.units_of_all ds env
 conjuncts_units [] [] env h = refl

@@ -4,10 +4,14 @@ use Rattle.std.specs.List.{Contains}
 use Rattle.std.specs.List.Sorted.{IsPermutation}
 use Rattle.qw_types.specs.declared.code.Code.{Code}
 use Rattle.qw_types.specs.declared.value.Val.{Val}
-use Rattle.qw_meaning.specs.Flow.{flow}
+use Rattle.qw_meaning.specs.Flow.{Flow, each, kept, selected}
+use Rattle.qw_meaning.specs.From.{from_sources}
 use Rattle.qw_meaning.specs.Select.{Specification}
-use Rattle.qw_meaning.specs.declared.outcome.Answer.{Answer}
-use Rattle.qw_meaning.specs.declared.outcome.Answer.TheVariants as answer
+
+-- FROM, WHERE and the select list. GROUP BY with HAVING has its place before the select list, DISTINCT after it; no specification has
+-- them yet.
+abbrev pub flow : Specification → List (List (List Val)) → Flow (List Val)
+flow specification tables = each (selected specification.items) (each (kept specification.conjuncts) (from_sources specification.sources tables))
 
 -- the bag of its rows, or, where any was raised, the exceptions that were
 pub data Outcome : Type 0 where
@@ -28,8 +32,3 @@ IsSameOutcome (Raises codes) (Raises others) =
     ((code : Code) → Contains codes code → Contains others code) × ((code : Code) → Contains others code → Contains codes code)
 IsSameOutcome (Rows rows) (Raises others) = ⊥
 IsSameOutcome (Raises codes) (Rows others) = ⊥
-
--- the outcome that an answer of the code is
-abbrev pub outcome_of : Answer → Outcome
-outcome_of (answer.Rows rows) = Rows rows.items
-outcome_of (answer.Raises codes) = Raises codes.items

@@ -3,7 +3,7 @@
 ghost use Rattle.std.specs.Prelude.{◌≡◌};
 ghost use Rattle.qw_meaning.specs.Select.{IsSpecification, specification_of};
 
-use crate::expression::{Cond, Expr};
+use qw_scalar::expression::{Cond, Expr};
 use qw_types::ColumnType;
 use std::marker::Model;
 
@@ -20,8 +20,8 @@ pub struct Select {
 
 impl Model for Select {
     ghost use Rattle.qw_meaning.specs.Select.{Parts, IsSpecification, specification_of};
-    ghost use Rattle.qw_meaning.specs.contracts.expression.Expr as expression;
-    ghost use Rattle.qw_meaning.specs.contracts.expression.Cond as condition;
+    ghost use Rattle.qw_scalar.specs.contracts.expression.Expr as expression;
+    ghost use Rattle.qw_scalar.specs.contracts.expression.Cond as condition;
     ghost use Rattle.std.specs.Coded.{codes};
 
     ghost Value = { Parts };

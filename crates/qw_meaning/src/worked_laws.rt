@@ -3,12 +3,12 @@
 ghost use Rattle.std.specs.Prelude.{◌≡◌, pos, negsuc, true, false, [], ◌∷◌, Ok};
 ghost use Rattle.qw_types.specs.declared.value.Ty.TheVariants.{Integer};
 ghost use Rattle.qw_types.specs.declared.value.Val.TheVariants.{Null, Num};
-ghost use Rattle.qw_meaning.specs.declared.comparison.Comparison.TheVariants.{Equal, NotEqual, Less, LessOrEqual, Greater, GreaterOrEqual};
-ghost use Rattle.qw_meaning.specs.Conjuncts.{passes};
-ghost use Rattle.qw_meaning.specs.Evaluation.{at_row};
-ghost use Rattle.qw_meaning.specs.Expression.{column};
+ghost use Rattle.qw_scalar.specs.declared.comparison.Comparison.TheVariants.{Equal, NotEqual, Less, LessOrEqual, Greater, GreaterOrEqual};
+ghost use Rattle.qw_scalar.specs.Conjuncts.{passes};
+ghost use Rattle.qw_scalar.specs.Evaluation.{at_row};
+ghost use Rattle.qw_scalar.specs.Expression.{column};
 ghost use Rattle.qw_meaning.specs.Outcome.{Rows, outcome};
-ghost use Rattle.qw_meaning.specs.WorkedRows.{where_compared, where_second_is_five};
+ghost use Rattle.qw_meaning.specs.WorkedQueries.{where_compared, where_second_is_five};
 
 /// `SELECT A FROM T WHERE A > 5` over the rows (4), (1), (7), (null): the first two and the last don't pass, and the result is (7).
 pub fn greater_than_five()

@@ -1,10 +1,15 @@
-mod DeclareLemmas
-mod FormLemmas
-mod GrammarLemmas
-mod JudgeLemmas
-mod ListLemmas
-mod LiteralLemmas
-mod NameLemmas
-pub mod SchemaLemmas
-mod TableLemmas
-mod TerminalLemmas
+mod AcceptLemmas
+mod ConditionLemmas
+mod ExactLemmas
+mod LoopLemmas
+mod PrimaryLemmas
+mod PrimaryReadLemmas
+mod RankLemmas
+mod ReadLemmas
+pub mod ScriptLemmas
+mod SelectLemmas
+mod SizeLemmas
+mod SumLemmas
+mod TailReadLemmas
+mod TokenLemmas
+mod WorkedLemmas

@@ -1,5 +1,5 @@
-pub use Rattle.qw_ast.specs.Grammar
-pub use Rattle.qw_ast.specs.SchemaGrammar
-pub use Rattle.qw_types.specs.Schema
+pub use Rattle.qw_ast.specs.ScriptGrammar
+pub use Rattle.qw_ast.specs.SyntaxTree
 pub mod Inner
-pub mod Parse
+pub mod Script
+pub mod Worked

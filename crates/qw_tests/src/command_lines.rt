@@ -1,6 +1,8 @@
+//! The words of the command line that are taken, and words that are refused.
+
 use crate::tables::words;
-use qw_words::command::{Command, WordsFault};
-use qw_words::read::read;
+use qw_command_line::command::{Command, WordsFault};
+use qw_command_line::read::read;
 use std::alloc::Global;
 use std::test::Fail;
 

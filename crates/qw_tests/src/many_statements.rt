@@ -3,7 +3,7 @@
 
 use crate::tables::{bench_over, heads};
 use qw_bench::bench::{Bench, Ended, Limits};
-use qw_parse::parse::schema_of;
+use qw_schema::parse::schema_of;
 use qw_sink::received::with_rows;
 use qw_sink::sink::{Head, with_exception, with_pages, with_steps};
 use qw_types::{Code, Kind, NoMemory};

@@ -2,7 +2,7 @@
 
 use crate::tables::{DEFAULT_LIMITS, bench_of, differs, end_of, narrow};
 use qw_bench::bench::{Bench, Ended};
-use qw_meaning::comparison::Comparison;
+use qw_scalar::comparison::Comparison;
 use std::alloc::{AllocError, Global};
 use std::test::Fail;
 

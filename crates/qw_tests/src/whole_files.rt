@@ -1,3 +1,5 @@
+//! A whole file, read piece by piece.
+
 use crate::tables::file;
 use qw_io::MemoryShelf;
 use qw_top::files::{ReadFault, read_whole, table_file_name};

@@ -1,3 +1,5 @@
+//! A whole text, written piece by piece.
+
 use qw_io::{IoFault, MemorySink};
 use qw_top::output::write_whole;
 use std::test::Fail;

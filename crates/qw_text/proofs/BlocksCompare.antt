@@ -5,14 +5,14 @@ use Rattle.qw_low.specs.declared.cell.Cell.{Cell}
 use Rattle.qw_low.specs.Meaning.{meaning}
 use Rattle.qw_low.specs.Raising.{Kept}
 use Rattle.qw_low.proofs.Promises.{Ends-more}
-use Rattle.qw_text.specs.Texts.{Compares, SaysSame, SaysOrder}
+use Rattle.qw_text.specs.Texts.{Compares, SaysSame, SaysOrder, of_both, of_left}
 use Rattle.qw_text.specs.Inner.Blocks.{equality_block, order_block}
 use Rattle.qw_text.proofs.WalkEnds.{Never, NoCode}
 use Rattle.qw_text.proofs.EqualityEnds.{equality_ends, equality_typed}
 use Rattle.qw_text.proofs.OrderEnds.{order_ends, order_typed}
 
 module _ (left right : Cell) (n : ℕ) (low_a : left.value < n) (low_ca : left.length < n) (low_b : right.value < n) (low_cb : right.length < n) where
-  pub equality_compares : Compares (SaysSame n) left right n (equality_block left.value left.length right.value right.length n)
+  pub equality_compares : Compares of_left (SaysSame n) left right n (equality_block left.value left.length right.value right.length n)
   equality_compares = record {
     runs = λ pages fuel more s v w units enough held_left held_right room.
         let bound : 4 + (length v * 23 + 16) ≤ 47 * more = omega (arith, units) in
@@ -25,7 +25,7 @@ module _ (left right : Cell) (n : ℕ) (low_a : left.value < n) (low_ca : left.l
     short = omega arith;
   }
 
-  pub order_compares : Compares (SaysOrder (n + 2)) left right n (order_block left.value left.length right.value right.length n)
+  pub order_compares : Compares of_both (SaysOrder (n + 2)) left right n (order_block left.value left.length right.value right.length n)
   order_compares = record {
     runs = λ pages fuel more s v w units enough held_left held_right room.
         let bound : 35 + length v * 23 ≤ 62 * more = omega (arith, units) in

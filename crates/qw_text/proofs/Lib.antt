@@ -1,5 +1,6 @@
 mod BlocksCompare
 mod EqualityEnds
+mod HashEnds
 mod OrderEnds
 mod OwnLocals
 mod TextFacts

@@ -29,7 +29,7 @@ undecided Equal s h = refl
 undecided Greater s h = absurd cc
 
 -- ---- texts from an index on
-begins : (v : List ℕ) (i octet : ℕ) → slice_get v i ≡ Some octet → drop i v ≡ octet ∷ drop (suc i) v
+pub begins : (v : List ℕ) (i octet : ℕ) → slice_get v i ≡ Some octet → drop i v ≡ octet ∷ drop (suc i) v
 begins v i octet h = drop-cons v i octet (slice_get_within v i octet h) ∙ ap (λ x. x ∷ drop (suc i) v) (get_or_from_slice_get v i octet octet h)
 
 pub same_here : (v w : List ℕ) (i p q : ℕ) → slice_get v i ≡ Some p → slice_get w i ≡ Some q → p ≡ q → text_order (drop i v) (drop i w) ≡ text_order (drop (suc i) v) (drop (suc i) w)

@@ -56,7 +56,7 @@ pub record Walked (n : ℕ) (s : LowState) (v w : List ℕ) (m : ℕ) (t : LowSt
   pub compared : Compared m v w p q
 
 -- the address of an octet of a text
-octet_at : (t : LowState) (address count x i octet : ℕ) (v : List ℕ) (holds : HoldsText t address count v) → slice_get t.locals x ≡ Some (Number i) → slice_get v i ≡ Some octet →
+pub octet_at : (t : LowState) (address count x i octet : ℕ) (v : List ℕ) (holds : HoldsText t address count v) → slice_get t.locals x ≡ Some (Number i) → slice_get v i ≡ Some octet →
     value t (advance (local address) (local x)) ≡ Some (Address holds.part (holds.offset + i))
 octet_at t address count x i octet v holds is found =
     rw (holds.is_at, is, holds.lies.sized, le-leb (holds.offset + i) holds.lies.size (omega (arith, holds.lies.inside, slice_get_within v i octet found))) refl

@@ -3,7 +3,7 @@
 ghost use Rattle.std.specs.Prelude.{◌≡◌, ◌+◌, ◌<◌, ◌^◌, ◌++◌, IfOk, OnOk, ◌≤◌, length};
 ghost use Rattle.qw_low.specs.Syntax.{Statement};
 ghost use Rattle.qw_low.specs.Steps.{steps_of};
-ghost use Rattle.qw_text.specs.Texts.{Compares, SaysSame};
+ghost use Rattle.qw_text.specs.Texts.{Compares, SaysSame, of_left};
 ghost use Rattle.qw_text.specs.Inner.Blocks.{equality_block};
 
 use crate::walk::push_walk;
@@ -52,7 +52,7 @@ pub fn emit_text_eq(
     requires right { (right.value < free) × (right.length < free) }
     requires room { free + 3 < 2 ^ 32 }
     ensures block { IfOk result (λ out. (a : Statement) × (block.new.code.items ≡ block.old.code.items ++ steps_of a)
-        × Compares (SaysSame out) left right free a) }
+        × Compares of_left (SaysSame out) left right free a) }
     ensures place { IfOk result (λ out. out ≡ free) }
     ensures short { OnOk result (length block.new.code.items ≤ length block.old.code.items + 100) }
 {

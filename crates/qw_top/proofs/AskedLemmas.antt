@@ -6,7 +6,7 @@ use Rattle.qw_types.specs.declared.kind.Kind.{Kind}
 use Rattle.qw_types.specs.declared.schema.Table.{Table}
 use Rattle.qw_meaning.specs.Select.{Specification}
 use Rattle.qw_ast.specs.Syntax.{Select}
-use Rattle.qw_script.proofs.ScriptLemmas.{script_one}
+use Rattle.qw_parse.proofs.ScriptLemmas.{script_one}
 use Rattle.qw_typer.specs.Faults.{Fault}
 use Rattle.qw_typer.specs.Typed as typed
 use Rattle.qw_typer.specs.Typed.{HasFirstFault, query_faults}

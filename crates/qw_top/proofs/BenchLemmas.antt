@@ -7,7 +7,7 @@ use Rattle.qw_types.specs.Contents.{Contents, column_type, rows_of}
 use Rattle.qw_types.specs.declared.schema.ColumnType.{ColumnType}
 use Rattle.qw_types.specs.declared.schema.Table.{Table}
 use Rattle.qw_csv.proofs.ColumnLaws.{loaded_of_columns}
-use Rattle.qw_meaning.specs.Select.{AreOfEntries}
+use Rattle.qw_meaning.specs.Select.{AreOfEntries, entries_of}
 use Rattle.qw_map.specs.Turns.{Act, EachInstance, turns}
 use Rattle.qw_map.specs.declared.layout.Used.{Used}
 use Rattle.qw_compile.specs.Named.{IsOfTable}
@@ -19,7 +19,7 @@ use Rattle.qw_bench.proofs.Serving.{turns-serving}
 use Rattle.qw_bench.proofs.Starting.{start-serving}
 use Rattle.qw_top.specs.Delivered.{HasRun, IsProgramOf}
 use Rattle.qw_types.specs.Limits.{most_tables}
-use Rattle.qw_parse.proofs.SchemaLemmas.{ReadsSchema-tables}
+use Rattle.qw_schema.proofs.SchemaLemmas.{ReadsSchema-tables}
 use Rattle.qw_top.specs.Top.{Asked, Files, HasQueries, HaveRoom, Names, TablesAre, same_limits}
 use Rattle.qw_top.specs.declared.stop.Stop.{Stop}
 use Rattle.qw_typer.specs.declared.query.TypedSelect.{TypedSelect}
@@ -63,14 +63,14 @@ rows_there (first ∷ tables) zero one found = ap (λ (c : Contents). c.rows) (s
 rows_there (first ∷ tables) (suc n) one found = rows_there tables n one found
 
 -- those of a query over a table of the schema
-pub entry_read : (schema : List Table) (tables : List Contents) (query : TypedSelect) → AreContentsOf schema tables → IsOver schema query → AreOfEntries (asked_of query).specification.entries (rows_in_tables tables)
+pub entry_read : (schema : List Table) (tables : List Contents) (query : TypedSelect) → AreContentsOf schema tables → IsOver schema query → AreOfEntries (entries_of (asked_of query).specification.sources) (rows_in_tables tables)
 entry_read schema tables query are over =
     let one = contents_at schema tables query.select.table over.table are over.there in
     let rows : rows_of (rows_in_tables tables) query.select.table ≡ one.0.rows = rows_there tables query.select.table one.0 one.1 in
     (record { few = rw rows one.2.few; typed = rw (rows, over.columns_are) one.2.typed }, tt)
 
 pub entries_read : (schema : List Table) (tables : List Contents) (queries : List TypedSelect) → AreContentsOf schema tables → AllByRecursion (IsOver schema) queries →
-    AllByRecursion (λ (asked : Asked). AreOfEntries asked.specification.entries (rows_in_tables tables)) (map asked_of queries)
+    AllByRecursion (λ (asked : Asked). AreOfEntries (entries_of asked.specification.sources) (rows_in_tables tables)) (map asked_of queries)
 entries_read schema tables [] are over = tt
 entries_read schema tables (query ∷ queries) are over = (entry_read schema tables query are over.0, entries_read schema tables queries are over.1)
 
@@ -98,7 +98,7 @@ few_tables files names schema tables queries held =
 -- ---- turns from a start on, after which all instances have ended
 
 pub HasRun-from : (limits : Limits) (quantum : ℕ) (tables : List Contents) (queries : List Asked) (programs : List Program) (before b : Standing) → HaveRoom limits tables queries →
-    AllByRecursion (λ (asked : Asked). AreOfEntries asked.specification.entries (rows_in_tables tables)) queries → AllZip IsProgramOf queries programs → AreTasksOf programs (same_limits limits queries) before.tasks → IsStart tables before.tasks before.shared → b.tasks ≡ before.tasks →
+    AllByRecursion (λ (asked : Asked). AreOfEntries (entries_of asked.specification.sources) (rows_in_tables tables)) queries → AllZip IsProgramOf queries programs → AreTasksOf programs (same_limits limits queries) before.tasks → IsStart tables before.tasks before.shared → b.tasks ≡ before.tasks →
     ((given : List Act) × AreRounds quantum given before.shared × (b.shared ≡ turns given before.shared)) →
     EachInstance (λ instance. IsSome instance.end) b.shared → HasRun limits quantum tables queries b
 HasRun-from limits quantum tables queries programs before b room read compiled tasks start same (given, rounds, turned) ended =

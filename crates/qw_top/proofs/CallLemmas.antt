@@ -7,10 +7,10 @@ use Rattle.qw_bench.specs.declared.bench.Limits.{Limits}
 use Rattle.qw_check.specs.Check.{HasFault, SpellsValid}
 use Rattle.qw_check.specs.declared.check.CheckFault.{CheckFault}
 use Rattle.qw_check.specs.declared.check.CheckFault.TheVariants as check_faults
-use Rattle.qw_words.specs.Read.{Answers}
-use Rattle.qw_words.specs.Words.{run, compile, check, Reading, command, no_command, no_number, Names, TextNames}
-use Rattle.qw_words.specs.declared.command.WordsFault.{WordsFault}
-use Rattle.qw_words.specs.declared.command.WordsFault.TheVariants as words_faults
+use Rattle.qw_command_line.specs.Read.{Answers}
+use Rattle.qw_command_line.specs.Words.{run, compile, check, Reading, command, no_command, no_number, Names, TextNames}
+use Rattle.qw_command_line.specs.declared.command.WordsFault.{WordsFault}
+use Rattle.qw_command_line.specs.declared.command.WordsFault.TheVariants as words_faults
 use Rattle.qw_top.specs.Call.{CheckSettles, CompileSettles, ExplainsBy, HasScript, HasStatement, IsEndOfWords, IsValidFile, LeavesBy, NamesBy, NotesBy, SettlesBy, TookText}
 use Rattle.qw_top.specs.Causes.{AreOne, Cause, line_of_cause, status_of_cause, words_refused, statement_out_of_range, schema_too_long, schema_refused, queries_too_long, queries_refused, queries_mistyped, no_statement, module_too_long, module_refused}
 use Rattle.qw_top.specs.Limits.{limits_of, most_module_octets}

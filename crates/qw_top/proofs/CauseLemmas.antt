@@ -1,4 +1,4 @@
--- Texts in pieces.
+-- A text of four or of seven pieces, put together from the left or from the right.
 use Rattle.std.proofs.Common.{◌≡◌, ℕ, List, ◌++◌, ◌∙◌, sym, append_assoc}
 
 pub pieces_4 : (a b c d : List ℕ) → a ++ (b ++ (c ++ d)) ≡ a ++ b ++ c ++ d

@@ -5,7 +5,7 @@ use Rattle.qw_types.specs.declared.schema.Table.{Table}
 use Rattle.qw_check.specs.Check.{HasFault}
 use Rattle.qw_check.specs.declared.check.CheckFault.{CheckFault}
 use Rattle.qw_check.specs.declared.check.CheckFault.TheVariants as check_faults
-use Rattle.qw_words.specs.Words.{TextNames}
+use Rattle.qw_command_line.specs.Words.{TextNames}
 use Rattle.qw_top.specs.Call.{CheckSettles, CompileSettles, CompileWrites, HasScript, IsScriptFile, LeavesText, SpellsCompiled, TextExplains}
 use Rattle.qw_top.specs.Causes.{Cause, module_refused, module_too_long, no_statement, status_of_cause}
 use Rattle.qw_top.specs.Limits.{most_module_octets}

@@ -7,10 +7,10 @@ use Rattle.qw_types.specs.declared.schema.Table.{Table}
 use Rattle.qw_types.specs.declared.value.Val.{Val}
 use Rattle.qw_csv.specs.Loading.{IsFirstFault, Loads}
 use Rattle.qw_csv.proofs.LoadingLaws.{loads_or_fails, same_fault, same_loads}
-use Rattle.qw_parse.specs.Parse.{IsRefused, ReadsSchema}
-use Rattle.qw_script.specs.Script.{IsScriptRefused}
-use Rattle.qw_script.proofs.ScriptLemmas.{refused_one, script_or_refused}
-use Rattle.qw_parse.proofs.SchemaLemmas.{IsRefused-unique, ReadsSchema-unique, reads_or_refused}
+use Rattle.qw_schema.specs.Parse.{IsRefused, ReadsSchema}
+use Rattle.qw_parse.specs.Script.{IsScriptRefused}
+use Rattle.qw_parse.proofs.ScriptLemmas.{refused_one, script_or_refused}
+use Rattle.qw_schema.proofs.SchemaLemmas.{IsRefused-unique, ReadsSchema-unique, reads_or_refused}
 use Rattle.qw_top.specs.Causes.{AreOne, Cause, queries_refused, schema_refused, table_refused}
 use Rattle.qw_top.specs.FileNames.{table_file_of}
 use Rattle.qw_top.specs.Limits.{most_table_octets, most_text_octets}

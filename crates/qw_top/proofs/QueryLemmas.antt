@@ -13,14 +13,14 @@ use Rattle.qw_types.specs.declared.schema.Column.{Column}
 use Rattle.qw_types.specs.declared.schema.ColumnType.{ColumnType}
 use Rattle.qw_types.specs.declared.schema.Table.{Table}
 use Rattle.qw_types.specs.declared.value.Ty.{Ty}
-use Rattle.qw_meaning.specs.Expression as meaning
-use Rattle.qw_meaning.specs.Select.{Entry, IsItemOver, Specification, specification_of}
-use Rattle.qw_meaning.specs.Tree.{expression_of}
-use Rattle.qw_meaning.specs.Typing.{IsTyped, has_kind, kind_of}
-use Rattle.qw_meaning.specs.declared.expression.Expr.{Expr}
+use Rattle.qw_scalar.specs.Expression as meaning
+use Rattle.qw_meaning.specs.Select.{IsItemOver, Source, Specification, specification_of}
+use Rattle.qw_scalar.specs.Tree.{expression_of}
+use Rattle.qw_scalar.specs.Typing.{IsTyped, has_kind, kind_of}
+use Rattle.qw_scalar.specs.declared.expression.Expr.{Expr}
 use Rattle.qw_token.specs.Token.{Lexeme}
 use Rattle.qw_ast.specs.Syntax.{SelectItem, Selected, all_columns, items, Select}
-use Rattle.qw_script.specs.Script.{AreAccepted, ReadsScript}
+use Rattle.qw_parse.specs.Script.{AreAccepted, ReadsScript}
 use Rattle.qw_typer.specs.Faults.{Fault, fault_where, faults, first_token, item_faults, or_own}
 use Rattle.qw_typer.specs.Meanings.{AreMeant}
 use Rattle.qw_typer.specs.Meant.{Scope, meant}
@@ -63,21 +63,21 @@ few_queries schema text script typed reads all =
 
 -- ---- each is over a table
 
-abbrev first_table : List Entry → ℕ
+abbrev first_table : List Source → ℕ
 first_table [] = 0
-first_table (entry ∷ entries) = entry.table
+first_table (source ∷ sources) = source.first.table
 
-abbrev first_columns : List Entry → List ColumnType
+abbrev first_columns : List Source → List ColumnType
 first_columns [] = []
-first_columns (entry ∷ entries) = entry.columns
+first_columns (source ∷ sources) = source.first.columns
 
 is_over : (schema : List Table) (s : Select) (t : TypedSelect) → Means schema s (specification_of t.select) t.names.items → IsSmall t.select → IsOver schema t
 is_over schema s t means small =
-    let place : t.select.table ≡ means.place = ap first_table means.entries_are in
+    let place : t.select.table ≡ means.place = ap first_table means.sources_are in
     record {
       table = means.table;
       there = rw place means.table_is;
-      columns_are = ap first_columns means.entries_are;
+      columns_are = ap first_columns means.sources_are;
       short = is_short t.select small;
     }
 
@@ -202,10 +202,10 @@ heads-more names es i other within =
     (λ (n : ℕ). heads_of (take n names) (map expression_of es) ≡ heads_of (take i names) (map expression_of es) ++ option_map_or (λ (e : Expr). head_of (get_or names i other) (expression_of e) ∷ []) (slice_get es i) [])
     next (heads-suc names es i other within)
 
-pub typed_at : (types : List Ty) (es : List Expr) (i : ℕ) → AllByRecursion (IsItemOver types) (map expression_of es) → IfSome (slice_get es i) (λ (e : Expr). IsTyped (expression_of e))
-typed_at types [] i all = tt
-typed_at types (e ∷ es) zero all = all.0.0.0
-typed_at types (e ∷ es) (suc i) all = typed_at types es i all.1
+pub typed_at : (Holds : ℕ → Ty → Type 0) (es : List Expr) (i : ℕ) → AllByRecursion (IsItemOver Holds) (map expression_of es) → IfSome (slice_get es i) (λ (e : Expr). IsTyped (expression_of e))
+typed_at Holds [] i all = tt
+typed_at Holds (e ∷ es) zero all = all.0.0.0
+typed_at Holds (e ∷ es) (suc i) all = typed_at Holds es i all.1
 
 -- ---- what a module is compiled from
 

@@ -12,11 +12,11 @@ use Rattle.qw_module.specs.Execution.{State, Running, Returned, Raised as HasRai
 use Rattle.qw_module.specs.Validity.{IsShaped}
 use Rattle.std.specs.List.Sorted.{IsPermutation}
 use Rattle.qw_meaning.specs.Outcome.{IsSameOutcome, Outcome, Rows, Raises, outcome}
-use Rattle.qw_meaning.specs.Select.{AreOfEntries}
+use Rattle.qw_meaning.specs.Select.{AreOfEntries, entries_of}
 use Rattle.qw_map.specs.Layout.{rows_at}
 use Rattle.qw_map.specs.Turns.{End, Done as EndedDone, Exception, Pages, Steps, Trap, Instance, IsWhole, Shared, end_at, end_of_refusal}
-use Rattle.qw_emit.specs.Compiled.{Answers, IsCompiled, bound, raised_for}
-use Rattle.qw_emit.specs.Queries.{page_bound, promise_of}
+use Rattle.qw_promise.specs.Compiled.{Answers, IsCompiled, bound, raised_for}
+use Rattle.qw_promise.specs.Queries.{page_bound, promise_of}
 use Rattle.qw_bench.specs.Bench.{AreServing, IsAt, Program, Serves, Task, end_in, rows_in_tables}
 use Rattle.qw_bench.specs.Standing.{Standing, AreTasksOf, rows_in}
 use Rattle.qw_bench.specs.declared.bench.Limits.{Limits}
@@ -105,7 +105,7 @@ module _ (limits : Limits) (quantum : ℕ) (tables : List Contents) (queries : L
       let one = task_of limits queries run.programs b.tasks run.compiled run.tasks k asked found in
       let i = there b.shared.instances k (omega (arith, many_instances, within)) in
       let answers = compiled-answers tables b.tasks run.start run.given (promise_of asked.specification) run.began k one.t i.0 one.task
-      (subst (λ (s : Shared). slice_get s.instances k ≡ Some i.0) run.turned i.1) one.compiled (read_at (λ (other : Asked). AreOfEntries other.specification.entries (rows_in_tables tables)) queries k asked run.read found) in
+      (subst (λ (s : Shared). slice_get s.instances k ≡ Some i.0) run.turned i.1) one.compiled (read_at (λ (other : Asked). AreOfEntries (entries_of other.specification.sources) (rows_in_tables tables)) queries k asked run.read found) in
       record {
         t = one.t;
         task = one.task;

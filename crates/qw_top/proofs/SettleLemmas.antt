@@ -7,7 +7,7 @@ use Rattle.qw_types.specs.declared.schema.Table.{Table}
 use Rattle.qw_linear.specs.Memory.{most_pages}
 use Rattle.qw_types.specs.declared.code.Code.{Code}
 use Rattle.qw_meaning.specs.Outcome.{Raises, outcome}
-use Rattle.qw_emit.specs.Queries.{page_bound}
+use Rattle.qw_promise.specs.Queries.{page_bound}
 use Rattle.qw_bench.specs.Bench.{rows_in_tables}
 use Rattle.qw_bench.specs.Standing.{Standing, total_pages as pages_in_all}
 use Rattle.std.proofs.lemmas.Option.{same_Some}

@@ -4,17 +4,17 @@ use Rattle.std.specs.List.{concat, flat_map}
 use Rattle.std.proofs.lemmas.List.{append-nil, length-append}
 use Rattle.std.proofs.lemmas.List.Folds.{concat-append}
 use Rattle.std.proofs.lemmas.List.Sums.{sum_by-cons}
-use Rattle.qw_meaning.specs.declared.expression.Expr.{Expr}
-use Rattle.qw_meaning.specs.declared.expression.Cond.{Cond}
-use Rattle.qw_meaning.specs.declared.expression.Exprs.{Exprs}
-use Rattle.qw_meaning.specs.declared.expression.Branches.{Branches}
-use Rattle.qw_meaning.specs.declared.expression.Matches.{Matches}
-use Rattle.qw_meaning.specs.declared.expression.Expr.TheVariants.{Null, Number, Date, Text, Column, Arithmetic', Negative', Extract', Case', Match', Coalesce', NullIf'}
-use Rattle.qw_meaning.specs.declared.expression.Cond.TheVariants.{Compare', Between', In', IsNull', And', Or', Not', Is'}
-use Rattle.qw_meaning.specs.declared.expression.Exprs.TheVariants as Exprs
-use Rattle.qw_meaning.specs.declared.expression.Branches.TheVariants as Branches
-use Rattle.qw_meaning.specs.declared.expression.Matches.TheVariants as Matches
-use Rattle.qw_meaning.specs.Nodes.{nodes, nodes_of}
+use Rattle.qw_scalar.specs.declared.expression.Expr.{Expr}
+use Rattle.qw_scalar.specs.declared.expression.Cond.{Cond}
+use Rattle.qw_scalar.specs.declared.expression.Exprs.{Exprs}
+use Rattle.qw_scalar.specs.declared.expression.Branches.{Branches}
+use Rattle.qw_scalar.specs.declared.expression.Matches.{Matches}
+use Rattle.qw_scalar.specs.declared.expression.Expr.TheVariants.{Null, Number, Date, Text, Column, Arithmetic', Negative', Extract', Case', Match', Coalesce', NullIf'}
+use Rattle.qw_scalar.specs.declared.expression.Cond.TheVariants.{Compare', Between', In', IsNull', And', Or', Not', Is'}
+use Rattle.qw_scalar.specs.declared.expression.Exprs.TheVariants as Exprs
+use Rattle.qw_scalar.specs.declared.expression.Branches.TheVariants as Branches
+use Rattle.qw_scalar.specs.declared.expression.Matches.TheVariants as Matches
+use Rattle.qw_scalar.specs.Nodes.{nodes, nodes_of}
 use Rattle.qw_meaning.specs.Select.{Parts}
 use Rattle.qw_typer.specs.Sizes.{IsSmall, text_octets, text_octets_of, text_octets_of_all, text_octets_of_branches, text_octets_of_matches}
 use Rattle.qw_compile.specs.Limits.{IsShort}

@@ -5,14 +5,14 @@ use Rattle.qw_types.specs.declared.schema.Table.{Table}
 use Rattle.qw_csv.specs.declared.loading.LoadFault.{LoadFault}
 use Rattle.qw_csv.specs.declared.loading.LoadFault.TheVariants as load_faults
 use Rattle.qw_csv.specs.Loading.{IsFirstFault}
-use Rattle.qw_script.specs.Script.{IsScriptRefused}
-use Rattle.qw_script.specs.declared.fault.ParseFault.{ParseFault}
-use Rattle.qw_script.specs.declared.fault.ParseFault.TheVariants as script_faults
+use Rattle.qw_parse.specs.Script.{IsScriptRefused}
+use Rattle.qw_parse.specs.declared.fault.ParseFault.{ParseFault}
+use Rattle.qw_parse.specs.declared.fault.ParseFault.TheVariants as script_faults
 use Rattle.qw_typer.specs.declared.fault.TypeFault.{TypeFault}
 use Rattle.qw_typer.specs.declared.fault.TypeFault.TheVariants as type_faults
-use Rattle.qw_parse.specs.declared.parse.SchemaFault.{SchemaFault}
-use Rattle.qw_parse.specs.declared.parse.SchemaFault.TheVariants as schema_faults
-use Rattle.qw_parse.specs.Parse.{IsRefused}
+use Rattle.qw_schema.specs.declared.parse.SchemaFault.{SchemaFault}
+use Rattle.qw_schema.specs.declared.parse.SchemaFault.TheVariants as schema_faults
+use Rattle.qw_schema.specs.Parse.{IsRefused}
 use Rattle.qw_top.specs.Causes.{Cause, queries_mistyped, queries_refused, schema_refused, table_refused, total_pages}
 use Rattle.qw_top.specs.FileNames.{table_file_of}
 use Rattle.qw_bench.specs.declared.bench.Limits.{Limits}

@@ -2,18 +2,18 @@
 use Rattle.std.specs.Prelude.{◌≡◌, ◌⊎◌, ℕ, ◌<◌, ◌-◌, List, Option, Some, None, codes, length, slice_get}
 use Rattle.qw_types.specs.Contents.{Contents}
 use Rattle.qw_types.specs.declared.schema.Table.{Table}
-use Rattle.qw_parse.specs.Parse.{IsRefused}
-use Rattle.qw_script.specs.Script.{IsScriptRefused}
+use Rattle.qw_schema.specs.Parse.{IsRefused}
+use Rattle.qw_parse.specs.Script.{IsScriptRefused}
 use Rattle.qw_module.specs.declared.module.Module.{Module}
 use Rattle.qw_binary.specs.Contents.{contents_of}
 use Rattle.qw_binary.specs.Modules.{SpellsModule}
 use Rattle.qw_check.specs.Check.{HasFault, SpellsValid}
 use Rattle.qw_check.specs.declared.check.CheckFault.TheVariants as check_faults
 use Rattle.qw_map.specs.Layout.{Layout}
-use Rattle.qw_emit.specs.Compiled.{IsCompiled}
-use Rattle.qw_emit.specs.Queries.{promise_of}
+use Rattle.qw_promise.specs.Compiled.{IsCompiled}
+use Rattle.qw_promise.specs.Queries.{promise_of}
 use Rattle.qw_bench.specs.Standing.{Standing}
-use Rattle.qw_words.specs.Words.{run, compile, check, Reading, RunOptions, command, no_command, no_number, TextNames, reading}
+use Rattle.qw_command_line.specs.Words.{run, compile, check, Reading, RunOptions, command, no_command, no_number, TextNames, reading}
 use Rattle.qw_top.specs.Causes.{Cause, words_refused, statement_out_of_range, schema_too_long, schema_refused, queries_too_long, queries_refused, queries_mistyped, no_statement, module_too_long, module_refused, status_of_cause}
 use Rattle.qw_top.specs.Delivered.{CommandNotes, LeavesBench, LeavesNothing, RunLeaves}
 use Rattle.qw_top.specs.FileNames.{table_file_of}

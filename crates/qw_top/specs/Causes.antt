@@ -10,20 +10,20 @@ use Rattle.qw_csv.specs.declared.cell.CellFault.{CellFault}
 use Rattle.qw_csv.specs.declared.cell.CellFault.TheVariants as cell
 use Rattle.qw_csv.specs.declared.loading.LoadFault.{LoadFault}
 use Rattle.qw_csv.specs.declared.loading.LoadFault.TheVariants as load
-use Rattle.qw_parse.specs.declared.parse.Count.{Count}
-use Rattle.qw_parse.specs.declared.parse.Count.TheVariants.{Tables, Columns}
-use Rattle.qw_parse.specs.declared.parse.SchemaFault.{SchemaFault}
-use Rattle.qw_parse.specs.declared.parse.SchemaFault.TheVariants as schema
-use Rattle.qw_script.specs.declared.fault.Count.{Count as ScriptCount}
-use Rattle.qw_script.specs.declared.fault.Count.TheVariants.{Statements, SelectItems, Nodes, LiteralOctets}
-use Rattle.qw_script.specs.declared.fault.ParseFault.{ParseFault}
-use Rattle.qw_script.specs.declared.fault.ParseFault.TheVariants as script
+use Rattle.qw_schema.specs.declared.parse.Count.{Count}
+use Rattle.qw_schema.specs.declared.parse.Count.TheVariants.{Tables, Columns}
+use Rattle.qw_schema.specs.declared.parse.SchemaFault.{SchemaFault}
+use Rattle.qw_schema.specs.declared.parse.SchemaFault.TheVariants as schema
+use Rattle.qw_parse.specs.declared.fault.Count.{Count as ScriptCount}
+use Rattle.qw_parse.specs.declared.fault.Count.TheVariants.{Statements, SelectItems, Nodes, LiteralOctets}
+use Rattle.qw_parse.specs.declared.fault.ParseFault.{ParseFault}
+use Rattle.qw_parse.specs.declared.fault.ParseFault.TheVariants as script
 use Rattle.qw_typer.specs.declared.fault.FaultKind.{FaultKind}
 use Rattle.qw_typer.specs.declared.fault.FaultKind.TheVariants.{UnknownTable, UnknownColumn, Clash, ScaleTooLarge, LiteralTooLong, BadDate}
 use Rattle.qw_typer.specs.declared.fault.TypeFault.{TypeFault}
 use Rattle.qw_typer.specs.declared.fault.TypeFault.TheVariants as typing
-use Rattle.qw_grammar.specs.declared.fault.What.{What}
-use Rattle.qw_grammar.specs.declared.fault.What.TheVariants as what
+use Rattle.qw_octet_grammar.specs.declared.fault.What.{What}
+use Rattle.qw_octet_grammar.specs.declared.fault.What.TheVariants as what
 use Rattle.qw_valid.specs.declared.valid.Part.{Part}
 use Rattle.qw_valid.specs.declared.valid.Part.TheVariants as part
 use Rattle.qw_check.specs.declared.check.CheckFault.{CheckFault}

@@ -8,9 +8,9 @@ use Rattle.qw_types.specs.declared.schema.Table.{Table}
 use Rattle.qw_types.specs.declared.value.Val.{Val}
 use Rattle.qw_meaning.specs.Outcome.{Rows, Raises, outcome}
 use Rattle.qw_map.specs.Turns.{Act, End, Done as EndedDone, Exception, Pages, Steps, Trap, Shared, turns}
-use Rattle.qw_meaning.specs.Select.{AreOfEntries}
-use Rattle.qw_emit.specs.Compiled.{IsCompiled, raised_for}
-use Rattle.qw_emit.specs.Queries.{promise_of}
+use Rattle.qw_meaning.specs.Select.{AreOfEntries, entries_of}
+use Rattle.qw_promise.specs.Compiled.{IsCompiled, raised_for}
+use Rattle.qw_promise.specs.Queries.{promise_of}
 use Rattle.qw_bench.specs.Bench.{AreRounds, IsStart, Program, end_in, rows_in_tables}
 use Rattle.qw_bench.specs.Standing.{Standing, AreTasksOf, rows_in}
 use Rattle.qw_bench.specs.declared.bench.Limits.{Limits}
@@ -31,7 +31,7 @@ IsProgramOf asked program = IsCompiled (promise_of asked.specification) program.
 -- stands where rounds of turns led from a start of these tasks; and all instances ended.
 pub record HasRun (limits : Limits) (quantum : ℕ) (tables : List Contents) (queries : List Asked) (b : Standing) : Type 0 where
   pub room : HaveRoom limits tables queries
-  pub read : AllByRecursion (λ (asked : Asked). AreOfEntries asked.specification.entries (rows_in_tables tables)) queries
+  pub read : AllByRecursion (λ (asked : Asked). AreOfEntries (entries_of asked.specification.sources) (rows_in_tables tables)) queries
   pub programs : List Program
   pub compiled : AllZip IsProgramOf queries programs
   pub tasks : AreTasksOf programs (same_limits limits queries) b.tasks

@@ -1,6 +1,6 @@
 -- The limits of files, and those of a run.
 use Rattle.std.specs.Prelude.{ℕ}
-use Rattle.qw_words.specs.Words.{RunOptions}
+use Rattle.qw_command_line.specs.Words.{RunOptions}
 use Rattle.qw_bench.specs.declared.bench.Limits.{Limits}
 
 -- octets of a schema file, and of a queries file

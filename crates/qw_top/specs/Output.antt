@@ -1,4 +1,4 @@
--- What a sink took of a text.
+-- What a sink took of a text: all of it, or a front.
 use Rattle.std.specs.Prelude.{◌≡◌, ℕ, ◌≤◌, List, Option, ◌++◌, length, take}
 use Rattle.std.specs.Option.{option_map}
 

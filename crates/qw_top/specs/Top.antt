@@ -10,20 +10,20 @@ use Rattle.qw_linear.specs.Memory.{most_pages}
 use Rattle.qw_csv.specs.Loading.{IsFirstFault, Loads}
 use Rattle.qw_meaning.specs.Outcome.{Raises, outcome}
 use Rattle.qw_meaning.specs.Select.{Specification}
-use Rattle.qw_meaning.specs.Typing.{kind_of}
+use Rattle.qw_scalar.specs.Typing.{kind_of}
 use Rattle.qw_ast.specs.Syntax.{Select}
-use Rattle.qw_parse.specs.Parse.{IsRefused, ReadsSchema}
-use Rattle.qw_script.specs.Script.{IsScriptRefused, ReadsScript}
+use Rattle.qw_schema.specs.Parse.{IsRefused, ReadsSchema}
+use Rattle.qw_parse.specs.Script.{IsScriptRefused, ReadsScript}
 use Rattle.qw_typer.specs.Typed.{HasFirstFault, Means}
 use Rattle.qw_typer.specs.declared.fault.TypeFault.{TypeFault}
 use Rattle.qw_module.specs.Validity.{IsShaped}
-use Rattle.qw_emit.specs.Compiled.{bound}
-use Rattle.qw_emit.specs.Queries.{page_bound, promise_of}
+use Rattle.qw_promise.specs.Compiled.{bound}
+use Rattle.qw_promise.specs.Queries.{page_bound, promise_of}
 use Rattle.qw_bench.specs.Bench.{Task, rows_in_tables}
 use Rattle.qw_bench.specs.Standing.{Standing, total_pages as pages_in_all}
 use Rattle.qw_bench.specs.declared.bench.Limits.{Limits}
 use Rattle.qw_sink.specs.declared.sink.Head.{Head}
-pub use Rattle.qw_words.specs.Words.{Names}
+pub use Rattle.qw_command_line.specs.Words.{Names}
 use Rattle.qw_top.specs.Causes.{Cause, schema_too_long, schema_refused, table_too_long, table_refused, queries_too_long, queries_refused, queries_mistyped, total_pages, status_of_cause}
 use Rattle.qw_top.specs.FileNames.{table_file_of}
 use Rattle.qw_top.specs.Limits.{most_table_octets, most_text_octets}

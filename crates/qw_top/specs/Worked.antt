@@ -1,4 +1,4 @@
--- What worked cases are about.
+-- The table and the watched file that the worked cases speak of.
 use Rattle.std.specs.Prelude.{ℕ, [], ◌∷◌, Option, Some, codes, true, false}
 use Rattle.qw_io.specs.Files.{Watched}
 use Rattle.qw_types.specs.declared.schema.Table.{Table}

@@ -12,8 +12,8 @@ ghost use Rattle.qw_top.specs.Output.{TookFront, with_text};
 use crate::output::{end_of_write, write_whole};
 use crate::status::Status;
 use crate::stop::Stop;
+use qw_command_line::command::WordsFault;
 use qw_io::{IoFault, Sink};
-use qw_words::command::WordsFault;
 
 /// Notes why a run stopped, where there is a line on that. Answers how the run ends: with what kept the line from being
 /// written, if that comes.

@@ -8,7 +8,7 @@ ghost use Rattle.qw_types.specs.Contents.{Contents};
 ghost use Rattle.qw_types.specs.declared.schema.Table.{Table};
 ghost use Rattle.qw_bench.specs.Bench.{rows_in_tables};
 ghost use Rattle.qw_bench.specs.Standing.{Standing};
-ghost use Rattle.qw_words.specs.Words.{RunOptions, no_command, no_number, reading};
+ghost use Rattle.qw_command_line.specs.Words.{RunOptions, no_command, no_number, reading};
 ghost use Rattle.qw_top.specs.Asking.{AsksWithin};
 ghost use Rattle.qw_top.specs.Call.{Asks, AsksToCheck, AsksToCompile, Explains, IsLimit, IsNamed, Leaves, LeavesFront, Notes, Settles};
 ghost use Rattle.qw_top.specs.Causes.{AreOne, Cause, status_of_cause};

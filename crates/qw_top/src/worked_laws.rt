@@ -5,13 +5,13 @@ ghost use Rattle.qw_types.specs.declared.numeral.FieldFault.TheVariants.{NotDate
 ghost use Rattle.qw_csv.specs.declared.cell.CellFault.TheVariants as cell;
 ghost use Rattle.qw_csv.specs.declared.loading.LoadFault.TheVariants as load;
 ghost use Rattle.qw_map.specs.Turns.{Done, Exception, Pages, Steps};
-ghost use Rattle.qw_parse.specs.declared.parse.Count.TheVariants.{Columns};
-ghost use Rattle.qw_parse.specs.declared.parse.SchemaFault.TheVariants as schema;
-ghost use Rattle.qw_script.specs.declared.fault.Count.TheVariants.{Statements, SelectItems, Nodes, LiteralOctets};
-ghost use Rattle.qw_script.specs.declared.fault.ParseFault.TheVariants as script;
+ghost use Rattle.qw_schema.specs.declared.parse.Count.TheVariants.{Columns};
+ghost use Rattle.qw_schema.specs.declared.parse.SchemaFault.TheVariants as schema;
+ghost use Rattle.qw_parse.specs.declared.fault.Count.TheVariants.{Statements, SelectItems, Nodes, LiteralOctets};
+ghost use Rattle.qw_parse.specs.declared.fault.ParseFault.TheVariants as script;
 ghost use Rattle.qw_typer.specs.declared.fault.FaultKind.TheVariants.{BadDate, Clash, LiteralTooLong, ScaleTooLarge, UnknownColumn};
 ghost use Rattle.qw_typer.specs.declared.fault.TypeFault.TheVariants.{Fault};
-ghost use Rattle.qw_grammar.specs.declared.fault.What.TheVariants.{DataSection};
+ghost use Rattle.qw_octet_grammar.specs.declared.fault.What.TheVariants.{DataSection};
 ghost use Rattle.qw_valid.specs.declared.valid.Part.TheVariants.{Exports};
 ghost use Rattle.qw_check.specs.declared.check.CheckFault.TheVariants as check;
 ghost use Rattle.qw_top.specs.Asking.{AsksWithin, IsOne};
@@ -19,7 +19,7 @@ ghost use Rattle.qw_top.specs.Causes.{line_of_cause, module_refused, module_too_
 ghost use Rattle.qw_top.specs.Delivered.{status_of_ends};
 ghost use Rattle.qw_top.specs.Limits.{limits_of, most_module_octets, most_table_octets, most_text_octets};
 ghost use Rattle.qw_top.specs.Worked.{watched_file, worked_table};
-ghost use Rattle.qw_words.specs.Words.{default_options};
+ghost use Rattle.qw_command_line.specs.Words.{default_options};
 ghost use Rattle.qw_top.specs.declared.status.Status.{Status};
 
 /// A limit of pages comes before one of instructions, and that before an exception, whichever query met it.

@@ -1,11 +1,11 @@
 -- Whether each value of IN compares with the operand.
 use Rattle.std.proofs.Common.{◌≡◌, ℕ, Bool, true, false, List, [], Result, Ok, Err, MatchResult, refl, sym, ap, ◌∙◌, inl, inr}
 use Rattle.std.proofs.lemmas.Bool.{and_parts, cases_Bool}
-use Rattle.qw_meaning.specs.Expression as meaning
-use Rattle.qw_meaning.specs.Typing.{are_comparable, kind_of}
+use Rattle.qw_scalar.specs.Expression as meaning
+use Rattle.qw_scalar.specs.Typing.{are_comparable, kind_of}
 use Rattle.qw_typer.specs.declared.fault.FaultKind.TheVariants.{Clash}
-use Rattle.qw_meaning.specs.Tree as tree
-use Rattle.qw_meaning.specs.declared.expression.Cond.{Cond}
+use Rattle.qw_scalar.specs.Tree as tree
+use Rattle.qw_scalar.specs.declared.expression.Cond.{Cond}
 use Rattle.qw_typer.specs.declared.refusal.Refusal.{Refusal}
 use Rattle.qw_typer.specs.declared.refusal.Refusal.TheVariants as refusal
 use Rattle.qw_typer.specs.Faults.{among_faults}

@@ -3,8 +3,8 @@ use Rattle.std.proofs.Common.{◌≡◌, ℕ, Bool, true, Option, Some, None, ma
 use Rattle.std.proofs.lemmas.Bool.{and_parts}
 use Rattle.qw_types.specs.declared.kind.Kind.{Kind}
 use Rattle.qw_types.specs.declared.kind.Kind.TheVariants as kind
-use Rattle.qw_meaning.specs.Expression.{Choices, case, cases, largest_result, otherwise, scale_of, when}
-use Rattle.qw_meaning.specs.Typing.{agree, at_scale, joined, kind_of}
+use Rattle.qw_scalar.specs.Expression.{Choices, case, cases, largest_result, otherwise, scale_of, when}
+use Rattle.qw_scalar.specs.Typing.{agree, at_scale, joined, kind_of}
 use Rattle.qw_typer.specs.Faults.{results_agree, results_kind}
 use Rattle.qw_typer.specs.Inner.Typing.{AreScaled, IsScaled, kind_scale}
 

@@ -8,8 +8,8 @@ use Rattle.qw_types.specs.Value.{IsDay}
 use Rattle.qw_ast.specs.declared.script.Sign.{Sign}
 use Rattle.qw_ast.specs.declared.script.Sign.TheVariants.{Plus, Minus}
 use Rattle.qw_ast.specs.Syntax.{Days}
-use Rattle.qw_meaning.specs.Expression as meaning
-use Rattle.qw_meaning.specs.Typing.{IsTyped}
+use Rattle.qw_scalar.specs.Expression as meaning
+use Rattle.qw_scalar.specs.Typing.{IsTyped}
 use Rattle.qw_typer.specs.Days.{Day, earlier, later, moved}
 use Rattle.qw_typer.specs.Literal.{after_intervals, date_at, date_of, day_shown, interval_days, is_date_form, is_day, shown, string_value}
 use Rattle.qw_typer.proofs.DayLemmas.{EarlierIs, IsValid, LaterIs, earlier_is, later_is}

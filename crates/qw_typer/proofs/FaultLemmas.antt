@@ -1,8 +1,8 @@
 -- Checking construct by construct gives what is meant where there is no fault, and the first fault else.
 use Rattle.std.proofs.Common.{◌≡◌, ℕ, List, [], ◌∷◌, ◌++◌, map, Result, Ok, Err, refl, ap, ◌∙◌, arith}
 use Rattle.std.specs.Prelude.{Contains}
-use Rattle.qw_meaning.specs.declared.comparison.Comparison.TheVariants.{Equal}
-use Rattle.qw_meaning.specs.Expression as meaning
+use Rattle.qw_scalar.specs.declared.comparison.Comparison.TheVariants.{Equal}
+use Rattle.qw_scalar.specs.Expression as meaning
 use Rattle.qw_ast.specs.Syntax.{Expression, null, number, text, date, column, signed, arithmetic, extract, searched_case, simple_case, coalesce, null_if, Condition, comparison, between, among, is_null, both, either, negation_of, is, bracketed, condition, expression, Expressions, last, further, Branching, otherwise, when, SelectItem, Selected, all_columns, items}
 use Rattle.qw_typer.specs.Faults.{Fault, all_faults, among_faults, arithmetic_faults, branch_faults, case_faults, choices_faults, comparison_faults, condition_faults, faults, field_faults, first_of_all, first_of_branches, first_token, item_faults, matches_faults, or_own, sign_faults}
 use Rattle.qw_typer.specs.Meant.{Scope, all_meant, choices, condition_meant, matches, meant, with_not, with_sign}

@@ -4,12 +4,12 @@ use Rattle.std.specs.Prelude.{IfOk, Result}
 use Rattle.std.proofs.lemmas.List.Sums.{sum_by_push}
 use Rattle.qw_types.specs.Octets.{single_quote}
 use Rattle.qw_token.specs.Token.{Lexeme}
-use Rattle.qw_meaning.specs.declared.expression.Expr.{Expr}
-use Rattle.qw_meaning.specs.declared.expression.Cond.{Cond}
-use Rattle.qw_meaning.specs.declared.expression.Exprs.{Exprs}
-use Rattle.qw_meaning.specs.declared.expression.Branches.{Branches}
-use Rattle.qw_meaning.specs.declared.expression.Matches.{Matches}
-use Rattle.qw_meaning.specs.Nodes as typed
+use Rattle.qw_scalar.specs.declared.expression.Expr.{Expr}
+use Rattle.qw_scalar.specs.declared.expression.Cond.{Cond}
+use Rattle.qw_scalar.specs.declared.expression.Exprs.{Exprs}
+use Rattle.qw_scalar.specs.declared.expression.Branches.{Branches}
+use Rattle.qw_scalar.specs.declared.expression.Matches.{Matches}
+use Rattle.qw_scalar.specs.Nodes as typed
 use Rattle.qw_ast.specs.SyntaxTree as syntax
 use Rattle.qw_ast.specs.declared.script.Item.{Item}
 use Rattle.qw_ast.specs.Syntax.{Select}

@@ -1,4 +1,4 @@
--- Numbers of digits.
+-- The number of a literal of digits, and when it is too long.
 use Rattle.std.proofs.Common.{◌≡◌, ℕ, ◌<◌, ◌^◌, true, List, length, None, Result, Ok, Err, refl, sym, arith, inl, inr}
 use Rattle.std.specs.Prelude.{ℤ}
 use Rattle.std.specs.Str.Parse.{digits_value, ParsesSigned}

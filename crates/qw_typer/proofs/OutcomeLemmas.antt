@@ -1,7 +1,7 @@
 -- How outcomes go on: past what has no fault, and not past a fault.
 use Rattle.std.proofs.Common.{◌≡◌, Result, Ok, Err, refl}
-use Rattle.qw_meaning.specs.Expression as meaning
-use Rattle.qw_meaning.specs.declared.expression.Cond.{Cond}
+use Rattle.qw_scalar.specs.Expression as meaning
+use Rattle.qw_scalar.specs.declared.expression.Cond.{Cond}
 use Rattle.qw_typer.specs.declared.fault.FaultKind.{FaultKind}
 use Rattle.qw_typer.specs.declared.refusal.Token.{Token}
 use Rattle.qw_typer.specs.declared.refusal.Refusal.{Refusal}

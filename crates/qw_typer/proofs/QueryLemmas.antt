@@ -11,8 +11,8 @@ use Rattle.qw_types.specs.Contents.{column_type}
 use Rattle.qw_types.specs.declared.schema.Column.{Column}
 use Rattle.qw_types.specs.declared.schema.ColumnType.{ColumnType}
 use Rattle.qw_types.specs.declared.schema.Table.{Table}
-use Rattle.qw_meaning.specs.Select.{IsSpecification, Specification, specification_of}
-use Rattle.qw_meaning.specs.Tree.{condition_of, expression_of}
+use Rattle.qw_meaning.specs.Select.{IsSpecification, Specification, alone, specification_of}
+use Rattle.qw_scalar.specs.Tree.{condition_of, expression_of}
 use Rattle.qw_ast.specs.Grammar.{name_of}
 use Rattle.qw_ast.specs.Syntax.{Condition, Select, Selected}
 use Rattle.qw_typer.specs.declared.fault.FaultKind.{FaultKind}
@@ -89,7 +89,7 @@ means_over schema place table s specification names p t m = record {
   table = table;
   place_is = p;
   table_is = t;
-  entries_are = m.entries_are;
+  sources_are = m.sources_are;
   conjuncts_are = m.conjuncts_are;
   items_are = m.items_are;
   names_are = m.names_are;
@@ -112,7 +112,7 @@ pub over_specified : (place : ℕ) (table : Table) (s : Select) (over : Over) (n
 over_specified place table s over name columns a within n e h =
     let o = scoped s over table name columns n e h in
     specified place table s (specification_of (record { table = place; columns = over.columns.items; conjuncts = over.conjuncts.items; items = over.items.items })) (rw e at a) within o.faultless
-    (ap (λ (cs : List ColumnType). record { table = place; columns = cs } ∷ []) o.columns_are) o.conjuncts_are o.items_are
+    (ap (λ (cs : List ColumnType). alone (record { table = place; columns = cs }) ∷ []) o.columns_are) o.conjuncts_are o.items_are
 
 pub over_means : (place : ℕ) (table : Table) (s : Select) (over : Over) (name : List ℕ) (columns : List Column) → name ≡ entry_name s → columns ≡ table.columns
     → IsOver (record { name = name; columns = columns }) s over → MeansOver place table s (specification_of (record { table = place; columns = over.columns.items; conjuncts = over.conjuncts.items; items = over.items.items })) over.names.items
@@ -120,7 +120,7 @@ over_means place table s over name columns n e h =
     let o = scoped s over table name columns n e h in
     record {
       faultless = o.faultless;
-      entries_are = ap (λ (cs : List ColumnType). record { table = place; columns = cs } ∷ []) o.columns_are;
+      sources_are = ap (λ (cs : List ColumnType). alone (record { table = place; columns = cs }) ∷ []) o.columns_are;
       conjuncts_are = o.conjuncts_are;
       items_are = o.items_are;
       names_are = o.names_are;

@@ -14,14 +14,14 @@ use Rattle.qw_types.specs.declared.schema.Column.{Column}
 use Rattle.qw_types.specs.declared.value.Ty.{Ty}
 use Rattle.qw_types.specs.declared.value.Ty.TheVariants as type
 use Rattle.qw_types.specs.declared.kind.Kind.{Kind}
-use Rattle.qw_meaning.specs.declared.expression.Operator.{Operator}
-use Rattle.qw_meaning.specs.declared.expression.Operator.TheVariants as op
-use Rattle.qw_meaning.specs.declared.expression.Field.{Field}
-use Rattle.qw_meaning.specs.declared.comparison.Comparison.{Comparison}
-use Rattle.qw_meaning.specs.declared.comparison.Comparison.TheVariants.{Equal, GreaterOrEqual, LessOrEqual}
-use Rattle.qw_meaning.specs.Columns.{HasColumns, HaveColumns, IsColumnOf}
-use Rattle.qw_meaning.specs.Expression as meaning
-use Rattle.qw_meaning.specs.Typing.{AreTyped, IsTyped, ScalesAllowed, agree, are_comparable, has_kind, is_date, is_number, kind_of}
+use Rattle.qw_scalar.specs.declared.expression.Operator.{Operator}
+use Rattle.qw_scalar.specs.declared.expression.Operator.TheVariants as op
+use Rattle.qw_scalar.specs.declared.expression.Field.{Field}
+use Rattle.qw_scalar.specs.declared.comparison.Comparison.{Comparison}
+use Rattle.qw_scalar.specs.declared.comparison.Comparison.TheVariants.{Equal, GreaterOrEqual, LessOrEqual}
+use Rattle.qw_scalar.specs.Columns.{HasColumns, HaveColumns}
+use Rattle.qw_scalar.specs.Expression as meaning
+use Rattle.qw_scalar.specs.Typing.{AreTyped, IsTyped, ScalesAllowed, agree, are_comparable, has_kind, is_date, is_number, kind_of}
 use Rattle.qw_ast.specs.declared.script.Sign.{Sign}
 use Rattle.qw_ast.specs.declared.script.Sign.TheVariants.{Plus, Minus}
 use Rattle.qw_typer.specs.declared.fault.FaultKind.{FaultKind}
@@ -59,37 +59,37 @@ tested b k name h = not_not b (not_where (not b) k name h)
 
 -- ---- what is typed
 
--- typed over these columns, of a scale that is small, and that its kind has
-pub record IsGood (types : List Ty) (m : meaning.Expression) : Type 0 where
+-- typed over columns of which something holds, of a scale that is small, and that its kind has
+pub record IsGood (Holds : ℕ → Ty → Type 0) (m : meaning.Expression) : Type 0 where
   pub typed : IsTyped m
-  pub columns : HasColumns (IsColumnOf types) m
+  pub columns : HasColumns Holds m
   pub scaled : IsScaled m
   pub small : meaning.scale_of m ≤ 18
 
-pub record IsGoodCondition (types : List Ty) (c : meaning.Condition) : Type 0 where
+pub record IsGoodCondition (Holds : ℕ → Ty → Type 0) (c : meaning.Condition) : Type 0 where
   pub typed : AreTyped c
-  pub columns : HaveColumns (IsColumnOf types) c
+  pub columns : HaveColumns Holds c
 
-abbrev pub AreGood : List Ty → meaning.Choices → Type 0
-AreGood types (meaning.otherwise e) = IsGood types e
-AreGood types (meaning.when c e rest) = IsGoodCondition types c × (IsGood types e × AreGood types rest)
+abbrev pub AreGood : (ℕ → Ty → Type 0) → meaning.Choices → Type 0
+AreGood Holds (meaning.otherwise e) = IsGood Holds e
+AreGood Holds (meaning.when c e rest) = IsGoodCondition Holds c × (IsGood Holds e × AreGood Holds rest)
 
-abbrev pub AllGood : List Ty → meaning.Expressions → Type 0
-AllGood types (meaning.last e) = IsGood types e
-AllGood types (meaning.more e es) = IsGood types e × AllGood types es
+abbrev pub AllGood : (ℕ → Ty → Type 0) → meaning.Expressions → Type 0
+AllGood Holds (meaning.last e) = IsGood Holds e
+AllGood Holds (meaning.more e es) = IsGood Holds e × AllGood Holds es
 
-pub null_good : (types : List Ty) → IsGood types meaning.null
-null_good types = record { typed = tt; columns = tt; scaled = refl; small = omega arith }
+pub null_good : (Holds : ℕ → Ty → Type 0) → IsGood Holds meaning.null
+null_good Holds = record { typed = tt; columns = tt; scaled = refl; small = omega arith }
 
-pub text_good : (types : List Ty) (t : List ℕ) → IsGood types (meaning.text t)
-text_good types t = record { typed = tt; columns = tt; scaled = refl; small = omega arith }
+pub text_good : (Holds : ℕ → Ty → Type 0) (t : List ℕ) → IsGood Holds (meaning.text t)
+text_good Holds t = record { typed = tt; columns = tt; scaled = refl; small = omega arith }
 
-negative_good : (types : List Ty) (k : Option Kind) (m : meaning.Expression) → k ≡ kind_of m → is_number k ≡ true → IsGood types m → IsGood types (meaning.negative m)
-negative_good types k m e n h = record { typed = (h.typed, rw e at n); columns = h.columns; scaled = refl; small = h.small }
+negative_good : (Holds : ℕ → Ty → Type 0) (k : Option Kind) (m : meaning.Expression) → k ≡ kind_of m → is_number k ≡ true → IsGood Holds m → IsGood Holds (meaning.negative m)
+negative_good Holds k m e n h = record { typed = (h.typed, rw e at n); columns = h.columns; scaled = refl; small = h.small }
 
-pub sign_good : (types : List Ty) (sign : Sign) (m : meaning.Expression) → is_number (kind_of m) ≡ true → IsGood types m → IsGood types (with_sign sign m)
-sign_good types Plus m n h = h
-sign_good types Minus m n h = negative_good types (kind_of m) m refl n h
+pub sign_good : (Holds : ℕ → Ty → Type 0) (sign : Sign) (m : meaning.Expression) → is_number (kind_of m) ≡ true → IsGood Holds m → IsGood Holds (with_sign sign m)
+sign_good Holds Plus m n h = h
+sign_good Holds Minus m n h = negative_good Holds (kind_of m) m refl n h
 
 allowed_scales : (operator : Operator) (s t : ℕ) → is_allowed operator s t ≡ true → ScalesAllowed operator s t
 allowed_scales op.Add s t h = tt
@@ -103,23 +103,23 @@ small_after op.Subtract s t h a b = omega arith
 small_after op.Multiply s t h a b = h
 small_after op.Divide s t h a b = a
 
-pub arithmetic_good : (types : List Ty) (operator : Operator) (x y : meaning.Expression) → is_number (kind_of x) ≡ true → is_number (kind_of y) ≡ true
-    → is_allowed operator (meaning.scale_of x) (meaning.scale_of y) ≡ true → IsGood types x → IsGood types y → IsGood types (meaning.arithmetic operator x y)
-arithmetic_good types operator x y nx ny allowed hx hy =
+pub arithmetic_good : (Holds : ℕ → Ty → Type 0) (operator : Operator) (x y : meaning.Expression) → is_number (kind_of x) ≡ true → is_number (kind_of y) ≡ true
+    → is_allowed operator (meaning.scale_of x) (meaning.scale_of y) ≡ true → IsGood Holds x → IsGood Holds y → IsGood Holds (meaning.arithmetic operator x y)
+arithmetic_good Holds operator x y nx ny allowed hx hy =
     let scales = allowed_scales operator (meaning.scale_of x) (meaning.scale_of y) allowed in
     record { typed = ((hx.typed, hy.typed), ((nx, ny), scales)); columns = (hx.columns, hy.columns); scaled = refl; small = small_after operator (meaning.scale_of x) (meaning.scale_of y) scales hx.small hy.small }
 
-pub extract_good : (types : List Ty) (field : Field) (x : meaning.Expression) → is_date (kind_of x) ≡ true → IsGood types x → IsGood types (meaning.extract field x)
-extract_good types field x d h = record { typed = (h.typed, d); columns = h.columns; scaled = refl; small = omega arith }
+pub extract_good : (Holds : ℕ → Ty → Type 0) (field : Field) (x : meaning.Expression) → is_date (kind_of x) ≡ true → IsGood Holds x → IsGood Holds (meaning.extract field x)
+extract_good Holds field x d h = record { typed = (h.typed, d); columns = h.columns; scaled = refl; small = omega arith }
 
-pub comparison_good : (types : List Ty) (op : Comparison) (x y : meaning.Expression) → are_comparable (kind_of x) (kind_of y) ≡ true → IsGood types x → IsGood types y → IsGoodCondition types (meaning.comparison op x y)
-comparison_good types op x y e hx hy = record { typed = ((hx.typed, hy.typed), e); columns = (hx.columns, hy.columns) }
+pub comparison_good : (Holds : ℕ → Ty → Type 0) (op : Comparison) (x y : meaning.Expression) → are_comparable (kind_of x) (kind_of y) ≡ true → IsGood Holds x → IsGood Holds y → IsGoodCondition Holds (meaning.comparison op x y)
+comparison_good Holds op x y e hx hy = record { typed = ((hx.typed, hy.typed), e); columns = (hx.columns, hy.columns) }
 
 joined_none : (k : Option Kind) → agree None k ≡ true
 joined_none k = refl
 
-pub null_if_good : (types : List Ty) (x y : meaning.Expression) → are_comparable (kind_of x) (kind_of y) ≡ true → IsGood types x → IsGood types y → IsGood types (meaning.null_if x y)
-null_if_good types x y e hx hy = record {
+pub null_if_good : (Holds : ℕ → Ty → Type 0) (x y : meaning.Expression) → are_comparable (kind_of x) (kind_of y) ≡ true → IsGood Holds x → IsGood Holds y → IsGood Holds (meaning.null_if x y)
+null_if_good Holds x y e hx hy = record {
   typed = (((hx.typed, hy.typed), e), ((tt, hx.typed), refl));
   columns = ((hx.columns, hy.columns), (tt, hx.columns));
   scaled = (let m : max 0 (meaning.scale_of x) ≡ meaning.scale_of x = omega arith in m ∙ hx.scaled);
@@ -128,59 +128,59 @@ null_if_good types x y e hx hy = record {
 
 -- ---- CASE
 
-scaled_all : (types : List Ty) (cs : meaning.Choices) → AreGood types cs → AreScaled cs
-scaled_all types (meaning.otherwise e) h = h.scaled
-scaled_all types (meaning.when c e rest) h = (h.1.0.scaled, scaled_all types rest h.1.1)
+scaled_all : (Holds : ℕ → Ty → Type 0) (cs : meaning.Choices) → AreGood Holds cs → AreScaled cs
+scaled_all Holds (meaning.otherwise e) h = h.scaled
+scaled_all Holds (meaning.when c e rest) h = (h.1.0.scaled, scaled_all Holds rest h.1.1)
 
-largest_small : (types : List Ty) (cs : meaning.Choices) → AreGood types cs → meaning.largest_result cs ≤ 18
-largest_small types (meaning.otherwise e) h = h.small
-largest_small types (meaning.when c e rest) h = let a : meaning.scale_of e ≤ 18 = h.1.0.small in let b = largest_small types rest h.1.1 in omega arith
+largest_small : (Holds : ℕ → Ty → Type 0) (cs : meaning.Choices) → AreGood Holds cs → meaning.largest_result cs ≤ 18
+largest_small Holds (meaning.otherwise e) h = h.small
+largest_small Holds (meaning.when c e rest) h = let a : meaning.scale_of e ≤ 18 = h.1.0.small in let b = largest_small Holds rest h.1.1 in omega arith
 
-cases_typed : (types : List Ty) (s : ℕ) (cs : meaning.Choices) → AreGood types cs → results_agree cs ≡ true → meaning.largest_result cs ≤ s → s ≤ 18 → IsTyped (meaning.cases s cs)
-cases_typed types s (meaning.otherwise e) h a l small = (h.typed, (l, small))
-cases_typed types s (meaning.when c e rest) h a l small =
+cases_typed : (Holds : ℕ → Ty → Type 0) (s : ℕ) (cs : meaning.Choices) → AreGood Holds cs → results_agree cs ≡ true → meaning.largest_result cs ≤ s → s ≤ 18 → IsTyped (meaning.cases s cs)
+cases_typed Holds s (meaning.otherwise e) h a l small = (h.typed, (l, small))
+cases_typed Holds s (meaning.when c e rest) h a l small =
     let (one, others) = and_parts (agree (kind_of e) (results_kind rest)) (results_agree rest) a in
     let le : meaning.scale_of e ≤ s = omega arith in
     let lr : meaning.largest_result rest ≤ s = omega arith in
-    (h.0.typed, (((h.1.0.typed, (le, small)), cases_typed types s rest h.1.1 others lr small), rw (kind_cases s rest, agree_at (kind_of e) (results_kind rest) s) one))
+    (h.0.typed, (((h.1.0.typed, (le, small)), cases_typed Holds s rest h.1.1 others lr small), rw (kind_cases s rest, agree_at (kind_of e) (results_kind rest) s) one))
 
-cases_columns : (types : List Ty) (s : ℕ) (cs : meaning.Choices) → AreGood types cs → HasColumns (IsColumnOf types) (meaning.cases s cs)
-cases_columns types s (meaning.otherwise e) h = h.columns
-cases_columns types s (meaning.when c e rest) h = (h.0.columns, (h.1.0.columns, cases_columns types s rest h.1.1))
+cases_columns : (Holds : ℕ → Ty → Type 0) (s : ℕ) (cs : meaning.Choices) → AreGood Holds cs → HasColumns Holds (meaning.cases s cs)
+cases_columns Holds s (meaning.otherwise e) h = h.columns
+cases_columns Holds s (meaning.when c e rest) h = (h.0.columns, (h.1.0.columns, cases_columns Holds s rest h.1.1))
 
-pub case_good : (types : List Ty) (cs : meaning.Choices) → AreGood types cs → results_agree cs ≡ true → IsGood types (meaning.case cs)
-case_good types cs h a =
-    let small = largest_small types cs h in
+pub case_good : (Holds : ℕ → Ty → Type 0) (cs : meaning.Choices) → AreGood Holds cs → results_agree cs ≡ true → IsGood Holds (meaning.case cs)
+case_good Holds cs h a =
+    let small = largest_small Holds cs h in
     record {
-      typed = cases_typed types (meaning.largest_result cs) cs h a (omega arith) small;
-      columns = cases_columns types (meaning.largest_result cs) cs h;
-      scaled = scaled_case cs a (scaled_all types cs h);
+      typed = cases_typed Holds (meaning.largest_result cs) cs h a (omega arith) small;
+      columns = cases_columns Holds (meaning.largest_result cs) cs h;
+      scaled = scaled_case cs a (scaled_all Holds cs h);
       small = rw (scaled_cases (meaning.largest_result cs) cs) small;
     }
 
-pub coalesced_good : (types : List Ty) (es : meaning.Expressions) → AllGood types es → AreGood types (meaning.coalesced es)
-coalesced_good types (meaning.last e) h = h
-coalesced_good types (meaning.more e es) h = (record { typed = h.0.typed; columns = h.0.columns }, (h.0, coalesced_good types es h.1))
+pub coalesced_good : (Holds : ℕ → Ty → Type 0) (es : meaning.Expressions) → AllGood Holds es → AreGood Holds (meaning.coalesced es)
+coalesced_good Holds (meaning.last e) h = h
+coalesced_good Holds (meaning.more e es) h = (record { typed = h.0.typed; columns = h.0.columns }, (h.0, coalesced_good Holds es h.1))
 
 -- ---- predicates
 
-pub not_good : (types : List Ty) (negated : Bool) (c : meaning.Condition) → IsGoodCondition types c → IsGoodCondition types (with_not negated c)
-not_good types true c h = record { typed = h.typed; columns = h.columns }
-not_good types false c h = h
+pub not_good : (Holds : ℕ → Ty → Type 0) (negated : Bool) (c : meaning.Condition) → IsGoodCondition Holds c → IsGoodCondition Holds (with_not negated c)
+not_good Holds true c h = record { typed = h.typed; columns = h.columns }
+not_good Holds false c h = h
 
-pub between_good : (types : List Ty) (x a b : meaning.Expression) → are_comparable (kind_of x) (kind_of a) ≡ true → are_comparable (kind_of x) (kind_of b) ≡ true
-    → IsGood types x → IsGood types a → IsGood types b → IsGoodCondition types (meaning.between x a b)
-between_good types x a b ea eb hx ha hb =
-    let low = comparison_good types GreaterOrEqual x a ea hx ha in
-    let high = comparison_good types LessOrEqual x b eb hx hb in
+pub between_good : (Holds : ℕ → Ty → Type 0) (x a b : meaning.Expression) → are_comparable (kind_of x) (kind_of a) ≡ true → are_comparable (kind_of x) (kind_of b) ≡ true
+    → IsGood Holds x → IsGood Holds a → IsGood Holds b → IsGoodCondition Holds (meaning.between x a b)
+between_good Holds x a b ea eb hx ha hb =
+    let low = comparison_good Holds GreaterOrEqual x a ea hx ha in
+    let high = comparison_good Holds LessOrEqual x b eb hx hb in
     record { typed = (low.typed, high.typed); columns = (low.columns, high.columns) }
 
-pub among_good : (types : List Ty) (token : List ℕ) (x : meaning.Expression) (vs : meaning.Expressions) → among_faults token x vs ≡ [] → IsGood types x → AllGood types vs → IsGoodCondition types (meaning.among x vs)
-among_good types token x (meaning.last v) none hx hv = comparison_good types Equal x v (tested (are_comparable (kind_of x) (kind_of v)) _ token none) hx hv
-among_good types token x (meaning.more v vs) none hx hv =
+pub among_good : (Holds : ℕ → Ty → Type 0) (token : List ℕ) (x : meaning.Expression) (vs : meaning.Expressions) → among_faults token x vs ≡ [] → IsGood Holds x → AllGood Holds vs → IsGoodCondition Holds (meaning.among x vs)
+among_good Holds token x (meaning.last v) none hx hv = comparison_good Holds Equal x v (tested (are_comparable (kind_of x) (kind_of v)) _ token none) hx hv
+among_good Holds token x (meaning.more v vs) none hx hv =
     let (first, others) = no_both (comparison_faults token x v) (among_faults token x vs) none in
-    let one = comparison_good types Equal x v (tested (are_comparable (kind_of x) (kind_of v)) _ token first) hx hv.0 in
-    let more = among_good types token x vs others hx hv.1 in
+    let one = comparison_good Holds Equal x v (tested (are_comparable (kind_of x) (kind_of v)) _ token first) hx hv.0 in
+    let more = among_good Holds token x vs others hx hv.1 in
     record { typed = (one.typed, more.typed); columns = (one.columns, more.columns) }
 
 pub case_tested : (token : List ℕ) (cs : meaning.Choices) → case_faults token cs ≡ [] → results_agree cs ≡ true
@@ -190,6 +190,10 @@ case_tested token cs none = (and_parts (results_agree cs) (has_kind (results_kin
 
 abbrev pub types_of : List Column → List Ty
 types_of columns = map (λ (c : Column). c.ty) columns
+
+-- the column at a place is of this type
+abbrev pub IsAt : List Column → ℕ → Ty → Type 0
+IsAt columns i ty = slice_get (types_of columns) i ≡ Some ty
 
 abbrev pub AreSized : List Column → Type 0
 AreSized columns = AllByRecursion (λ (c : Column). IsSized c.ty) columns
@@ -211,23 +215,23 @@ sized_at [] i c s e = absurd cc
 sized_at (d ∷ ds) zero c s e = let same : d ≡ c = cc in subst (λ (x : Column). IsSized x.ty) same s.0
 sized_at (d ∷ ds) (suc i) c s e = sized_at ds i c s.1 e
 
-pub column_good : (columns : List Column) (i : ℕ) (c : Column) → AreSized columns → slice_get columns i ≡ Some c → IsGood (types_of columns) (meaning.column i c.ty)
+pub column_good : (columns : List Column) (i : ℕ) (c : Column) → AreSized columns → slice_get columns i ≡ Some c → IsGood (IsAt columns) (meaning.column i c.ty)
 column_good columns i c s e =
     let small = scale_small c.ty (sized_at columns i c s e) in
     record { typed = small; columns = slice_get-map (λ (d : Column). d.ty) columns i ∙ ap (option_map (λ (d : Column). d.ty)) e; scaled = type_scaled c.ty; small = small }
 
 placed_good : (columns : List Column) (i : ℕ) (o : Option Column) → AreSized columns → slice_get columns i ≡ o → is_none (option_map (λ (c : Column). meaning.column i c.ty) o) ≡ false
-    → IsGood (types_of columns) (unwrap_or (option_map (λ (c : Column). meaning.column i c.ty) o) meaning.null)
+    → IsGood (IsAt columns) (unwrap_or (option_map (λ (c : Column). meaning.column i c.ty) o) meaning.null)
 placed_good columns i None s e h = absurd cc
 placed_good columns i (Some c) s e h = column_good columns i c s e
 
 named_good : (columns : List Column) (o : Option ℕ) → AreSized columns → is_none (option_and_then (λ (i : ℕ). option_map (λ (c : Column). meaning.column i c.ty) (slice_get columns i)) o) ≡ false
-    → IsGood (types_of columns) (unwrap_or (option_and_then (λ (i : ℕ). option_map (λ (c : Column). meaning.column i c.ty) (slice_get columns i)) o) meaning.null)
+    → IsGood (IsAt columns) (unwrap_or (option_and_then (λ (i : ℕ). option_map (λ (c : Column). meaning.column i c.ty) (slice_get columns i)) o) meaning.null)
 named_good columns None s h = absurd cc
 named_good columns (Some i) s h = placed_good columns i (slice_get columns i) s refl h
 
-number_good : (types : List Ty) (octets : List ℕ) → is_none (number_of octets) ≡ false → IsGood types (unwrap_or (number_of octets) meaning.null)
-number_good types octets h = elim (cases_Bool (is_short octets)) [
+number_good : (Holds : ℕ → Ty → Type 0) (octets : List ℕ) → is_none (number_of octets) ≡ false → IsGood Holds (unwrap_or (number_of octets) meaning.null)
+number_good Holds octets h = elim (cases_Bool (is_short octets)) [
   | inl e ↦ rw e (short (and_parts (are_digits (digits_of octets)) _ e).1)
   | inr e ↦ absurd (none e)
 ]
@@ -235,80 +239,80 @@ number_good types octets h = elim (cases_Bool (is_short octets)) [
     none : is_short octets ≡ false → ⊥
     none e = let n : true ≡ false = rw e at h in cc
 
-    short : (nat_lt (digits_value 10 (digits_of octets)) (10 ^ 18) && nat_le (scale_of octets) 18) ≡ true → IsGood types (meaning.number (pos (digits_value 10 (digits_of octets))) (scale_of octets))
+    short : (nat_lt (digits_value 10 (digits_of octets)) (10 ^ 18) && nat_le (scale_of octets) 18) ≡ true → IsGood Holds (meaning.number (pos (digits_value 10 (digits_of octets))) (scale_of octets))
     short e =
         let p = and_parts (nat_lt (digits_value 10 (digits_of octets)) (10 ^ 18)) (nat_le (scale_of octets) 18) e in
         let small : scale_of octets ≤ 18 = at_most (scale_of octets) 18 p.1 in
         record { typed = (p.0, small); columns = tt; scaled = refl; small = small }
 
-date_good : (types : List Ty) (string : List ℕ) (intervals : List Days) (o : Option meaning.Expression) → date_of string intervals ≡ o → is_none o ≡ false → IsGood types (unwrap_or (date_of string intervals) meaning.null)
-date_good types string intervals o e h =
+date_good : (Holds : ℕ → Ty → Type 0) (string : List ℕ) (intervals : List Days) (o : Option meaning.Expression) → date_of string intervals ≡ o → is_none o ≡ false → IsGood Holds (unwrap_or (date_of string intervals) meaning.null)
+date_good Holds string intervals o e h =
     let typed = date_typed string intervals (ap is_none e ∙ h) in
     whole (option_and_then (after_intervals intervals) (day_shown (string_value string))) typed
   where
-    whole : (d : Option Day) → IsTyped (unwrap_or (option_map date_at d) meaning.null) → IsGood types (unwrap_or (option_map date_at d) meaning.null)
-    whole None t = null_good types
+    whole : (d : Option Day) → IsTyped (unwrap_or (option_map date_at d) meaning.null) → IsGood Holds (unwrap_or (option_map date_at d) meaning.null)
+    whole None t = null_good Holds
     whole (Some d) t = record { typed = t; columns = tt; scaled = refl; small = omega arith }
 
 -- ---- every construct
 
 mutual
-  pub good : (scope : Scope) → AreSized scope.columns → (e : Expression) → faults scope e ≡ [] → IsGood (types_of scope.columns) (meant scope e)
-  good scope s null h = null_good (types_of scope.columns)
-  good scope s (number octets) h = number_good (types_of scope.columns) octets (not_where (is_none (number_of octets)) _ octets h)
-  good scope s (text octets) h = text_good (types_of scope.columns) (string_value octets)
-  good scope s (date string intervals) h = date_good (types_of scope.columns) string intervals (date_of string intervals) refl (not_where (is_none (date_of string intervals)) _ string h)
+  pub good : (scope : Scope) → AreSized scope.columns → (e : Expression) → faults scope e ≡ [] → IsGood (IsAt scope.columns) (meant scope e)
+  good scope s null h = null_good (IsAt scope.columns)
+  good scope s (number octets) h = number_good (IsAt scope.columns) octets (not_where (is_none (number_of octets)) _ octets h)
+  good scope s (text octets) h = text_good (IsAt scope.columns) (string_value octets)
+  good scope s (date string intervals) h = date_good (IsAt scope.columns) string intervals (date_of string intervals) refl (not_where (is_none (date_of string intervals)) _ string h)
   good scope s (column qualifier name) h =
       let p = no_own (fault_where (not (is_known scope qualifier)) UnknownTable (qualifier_of qualifier)) (fault_where (is_none (column_named scope.columns (name_of name))) UnknownColumn (name_of name)) h in
       named_good scope.columns (position (λ (c : Column). bytes_eq (name_of name) c.name) scope.columns) s (not_where (is_none (column_named scope.columns (name_of name))) UnknownColumn (name_of name) p.1)
   good scope s (signed sign a) h =
       let p = no_own (faults scope a) _ h in
-      sign_good (types_of scope.columns) sign (meant scope a) (tested (is_number (kind_of (meant scope a))) _ _ p.1) (good scope s a p.0)
+      sign_good (IsAt scope.columns) sign (meant scope a) (tested (is_number (kind_of (meant scope a))) _ _ p.1) (good scope s a p.0)
   good scope s (arithmetic operator a b) h =
       let p = no_own (faults scope a ++ faults scope b) _ h in
       let q = no_both (faults scope a) (faults scope b) p.0 in
       let t = no_own (fault_where (not (is_number (kind_of (meant scope a)) && is_number (kind_of (meant scope b)))) Clash (first_token a)) _ p.1 in
       let n = and_parts (is_number (kind_of (meant scope a))) (is_number (kind_of (meant scope b))) (tested (is_number (kind_of (meant scope a)) && is_number (kind_of (meant scope b))) _ _ t.0) in
-      arithmetic_good (types_of scope.columns) operator (meant scope a) (meant scope b) n.0 n.1 (tested (is_allowed operator (meaning.scale_of (meant scope a)) (meaning.scale_of (meant scope b))) _ _ t.1) (good scope s a q.0) (good scope s b q.1)
+      arithmetic_good (IsAt scope.columns) operator (meant scope a) (meant scope b) n.0 n.1 (tested (is_allowed operator (meaning.scale_of (meant scope a)) (meaning.scale_of (meant scope b))) _ _ t.1) (good scope s a q.0) (good scope s b q.1)
   good scope s (extract field a) h =
       let p = no_own (faults scope a) _ h in
-      extract_good (types_of scope.columns) field (meant scope a) (tested (is_date (kind_of (meant scope a))) _ _ p.1) (good scope s a p.0)
+      extract_good (IsAt scope.columns) field (meant scope a) (tested (is_date (kind_of (meant scope a))) _ _ p.1) (good scope s a p.0)
   good scope s (searched_case branches) h =
       let p = no_own (choices_faults scope branches) _ h in
-      case_good (types_of scope.columns) (choices scope branches) (choices_good scope s branches p.0) (case_tested (first_of_branches branches) (choices scope branches) p.1)
+      case_good (IsAt scope.columns) (choices scope branches) (choices_good scope s branches p.0) (case_tested (first_of_branches branches) (choices scope branches) p.1)
   good scope s (simple_case x branches) h =
       let p = no_own (faults scope x) _ h in
       let q = no_own (branch_faults (first_token x) branches ++ matches_faults scope (first_token x) (meant scope x) branches) _ p.1 in
       let t = no_both (branch_faults (first_token x) branches) (matches_faults scope (first_token x) (meant scope x) branches) q.0 in
-      case_good (types_of scope.columns) (matches scope (meant scope x) branches) (matches_good scope s (first_token x) (meant scope x) (good scope s x p.0) branches t.1) (case_tested (first_token x) (matches scope (meant scope x) branches) q.1)
+      case_good (IsAt scope.columns) (matches scope (meant scope x) branches) (matches_good scope s (first_token x) (meant scope x) (good scope s x p.0) branches t.1) (case_tested (first_token x) (matches scope (meant scope x) branches) q.1)
   good scope s (coalesce es) h =
       let p = no_own (all_faults scope es) _ h in
-      case_good (types_of scope.columns) (meaning.coalesced (all_meant scope es)) (coalesced_good (types_of scope.columns) (all_meant scope es) (all_good scope s es p.0)) (case_tested (first_of_all es) (meaning.coalesced (all_meant scope es)) p.1)
+      case_good (IsAt scope.columns) (meaning.coalesced (all_meant scope es)) (coalesced_good (IsAt scope.columns) (all_meant scope es) (all_good scope s es p.0)) (case_tested (first_of_all es) (meaning.coalesced (all_meant scope es)) p.1)
   good scope s (null_if a b) h =
       let p = no_own (faults scope a ++ faults scope b) _ h in
       let q = no_both (faults scope a) (faults scope b) p.0 in
-      null_if_good (types_of scope.columns) (meant scope a) (meant scope b) (tested (are_comparable (kind_of (meant scope a)) (kind_of (meant scope b))) _ _ p.1) (good scope s a q.0) (good scope s b q.1)
+      null_if_good (IsAt scope.columns) (meant scope a) (meant scope b) (tested (are_comparable (kind_of (meant scope a)) (kind_of (meant scope b))) _ _ p.1) (good scope s a q.0) (good scope s b q.1)
 
-  pub condition_good : (scope : Scope) → AreSized scope.columns → (c : Condition) → condition_faults scope c ≡ [] → IsGoodCondition (types_of scope.columns) (condition_meant scope c)
+  pub condition_good : (scope : Scope) → AreSized scope.columns → (c : Condition) → condition_faults scope c ≡ [] → IsGoodCondition (IsAt scope.columns) (condition_meant scope c)
   condition_good scope s (comparison op a b) h =
       let p = no_own (faults scope a ++ faults scope b) _ h in
       let q = no_both (faults scope a) (faults scope b) p.0 in
-      comparison_good (types_of scope.columns) op (meant scope a) (meant scope b) (tested (are_comparable (kind_of (meant scope a)) (kind_of (meant scope b))) _ _ p.1) (good scope s a q.0) (good scope s b q.1)
+      comparison_good (IsAt scope.columns) op (meant scope a) (meant scope b) (tested (are_comparable (kind_of (meant scope a)) (kind_of (meant scope b))) _ _ p.1) (good scope s a q.0) (good scope s b q.1)
   condition_good scope s (between negated x a b) h =
       let p = no_own (faults scope x ++ (faults scope a ++ faults scope b)) _ h in
       let q = no_both (faults scope x) (faults scope a ++ faults scope b) p.0 in
       let r = no_both (faults scope a) (faults scope b) q.1 in
       let t = no_both (comparison_faults (first_token x) (meant scope x) (meant scope a)) (comparison_faults (first_token x) (meant scope x) (meant scope b)) p.1 in
-      not_good (types_of scope.columns) negated _ (between_good (types_of scope.columns) (meant scope x) (meant scope a) (meant scope b)
+      not_good (IsAt scope.columns) negated _ (between_good (IsAt scope.columns) (meant scope x) (meant scope a) (meant scope b)
       (tested (are_comparable (kind_of (meant scope x)) (kind_of (meant scope a))) _ _ t.0) (tested (are_comparable (kind_of (meant scope x)) (kind_of (meant scope b))) _ _ t.1)
       (good scope s x q.0) (good scope s a r.0) (good scope s b r.1))
   condition_good scope s (among negated x es) h =
       let p = no_own (faults scope x ++ all_faults scope es) _ h in
       let q = no_both (faults scope x) (all_faults scope es) p.0 in
-      not_good (types_of scope.columns) negated _ (among_good (types_of scope.columns) (first_token x) (meant scope x) (all_meant scope es) p.1 (good scope s x q.0) (all_good scope s es q.1))
+      not_good (IsAt scope.columns) negated _ (among_good (IsAt scope.columns) (first_token x) (meant scope x) (all_meant scope es) p.1 (good scope s x q.0) (all_good scope s es q.1))
   condition_good scope s (is_null negated a) h =
       let g = good scope s a h in
-      not_good (types_of scope.columns) negated _ (record { typed = g.typed; columns = g.columns })
+      not_good (IsAt scope.columns) negated _ (record { typed = g.typed; columns = g.columns })
   condition_good scope s (both c d) h =
       let q = no_both (condition_faults scope c) (condition_faults scope d) h in
       let x = condition_good scope s c q.0 in
@@ -320,14 +324,14 @@ mutual
       let y = condition_good scope s d q.1 in
       record { typed = (x.typed, y.typed); columns = (x.columns, y.columns) }
   condition_good scope s (negation_of c) h = let x = condition_good scope s c h in record { typed = x.typed; columns = x.columns }
-  condition_good scope s (is negated c t) h = let x = condition_good scope s c h in not_good (types_of scope.columns) negated _ (record { typed = x.typed; columns = x.columns })
+  condition_good scope s (is negated c t) h = let x = condition_good scope s c h in not_good (IsAt scope.columns) negated _ (record { typed = x.typed; columns = x.columns })
   condition_good scope s (bracketed c) h = condition_good scope s c h
 
-  pub all_good : (scope : Scope) → AreSized scope.columns → (es : Expressions) → all_faults scope es ≡ [] → AllGood (types_of scope.columns) (all_meant scope es)
+  pub all_good : (scope : Scope) → AreSized scope.columns → (es : Expressions) → all_faults scope es ≡ [] → AllGood (IsAt scope.columns) (all_meant scope es)
   all_good scope s (last e) h = good scope s e h
   all_good scope s (further e es) h = let q = no_both (faults scope e) (all_faults scope es) h in (good scope s e q.0, all_good scope s es q.1)
 
-  pub choices_good : (scope : Scope) → AreSized scope.columns → (branches : Branching) → choices_faults scope branches ≡ [] → AreGood (types_of scope.columns) (choices scope branches)
+  pub choices_good : (scope : Scope) → AreSized scope.columns → (branches : Branching) → choices_faults scope branches ≡ [] → AreGood (IsAt scope.columns) (choices scope branches)
   choices_good scope s (otherwise e) h = good scope s e h
   choices_good scope s (when (condition c) e rest) h =
       let q = no_both (condition_faults scope c) (faults scope e ++ choices_faults scope rest) h in
@@ -335,12 +339,12 @@ mutual
       (condition_good scope s c q.0, (good scope s e r.0, choices_good scope s rest r.1))
   choices_good scope s (when (expression v) e rest) h = absurd cc
 
-  pub matches_good : (scope : Scope) → AreSized scope.columns → (token : List ℕ) (x : meaning.Expression) → IsGood (types_of scope.columns) x → (branches : Branching) → matches_faults scope token x branches ≡ []
-      → AreGood (types_of scope.columns) (matches scope x branches)
+  pub matches_good : (scope : Scope) → AreSized scope.columns → (token : List ℕ) (x : meaning.Expression) → IsGood (IsAt scope.columns) x → (branches : Branching) → matches_faults scope token x branches ≡ []
+      → AreGood (IsAt scope.columns) (matches scope x branches)
   matches_good scope s token x g (otherwise e) h = good scope s e h
   matches_good scope s token x g (when (condition c) e rest) h = absurd cc
   matches_good scope s token x g (when (expression v) e rest) h =
       let q = no_both (or_own (faults scope v) (comparison_faults token x (meant scope v))) (faults scope e ++ matches_faults scope token x rest) h in
       let p = no_own (faults scope v) _ q.0 in
       let r = no_both (faults scope e) (matches_faults scope token x rest) q.1 in
-      (comparison_good (types_of scope.columns) Equal x (meant scope v) (tested (are_comparable (kind_of x) (kind_of (meant scope v))) _ _ p.1) g (good scope s v p.0), (good scope s e r.0, matches_good scope s token x g rest r.1))
+      (comparison_good (IsAt scope.columns) Equal x (meant scope v) (tested (are_comparable (kind_of x) (kind_of (meant scope v))) _ _ p.1) g (good scope s v p.0), (good scope s e r.0, matches_good scope s token x g rest r.1))

@@ -9,7 +9,7 @@ use Rattle.qw_types.specs.DateText.{year_of, month_of, day_of}
 use Rattle.qw_types.specs.Digits.{are_digits}
 use Rattle.qw_types.specs.Octets.{minus, period, single_quote}
 use Rattle.qw_ast.specs.Syntax.{Days}
-use Rattle.qw_meaning.specs.Expression.{Expression, number, date}
+use Rattle.qw_scalar.specs.Expression.{Expression, number, date}
 use Rattle.qw_typer.specs.Days.{Day, moved}
 
 -- with each two octets of which the first is a quote as that quote

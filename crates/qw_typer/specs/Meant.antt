@@ -4,8 +4,8 @@ use Rattle.std.specs.Prelude.{ℕ, Bool, true, false, List, Option, position, sl
 use Rattle.std.specs.Option.{option_and_then, option_map}
 use Rattle.std.specs.Str.{bytes_eq}
 use Rattle.qw_types.specs.declared.schema.Column.{Column}
-use Rattle.qw_meaning.specs.declared.comparison.Comparison.TheVariants.{Equal}
-use Rattle.qw_meaning.specs.Expression as meaning
+use Rattle.qw_scalar.specs.declared.comparison.Comparison.TheVariants.{Equal}
+use Rattle.qw_scalar.specs.Expression as meaning
 use Rattle.qw_ast.specs.declared.script.Sign.{Sign}
 use Rattle.qw_ast.specs.declared.script.Sign.TheVariants.{Plus, Minus}
 use Rattle.qw_ast.specs.Grammar.{name_of}

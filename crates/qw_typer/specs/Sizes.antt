@@ -1,17 +1,17 @@
 -- How large the typed trees of a query are: their nodes (Nodes), and the octets of their text literals (ISO/IEC 9075:1992, 5.3).
 use Rattle.std.specs.Prelude.{ℕ, ◌+◌, ◌≤◌, List, length, sum_by}
 use Rattle.std.specs.List.{AllByRecursion}
-use Rattle.qw_meaning.specs.declared.expression.Expr.{Expr}
-use Rattle.qw_meaning.specs.declared.expression.Cond.{Cond}
-use Rattle.qw_meaning.specs.declared.expression.Exprs.{Exprs}
-use Rattle.qw_meaning.specs.declared.expression.Branches.{Branches}
-use Rattle.qw_meaning.specs.declared.expression.Matches.{Matches}
-use Rattle.qw_meaning.specs.declared.expression.Expr.TheVariants.{Null, Number, Date, Text, Column, Arithmetic', Negative', Extract', Case', Match', Coalesce', NullIf'}
-use Rattle.qw_meaning.specs.declared.expression.Cond.TheVariants.{Compare', Between', In', IsNull', And', Or', Not', Is'}
-use Rattle.qw_meaning.specs.declared.expression.Exprs.TheVariants as Exprs
-use Rattle.qw_meaning.specs.declared.expression.Branches.TheVariants as Branches
-use Rattle.qw_meaning.specs.declared.expression.Matches.TheVariants as Matches
-use Rattle.qw_meaning.specs.Nodes.{nodes, nodes_of}
+use Rattle.qw_scalar.specs.declared.expression.Expr.{Expr}
+use Rattle.qw_scalar.specs.declared.expression.Cond.{Cond}
+use Rattle.qw_scalar.specs.declared.expression.Exprs.{Exprs}
+use Rattle.qw_scalar.specs.declared.expression.Branches.{Branches}
+use Rattle.qw_scalar.specs.declared.expression.Matches.{Matches}
+use Rattle.qw_scalar.specs.declared.expression.Expr.TheVariants.{Null, Number, Date, Text, Column, Arithmetic', Negative', Extract', Case', Match', Coalesce', NullIf'}
+use Rattle.qw_scalar.specs.declared.expression.Cond.TheVariants.{Compare', Between', In', IsNull', And', Or', Not', Is'}
+use Rattle.qw_scalar.specs.declared.expression.Exprs.TheVariants as Exprs
+use Rattle.qw_scalar.specs.declared.expression.Branches.TheVariants as Branches
+use Rattle.qw_scalar.specs.declared.expression.Matches.TheVariants as Matches
+use Rattle.qw_scalar.specs.Nodes.{nodes, nodes_of}
 use Rattle.qw_meaning.specs.Select.{Parts}
 use Rattle.qw_typer.specs.declared.query.TypedSelect.{TypedSelect}
 

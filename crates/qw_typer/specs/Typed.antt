@@ -7,8 +7,8 @@ use Rattle.std.specs.Str.{bytes_eq}
 use Rattle.qw_types.specs.Contents.{column_type}
 use Rattle.qw_types.specs.declared.schema.Column.{Column}
 use Rattle.qw_types.specs.declared.schema.Table.{Table}
-use Rattle.qw_meaning.specs.Expression as meaning
-use Rattle.qw_meaning.specs.Select.{Specification}
+use Rattle.qw_scalar.specs.Expression as meaning
+use Rattle.qw_meaning.specs.Select.{Specification, alone}
 use Rattle.qw_ast.specs.Grammar.{name_of}
 use Rattle.qw_ast.specs.Syntax.{Expression, null, number, text, date, column, signed, arithmetic, extract, searched_case, simple_case, coalesce, null_if, Condition, comparison, between, among, is_null, both, either, negation_of, is, bracketed, SelectItem, Selected, all_columns, items, Select}
 use Rattle.qw_typer.specs.declared.fault.FaultKind.TheVariants.{UnknownTable}
@@ -115,8 +115,8 @@ pub record Means (schema : List Table) (s : Select) (specification : Specificati
   pub table : Table
   pub place_is : place_of schema (name_of s.table) ≡ Some place
   pub table_is : slice_get schema place ≡ Some table
-  -- the entry has the table's columns, each with its type and NOT NULL (11.4)
-  pub entries_are : specification.entries ≡ record { table = place; columns = map column_type table.columns } ∷ []
+  -- FROM is one entry, which has the table's columns, each with its type and NOT NULL (11.4)
+  pub sources_are : specification.sources ≡ alone (record { table = place; columns = map column_type table.columns }) ∷ []
   pub conjuncts_are : specification.conjuncts ≡ map (condition_meant (scope_of s table)) (conjuncts s)
   pub items_are : specification.items ≡ items_meant (scope_of s table) s.selected
   pub names_are : names ≡ result_names (scope_of s table) s.selected

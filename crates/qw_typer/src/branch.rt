@@ -2,17 +2,17 @@
 #![tactic(auto, unfolding(crate::specs::Inner::Typing::Refuses))]
 
 ghost use Rattle.std.specs.Prelude.{◌≡◌, ℕ, ◌+◌, IfOk, Ok};
-ghost use Rattle.qw_meaning.specs.declared.comparison.Comparison.TheVariants.{Equal};
-ghost use Rattle.qw_meaning.specs.Expression.{Expression, coalesced, comparison, last, more};
-ghost use Rattle.qw_meaning.specs.Expression as meaning;
-ghost use Rattle.qw_meaning.specs.Tree.{choices_of, condition_of, expression_of, expressions_of, matches_of};
+ghost use Rattle.qw_scalar.specs.declared.comparison.Comparison.TheVariants.{Equal};
+ghost use Rattle.qw_scalar.specs.Expression.{Expression, coalesced, comparison, last, more};
+ghost use Rattle.qw_scalar.specs.Expression as meaning;
+ghost use Rattle.qw_scalar.specs.Tree.{choices_of, condition_of, expression_of, expressions_of, matches_of};
 ghost use Rattle.qw_typer.specs.Inner.Sizes.{Fits, FitsAll, FitsBranches, FitsCondition, FitsMatches};
 ghost use Rattle.qw_typer.specs.Inner.Typing.{AreTold, GivesArguments, GivesChoices, GivesMatches, GivesValues, IsTold, all_comparable};
 
 use crate::kinds::{agree, are_comparable, joined};
 use crate::refusal::Refusal;
 use crate::tree::{Results, Typed, Values, boxed};
-use qw_meaning::expression::{Branches, Cond, Exprs, Matches};
+use qw_scalar::expression::{Branches, Cond, Exprs, Matches};
 use std::alloc::Global;
 
 /// The last argument of COALESCE.

@@ -3,9 +3,9 @@
 
 ghost use Rattle.std.specs.Prelude.{◌≡◌, ℕ, ◌+◌, IfOk, MatchResult};
 ghost use Rattle.qw_ast.specs.SyntaxTree as syntax;
-ghost use Rattle.qw_meaning.specs.Expression.{coalesced};
-ghost use Rattle.qw_meaning.specs.Tree.{choices_of, condition_of, expression_of, expressions_of, matches_of};
-ghost use Rattle.qw_meaning.specs.Typing.{kind_of};
+ghost use Rattle.qw_scalar.specs.Expression.{coalesced};
+ghost use Rattle.qw_scalar.specs.Tree.{choices_of, condition_of, expression_of, expressions_of, matches_of};
+ghost use Rattle.qw_scalar.specs.Typing.{kind_of};
 ghost use Rattle.qw_typer.specs.Faults.{first_of_all, first_of_branches, first_token};
 ghost use Rattle.qw_typer.specs.Inner.Sizes.{Fits, FitsAll, FitsBranches, FitsCondition, FitsMatches};
 ghost use Rattle.qw_typer.specs.Inner.Typing.{AreTold, Gives, GivesCondition, IsTold, all_comparable, among_outcome, arithmetic_outcome, between_outcome, case_outcome, comparison_outcome, field_outcome, null_if_outcome, sign_outcome};
@@ -17,9 +17,9 @@ use crate::kinds::{are_comparable, is_date, is_number, scale};
 use crate::refusal::{Refusal, first_of_all, first_of_branches, first_token};
 use crate::tree::{Results, Typed, boxed};
 use qw_ast::script::{Branches, Expr, Exprs, Sign};
-use qw_meaning::comparison::Comparison;
-use qw_meaning::expression as meaning;
-use qw_meaning::expression::{Field, Operator};
+use qw_scalar::comparison::Comparison;
+use qw_scalar::expression as meaning;
+use qw_scalar::expression::{Field, Operator};
 use qw_types::Kind;
 use std::alloc::Global;
 

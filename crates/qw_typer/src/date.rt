@@ -4,7 +4,7 @@ ghost use Rattle.std.specs.Prelude.{◌≡◌, ◌≤◌, ◌<◌, ◌^◌, ℤ,
 ghost use Rattle.std.specs.Option.{option_and_then};
 ghost use Rattle.qw_types.specs.Calendar.{packed};
 ghost use Rattle.qw_ast.specs.SyntaxTree.{days_of};
-ghost use Rattle.qw_meaning.specs.Expression.{date};
+ghost use Rattle.qw_scalar.specs.Expression.{date};
 ghost use Rattle.qw_typer.specs.Days.{moved};
 ghost use Rattle.qw_typer.specs.Inner.Literals.{IsUnpacked, day_of_date, signed_days};
 ghost use Rattle.qw_typer.specs.Literal.{after_intervals, date_of, day_shown, interval_days};

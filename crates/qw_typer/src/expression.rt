@@ -3,8 +3,8 @@
 
 ghost use Rattle.std.specs.Prelude.{◌≡◌, IfOk, MatchResult, Ok};
 ghost use Rattle.qw_ast.specs.SyntaxTree as syntax;
-ghost use Rattle.qw_meaning.specs.Expression.{coalesced};
-ghost use Rattle.qw_meaning.specs.Tree.{condition_of, expression_of};
+ghost use Rattle.qw_scalar.specs.Expression.{coalesced};
+ghost use Rattle.qw_scalar.specs.Tree.{condition_of, expression_of};
 ghost use Rattle.qw_ast.specs.Limits.{octets, octets_all, octets_branches, octets_condition};
 ghost use Rattle.qw_typer.specs.Inner.Sizes.{Fits, FitsAll, FitsBranches, FitsCondition, FitsMatches, nodes, nodes_all, nodes_branches, nodes_condition};
 ghost use Rattle.qw_typer.specs.Inner.Typing.{Gives, GivesArguments, GivesChoices, GivesCondition, GivesMatches, GivesValues, IsTold, entry, spelled, typed, typed_all, typed_choices, typed_branches, typed_condition};
@@ -23,7 +23,7 @@ use crate::refusal::{Refusal, Token, first_token};
 use crate::scope::Scope;
 use crate::tree::{Results, Typed, Values, boxed};
 use qw_ast::script::{Branches, Cond, Expr, Exprs, Phrase};
-use qw_meaning::expression as meaning;
+use qw_scalar::expression as meaning;
 use std::alloc::Global;
 
 /// An expression.

@@ -2,7 +2,7 @@
 
 ghost use Rattle.std.specs.Prelude.{◌≡◌};
 ghost use Rattle.qw_typer.specs.Inner.Typing.{kind_scale};
-ghost use Rattle.qw_meaning.specs.Typing.{agree, are_comparable, is_date, is_number, joined};
+ghost use Rattle.qw_scalar.specs.Typing.{agree, are_comparable, is_date, is_number, joined};
 
 use qw_types::Kind;
 

@@ -6,7 +6,7 @@ ghost use Rattle.qw_types.specs.Schema.{AreColumns};
 ghost use Rattle.qw_types.specs.declared.schema.Table.{Table};
 ghost use Rattle.qw_meaning.specs.Select.{IsSpecification, Specification};
 ghost use Rattle.qw_ast.specs.declared.script.Sign.TheVariants.{Plus, Minus};
-ghost use Rattle.qw_meaning.specs.Expression as meaning;
+ghost use Rattle.qw_scalar.specs.Expression as meaning;
 ghost use Rattle.qw_ast.specs.Syntax.{Select, column, number, signed, text};
 ghost use Rattle.qw_typer.specs.Literal.{date_of, number_of};
 ghost use Rattle.qw_typer.specs.Typed.{IsWithin, Means, item_names, own_name, query_faults};

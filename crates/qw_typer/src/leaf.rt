@@ -1,4 +1,4 @@
-//! Literals and columns.
+//! Typed literals and columns, the leaves of an expression.
 #![tactic(auto, unfolding(crate::specs::Inner::Typing::Refuses))]
 
 ghost use Rattle.std.specs.Prelude.{◌≡◌, IfOk, length, map, None};
@@ -17,7 +17,7 @@ use crate::refusal::{Refusal, Token};
 use crate::scope::{Scope, column_named, is_known};
 use crate::tree::Typed;
 use qw_ast::script::Interval;
-use qw_meaning::expression::Expr;
+use qw_scalar::expression::Expr;
 use qw_types::Kind;
 use std::alloc::Global;
 

@@ -1,7 +1,7 @@
 //! Numbers (ISO/IEC 9075:1992, 5.3 "unsigned numeric literal").
 
 ghost use Rattle.std.specs.Prelude.{◌≡◌, ◌≤◌, ◌==◌, ℕ, IfOk, IfSome, IsTrue, option_map, position};
-ghost use Rattle.qw_meaning.specs.Expression.{number};
+ghost use Rattle.qw_scalar.specs.Expression.{number};
 ghost use Rattle.qw_types.specs.Digits.{are_digits};
 ghost use Rattle.qw_types.specs.Octets.{period};
 ghost use Rattle.qw_typer.specs.Inner.Literals.{value_of};

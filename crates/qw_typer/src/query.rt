@@ -15,8 +15,8 @@ use crate::refusal::{Refusal, Token};
 use crate::scope::Scope;
 use crate::statement::{column_types, filter, list, names, place_of};
 use qw_ast::script::Statement;
-use qw_meaning::expression::{Cond, Expr};
 use qw_meaning::select::Select;
+use qw_scalar::expression::{Cond, Expr};
 use qw_types::{ColumnType, NoMemory, Schema, Table, Text};
 use std::alloc::Global;
 

@@ -5,7 +5,7 @@ ghost use Rattle.std.specs.Str.{bytes_eq};
 ghost use Rattle.qw_ast.specs.Grammar.{name_of};
 ghost use Rattle.qw_ast.specs.SyntaxTree.{octets_of};
 ghost use Rattle.qw_types.specs.declared.schema.Column.{Column};
-ghost use Rattle.qw_meaning.specs.Expression.{column};
+ghost use Rattle.qw_scalar.specs.Expression.{column};
 ghost use Rattle.qw_typer.specs.Meant.{column_named};
 ghost use Rattle.qw_typer.specs.Faults.{is_known};
 ghost use Rattle.qw_typer.specs.Inner.Typing.{entry};

@@ -7,7 +7,7 @@ ghost use Rattle.qw_ast.specs.SyntaxTree as syntax;
 ghost use Rattle.qw_types.specs.Contents.{column_type};
 ghost use Rattle.qw_types.specs.declared.schema.Column.{Column};
 ghost use Rattle.qw_types.specs.declared.schema.Table.{Table};
-ghost use Rattle.qw_meaning.specs.Tree.{condition_of, expression_of};
+ghost use Rattle.qw_scalar.specs.Tree.{condition_of, expression_of};
 ghost use Rattle.qw_ast.specs.Limits.{items_of, octets, octets_condition, over_filter, over_items};
 ghost use Rattle.qw_typer.specs.Inner.Sizes.{Fits, FitsItems, FitsTests, nodes, nodes_condition, selected_nodes};
 ghost use Rattle.qw_typer.specs.Inner.Typing.{Refuses, entry, typed_conjuncts, typed_filter, typed_item, typed_items, typed_list};
@@ -19,7 +19,7 @@ use crate::name::name_text;
 use crate::refusal::{Refusal, first_token};
 use crate::scope::{Scope, is_name};
 use qw_ast::script::{Cond, Expr, Item, SelectList};
-use qw_meaning::expression as meaning;
+use qw_scalar::expression as meaning;
 use qw_types::{Column, ColumnType, NoMemory, Table, Text};
 use std::alloc::Global;
 

@@ -4,7 +4,7 @@ ghost use Rattle.std.specs.Prelude.{◌≡◌, IfOk, IfErr};
 ghost use Rattle.qw_typer.specs.declared.refusal.Refusal.TheVariants.{NoMemory};
 
 use crate::refusal::Refusal;
-use qw_meaning::expression::{Expr, Exprs};
+use qw_scalar::expression::{Expr, Exprs};
 use qw_types::Kind;
 use std::alloc::Global;
 

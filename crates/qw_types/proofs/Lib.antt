@@ -12,3 +12,4 @@ mod ShortNumberLemmas
 pub mod TextLaws
 mod TextOrderLemmas
 mod ValueLemmas
+mod ValueOrderLemmas

@@ -21,7 +21,7 @@ pub chain : (first second third : List ℕ) → text_order first second ≡ Less
 chain first second third h k =
     as_slices first third ∙ nat_list_cmp_total.trans first second third (sym (as_slices first second) ∙ h) (sym (as_slices second third) ∙ k)
 
-self_equal : (r : Ordering) → r ≡ ordering_reverse r → r ≡ Equal
+pub self_equal : (r : Ordering) → r ≡ ordering_reverse r → r ≡ Equal
 self_equal Less h = absurd cc
 self_equal Equal h = refl
 self_equal Greater h = absurd cc

@@ -5,6 +5,7 @@ pub mod DateText
 pub mod Digits
 pub mod Inner
 pub mod Kind
+pub mod Like
 pub mod Limits
 pub mod NumberText
 pub mod Numeral
@@ -13,3 +14,4 @@ pub mod Schema
 pub mod TextOrder
 pub mod Truth
 pub mod Value
+pub mod ValueOrder

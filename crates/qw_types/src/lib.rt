@@ -11,7 +11,7 @@
 //! - [`text::Text`]: a text, which contracts see as its octets; [`text_order`]: how texts compare.
 //! - [`row::Row`]: the values of one row, which contracts see as a list.
 //! - [`schema::Schema`]: the declared tables, each with its columns.
-//! - [`worked_laws`]: worked cases of the definitions, with numbers.
+//! - [`value_order_laws`], [`like_laws`], [`worked_laws`]: laws of the order of values, and worked cases of the definitions.
 //!
 //! The limits on counts and the rule that names differ are kept by the types.
 #![tactic(auto)]
@@ -21,6 +21,7 @@ pub mod code;
 pub mod date_text;
 pub mod digits;
 pub mod kind;
+pub mod like_laws;
 
 pub use qw_base::memory;
 
@@ -35,6 +36,7 @@ pub mod text_order;
 pub mod truth;
 pub mod value;
 pub mod value_laws;
+pub mod value_order_laws;
 pub mod worked_laws;
 
 pub use code::Code;

@@ -1,6 +1,6 @@
--- How many steps the blocks have.
+-- How many steps the blocks of arithmetic and comparison have at most.
 use Rattle.std.proofs.Common.{◌≡◌, ℕ, zero, suc, ◌+◌, ◌-◌, ◌*◌, ◌/◌, ◌^◌, ◌≤◌, ◌==◌, max, nat_lt, if◌then◌else◌, Bool, true, false, List, ◌++◌, length, length-append, refl, arith}
-use Rattle.qw_meaning.specs.declared.comparison.Comparison.{Comparison}
+use Rattle.qw_scalar.specs.declared.comparison.Comparison.{Comparison}
 use Rattle.qw_module.specs.declared.instruction.ValType.TheVariants.{I64}
 use Rattle.qw_module.specs.declared.instruction.Sign.TheVariants.{Signed}
 use Rattle.qw_module.specs.declared.instruction.Binary.{Binary}

@@ -6,9 +6,9 @@ use Rattle.std.specs.Cmp.{int_ranks}
 use Rattle.std.specs.Int.{cast_signed}
 use Rattle.std.proofs.lemmas.Bool.{eq-eqb, ne_eqb}
 use Rattle.std.proofs.lemmas.Int.{ints}
-use Rattle.qw_meaning.specs.declared.comparison.Comparison.{Comparison}
-use Rattle.qw_meaning.specs.declared.comparison.Comparison.TheVariants as op
-use Rattle.qw_meaning.specs.Evaluation.{answers}
+use Rattle.qw_scalar.specs.declared.comparison.Comparison.{Comparison}
+use Rattle.qw_scalar.specs.declared.comparison.Comparison.TheVariants as op
+use Rattle.qw_scalar.specs.Evaluation.{answers}
 use Rattle.qw_module.specs.declared.instruction.ValType.TheVariants.{I64}
 use Rattle.qw_module.specs.Numbers.{relation, truth}
 use Rattle.qw_wide.specs.Relations.{relation_of, IsTruthOf}

@@ -2,9 +2,9 @@
 use Rattle.std.specs.Prelude.{◌≡◌, ℤ, FitsSigned}
 use Rattle.std.specs.Int.{w64, cast_unsigned}
 use Rattle.std.specs.Ordering.{int_cmp}
-use Rattle.qw_meaning.specs.declared.comparison.Comparison.{Comparison}
-use Rattle.qw_meaning.specs.declared.comparison.Comparison.TheVariants.{Equal, NotEqual, Less, LessOrEqual, Greater, GreaterOrEqual}
-use Rattle.qw_meaning.specs.Evaluation.{answers}
+use Rattle.qw_scalar.specs.declared.comparison.Comparison.{Comparison}
+use Rattle.qw_scalar.specs.declared.comparison.Comparison.TheVariants.{Equal, NotEqual, Less, LessOrEqual, Greater, GreaterOrEqual}
+use Rattle.qw_scalar.specs.Evaluation.{answers}
 use Rattle.qw_module.specs.declared.instruction.ValType.TheVariants.{I64}
 use Rattle.qw_module.specs.declared.instruction.Sign.TheVariants.{Signed}
 use Rattle.qw_module.specs.declared.instruction.Relation.{Relation}

@@ -12,8 +12,8 @@ use crate::arithmetic::{Scaled, is_past, ten_to};
 use qw_low::block::Block;
 use qw_low::cell::Local;
 use qw_low::step::LowStep;
-use qw_meaning::comparison::Comparison;
 use qw_module::instruction::{Binary, Const, Division, Op, Relation, Sign, ValType};
+use qw_scalar::comparison::Comparison;
 use qw_types::NoMemory;
 
 /// The relation of two values of 64 bits that a comparison of two numbers is.

@@ -1,6 +1,30 @@
-//! `qwasm run SCHEMA DIR QUERIES`: runs the queries of a file over table files, each as a WebAssembly
-//! module, and reports their rows on standard output. `qwasm compile SCHEMA QUERIES --statement K` writes such a module,
-//! and `qwasm check MODULE` says whether a file is a valid one. It ends with the status of the call.
+//! The program: `qwasm run SCHEMA DIR QUERIES` runs the queries of a file over table files, each as a WebAssembly module, and reports
+//! their rows on standard output. `qwasm compile SCHEMA QUERIES --statement K` writes such a module, and `qwasm check MODULE` says whether
+//! a file is a valid one. The program ends with the status of the call.
+//!
+//! All that it does is [`qw_top::qwasm`], whose clauses say what a call promises (docs/THEOREMS.md); here it is given the outside:
+//!
+//! - `words`: the words of the command line, as the system has them;
+//! - [`qw_io::FileShelf`]: the files, read by their names; [`qw_io::StdSink`]: standard output for the report, standard error for one line;
+//! - `end`: the call, and the number that the program ends with, that of a [`qw_top::Status`] (README.md has all of them);
+//! - `main`: puts these together, with memory of the system's allocator.
+//!
+//! An example, in this crate's folder: of the table T with the rows 4, 1 and 7 in `data/t.csv`,
+//!
+//!     qwasm run data/schema.sql data data/queries.sql
+//!
+//! runs `SELECT A FROM T WHERE A > 5`, prints `QUERY 1 ROWS 1`, `A` and `7`, a line each, and ends with 0.
+//!
+//! What each choice costs, as measured in docs/ARCHITECTURE.md ("Speed"), over a million records of four columns (46 MB of text):
+//!
+//! - a run loads each table of the schema, whichever the queries name: 0.42 s of processor time and 80 MB, 1.7 times the text, with a query
+//!   that keeps no row. Twice the records take twice the time. So a schema should have the tables that are wanted, and no more;
+//! - ten queries over one such table took 1.50 s, its loading included: a script loads once, and ten runs would load ten times;
+//! - a query reads only the columns that it names, and those that a conjunct is the first to name only at rows that reach it: write the
+//!   conjunct first that few rows pass;
+//! - a result row holds 8 octets and 16 for each cell until the report is written, at most 128 pages of 65,536 octets a query, and takes some
+//!   300 native instructions to print where it has one INTEGER cell;
+//! - `compile` reads no table's file; `check` reads a module's octets once.
 #![tactic(auto)]
 
 ghost use Rattle.std.specs.Prelude.{◌≡◌, ◌≢◌, ◌⊎◌, ℕ, List, Option, map, IfErr, IfOk, Some};

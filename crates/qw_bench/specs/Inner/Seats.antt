@@ -8,7 +8,7 @@ use Rattle.qw_map.specs.Areas.{Area, World, GoesOn, grants}
 use Rattle.qw_module.specs.Step.{Next, next}
 use Rattle.qw_map.specs.Turns.{Instance, Common, end_at, steps_of}
 use Rattle.qw_map.specs.Layout.{column_areas}
-use Rattle.qw_emit.specs.Compiled.{raised_for}
+use Rattle.qw_promise.specs.Compiled.{raised_for}
 use Rattle.qw_bench.specs.declared.bench.Ended.{Ended}
 use Rattle.qw_bench.specs.declared.bench.Ended.TheVariants as ended
 use Rattle.qw_bench.specs.declared.bench.Grant.{Grant}

@@ -1,8 +1,8 @@
 -- Mirrors `module_of`: the header, the sections, and whether every function has its code.
 use Rattle.std.specs.Prelude.{ℕ, ◌==◌, if◌then◌else◌, List, length, take, drop, Result, Ok, Err}
-use Rattle.qw_grammar.specs.declared.fault.BinaryFault.{BinaryFault}
-use Rattle.qw_grammar.specs.declared.fault.BinaryFault.TheVariants.{NotModule}
-use Rattle.qw_grammar.specs.Reading.{◌>>=◌, read_all}
+use Rattle.qw_octet_grammar.specs.declared.fault.BinaryFault.{BinaryFault}
+use Rattle.qw_octet_grammar.specs.declared.fault.BinaryFault.TheVariants.{NotModule}
+use Rattle.qw_octet_grammar.specs.Reading.{◌>>=◌, read_all}
 use Rattle.qw_binary.specs.Contents.{Contents}
 use Rattle.qw_binary.specs.Sections.{equal, Sections, no_sections, section}
 use Rattle.qw_binary.specs.Modules.{header}

@@ -1,6 +1,6 @@
 -- Mirrors `Writer::step`: the numbers that a writer has given to the sequences that are open, and where a reader could go from there.
 use Rattle.std.specs.Prelude.{◌≡◌, ◌≤◌, ℕ, ◌+◌, List, [], ◌∷◌, length, reverse, slice_get, Option, Some}
-use Rattle.qw_grammar.specs.Grammar.{Next, Chain, Spells}
+use Rattle.qw_octet_grammar.specs.Grammar.{Next, Chain, Spells}
 use Rattle.qw_module.specs.declared.instruction.Instr.{Instr}
 use Rattle.qw_module.specs.declared.instruction.Instr.TheVariants as i
 use Rattle.qw_module.specs.Syntax.{Sequences, sequence_at}

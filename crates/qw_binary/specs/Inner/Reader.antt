@@ -1,6 +1,6 @@
 -- Mirrors `Reader`: what it has read of an expression.
 use Rattle.std.specs.Prelude.{map, reverse, Bool, true, false}
-use Rattle.qw_grammar.specs.Grammar.{Next, goes_on, ends}
+use Rattle.qw_octet_grammar.specs.Grammar.{Next, goes_on, ends}
 use Rattle.qw_module.specs.Syntax.{Sequences}
 use Rattle.qw_module.specs.Validity.{items_of}
 use Rattle.qw_binary.specs.Instructions.{Opener, block, loop, first, second, Open, Progress}

@@ -1,6 +1,6 @@
 -- What proofs that values have spellings of at most so many octets go by.
 use Rattle.std.specs.Prelude.{ℕ, ◌≤◌, List, [], ◌∷◌, ◌++◌, length}
-use Rattle.qw_grammar.specs.Grammar.{Next, Grammar, Spells}
+use Rattle.qw_octet_grammar.specs.Grammar.{Next, Grammar, Spells}
 use Rattle.qw_module.specs.Syntax.{Sequences}
 use Rattle.qw_binary.specs.Instructions.{Progress}
 use Rattle.qw_binary.specs.Inner.Followed.{Leads}

@@ -1,7 +1,7 @@
 -- Mirrors `Writer`: what is read again of what it has written of an expression.
 use Rattle.std.specs.Prelude.{ℕ, ◌∷◌, map, reverse, take, Bool, true, false, List}
-use Rattle.qw_grammar.specs.Grammar.{Next, goes_on, ends, octet}
-use Rattle.qw_grammar.specs.Writing.{Puts}
+use Rattle.qw_octet_grammar.specs.Grammar.{Next, goes_on, ends, octet}
+use Rattle.qw_octet_grammar.specs.Writing.{Puts}
 use Rattle.qw_module.specs.declared.instruction.Instr.{Instr}
 use Rattle.qw_module.specs.Syntax.{Sequences, sequence_at}
 use Rattle.qw_binary.specs.Instructions.{Open, Progress, instruction, with_instruction}

@@ -1,8 +1,8 @@
 -- Mirrors `encode`: what the sections that were written hold.
 use Rattle.std.specs.Prelude.{◌≡◌, ℕ, ◌≤◌, ◌==◌, false, List, Ok}
-use Rattle.qw_grammar.specs.Grammar.{octet, Spells}
-use Rattle.qw_grammar.specs.Writing.{Puts}
-use Rattle.qw_grammar.specs.Inner.Awaiting.{AwaitsAll}
+use Rattle.qw_octet_grammar.specs.Grammar.{octet, Spells}
+use Rattle.qw_octet_grammar.specs.Writing.{Puts}
+use Rattle.qw_octet_grammar.specs.Inner.Awaiting.{AwaitsAll}
 use Rattle.qw_binary.specs.Contents.{Contents}
 use Rattle.qw_binary.specs.Sections.{Sections, no_sections, section_by, section, content}
 use Rattle.qw_binary.specs.Modules.{header}

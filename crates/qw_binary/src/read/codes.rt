@@ -3,10 +3,10 @@
 ghost use Rattle.std.specs.Prelude.{◌≡◌, slice_get};
 ghost use Rattle.qw_binary.specs.Instructions.{load_by, store_by, comparisons, operators, numeric_by, is_float as is_float_by, refused_by, plain_by};
 
-use qw_grammar::fault::{BinaryFault, What};
 use qw_module::instruction::{
     Binary, Conversion, Division, Instr, Load, Op, Relation, Sign, Store, Unary, ValType,
 };
+use qw_octet_grammar::fault::{BinaryFault, What};
 
 /// The load of a code (5.4.4).
 pub fn load_of(code: u8) -> Option<Load>

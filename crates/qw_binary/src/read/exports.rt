@@ -1,19 +1,19 @@
 //! Exports (WebAssembly Core Specification 1.0, 5.5.10).
 
 ghost use Rattle.std.specs.Prelude.{◌≡◌, [], map};
-ghost use Rattle.qw_grammar.specs.Vectors.{counted, one_more, vector};
-ghost use Rattle.qw_grammar.specs.Reading.{Gives, read};
+ghost use Rattle.qw_octet_grammar.specs.Vectors.{counted, one_more, vector};
+ghost use Rattle.qw_octet_grammar.specs.Reading.{Gives, read};
 ghost use Rattle.qw_binary.specs.Contents.{export_contents};
 ghost use Rattle.qw_binary.specs.Sections.{export_kind, export as export_grammar};
 
-use qw_grammar::fault::{BinaryFault, What};
-use qw_grammar::names::name_at;
-use qw_grammar::numbers::u32_at;
 use qw_module::module::{Export, ExportKind};
+use qw_octet_grammar::fault::{BinaryFault, What};
+use qw_octet_grammar::names::name_at;
+use qw_octet_grammar::numbers::u32_at;
 use std::alloc::Global;
 
 /// What is exported, by its index.
-#[tactic(auto, unfolding(qw_grammar::specs::Reading::read))]
+#[tactic(auto, unfolding(qw_octet_grammar::specs::Reading::read))]
 fn export_kind_at(octets: &[u8]) -> Result<(ExportKind, &[u8]), BinaryFault>
     ensures { Gives (λ x. (x.0, x.1.now)) result (read export_kind octets.now) }
 {
@@ -36,7 +36,7 @@ fn export_kind_at(octets: &[u8]) -> Result<(ExportKind, &[u8]), BinaryFault>
 }
 
 /// An export.
-#[tactic(auto, unfolding(qw_grammar::specs::Reading::read))]
+#[tactic(auto, unfolding(qw_octet_grammar::specs::Reading::read))]
 fn export_at(alloc: Global, octets: &[u8]) -> Result<(Export, &[u8]), BinaryFault>
     ensures { Gives (λ x. (export_contents x.0, x.1.now)) result (read export_grammar octets.now) }
 {
@@ -47,7 +47,7 @@ fn export_at(alloc: Global, octets: &[u8]) -> Result<(Export, &[u8]), BinaryFaul
 }
 
 /// So many exports.
-#[tactic(auto, using(qw_grammar::proofs::Loops::vector_loop, std::proofs::lemmas::List::map_push))]
+#[tactic(auto, using(qw_octet_grammar::proofs::Loops::vector_loop, std::proofs::lemmas::List::map_push))]
 fn exports_at(alloc: Global, count: u32, octets: &[u8]) -> Result<(Vec<Export>, &[u8]), BinaryFault>
     ensures { Gives (λ x. (map export_contents x.0.items, x.1.now)) result (read (counted count (one_more export_grammar) []) octets.now) }
 {
@@ -62,7 +62,7 @@ fn exports_at(alloc: Global, count: u32, octets: &[u8]) -> Result<(Vec<Export>, 
 }
 
 /// A vector of exports.
-#[tactic(auto, unfolding(qw_grammar::specs::Reading::read))]
+#[tactic(auto, unfolding(qw_octet_grammar::specs::Reading::read))]
 pub fn export_vector_at(alloc: Global, octets: &[u8]) -> Result<(Vec<Export>, &[u8]), BinaryFault>
     ensures { Gives (λ x. (map export_contents x.0.items, x.1.now)) result (read (vector export_grammar) octets.now) }
 {

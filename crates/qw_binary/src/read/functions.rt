@@ -1,21 +1,21 @@
 //! The code of functions (WebAssembly Core Specification 1.0, 5.5.13).
 
 ghost use Rattle.std.specs.Prelude.{◌≡◌, ◌^◌, [], map, length, nat_lt};
-ghost use Rattle.qw_grammar.specs.Vectors.{counted, one_more};
-ghost use Rattle.qw_grammar.specs.Reading.{Gives, read};
+ghost use Rattle.qw_octet_grammar.specs.Vectors.{counted, one_more};
+ghost use Rattle.qw_octet_grammar.specs.Reading.{Gives, read};
 ghost use Rattle.qw_binary.specs.Contents.{function_contents};
 ghost use Rattle.qw_binary.specs.Sections.{locals_run, locals_count, locals as locals_grammar, code, next_function, functions};
 
 use crate::read::expression::expression_at;
 use crate::read::types::val_type_at;
-use qw_grammar::fault::BinaryFault;
-use qw_grammar::numbers::u32_at;
-use qw_grammar::windows::{behind_all, window};
 use qw_module::module::{Function, Locals};
+use qw_octet_grammar::fault::BinaryFault;
+use qw_octet_grammar::numbers::u32_at;
+use qw_octet_grammar::windows::{behind_all, window};
 use std::alloc::Global;
 
 /// A run of locals of one type.
-#[tactic(auto, unfolding(qw_grammar::specs::Reading::read))]
+#[tactic(auto, unfolding(qw_octet_grammar::specs::Reading::read))]
 fn locals_run_at(octets: &[u8]) -> Result<(Locals, &[u8]), BinaryFault>
     ensures { Gives (λ x. (x.0, x.1.now)) result (read locals_run octets.now) }
 {
@@ -25,7 +25,7 @@ fn locals_run_at(octets: &[u8]) -> Result<(Locals, &[u8]), BinaryFault>
 }
 
 /// So many runs of locals.
-#[tactic(auto, using(qw_grammar::proofs::Loops::vector_loop))]
+#[tactic(auto, using(qw_octet_grammar::proofs::Loops::vector_loop))]
 fn locals_runs_at(
     alloc: Global,
     count: u32,
@@ -56,7 +56,7 @@ pub fn are_few(runs: &[Locals]) -> bool
 }
 
 /// The locals of a function.
-#[tactic(auto, unfolding(qw_grammar::specs::Reading::read))]
+#[tactic(auto, unfolding(qw_octet_grammar::specs::Reading::read))]
 fn locals_at(alloc: Global, octets: &[u8]) -> Result<(Vec<Locals>, &[u8]), BinaryFault>
     ensures { Gives (λ x. (x.0.items, x.1.now)) result (read locals_grammar octets.now) }
 {
@@ -70,7 +70,7 @@ fn locals_at(alloc: Global, octets: &[u8]) -> Result<(Vec<Locals>, &[u8]), Binar
 }
 
 /// The code of a function whose type has this index.
-#[tactic(auto, unfolding(qw_grammar::specs::Reading::read))]
+#[tactic(auto, unfolding(qw_octet_grammar::specs::Reading::read))]
 fn code_at(alloc: Global, type_index: u32, octets: &[u8]) -> Result<(Function, &[u8]), BinaryFault>
     ensures { Gives (λ x. (function_contents x.0, x.1.now)) result (read (code type_index) octets.now) }
 {
@@ -107,7 +107,7 @@ fn codes_at<'a>(
 }
 
 /// The code of the functions whose types have these indices, behind their count.
-#[tactic(auto, unfolding(qw_grammar::specs::Reading::read))]
+#[tactic(auto, unfolding(qw_octet_grammar::specs::Reading::read))]
 pub fn code_vector_at<'a>(
     alloc: Global,
     type_indices: &[u32],

@@ -1,20 +1,20 @@
 //! Globals (WebAssembly Core Specification 1.0, 5.5.9).
 
 ghost use Rattle.std.specs.Prelude.{◌≡◌, [], map};
-ghost use Rattle.qw_grammar.specs.Vectors.{counted, one_more, vector};
-ghost use Rattle.qw_grammar.specs.Reading.{Gives, read};
+ghost use Rattle.qw_octet_grammar.specs.Vectors.{counted, one_more, vector};
+ghost use Rattle.qw_octet_grammar.specs.Reading.{Gives, read};
 ghost use Rattle.qw_binary.specs.Contents.{global_contents};
 ghost use Rattle.qw_binary.specs.Sections.{global};
 
 use crate::read::expression::expression_at;
 use crate::read::types::{mutability_at, val_type_at};
-use qw_grammar::fault::BinaryFault;
-use qw_grammar::numbers::u32_at;
 use qw_module::module::Global as ModuleGlobal;
+use qw_octet_grammar::fault::BinaryFault;
+use qw_octet_grammar::numbers::u32_at;
 use std::alloc::Global;
 
 /// A global.
-#[tactic(auto, unfolding(qw_grammar::specs::Reading::read))]
+#[tactic(auto, unfolding(qw_octet_grammar::specs::Reading::read))]
 fn global_at(alloc: Global, octets: &[u8]) -> Result<(ModuleGlobal, &[u8]), BinaryFault>
     ensures { Gives (λ x. (global_contents x.0, x.1.now)) result (read global octets.now) }
 {
@@ -25,7 +25,7 @@ fn global_at(alloc: Global, octets: &[u8]) -> Result<(ModuleGlobal, &[u8]), Bina
 }
 
 /// So many globals.
-#[tactic(auto, using(qw_grammar::proofs::Loops::vector_loop, std::proofs::lemmas::List::map_push))]
+#[tactic(auto, using(qw_octet_grammar::proofs::Loops::vector_loop, std::proofs::lemmas::List::map_push))]
 fn globals_at(
     alloc: Global,
     count: u32,
@@ -44,7 +44,7 @@ fn globals_at(
 }
 
 /// A vector of globals.
-#[tactic(auto, unfolding(qw_grammar::specs::Reading::read))]
+#[tactic(auto, unfolding(qw_octet_grammar::specs::Reading::read))]
 pub fn global_vector_at(
     alloc: Global,
     octets: &[u8],

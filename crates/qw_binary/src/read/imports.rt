@@ -1,16 +1,16 @@
 //! Imports (WebAssembly Core Specification 1.0, 5.5.5).
 
 ghost use Rattle.std.specs.Prelude.{◌≡◌, []};
-ghost use Rattle.qw_grammar.specs.Vectors.{counted};
-ghost use Rattle.qw_grammar.specs.Reading.{Gives, read};
+ghost use Rattle.qw_octet_grammar.specs.Vectors.{counted};
+ghost use Rattle.qw_octet_grammar.specs.Reading.{Gives, read};
 ghost use Rattle.qw_binary.specs.Sections.{imported, is_same, is_among, once, named_by, names, other_kind, described, import_behind, next_import, imports};
 ghost use Rattle.qw_binary.specs.Inner.Imported.{imported_of};
 
 use crate::read::types::limits_at;
-use qw_grammar::fault::{BinaryFault, What};
-use qw_grammar::names::name_at;
-use qw_grammar::numbers::u32_at;
 use qw_module::module::Import;
+use qw_octet_grammar::fault::{BinaryFault, What};
+use qw_octet_grammar::names::name_at;
+use qw_octet_grammar::numbers::u32_at;
 use std::alloc::Global;
 
 /// The two imports of the profile.
@@ -71,7 +71,7 @@ impl Imported {
     }
 
     /// The pair of names of an import.
-    #[tactic(auto, unfolding(qw_grammar::specs::Reading::read))]
+    #[tactic(auto, unfolding(qw_octet_grammar::specs::Reading::read))]
     fn names_at<'a>(
         before: &[Import],
         octets: &'a [u8],
@@ -84,7 +84,7 @@ impl Imported {
     }
 
     /// The kind of this import, and what is imported.
-    #[tactic(auto, unfolding(qw_grammar::specs::Reading::read))]
+    #[tactic(auto, unfolding(qw_octet_grammar::specs::Reading::read))]
     fn described_at(self, octets: &[u8]) -> Result<(Import, &[u8]), BinaryFault>
         ensures { Gives (λ x. (x.0, x.1.now)) result (read (described (imported_of self)) octets.now) }
     {
@@ -115,7 +115,7 @@ fn other_kind_of(kind: u8) -> BinaryFault
 }
 
 /// An import behind those before it.
-#[tactic(auto, unfolding(qw_grammar::specs::Reading::read))]
+#[tactic(auto, unfolding(qw_octet_grammar::specs::Reading::read))]
 fn import_at<'a>(before: &[Import], octets: &'a [u8]) -> Result<(Import, &'a [u8]), BinaryFault>
     ensures { Gives (λ x. (x.0, x.1.now)) result (read (import_behind before.now) octets.now) }
 {
@@ -138,7 +138,7 @@ fn imports_at(alloc: Global, count: u32, octets: &[u8]) -> Result<(Vec<Import>, 
 }
 
 /// A vector of imports.
-#[tactic(auto, unfolding(qw_grammar::specs::Reading::read))]
+#[tactic(auto, unfolding(qw_octet_grammar::specs::Reading::read))]
 pub fn import_vector_at(alloc: Global, octets: &[u8]) -> Result<(Vec<Import>, &[u8]), BinaryFault>
     ensures { Gives (λ x. (x.0.items, x.1.now)) result (read imports octets.now) }
 {

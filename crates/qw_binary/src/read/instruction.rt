@@ -2,14 +2,14 @@
 
 ghost use Rattle.std.specs.Prelude.{◌≡◌};
 ghost use Rattle.std.specs.Option.{option_map};
-ghost use Rattle.qw_grammar.specs.Reading.{Gives, read};
+ghost use Rattle.qw_octet_grammar.specs.Reading.{Gives, read};
 ghost use Rattle.qw_binary.specs.Instructions.{indexed_by, mem_arg, zero_octet, simple};
 ghost use Rattle.qw_binary.specs.Inner.Indexed.{with_index};
 
 use crate::read::codes::{load_of, plain_of, store_of};
-use qw_grammar::fault::BinaryFault;
-use qw_grammar::numbers::{s32_at, s64_at, u32_at};
 use qw_module::instruction::{Const, Instr, MemArg, Op};
+use qw_octet_grammar::fault::BinaryFault;
+use qw_octet_grammar::numbers::{s32_at, s64_at, u32_at};
 
 /// An instruction with one index behind its code, and nothing else (5.4.1, 5.4.3).
 #[derive(Clone, Copy)]
@@ -60,7 +60,7 @@ impl Indexed {
 }
 
 /// The immediates of an access.
-#[tactic(auto, unfolding(qw_grammar::specs::Reading::read))]
+#[tactic(auto, unfolding(qw_octet_grammar::specs::Reading::read))]
 fn mem_arg_at(octets: &[u8]) -> Result<(MemArg, &[u8]), BinaryFault>
     ensures { Gives (λ x. (x.0, x.1.now)) result (read mem_arg octets.now) }
 {
@@ -70,7 +70,7 @@ fn mem_arg_at(octets: &[u8]) -> Result<(MemArg, &[u8]), BinaryFault>
 }
 
 /// What is behind the octet 00 of an instruction on the size of the memory.
-#[tactic(auto, unfolding(qw_grammar::specs::Reading::read))]
+#[tactic(auto, unfolding(qw_octet_grammar::specs::Reading::read))]
 fn behind_zero(octets: &[u8]) -> Result<&[u8], BinaryFault>
     ensures { Gives (λ rest. (0, rest.now)) result (read zero_octet octets.now) }
 {
@@ -81,7 +81,7 @@ fn behind_zero(octets: &[u8]) -> Result<&[u8], BinaryFault>
 }
 
 /// An instruction that holds no sequence and no vector, behind its code.
-#[tactic(auto, unfolding(qw_grammar::specs::Reading::read))]
+#[tactic(auto, unfolding(qw_octet_grammar::specs::Reading::read))]
 pub fn simple_at(code: u8, octets: &[u8]) -> Result<(Instr, &[u8]), BinaryFault>
     ensures { Gives (λ x. (x.0, x.1.now)) result (read (simple code) octets.now) }
 {

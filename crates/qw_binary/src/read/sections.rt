@@ -1,7 +1,7 @@
 //! Sections, to the end of the octets (WebAssembly Core Specification 1.0, 5.5.2).
 
 ghost use Rattle.std.specs.Prelude.{◌≡◌};
-ghost use Rattle.qw_grammar.specs.Reading.{Gives, read, read_all};
+ghost use Rattle.qw_octet_grammar.specs.Reading.{Gives, read, read_all};
 ghost use Rattle.qw_binary.specs.Sections.{Sections, section_by, no_sections, content, section};
 ghost use Rattle.qw_binary.specs.Inner.SoFar.{sections_of};
 
@@ -10,12 +10,12 @@ use crate::read::functions::code_vector_at;
 use crate::read::globals::global_vector_at;
 use crate::read::imports::import_vector_at;
 use crate::read::types::{func_type_vector_at, memory_vector_at};
-use qw_grammar::fault::{BinaryFault, What};
-use qw_grammar::names::name_at;
-use qw_grammar::numbers::u32_at;
-use qw_grammar::vectors::number_vector_at;
-use qw_grammar::windows::{behind, behind_all, window};
 use qw_module::module::Module;
+use qw_octet_grammar::fault::{BinaryFault, What};
+use qw_octet_grammar::names::name_at;
+use qw_octet_grammar::numbers::u32_at;
+use qw_octet_grammar::vectors::number_vector_at;
+use qw_octet_grammar::windows::{behind, behind_all, window};
 use std::alloc::Global;
 
 /// What the sections so far hold.
@@ -48,7 +48,7 @@ fn section_of(last: u8, id: u8) -> Result<u8, BinaryFault>
 }
 
 /// What is behind a custom section.
-#[tactic(auto, unfolding(qw_grammar::specs::Reading::read))]
+#[tactic(auto, unfolding(qw_octet_grammar::specs::Reading::read))]
 fn behind_custom(octets: &[u8]) -> Result<&[u8], BinaryFault>
     ensures { (s : Sections) → Gives (λ rest. (s, rest.now)) result (read (section s 0) octets.now) }
 {
@@ -76,7 +76,7 @@ impl SoFar {
     }
 
     /// What a section that isn't custom holds.
-    #[tactic(auto, unfolding(qw_grammar::specs::Reading::read))]
+    #[tactic(auto, unfolding(qw_octet_grammar::specs::Reading::read))]
     fn content_at<'a>(
         &mut self,
         alloc: Global,
@@ -128,7 +128,7 @@ impl SoFar {
     }
 
     /// What stands behind the id of a section.
-    #[tactic(auto, unfolding(qw_grammar::specs::Reading::read))]
+    #[tactic(auto, unfolding(qw_octet_grammar::specs::Reading::read))]
     fn section_at<'a>(
         &mut self,
         alloc: Global,
@@ -148,7 +148,7 @@ impl SoFar {
 }
 
 /// The sections, to the end of the octets; at most so many.
-#[tactic(auto, using(qw_grammar::proofs::Loops::all_loop))]
+#[tactic(auto, using(qw_octet_grammar::proofs::Loops::all_loop))]
 pub fn sections_at(alloc: Global, most: usize, octets: &[u8]) -> Result<SoFar, BinaryFault>
     ensures { Gives sections_of result (read_all section most no_sections octets.now) }
 {

@@ -1,15 +1,15 @@
 //! Types (WebAssembly Core Specification 1.0, 5.3).
 
 ghost use Rattle.std.specs.Prelude.{◌≡◌, [], map};
-ghost use Rattle.qw_grammar.specs.Vectors.{counted, one_more, vector};
-ghost use Rattle.qw_grammar.specs.Reading.{Gives, read};
+ghost use Rattle.qw_octet_grammar.specs.Vectors.{counted, one_more, vector};
+ghost use Rattle.qw_octet_grammar.specs.Reading.{Gives, read};
 ghost use Rattle.qw_module.specs.Validity.{signature_of};
 ghost use Rattle.qw_binary.specs.Types.{val_type_by, val_type, block_type_by, block_type, func_type, limits, mutability_by, mutability};
 
-use qw_grammar::fault::{BinaryFault, What};
-use qw_grammar::numbers::u32_at;
 use qw_module::instruction::{BlockType, ValType};
 use qw_module::module::{FuncType, Limits};
+use qw_octet_grammar::fault::{BinaryFault, What};
+use qw_octet_grammar::numbers::u32_at;
 use std::alloc::Global;
 
 /// The value type of an octet.
@@ -25,7 +25,7 @@ fn val_type_of(octet: u8) -> Result<ValType, BinaryFault>
 }
 
 /// A value type.
-#[tactic(auto, unfolding(qw_grammar::specs::Reading::read))]
+#[tactic(auto, unfolding(qw_octet_grammar::specs::Reading::read))]
 pub fn val_type_at(octets: &[u8]) -> Result<(ValType, &[u8]), BinaryFault>
     ensures { Gives (λ x. (x.0, x.1.now)) result (read val_type octets.now) }
 {
@@ -49,7 +49,7 @@ fn block_type_of(octet: u8) -> Result<BlockType, BinaryFault>
 }
 
 /// A block type.
-#[tactic(auto, unfolding(qw_grammar::specs::Reading::read))]
+#[tactic(auto, unfolding(qw_octet_grammar::specs::Reading::read))]
 pub fn block_type_at(octets: &[u8]) -> Result<(BlockType, &[u8]), BinaryFault>
     ensures { Gives (λ x. (x.0, x.1.now)) result (read block_type octets.now) }
 {
@@ -60,7 +60,7 @@ pub fn block_type_at(octets: &[u8]) -> Result<(BlockType, &[u8]), BinaryFault>
 }
 
 /// So many value types.
-#[tactic(auto, using(qw_grammar::proofs::Loops::vector_loop))]
+#[tactic(auto, using(qw_octet_grammar::proofs::Loops::vector_loop))]
 fn val_types_at(
     alloc: Global,
     count: u32,
@@ -79,7 +79,7 @@ fn val_types_at(
 }
 
 /// A vector of value types.
-#[tactic(auto, unfolding(qw_grammar::specs::Reading::read))]
+#[tactic(auto, unfolding(qw_octet_grammar::specs::Reading::read))]
 fn val_type_vector_at(alloc: Global, octets: &[u8]) -> Result<(Vec<ValType>, &[u8]), BinaryFault>
     ensures { Gives (λ x. (x.0.items, x.1.now)) result (read (vector val_type) octets.now) }
 {
@@ -88,7 +88,7 @@ fn val_type_vector_at(alloc: Global, octets: &[u8]) -> Result<(Vec<ValType>, &[u
 }
 
 /// The type of a function.
-#[tactic(auto, unfolding(qw_grammar::specs::Reading::read))]
+#[tactic(auto, unfolding(qw_octet_grammar::specs::Reading::read))]
 fn func_type_at(alloc: Global, octets: &[u8]) -> Result<(FuncType, &[u8]), BinaryFault>
     ensures { Gives (λ x. (signature_of x.0, x.1.now)) result (read func_type octets.now) }
 {
@@ -103,7 +103,7 @@ fn func_type_at(alloc: Global, octets: &[u8]) -> Result<(FuncType, &[u8]), Binar
 }
 
 /// So many types of functions.
-#[tactic(auto, using(qw_grammar::proofs::Loops::vector_loop, std::proofs::lemmas::List::map_push))]
+#[tactic(auto, using(qw_octet_grammar::proofs::Loops::vector_loop, std::proofs::lemmas::List::map_push))]
 fn func_types_at(
     alloc: Global,
     count: u32,
@@ -122,7 +122,7 @@ fn func_types_at(
 }
 
 /// A vector of types of functions.
-#[tactic(auto, unfolding(qw_grammar::specs::Reading::read))]
+#[tactic(auto, unfolding(qw_octet_grammar::specs::Reading::read))]
 pub fn func_type_vector_at(
     alloc: Global,
     octets: &[u8],
@@ -134,7 +134,7 @@ pub fn func_type_vector_at(
 }
 
 /// Limits, which are the type of a memory.
-#[tactic(auto, unfolding(qw_grammar::specs::Reading::read))]
+#[tactic(auto, unfolding(qw_octet_grammar::specs::Reading::read))]
 pub fn limits_at(octets: &[u8]) -> Result<(Limits, &[u8]), BinaryFault>
     ensures { Gives (λ x. (x.0, x.1.now)) result (read limits octets.now) }
 {
@@ -159,7 +159,7 @@ pub fn limits_at(octets: &[u8]) -> Result<(Limits, &[u8]), BinaryFault>
 }
 
 /// So many memories.
-#[tactic(auto, using(qw_grammar::proofs::Loops::vector_loop))]
+#[tactic(auto, using(qw_octet_grammar::proofs::Loops::vector_loop))]
 fn memories_at(
     alloc: Global,
     count: u32,
@@ -178,7 +178,7 @@ fn memories_at(
 }
 
 /// A vector of memories.
-#[tactic(auto, unfolding(qw_grammar::specs::Reading::read))]
+#[tactic(auto, unfolding(qw_octet_grammar::specs::Reading::read))]
 pub fn memory_vector_at(alloc: Global, octets: &[u8]) -> Result<(Vec<Limits>, &[u8]), BinaryFault>
     ensures { Gives (λ x. (x.0.items, x.1.now)) result (read (vector limits) octets.now) }
 {
@@ -198,7 +198,7 @@ fn mutability_of(octet: u8) -> Result<bool, BinaryFault>
 }
 
 /// Whether a global may be set.
-#[tactic(auto, unfolding(qw_grammar::specs::Reading::read))]
+#[tactic(auto, unfolding(qw_octet_grammar::specs::Reading::read))]
 pub fn mutability_at(octets: &[u8]) -> Result<(bool, &[u8]), BinaryFault>
     ensures { Gives (λ x. (x.0, x.1.now)) result (read mutability octets.now) }
 {

@@ -1,14 +1,14 @@
 //! Exports (WebAssembly Core Specification 1.0, 5.5.10).
 
 ghost use Rattle.std.specs.Prelude.{OnOk, map};
-ghost use Rattle.qw_grammar.specs.Vectors.{vector};
-ghost use Rattle.qw_grammar.specs.Writing.{Puts};
+ghost use Rattle.qw_octet_grammar.specs.Vectors.{vector};
+ghost use Rattle.qw_octet_grammar.specs.Writing.{Puts};
 ghost use Rattle.qw_binary.specs.Contents.{export_contents};
 ghost use Rattle.qw_binary.specs.Sections.{kind_by, export_kind, export as export_grammar};
 ghost use Rattle.qw_binary.specs.Inner.Parts.{MakesKind};
 
-use qw_grammar::write::{put_name, put_size, put_u32};
 use qw_module::module::{Export, ExportKind};
+use qw_octet_grammar::write::{put_name, put_size, put_u32};
 use std::alloc::AllocError;
 
 /// The code of what is exported, and its index.
@@ -42,7 +42,7 @@ fn put_export(export: &Export, out: &mut Vec<u8>) -> Result<(), AllocError>
 }
 
 /// Writes a vector of exports.
-#[tactic(auto, using(qw_grammar::proofs::WriteLaws::views_put))]
+#[tactic(auto, using(qw_octet_grammar::proofs::WriteLaws::views_put))]
 pub fn put_exports(exports: &[Export], out: &mut Vec<u8>) -> Result<(), AllocError>
     ensures { OnOk result (Puts (vector export_grammar) (map export_contents exports.now) out.old.items out.new.items) }
 {

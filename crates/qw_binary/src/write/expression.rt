@@ -2,16 +2,16 @@
 //! written only if its sequences have the numbers that a reader gives them; it is checked as it is written.
 
 ghost use Rattle.std.specs.Prelude.{◌≡◌, ◌⊎◌, ◌↔◌, ◌<◌, ◌≤◌, ◌+◌, ◌^◌, ℕ, List, Option, ◌++◌, IfSome, IfOk, IfErr, OnOk, MatchOption, Some, false, true, ◌∷◌, [], length, reverse, slice_get};
-ghost use Rattle.qw_grammar.specs.Grammar.{goes_on, ends, octet};
-ghost use Rattle.qw_grammar.specs.Writing.{Puts};
+ghost use Rattle.qw_octet_grammar.specs.Grammar.{goes_on, ends, octet};
+ghost use Rattle.qw_octet_grammar.specs.Writing.{Puts};
 ghost use Rattle.qw_module.specs.Syntax.{Sequences, sequence_at, labels_in};
 ghost use Rattle.qw_module.specs.Validity.{sequences_of};
 ghost use Rattle.qw_binary.specs.Instructions.{at_first, begun, first as first_opener, instruction as instruction_grammar, instruction_of, expression, Progress};
 ghost use Rattle.qw_module.specs.declared.instruction.Instr.{Instr as AnyInstr};
 ghost use Rattle.qw_module.specs.declared.instruction.Instr.TheVariants as i;
 ghost use Rattle.qw_module.specs.declared.instruction.ValType.{ValType as AnyType};
-ghost use Rattle.qw_grammar.specs.Grammar.{Spells};
-ghost use Rattle.qw_grammar.specs.declared.write.WriteFault.TheVariants.{NotSpelled};
+ghost use Rattle.qw_octet_grammar.specs.Grammar.{Spells};
+ghost use Rattle.qw_octet_grammar.specs.declared.write.WriteFault.TheVariants.{NotSpelled};
 ghost use Rattle.qw_binary.specs.declared.read.expression.Opener.TheVariants as by;
 ghost use Rattle.qw_binary.specs.Inner.Codes.{IsOpening};
 ghost use Rattle.qw_binary.specs.Inner.Followed.{IsAlone, IsFresh, Holds, Stands, IsAt, IsDead, Passes};
@@ -21,9 +21,9 @@ ghost use Rattle.qw_binary.specs.Inner.Writer.{progress_of, within_open, next_of
 use crate::read::expression::Opener;
 use crate::write::instruction::put_simple;
 use crate::write::types::put_block_type;
-use qw_grammar::write::{WriteFault, put_number_vector, put_u32};
 use qw_module::instruction::{BlockType, Instr, ValType};
 use qw_module::module::Body;
+use qw_octet_grammar::write::{WriteFault, put_number_vector, put_u32};
 use std::alloc::{AllocError, Global};
 
 /// A sequence that is open round another one.

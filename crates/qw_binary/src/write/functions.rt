@@ -1,11 +1,11 @@
 //! The code of functions (WebAssembly Core Specification 1.0, 5.5.13).
 
 ghost use Rattle.std.specs.Prelude.{◌≡◌, ℕ, List, IfErr, OnOk, map};
-ghost use Rattle.qw_grammar.specs.Grammar.{Spells};
-ghost use Rattle.qw_grammar.specs.declared.write.WriteFault.TheVariants.{NotSpelled};
-ghost use Rattle.qw_grammar.specs.Numbers.{u32 as u32_grammar};
-ghost use Rattle.qw_grammar.specs.Vectors.{vector};
-ghost use Rattle.qw_grammar.specs.Writing.{Puts};
+ghost use Rattle.qw_octet_grammar.specs.Grammar.{Spells};
+ghost use Rattle.qw_octet_grammar.specs.declared.write.WriteFault.TheVariants.{NotSpelled};
+ghost use Rattle.qw_octet_grammar.specs.Numbers.{u32 as u32_grammar};
+ghost use Rattle.qw_octet_grammar.specs.Vectors.{vector};
+ghost use Rattle.qw_octet_grammar.specs.Writing.{Puts};
 ghost use Rattle.qw_binary.specs.Contents.{function_contents};
 ghost use Rattle.qw_binary.specs.Sections.{locals_run, locals as locals_grammar, code, functions as functions_grammar};
 ghost use Rattle.qw_binary.specs.Inner.Parts.{type_index_of};
@@ -13,8 +13,8 @@ ghost use Rattle.qw_binary.specs.Inner.Parts.{type_index_of};
 use crate::read::functions::are_few;
 use crate::write::expression::put_expression;
 use crate::write::types::put_val_type;
-use qw_grammar::write::{WriteFault, put_size, put_u32};
 use qw_module::module::{Function, Locals};
+use qw_octet_grammar::write::{WriteFault, put_size, put_u32};
 use std::alloc::{AllocError, Global};
 
 /// Writes a run of locals of one type.
@@ -27,7 +27,7 @@ fn put_locals_run(run: Locals, out: &mut Vec<u8>) -> Result<(), AllocError>
 }
 
 /// Writes runs of locals, however many locals they have.
-#[tactic(auto, using(qw_grammar::proofs::WriteLaws::vector_put))]
+#[tactic(auto, using(qw_octet_grammar::proofs::WriteLaws::vector_put))]
 fn put_runs(runs: &[Locals], out: &mut Vec<u8>) -> Result<(), AllocError>
     ensures { OnOk result (Puts (vector locals_run) runs.now out.old.items out.new.items) }
 {
@@ -79,7 +79,7 @@ pub fn put_codes(alloc: Global, functions: &[Function], out: &mut Vec<u8>) -> Re
 }
 
 /// Writes the indices of the types of functions (5.5.6).
-#[tactic(auto, using(qw_grammar::proofs::WriteLaws::views_put))]
+#[tactic(auto, using(qw_octet_grammar::proofs::WriteLaws::views_put))]
 pub fn put_type_indices(functions: &[Function], out: &mut Vec<u8>) -> Result<(), AllocError>
     ensures { OnOk result (Puts (vector u32_grammar) (map type_index_of functions.now) out.old.items out.new.items) }
 {

@@ -2,9 +2,9 @@
 
 ghost use Rattle.std.specs.Prelude.{◌≡◌, IfErr, OnOk, map};
 ghost use Rattle.std.specs.List.{AllByRecursion};
-ghost use Rattle.qw_grammar.specs.declared.write.WriteFault.TheVariants.{NotSpelled};
-ghost use Rattle.qw_grammar.specs.Vectors.{vector};
-ghost use Rattle.qw_grammar.specs.Writing.{Puts};
+ghost use Rattle.qw_octet_grammar.specs.declared.write.WriteFault.TheVariants.{NotSpelled};
+ghost use Rattle.qw_octet_grammar.specs.Vectors.{vector};
+ghost use Rattle.qw_octet_grammar.specs.Writing.{Puts};
 ghost use Rattle.qw_binary.specs.Types.{mutability};
 ghost use Rattle.qw_binary.specs.Sections.{global as global_grammar};
 ghost use Rattle.qw_binary.specs.Contents.{global_contents};
@@ -12,8 +12,8 @@ ghost use Rattle.qw_binary.specs.Inner.Parts.{IsInitSpelled};
 
 use crate::write::expression::put_expression;
 use crate::write::types::put_val_type;
-use qw_grammar::write::{WriteFault, put_size};
 use qw_module::module::Global as ModuleGlobal;
+use qw_octet_grammar::write::{WriteFault, put_size};
 use std::alloc::{AllocError, Global};
 
 /// Writes whether a global may be set.
@@ -41,7 +41,7 @@ fn put_global(alloc: Global, global: &ModuleGlobal, out: &mut Vec<u8>) -> Result
 }
 
 /// Writes a vector of globals.
-#[tactic(auto, using(qw_grammar::proofs::WriteLaws::views_put))]
+#[tactic(auto, using(qw_octet_grammar::proofs::WriteLaws::views_put))]
 pub fn put_globals(
     alloc: Global,
     globals: &[ModuleGlobal],

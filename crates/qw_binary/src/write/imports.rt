@@ -1,16 +1,16 @@
 //! Imports (WebAssembly Core Specification 1.0, 5.5.5).
 
 ghost use Rattle.std.specs.Prelude.{◌≡◌, ℕ, List, IfErr, OnOk};
-ghost use Rattle.qw_grammar.specs.Grammar.{Spells};
-ghost use Rattle.qw_grammar.specs.declared.write.WriteFault.TheVariants.{NotSpelled};
-ghost use Rattle.qw_grammar.specs.Writing.{Puts};
+ghost use Rattle.qw_octet_grammar.specs.Grammar.{Spells};
+ghost use Rattle.qw_octet_grammar.specs.declared.write.WriteFault.TheVariants.{NotSpelled};
+ghost use Rattle.qw_octet_grammar.specs.Writing.{Puts};
 ghost use Rattle.qw_module.specs.declared.module.Import.TheVariants as import;
 ghost use Rattle.qw_binary.specs.Sections.{import_behind, imports as imports_grammar};
 
 use crate::read::imports::Imported;
 use crate::write::types::put_limits;
-use qw_grammar::write::{WriteFault, put_name, put_size, put_u32};
 use qw_module::module::{Import, Limits};
+use qw_octet_grammar::write::{WriteFault, put_name, put_size, put_u32};
 
 /// Writes the import of the memory, where it is not among those before it.
 #[tactic(auto, using(crate::proofs::WriteSimple::puts_memory_import))]

@@ -1,7 +1,7 @@
 //! Instructions that hold no sequence, behind their codes (WebAssembly Core Specification 1.0, 5.4).
 
 ghost use Rattle.std.specs.Prelude.{OnOk};
-ghost use Rattle.qw_grammar.specs.Writing.{Puts};
+ghost use Rattle.qw_octet_grammar.specs.Writing.{Puts};
 ghost use Rattle.qw_module.specs.declared.instruction.Instr.{Instr as AnyInstr};
 ghost use Rattle.qw_module.specs.declared.instruction.Instr.TheVariants as i;
 ghost use Rattle.qw_module.specs.declared.instruction.Op.TheVariants as o;
@@ -14,8 +14,8 @@ use crate::write::codes::{
     binary_code, conversion_code, division_code, eqz_code, load_code, relation_code, store_code,
     unary_code,
 };
-use qw_grammar::write::{put_s32, put_s64, put_u32};
 use qw_module::instruction::{Const, Instr, Load, MemArg, Op, Store};
+use qw_octet_grammar::write::{put_s32, put_s64, put_u32};
 use std::alloc::AllocError;
 
 /// Writes a code with an index behind it.

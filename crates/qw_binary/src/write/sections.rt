@@ -2,8 +2,8 @@
 
 ghost use Rattle.std.specs.Prelude.{◌≡◌, IfErr, OnOk, List, ℕ, [], map};
 ghost use Rattle.std.specs.List.{AllByRecursion};
-ghost use Rattle.qw_grammar.specs.Grammar.{Spells};
-ghost use Rattle.qw_grammar.specs.declared.write.WriteFault.TheVariants.{NotSpelled};
+ghost use Rattle.qw_octet_grammar.specs.Grammar.{Spells};
+ghost use Rattle.qw_octet_grammar.specs.declared.write.WriteFault.TheVariants.{NotSpelled};
 ghost use Rattle.qw_binary.specs.Sections.{imports as imports_grammar, functions as functions_grammar};
 ghost use Rattle.qw_module.specs.Validity.{signature_of};
 ghost use Rattle.qw_binary.specs.Contents.{Contents, function_contents, global_contents, export_contents};
@@ -15,8 +15,8 @@ use crate::write::functions::{put_codes, put_type_indices};
 use crate::write::globals::put_globals;
 use crate::write::imports::put_imports;
 use crate::write::types::{put_func_types, put_memories};
-use qw_grammar::write::{WriteFault, put_size};
 use qw_module::module::{Export, FuncType, Function, Global as ModuleGlobal, Import, Limits};
+use qw_octet_grammar::write::{WriteFault, put_size};
 use std::alloc::{AllocError, Global};
 
 /// Writes a section behind its id and its size.

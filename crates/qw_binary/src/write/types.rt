@@ -1,15 +1,15 @@
 //! Types (WebAssembly Core Specification 1.0, 5.3).
 
 ghost use Rattle.std.specs.Prelude.{OnOk, map};
-ghost use Rattle.qw_grammar.specs.Vectors.{vector};
-ghost use Rattle.qw_grammar.specs.Writing.{Puts};
+ghost use Rattle.qw_octet_grammar.specs.Vectors.{vector};
+ghost use Rattle.qw_octet_grammar.specs.Writing.{Puts};
 ghost use Rattle.qw_module.specs.Validity.{signature_of};
 ghost use Rattle.qw_binary.specs.Types.{val_type, block_type, func_type, limits as limits_grammar};
 
 use crate::write::codes::{block_type_code, val_type_code};
-use qw_grammar::write::{put_size, put_u32};
 use qw_module::instruction::{BlockType, ValType};
 use qw_module::module::{FuncType, Limits};
+use qw_octet_grammar::write::{put_size, put_u32};
 use std::alloc::AllocError;
 
 /// Writes a value type.
@@ -31,7 +31,7 @@ pub fn put_block_type(ty: BlockType, out: &mut Vec<u8>) -> Result<(), AllocError
 }
 
 /// Writes a vector of value types.
-#[tactic(auto, using(qw_grammar::proofs::WriteLaws::vector_put))]
+#[tactic(auto, using(qw_octet_grammar::proofs::WriteLaws::vector_put))]
 fn put_val_types(types: &[ValType], out: &mut Vec<u8>) -> Result<(), AllocError>
     ensures { OnOk result (Puts (vector val_type) types.now out.old.items out.new.items) }
 {
@@ -53,7 +53,7 @@ fn put_func_type(ty: &FuncType, out: &mut Vec<u8>) -> Result<(), AllocError>
 }
 
 /// Writes a vector of types of functions.
-#[tactic(auto, using(qw_grammar::proofs::WriteLaws::views_put))]
+#[tactic(auto, using(qw_octet_grammar::proofs::WriteLaws::views_put))]
 pub fn put_func_types(types: &[FuncType], out: &mut Vec<u8>) -> Result<(), AllocError>
     ensures { OnOk result (Puts (vector func_type) (map signature_of types.now) out.old.items out.new.items) }
 {
@@ -83,7 +83,7 @@ pub fn put_limits(limits: Limits, out: &mut Vec<u8>) -> Result<(), AllocError>
 }
 
 /// Writes a vector of limits, the memories.
-#[tactic(auto, using(qw_grammar::proofs::WriteLaws::vector_put))]
+#[tactic(auto, using(qw_octet_grammar::proofs::WriteLaws::vector_put))]
 pub fn put_memories(memories: &[Limits], out: &mut Vec<u8>) -> Result<(), AllocError>
     ensures { OnOk result (Puts (vector limits_grammar) memories.now out.old.items out.new.items) }
 {

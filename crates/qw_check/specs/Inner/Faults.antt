@@ -1,7 +1,7 @@
 -- Mirrors `check::CheckFault::from` and `check::check_module`.
 use Rattle.std.specs.Prelude.{◌≡◌}
-use Rattle.qw_grammar.specs.declared.fault.BinaryFault.{BinaryFault}
-use Rattle.qw_grammar.specs.declared.fault.BinaryFault.TheVariants as reading
+use Rattle.qw_octet_grammar.specs.declared.fault.BinaryFault.{BinaryFault}
+use Rattle.qw_octet_grammar.specs.declared.fault.BinaryFault.TheVariants as reading
 use Rattle.qw_module.specs.declared.module.Module.{Module}
 use Rattle.qw_valid.specs.declared.valid.ValidFault.{ValidFault}
 use Rattle.qw_valid.specs.declared.valid.ValidFault.TheVariants as validation

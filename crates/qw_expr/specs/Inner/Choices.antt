@@ -2,8 +2,8 @@
 use Rattle.std.specs.Prelude.{◌≡◌, ℕ, ◌+◌, ◌++◌, max, Bool, true, false, Option, Some, None, List, [], ◌∷◌, length}
 use Rattle.qw_types.specs.declared.kind.Kind.{Kind}
 use Rattle.qw_types.specs.declared.kind.Kind.TheVariants as kind
-use Rattle.qw_meaning.specs.Expression.{Expression, Condition}
-use Rattle.qw_meaning.specs.Typing.{joined}
+use Rattle.qw_scalar.specs.Expression.{Expression, Condition}
+use Rattle.qw_scalar.specs.Typing.{joined}
 use Rattle.qw_module.specs.declared.instruction.ValType.{ValType}
 use Rattle.qw_module.specs.declared.instruction.ValType.TheVariants.{I32, I64}
 use Rattle.qw_module.specs.declared.instruction.Op.TheVariants as o

@@ -1,8 +1,8 @@
 -- Mirrors `src/literal.rt`: what fields of dates add to an emitter.
 use Rattle.std.specs.Prelude.{◌≡◌, ℕ, ◌++◌, [], ◌∷◌}
 use Rattle.qw_module.specs.declared.instruction.ValType.TheVariants.{I64}
-use Rattle.qw_meaning.specs.declared.expression.Field.{Field}
-use Rattle.qw_meaning.specs.declared.expression.Field.TheVariants.{Year, Month, Day}
+use Rattle.qw_scalar.specs.declared.expression.Field.{Field}
+use Rattle.qw_scalar.specs.declared.expression.Field.TheVariants.{Year, Month, Day}
 use Rattle.qw_low.specs.Steps.{steps_of}
 use Rattle.qw_expr.specs.declared.emitter.Emitter.{Emitter}
 use Rattle.qw_expr.specs.declared.operand.Operand.{Operand}

@@ -1,7 +1,7 @@
 -- Of `src/tree.rt`: what its functions hand on to one another.
 use Rattle.std.specs.Prelude.{◌≡◌, ℕ, ◌≤◌, Bool, List, ◌∷◌}
-use Rattle.qw_meaning.specs.Expression.{Expression, Condition, brought, is_null, negation_of, scale_of}
-use Rattle.qw_meaning.specs.Typing.{kind_of}
+use Rattle.qw_scalar.specs.Expression.{Expression, Condition, brought, is_null, negation_of, scale_of}
+use Rattle.qw_scalar.specs.Typing.{kind_of}
 use Rattle.qw_low.specs.declared.cell.Cell.{Cell}
 use Rattle.qw_expr.specs.declared.emitter.Emitter.{Emitter}
 use Rattle.qw_expr.specs.declared.choice.Started.{Started}

@@ -3,13 +3,13 @@ use Rattle.std.specs.Prelude.{◌≡◌, ℕ, ℤ, ◌+◌, ◌++◌, [], ◌∷
 use Rattle.qw_types.specs.declared.code.Code.{Code}
 use Rattle.qw_types.specs.declared.kind.Kind.TheVariants as kind
 use Rattle.qw_module.specs.declared.instruction.ValType.TheVariants.{I32, I64}
-use Rattle.qw_meaning.specs.declared.expression.Operator.{Operator}
-use Rattle.qw_meaning.specs.Evaluation.{applied}
-use Rattle.qw_meaning.specs.Expression.{scale_after}
+use Rattle.qw_scalar.specs.declared.expression.Operator.{Operator}
+use Rattle.qw_scalar.specs.Evaluation.{applied}
+use Rattle.qw_scalar.specs.Expression.{scale_after}
 use Rattle.qw_low.specs.declared.cell.Cell.{Cell}
 use Rattle.qw_low.specs.declared.step.LowStep.{LowStep}
 use Rattle.std.specs.declared.cmp.Ordering.{Ordering}
-use Rattle.qw_meaning.specs.declared.comparison.Comparison.{Comparison}
+use Rattle.qw_scalar.specs.declared.comparison.Comparison.{Comparison}
 use Rattle.qw_low.specs.Syntax.{Statement, seq}
 use Rattle.qw_low.specs.Steps.{steps_of}
 use Rattle.qw_wide.specs.declared.arithmetic.Scaled.{Scaled}

@@ -1,37 +1,41 @@
 -- What the functions of src/literal.rt, src/operation.rt, src/construct.rt, src/tree.rt and src/fold.rt make: a tree that means the same as
--- an expression or condition, is typed over the same columns, is folded, has at most so many nodes, and these texts.
-use Rattle.std.specs.Prelude.{◌≡◌, ◌⊎◌, ◌≤◌, ◌<◌, ℕ, ℤ, max, List, Option, Some, None, Ok, Err, Result, Bool, true, false, IsTrue}
+-- an expression or condition, is typed where that is, names no other columns, is folded, has at most so many nodes, and these texts.
+use Rattle.std.specs.Prelude.{◌≡◌, ◌⊎◌, ◌≤◌, ◌<◌, ℕ, ℤ, max, List, Option, Some, None, Ok, Err, Result, Bool, true, false, IsTrue, Contains}
 use Rattle.std.specs.List.{AllZip}
 use Rattle.qw_types.specs.Arithmetic.{bring, fits}
 use Rattle.qw_types.specs.declared.code.Code.{Code}
 use Rattle.qw_types.specs.declared.value.Ty.{Ty}
 use Rattle.qw_types.specs.declared.value.Val.{Val}
 use Rattle.qw_types.specs.declared.value.Val.TheVariants as val
-use Rattle.qw_meaning.specs.declared.expression.Expr.{Expr}
-use Rattle.qw_meaning.specs.declared.expression.Cond.{Cond}
-use Rattle.qw_meaning.specs.declared.expression.Exprs.{Exprs}
-use Rattle.qw_meaning.specs.declared.expression.Branches.{Branches}
-use Rattle.qw_meaning.specs.declared.expression.Matches.{Matches}
-use Rattle.qw_meaning.specs.declared.expression.Expr.TheVariants.{Number, Date}
-use Rattle.qw_meaning.specs.Columns.{HasColumns, HaveColumns, IsColumnOf}
-use Rattle.qw_meaning.specs.Expression.{Choices, Condition, Expression, Expressions, last, more, cases, largest_result, number, scale_of}
-use Rattle.qw_meaning.specs.Nodes.{nodes, nodes_of, nodes_of_all, nodes_of_branches, nodes_of_matches}
-use Rattle.qw_meaning.specs.Tree.{choices_of, condition_of, expression_of, expressions_of, matches_of}
-use Rattle.qw_meaning.specs.Typing.{AreTyped, IsTyped}
+use Rattle.qw_scalar.specs.declared.expression.Expr.{Expr}
+use Rattle.qw_scalar.specs.declared.expression.Cond.{Cond}
+use Rattle.qw_scalar.specs.declared.expression.Exprs.{Exprs}
+use Rattle.qw_scalar.specs.declared.expression.Branches.{Branches}
+use Rattle.qw_scalar.specs.declared.expression.Matches.{Matches}
+use Rattle.qw_scalar.specs.declared.expression.Expr.TheVariants.{Number, Date}
+use Rattle.qw_scalar.specs.Columns.{HasColumns, HaveColumns}
+use Rattle.qw_scalar.specs.Expression.{Choices, Condition, Expression, Expressions, last, more, cases, largest_result, number, scale_of}
+use Rattle.qw_scalar.specs.Nodes.{nodes, nodes_of, nodes_of_all, nodes_of_branches, nodes_of_matches}
+use Rattle.qw_scalar.specs.Tree.{choices_of, condition_of, expression_of, expressions_of, matches_of}
+use Rattle.qw_scalar.specs.Typing.{AreTyped, IsTyped}
 use Rattle.qw_fold.specs.Folded.{AllFolded, AreAtOneScale, AreFolded, BranchesFolded, IsAtScale, IsFolded, MatchesFolded}
-use Rattle.qw_meaning.specs.Same.{AreSame, IsSame}
+use Rattle.qw_scalar.specs.Same.{AreSame, IsSame}
 use Rattle.qw_fold.specs.Texts.{texts_in, texts_of_all, texts_of_branches, texts_of_matches, texts_within}
 
--- the second can stand for the first
+-- one of these columns, each its number and its type
+abbrev pub IsAmong : List (ℕ × Ty) → ℕ → Ty → Type 0
+IsAmong columns i ty = Contains columns (i, ty)
+
+-- the second can stand for the first, and names no column that the first doesn't
 pub record Follows (e f : Expression) : Type 0 where
   pub same : IsSame e f
   pub typed : IsTyped e → IsTyped f
-  pub columns : (types : List Ty) → HasColumns (IsColumnOf types) e → HasColumns (IsColumnOf types) f
+  pub columns : (columns : List (ℕ × Ty)) → HasColumns (IsAmong columns) e → HasColumns (IsAmong columns) f
 
 pub record FollowsTruth (c d : Condition) : Type 0 where
   pub same : AreSame c d
   pub typed : AreTyped c → AreTyped d
-  pub columns : (types : List Ty) → HaveColumns (IsColumnOf types) c → HaveColumns (IsColumnOf types) d
+  pub columns : (columns : List (ℕ × Ty)) → HaveColumns (IsAmong columns) c → HaveColumns (IsAmong columns) d
 
 -- so can results of a choice that are brought to a scale
 pub record FollowsResults (s : ℕ) (cs ds : Choices) : Type 0 where

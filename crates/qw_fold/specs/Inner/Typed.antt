@@ -1,9 +1,9 @@
 -- What src/tree.rt asks of lists: each expression and each condition of them is typed.
-use Rattle.qw_meaning.specs.declared.expression.Matches.{Matches}
-use Rattle.qw_meaning.specs.declared.expression.Matches.TheVariants as Matches
-use Rattle.qw_meaning.specs.Expression.{Choices, Expressions, last, more, otherwise, when}
-use Rattle.qw_meaning.specs.Tree.{expression_of}
-use Rattle.qw_meaning.specs.Typing.{AreTyped, IsTyped}
+use Rattle.qw_scalar.specs.declared.expression.Matches.{Matches}
+use Rattle.qw_scalar.specs.declared.expression.Matches.TheVariants as Matches
+use Rattle.qw_scalar.specs.Expression.{Choices, Expressions, last, more, otherwise, when}
+use Rattle.qw_scalar.specs.Tree.{expression_of}
+use Rattle.qw_scalar.specs.Typing.{AreTyped, IsTyped}
 
 abbrev pub AllTyped : Expressions → Type 0
 AllTyped (last e) = IsTyped e

@@ -4,8 +4,8 @@
 use qw_ast::script::{
     Branches, Cond, Expr, Exprs, Interval, Item, Phrase, SelectList, Sign, Statement,
 };
-use qw_meaning::comparison::Comparison;
-use qw_meaning::expression::{Field, Operator};
+use qw_scalar::comparison::Comparison;
+use qw_scalar::expression::{Field, Operator};
 use qw_types::Truth;
 use std::alloc::{AllocError, Global};
 

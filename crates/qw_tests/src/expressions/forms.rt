@@ -1,4 +1,4 @@
-// Expressions and conditions over the table T of `../expressions.rt`, as they are written in a query: each form of docs/LANGUAGE.md,
+// Expressions and conditions over the table T of `src/expressions.rt`, as they are written in a query: each form of docs/LANGUAGE.md,
 // with results that are null, at the ends of a type, or an exception.
 
 // Numbers: literals, signs, operators, and what chooses among numbers.

@@ -3,7 +3,7 @@
 use super::{kept_numbers, next_random, query_text, table_file};
 use crate::tables::{WORDS, call, shelf, sink};
 use qw_io::MemorySink;
-use qw_meaning::comparison::Comparison;
+use qw_scalar::comparison::Comparison;
 use qw_top::status::Status;
 use std::alloc::{AllocError, Global};
 use std::process::Abort;

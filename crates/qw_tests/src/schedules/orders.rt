@@ -7,7 +7,7 @@ use super::next_random;
 use crate::expressions::compared::same_rows;
 use crate::tables::{DEFAULT_LIMITS, bench_over, bench_over_two, differs, sevens};
 use qw_bench::bench::{Bench, Ended};
-use qw_parse::parse::schema_of;
+use qw_schema::parse::schema_of;
 use qw_sink::results::received;
 use qw_types::{Code, NoMemory, Row, Schema};
 use std::alloc::{AllocError, Global};

@@ -1,10 +1,10 @@
--- Mirrors `src/walk.rt`, `src/equality.rt` and `src/order.rt`: the statements whose steps their functions add. Of the block's own locals
+-- Mirrors `src/walk.rt`, `src/equality.rt`, `src/order.rt` and `src/hash.rt`: the statements whose steps their functions add. Of the block's own locals
 -- `n` holds how many octets are to be compared (0 once two differ), `n + 1` how many were the same, and the other two what was compared last.
 use Rattle.std.specs.Prelude.{ℕ, ◌+◌}
 use Rattle.qw_module.specs.declared.instruction.ValType.TheVariants.{I32, I64}
 use Rattle.qw_module.specs.declared.instruction.Sign.TheVariants.{Signed, Unsigned}
 use Rattle.qw_module.specs.declared.instruction.Const.TheVariants as const
-use Rattle.qw_module.specs.declared.instruction.Binary.TheVariants.{Add, Sub}
+use Rattle.qw_module.specs.declared.instruction.Binary.TheVariants.{Add, Mul, Sub, Xor}
 use Rattle.qw_module.specs.declared.instruction.Relation.TheVariants.{Eq, Lt, Gt}
 use Rattle.qw_module.specs.declared.instruction.Conversion.TheVariants.{Extend}
 use Rattle.qw_module.specs.declared.instruction.Load.TheVariants.{From8}
@@ -63,3 +63,19 @@ sign_block n = assign (n + 2) (sign_of n)
 
 abbrev pub order_block : (a ca b cb n : ℕ) → Statement
 order_block a ca b cb n = seq (shorter_block ca cb n) (seq (walk_block a b n) (seq (lengths_block ca cb n) (sign_block n)))
+
+-- ---- hash: local x has it, x + 1 how many octets were folded, x + 2 the octet at hand
+abbrev pub fold_block : (x : ℕ) → Statement
+fold_block x = assign x (binop I64 Mul (binop I64 Xor (local x) (local (x + 2))) (i64 1099511628211))
+
+abbrev pub next_octet : (x : ℕ) → Statement
+next_octet x = assign (x + 1) (binop I32 Add (local (x + 1)) (i32 1))
+
+abbrev pub unfolded_left : (c x : ℕ) → Expression
+unfolded_left c x = relop I32 (Lt Unsigned) (local (x + 1)) (local c)
+
+abbrev pub fold_turn : (a x : ℕ) → Statement
+fold_turn a x = seq (load_octet (x + 2) a (x + 1)) (seq (fold_block x) (next_octet x))
+
+abbrev pub hash_block : (a c x : ℕ) → Statement
+hash_block a c x = seq (assign (x + 1) (i32 0)) (while (unfolded_left c x) (fold_turn a x))

@@ -4,10 +4,10 @@ use Rattle.qw_types.specs.Contents.{Contents}
 use Rattle.qw_types.specs.declared.schema.Table.{Table}
 use Rattle.qw_csv.specs.declared.loading.LoadFault.{LoadFault}
 use Rattle.qw_csv.specs.Loading.{IsFirstFault}
-use Rattle.qw_parse.specs.declared.parse.SchemaFault.{SchemaFault}
-use Rattle.qw_parse.specs.Parse.{IsRefused}
-use Rattle.qw_script.specs.Script.{IsScriptRefused}
-use Rattle.qw_script.specs.declared.fault.ParseFault.{ParseFault}
+use Rattle.qw_schema.specs.declared.parse.SchemaFault.{SchemaFault}
+use Rattle.qw_schema.specs.Parse.{IsRefused}
+use Rattle.qw_parse.specs.Script.{IsScriptRefused}
+use Rattle.qw_parse.specs.declared.fault.ParseFault.{ParseFault}
 use Rattle.qw_typer.specs.declared.fault.TypeFault.{TypeFault}
 use Rattle.qw_top.specs.declared.stop.Stop.{Stop}
 use Rattle.qw_top.specs.declared.stop.Stop.TheVariants.{NoMemory}

@@ -5,8 +5,8 @@ use Rattle.qw_top.specs.declared.status.Status.{Status}
 use Rattle.qw_top.specs.declared.status.Status.TheVariants.{Done, WordsRefused, ReadFailed, WriteFailed, NoMemory}
 use Rattle.qw_top.specs.declared.stop.Stop.{Stop}
 use Rattle.qw_top.specs.declared.stop.Stop.TheVariants.{Refused, Unread, NoMemory as NoMemoryLeft}
-use Rattle.qw_words.specs.declared.command.WordsFault.{WordsFault}
-use Rattle.qw_words.specs.declared.command.WordsFault.TheVariants as words
+use Rattle.qw_command_line.specs.declared.command.WordsFault.{WordsFault}
+use Rattle.qw_command_line.specs.declared.command.WordsFault.TheVariants as words
 use Rattle.qw_top.specs.Causes.{line_of_cause, statement_out_of_range}
 use Rattle.qw_top.specs.Notes.{read_fault_line, want_of_memory_line}
 use Rattle.qw_top.specs.Output.{TookFront, with_text}

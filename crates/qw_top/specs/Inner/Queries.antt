@@ -6,12 +6,12 @@ use Rattle.qw_types.specs.Contents.{Contents, column_type}
 use Rattle.qw_types.specs.declared.kind.Kind.TheVariants as kind
 use Rattle.qw_types.specs.declared.schema.Column.{Column}
 use Rattle.qw_types.specs.declared.schema.Table.{Table}
-use Rattle.qw_meaning.specs.Expression.{Expression}
+use Rattle.qw_scalar.specs.Expression.{Expression}
 use Rattle.qw_meaning.specs.Select.{specification_of}
-use Rattle.qw_meaning.specs.Tree.{expression_of}
-use Rattle.qw_meaning.specs.Typing.{kind_of}
-use Rattle.qw_script.specs.Script.{IsScriptRefused}
-use Rattle.qw_script.specs.declared.fault.ParseFault.TheVariants as parsing
+use Rattle.qw_scalar.specs.Tree.{expression_of}
+use Rattle.qw_scalar.specs.Typing.{kind_of}
+use Rattle.qw_parse.specs.Script.{IsScriptRefused}
+use Rattle.qw_parse.specs.declared.fault.ParseFault.TheVariants as parsing
 use Rattle.qw_typer.specs.declared.fault.TypeFault.TheVariants as typing
 use Rattle.qw_typer.specs.declared.query.TypedSelect.{TypedSelect}
 use Rattle.qw_compile.specs.Limits.{IsShort}

@@ -3,7 +3,7 @@ use Rattle.std.specs.Prelude.{◌≡◌, ℕ, suc, Bool, true, false, ◌||◌, 
 use Rattle.qw_types.specs.declared.code.Code.{Code}
 use Rattle.qw_types.specs.declared.value.Val.{Val}
 use Rattle.qw_map.specs.Turns.{End, Done as EndedDone, Exception, Pages, Steps, Trap}
-use Rattle.qw_emit.specs.Compiled.{raised_for}
+use Rattle.qw_promise.specs.Compiled.{raised_for}
 use Rattle.qw_bench.specs.Bench.{end_in}
 use Rattle.qw_bench.specs.Standing.{Standing, rows_in}
 use Rattle.qw_sink.specs.Sink.{report_of_rows, report_of_exception, report_of_pages, report_of_steps}

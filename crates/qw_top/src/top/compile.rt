@@ -2,7 +2,7 @@
 
 ghost use Rattle.std.specs.Prelude.{◌≡◌, ◌≢◌, ◌⊎◌, ◌-◌, ◌≤◌, ◌<◌, None, Some, IfErr, IfOk, IfSome, IsTrue, length, slice_get};
 ghost use Rattle.qw_io.specs.Faults.{IsCounted};
-ghost use Rattle.qw_words.specs.Read.{texts_of};
+ghost use Rattle.qw_command_line.specs.Read.{texts_of};
 ghost use Rattle.qw_top.specs.Asking.{AsksWithin};
 ghost use Rattle.qw_top.specs.Call.{CompileSettles, CompileWrites, HasStatement, IsScriptFile, IsTextLimit, LeavesText, SpellsCompiled, TextExplains, TookFrontOf};
 ghost use Rattle.qw_top.specs.Delivered.{CommandNotes};
@@ -21,11 +21,11 @@ use crate::notes::note_stop;
 use crate::status::Status;
 use crate::stop::{Stop, refused};
 use qw_binary::encode::encode;
-use qw_grammar::write::WriteFault;
+use qw_command_line::command::CompileWords;
 use qw_io::{Shelf, Sink};
+use qw_octet_grammar::write::WriteFault;
 use qw_typer::query::TypedSelect;
 use qw_types::{NoMemory, Schema};
-use qw_words::command::CompileWords;
 use std::alloc::Global;
 
 /// Writes the module of the statement that the words name.

@@ -3,12 +3,12 @@
 ghost use Rattle.std.specs.Prelude.{◌≡◌, ◌++◌, ◌∷◌, [], map, slice_get, IfOk, IfSome, IsSome};
 ghost use Rattle.std.specs.Option.{option_map_or};
 ghost use Rattle.qw_types.specs.Schema.{AreColumns};
-ghost use Rattle.qw_meaning.specs.Tree.{expression_of};
-ghost use Rattle.qw_meaning.specs.Typing.{IsTyped};
+ghost use Rattle.qw_scalar.specs.Tree.{expression_of};
+ghost use Rattle.qw_scalar.specs.Typing.{IsTyped};
 ghost use Rattle.qw_top.specs.Inner.Queries.{columns_of, head_of, heads_of};
 
-use qw_meaning::expression::Expr;
-use qw_meaning::kind::of_expression;
+use qw_scalar::expression::Expr;
+use qw_scalar::kind::of_expression;
 use qw_sink::sink::{Head, Header};
 use qw_typer::query::TypedSelect;
 use qw_types::{Column, Kind, NoMemory, Schema, Text};

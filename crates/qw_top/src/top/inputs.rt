@@ -7,7 +7,7 @@ ghost use Rattle.qw_top.specs.FileNames.{table_file_of};
 ghost use Rattle.qw_top.specs.Inner.Causes.{cause_of};
 ghost use Rattle.qw_top.specs.Inner.Inputs.{IsNoSchema, IsNoScript, IsNoTable, StopsAtTables};
 ghost use Rattle.qw_top.specs.Inner.Queries.{IsOver, StopsForFault, asked_of};
-ghost use Rattle.qw_words.specs.Read.{names_of, options_of};
+ghost use Rattle.qw_command_line.specs.Read.{names_of, options_of};
 ghost use Rattle.qw_top.specs.Asking.{AsksWithin, IsOne};
 ghost use Rattle.qw_top.specs.Call.{IsRunLimit, IsTableLimit};
 ghost use Rattle.qw_top.specs.Limits.{limits_of, most_table_octets, most_text_octets};
@@ -20,15 +20,15 @@ use super::queries::{QueriesFault, queries_of};
 use crate::causes::Cause;
 use crate::files::{MAX_TABLE_FILE, MAX_TEXT_FILE, ReadFault, read_whole, table_file_name};
 use crate::stop::{FileName, Stop, refused};
+use qw_command_line::command::RunWords;
 use qw_csv::Loaded;
 use qw_csv::loading::{LoadFault, load};
 use qw_io::Shelf;
-use qw_parse::parse::{SchemaFault, schema_of};
-use qw_script::fault::ParseFault;
+use qw_parse::fault::ParseFault;
+use qw_schema::parse::{SchemaFault, schema_of};
 use qw_typer::fault::TypeFault;
 use qw_typer::query::TypedSelect;
 use qw_types::{Schema, Table};
-use qw_words::command::RunWords;
 use std::alloc::Global;
 
 /// What the files of a run hold.

@@ -3,7 +3,7 @@
 ghost use Rattle.std.specs.Prelude.{◌≡◌, ◌≢◌, ◌⊎◌, map, IfSome, IsTrue, None};
 ghost use Rattle.std.specs.String.{string_bytes};
 ghost use Rattle.qw_io.specs.Faults.{IsCounted};
-ghost use Rattle.qw_words.specs.Read.{names_of, options_of};
+ghost use Rattle.qw_command_line.specs.Read.{names_of, options_of};
 ghost use Rattle.qw_top.specs.Asking.{AsksWithin};
 ghost use Rattle.qw_top.specs.Call.{Explains, IsLimit, IsNamed, IsRunLimit, Leaves, LeavesFront, Notes};
 ghost use Rattle.qw_top.specs.Delivered.{CommandNotes, LeavesBench, RunLeaves};
@@ -19,9 +19,9 @@ use super::run::run;
 use crate::notes::{note_stop, note_want_of_memory, note_words};
 use crate::status::Status;
 use qw_bench::bench::Bench;
+use qw_command_line::command::{Command, RunWords};
+use qw_command_line::read::read;
 use qw_io::{Shelf, Sink};
-use qw_words::command::{Command, RunWords};
-use qw_words::read::read;
 use std::alloc::Global;
 
 /// Does what the words ask for.

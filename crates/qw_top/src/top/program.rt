@@ -3,8 +3,8 @@
 ghost use Rattle.std.specs.Prelude.{List, IfOk};
 ghost use Rattle.std.specs.List.{AllByRecursion};
 ghost use Rattle.qw_types.specs.Contents.{Contents};
-ghost use Rattle.qw_emit.specs.Compiled.{IsCompiled};
-ghost use Rattle.qw_emit.specs.Queries.{promise_of};
+ghost use Rattle.qw_promise.specs.Compiled.{IsCompiled};
+ghost use Rattle.qw_promise.specs.Queries.{promise_of};
 ghost use Rattle.qw_bench.specs.Bench.{IsColumnIn};
 ghost use Rattle.qw_top.specs.Inner.Queries.{IsJobOf, IsOver, asked_of};
 ghost use Rattle.qw_top.specs.Inner.Stages.{AreContentsOf};

@@ -5,8 +5,8 @@ ghost use Rattle.std.specs.List.{AllByRecursion};
 ghost use Rattle.qw_top.specs.Inner.Queries.{IsOver, Refuses, asked_of};
 ghost use Rattle.qw_top.specs.Top.{AsksFor};
 
-use qw_script::fault::ParseFault;
-use qw_script::script::script_of;
+use qw_parse::fault::ParseFault;
+use qw_parse::script::script_of;
 use qw_typer::fault::TypeFault;
 use qw_typer::query::TypedSelect;
 use qw_typer::script::type_script;

@@ -2,7 +2,7 @@
 
 ghost use Rattle.std.specs.Prelude.{◌≡◌, ◌≤◌, ◌⊎◌, length, map, replicate, IfOk, IfErr, OnOk};
 ghost use Rattle.std.specs.List.{AllByRecursion, AllZip};
-ghost use Rattle.qw_meaning.specs.Select.{AreOfEntries};
+ghost use Rattle.qw_meaning.specs.Select.{AreOfEntries, entries_of};
 ghost use Rattle.qw_types.specs.Limits.{most_tables};
 ghost use Rattle.qw_linear.specs.Memory.{most_pages};
 ghost use Rattle.qw_bench.specs.Bench.{IsColumnIn, IsStart, Program, rows_in_tables};
@@ -16,18 +16,18 @@ ghost use Rattle.qw_top.specs.Asking.{AsksWithin};
 ghost use Rattle.qw_top.specs.Call.{IsRunLimit};
 ghost use Rattle.qw_top.specs.Limits.{limits_of};
 ghost use Rattle.qw_top.specs.Top.{Asked};
-ghost use Rattle.qw_words.specs.Read.{names_of, options_of};
+ghost use Rattle.qw_command_line.specs.Read.{names_of, options_of};
 
 use super::inputs::{Prepared, prepare};
 use super::program::job_of;
 use crate::causes::Cause;
 use crate::stop::{Stop, refused};
 use qw_bench::bench::{Bench, BenchFault, Job, Limits};
+use qw_command_line::command::{RunOptions, RunWords};
 use qw_csv::Loaded;
 use qw_io::Shelf;
 use qw_typer::query::TypedSelect;
 use qw_types::{NoMemory, Schema};
-use qw_words::command::{RunOptions, RunWords};
 use std::alloc::Global;
 
 /// The queries that were run, and the bench that was turned to its end.
@@ -79,7 +79,7 @@ fn finished<'a>(
     requires over { AllByRecursion (IsOver schema.now) queries.now }
     requires few_queries { length queries.now ≤ 64 }
     requires tables { AreContentsOf schema.now tables.now }
-    requires read { AllByRecursion (λ (asked : Asked). AreOfEntries asked.specification.entries (rows_in_tables tables.now)) (map asked_of queries.now) }
+    requires read { AllByRecursion (λ (asked : Asked). AreOfEntries (entries_of asked.specification.sources) (rows_in_tables tables.now)) (map asked_of queries.now) }
     ensures ran { IfOk result (λ bench. HasRun (limits_of (options_of options)) options.quantum tables.now (map asked_of queries.now) bench) }
     ensures stops { IfErr result (λ stop. StopsToRun (limits_of (options_of options)) tables.now (map asked_of queries.now) stop) }
 {

@@ -3,8 +3,8 @@ use Rattle.std.specs.Prelude.{◌≡◌, ℕ, List, [], ◌∷◌, ◌++◌, map
 use Rattle.qw_types.specs.Contents.{column_type}
 use Rattle.qw_types.specs.declared.schema.Table.{Table}
 use Rattle.qw_ast.specs.Syntax.{Select}
-use Rattle.qw_meaning.specs.Select.{Specification}
-use Rattle.qw_meaning.specs.Tree.{condition_of, expression_of}
+use Rattle.qw_meaning.specs.Select.{Specification, alone}
+use Rattle.qw_scalar.specs.Tree.{condition_of, expression_of}
 use Rattle.qw_typer.specs.declared.fault.TypeFault.{TypeFault}
 use Rattle.qw_typer.specs.declared.fault.TypeFault.TheVariants as type_fault
 use Rattle.qw_typer.specs.declared.query.Over.{Over}
@@ -41,7 +41,7 @@ pub record IsOver (scope : Scope) (s : Select) (over : Over) : Type 0 where
 -- what a query means over its table, which has this place
 pub record MeansOver (place : ℕ) (table : Table) (s : Select) (specification : Specification) (names : List (List ℕ)) : Type 0 where
   pub faultless : over_faults table s ≡ []
-  pub entries_are : specification.entries ≡ record { table = place; columns = map column_type table.columns } ∷ []
+  pub sources_are : specification.sources ≡ alone (record { table = place; columns = map column_type table.columns }) ∷ []
   pub conjuncts_are : specification.conjuncts ≡ map (condition_meant (scope_of s table)) (conjuncts s)
   pub items_are : specification.items ≡ items_meant (scope_of s table) s.selected
   pub names_are : names ≡ result_names (scope_of s table) s.selected

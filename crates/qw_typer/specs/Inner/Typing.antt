@@ -2,17 +2,17 @@
 use Rattle.std.specs.Prelude.{◌≡◌, ℕ, Bool, List, [], ◌∷◌, ◌++◌, Option, Some, None, Result, Ok, Err, MatchResult, ◌&&◌, if◌then◌else◌}
 use Rattle.qw_types.specs.declared.kind.Kind.{Kind}
 use Rattle.qw_types.specs.declared.kind.Kind.TheVariants as kind
-use Rattle.qw_meaning.specs.declared.comparison.Comparison.TheVariants.{Equal}
-use Rattle.qw_meaning.specs.Expression as meaning
-use Rattle.qw_meaning.specs.Tree as tree
-use Rattle.qw_meaning.specs.Typing.{are_comparable, kind_of}
-use Rattle.qw_meaning.specs.declared.comparison.Comparison.{Comparison}
-use Rattle.qw_meaning.specs.declared.expression.Operator.{Operator}
-use Rattle.qw_meaning.specs.declared.expression.Field.{Field}
-use Rattle.qw_meaning.specs.declared.expression.Cond.{Cond}
-use Rattle.qw_meaning.specs.declared.expression.Exprs.{Exprs}
-use Rattle.qw_meaning.specs.declared.expression.Branches.{Branches}
-use Rattle.qw_meaning.specs.declared.expression.Matches.{Matches}
+use Rattle.qw_scalar.specs.declared.comparison.Comparison.TheVariants.{Equal}
+use Rattle.qw_scalar.specs.Expression as meaning
+use Rattle.qw_scalar.specs.Tree as tree
+use Rattle.qw_scalar.specs.Typing.{are_comparable, kind_of}
+use Rattle.qw_scalar.specs.declared.comparison.Comparison.{Comparison}
+use Rattle.qw_scalar.specs.declared.expression.Operator.{Operator}
+use Rattle.qw_scalar.specs.declared.expression.Field.{Field}
+use Rattle.qw_scalar.specs.declared.expression.Cond.{Cond}
+use Rattle.qw_scalar.specs.declared.expression.Exprs.{Exprs}
+use Rattle.qw_scalar.specs.declared.expression.Branches.{Branches}
+use Rattle.qw_scalar.specs.declared.expression.Matches.{Matches}
 use Rattle.qw_typer.specs.declared.tree.Results.{Results}
 use Rattle.qw_typer.specs.declared.tree.Values.{Values}
 use Rattle.qw_ast.specs.declared.script.Sign.{Sign}

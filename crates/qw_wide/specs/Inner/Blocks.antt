@@ -1,7 +1,7 @@
 -- Mirrors `src/arithmetic.rt` and `src/order.rt`: the statements whose steps its functions add. `x` and `y` are the operands' locals, and `n` the first
 -- free one.
 use Rattle.std.specs.Prelude.{◌≡◌, ℕ, zero, suc, ◌+◌, ◌-◌, ◌*◌, ◌/◌, ◌^◌, ◌==◌, min, max, nat_lt, Bool, if◌then◌else◌, List, ◌++◌}
-use Rattle.qw_meaning.specs.declared.comparison.Comparison.{Comparison}
+use Rattle.qw_scalar.specs.declared.comparison.Comparison.{Comparison}
 use Rattle.qw_module.specs.declared.instruction.ValType.TheVariants.{I64}
 use Rattle.qw_module.specs.declared.instruction.Sign.TheVariants.{Signed, Unsigned}
 use Rattle.qw_module.specs.declared.instruction.Const.TheVariants as const

@@ -1,5 +1,5 @@
 use Rattle.std.proofs.Common.{subst}
-use Rattle.qw_grammar.specs.Reading.{Gives}
+use Rattle.qw_octet_grammar.specs.Reading.{Gives}
 use Rattle.qw_binary.specs.Contents.{contents_of}
 use Rattle.qw_binary.proofs.ModuleLaws.{is_found, is_stuck, only, stuck_only}
 use Rattle.qw_binary.proofs.decode.decode.Goals as goal

@@ -1,7 +1,7 @@
 use Rattle.std.proofs.Common.{◌≡◌, List, [], ℕ, map, refl, subst, inl, inr}
 use Rattle.std.specs.List.{AllByRecursion}
 use Rattle.std.proofs.lemmas.Result.{err_from_is_err_and}
-use Rattle.qw_grammar.specs.Grammar.{Spells}
+use Rattle.qw_octet_grammar.specs.Grammar.{Spells}
 use Rattle.qw_module.specs.Validity.{signature_of}
 use Rattle.qw_binary.specs.Contents.{Contents, contents_of, function_contents, global_contents, export_contents}
 use Rattle.qw_binary.specs.Sections.{imports, functions, no_sections}

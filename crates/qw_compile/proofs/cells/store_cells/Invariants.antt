@@ -1,6 +1,6 @@
 use Rattle.std.proofs.Common.{◌≡◌, ◌++◌}
 use Rattle.qw_low.specs.Steps.{steps_of}
-use Rattle.qw_code.specs.RowCells.{cells_block}
+use Rattle.qw_emit.specs.RowCells.{cells_block}
 use Rattle.qw_compile.specs.Emitted.{sources_of}
 use Rattle.qw_compile.proofs.CellSteps.{left_cells}
 use Rattle.qw_compile.proofs.cells.store_cells.Given as goal

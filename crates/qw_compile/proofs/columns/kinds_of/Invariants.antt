@@ -1,5 +1,5 @@
 use Rattle.std.proofs.Common.{◌≡◌, map, Some, take}
-use Rattle.qw_code.specs.RowCells as cells
+use Rattle.qw_emit.specs.RowCells as cells
 use Rattle.qw_compile.specs.Emitted.{sources_of}
 use Rattle.qw_compile.proofs.columns.kinds_of.Given as goal
 

@@ -1,7 +1,7 @@
 use Rattle.std.proofs.Common.{◌+◌, List, length, take, refl, sym, ◌∙◌, subst}
 use Rattle.std.specs.List.{AllByRecursion}
-use Rattle.qw_meaning.specs.Nodes.{nodes_of}
-use Rattle.qw_meaning.specs.Tree.{condition_of}
+use Rattle.qw_scalar.specs.Nodes.{nodes_of}
+use Rattle.qw_scalar.specs.Tree.{condition_of}
 use Rattle.qw_expr.specs.Bindings.{known_of, IsServed, TakeKnown}
 use Rattle.qw_expr.specs.Computes.{Known}
 use Rattle.qw_expr.specs.Emits.{free_of}

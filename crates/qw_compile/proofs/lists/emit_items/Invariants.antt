@@ -1,6 +1,6 @@
 use Rattle.std.proofs.Common.{◌≤◌, ◌+◌, ◌*◌, map, sum_by, take}
-use Rattle.qw_meaning.specs.Nodes.{nodes}
-use Rattle.qw_meaning.specs.Tree.{expression_of}
+use Rattle.qw_scalar.specs.Nodes.{nodes}
+use Rattle.qw_scalar.specs.Tree.{expression_of}
 use Rattle.qw_expr.specs.Bindings.{known_of}
 use Rattle.qw_expr.specs.Emits.{extent}
 use Rattle.qw_compile.specs.Emitted.{EmitsItems}

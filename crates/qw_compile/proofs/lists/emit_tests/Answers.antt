@@ -1,5 +1,5 @@
 use Rattle.std.proofs.Common.{map, take, arith}
-use Rattle.qw_meaning.specs.Tree.{condition_of}
+use Rattle.qw_scalar.specs.Tree.{condition_of}
 use Rattle.qw_expr.specs.Bindings.{known_of}
 use Rattle.qw_expr.specs.Emits.{extent, free_of}
 use Rattle.qw_compile.proofs.Listed.{next_test, served_later, tests_free, tests_none}

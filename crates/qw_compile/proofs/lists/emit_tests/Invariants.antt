@@ -1,6 +1,6 @@
 use Rattle.std.proofs.Common.{◌≤◌, ◌+◌, ◌*◌, length, map, sum_by, take}
-use Rattle.qw_meaning.specs.Nodes.{nodes_of}
-use Rattle.qw_meaning.specs.Tree.{condition_of}
+use Rattle.qw_scalar.specs.Nodes.{nodes_of}
+use Rattle.qw_scalar.specs.Tree.{condition_of}
 use Rattle.qw_expr.specs.Bindings.{known_of}
 use Rattle.qw_expr.specs.Emits.{extent}
 use Rattle.qw_compile.specs.Emitted.{EmitsTests}

@@ -1,6 +1,6 @@
 use Rattle.std.proofs.Common.{◌≡◌, ◌<◌, ◌+◌, ℕ, Some, true, sym, subst, slice_get, arith}
 use Rattle.std.specs.List.{list_any}
-use Rattle.qw_rows.specs.declared.reader.Reader.{Reader}
+use Rattle.qw_read.specs.declared.reader.Reader.{Reader}
 use Rattle.qw_compile.specs.Needed.{names}
 use Rattle.qw_compile.proofs.Conjuncts.{all_within, below_done, below_next, needed_inside}
 use Rattle.qw_compile.proofs.needed.needed_for.Goals as goal

@@ -1,6 +1,6 @@
 use Rattle.std.proofs.Common.{◌≡◌, ◌≤◌, ◌<◌, ℕ, Some, true, length, slice_get}
 use Rattle.std.specs.List.{list_any}
-use Rattle.qw_rows.specs.declared.reader.Reader.{Reader}
+use Rattle.qw_read.specs.declared.reader.Reader.{Reader}
 use Rattle.qw_compile.specs.Needed.{names}
 use Rattle.qw_compile.proofs.needed.needed_for.Given as goal
 

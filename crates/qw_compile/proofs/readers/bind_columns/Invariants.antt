@@ -1,6 +1,6 @@
 use Rattle.std.proofs.Common.{◌≡◌, ◌++◌, map, take}
 use Rattle.qw_expr.specs.Bindings as bindings
-use Rattle.qw_rows.specs.Reading.{known_of}
+use Rattle.qw_read.specs.Reading.{known_of}
 use Rattle.qw_compile.proofs.readers.bind_columns.Given as goal
 
 abbrev pub invariant-loop-reader : goal.invariant-loop-reader

@@ -1,6 +1,6 @@
 use Rattle.std.proofs.Common.{◌≡◌, ◌++◌, map, take}
 use Rattle.qw_expr.specs.Bindings as bindings
-use Rattle.qw_rows.specs.Constants.{known_constant}
+use Rattle.qw_read.specs.Constants.{known_constant}
 use Rattle.qw_compile.proofs.readers.bind_constants.Given as goal
 
 abbrev pub invariant-loop-constant : goal.invariant-loop-constant

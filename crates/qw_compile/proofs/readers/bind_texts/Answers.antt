@@ -1,6 +1,6 @@
 use Rattle.std.proofs.Common.{◌++◌}
 use Rattle.qw_expr.specs.Bindings.{known_of}
-use Rattle.qw_rows.specs.Texts.{known_texts}
+use Rattle.qw_read.specs.Texts.{known_texts}
 use Rattle.qw_compile.proofs.TextSteps.{next_text}
 use Rattle.qw_compile.proofs.readers.bind_texts.Goals as goal
 

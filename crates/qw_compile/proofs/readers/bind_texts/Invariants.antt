@@ -1,6 +1,6 @@
 use Rattle.std.proofs.Common.{◌≡◌, ◌++◌, drop}
 use Rattle.qw_expr.specs.Bindings as bindings
-use Rattle.qw_rows.specs.Texts.{known_texts}
+use Rattle.qw_read.specs.Texts.{known_texts}
 use Rattle.qw_compile.proofs.readers.bind_texts.Given as goal
 
 abbrev pub invariant-loop-index : goal.invariant-loop-index

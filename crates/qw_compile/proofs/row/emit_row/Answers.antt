@@ -1,11 +1,11 @@
 use Rattle.std.proofs.Common.{◌+◌, ◌*◌, ◌++◌, List, length, map, take, ap, sym, refl, ◌∙◌, arith}
 use Rattle.std.proofs.lemmas.List.{length-map}
-use Rattle.qw_meaning.specs.Tree.{condition_of, expression_of}
+use Rattle.qw_scalar.specs.Tree.{condition_of, expression_of}
 use Rattle.qw_low.specs.declared.step.LowStep.{LowStep}
 use Rattle.qw_low.specs.Steps.{steps_of}
 use Rattle.qw_expr.specs.declared.operand.Operand.{Operand}
 use Rattle.qw_expr.specs.Bindings.{known_of}
-use Rattle.qw_code.specs.RowCells.{cells_block}
+use Rattle.qw_emit.specs.RowCells.{cells_block}
 use Rattle.qw_compile.specs.Emitted.{sources_of}
 use Rattle.qw_compile.proofs.RowSteps.{outs_many, row_emits}
 use Rattle.qw_compile.proofs.Parts.{between}

@@ -2,7 +2,7 @@ use Rattle.std.proofs.Common.{◌++◌, List, ap, ◌∙◌, append_assoc}
 use Rattle.qw_low.specs.declared.step.LowStep.{LowStep}
 use Rattle.qw_low.specs.Steps.{steps_of}
 use Rattle.qw_low.specs.Syntax.{seq}
-use Rattle.qw_code.specs.Results.{start_block}
+use Rattle.qw_emit.specs.Results.{start_block}
 use Rattle.qw_compile.proofs.RowSteps.{scan_steps}
 use Rattle.qw_compile.proofs.scan.scan_of.Goals as goal
 

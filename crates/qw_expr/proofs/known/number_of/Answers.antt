@@ -1,6 +1,6 @@
 use Rattle.std.proofs.Common.{ℤ, ap, of_z, refl, sym, to_z, ◌∙◌, w64}
 use Rattle.std.proofs.lemmas.Int.{to_z-of_z}
-use Rattle.qw_meaning.specs.Expression.{number}
+use Rattle.qw_scalar.specs.Expression.{number}
 use Rattle.qw_expr.specs.Bindings.{known_of, named}
 use Rattle.qw_expr.proofs.Lookups.{first_among, knows_others, others_among, number_leaf}
 use Rattle.qw_expr.proofs.known.number_of.Goals as goal

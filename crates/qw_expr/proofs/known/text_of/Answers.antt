@@ -1,5 +1,5 @@
 use Rattle.std.proofs.Common.{ap, refl, sym}
-use Rattle.qw_meaning.specs.Expression.{text}
+use Rattle.qw_scalar.specs.Expression.{text}
 use Rattle.qw_expr.specs.Bindings.{known_of, named}
 use Rattle.qw_expr.proofs.Lookups.{first_among, knows_others, others_among, text_leaf}
 use Rattle.qw_expr.proofs.known.text_of.Goals as goal

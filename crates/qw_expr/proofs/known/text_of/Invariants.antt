@@ -1,5 +1,5 @@
 use Rattle.std.proofs.Common.{length}
-use Rattle.qw_meaning.specs.Expression.{text}
+use Rattle.qw_scalar.specs.Expression.{text}
 use Rattle.qw_expr.specs.Bindings.{IsAmong, Knows, known_of}
 use Rattle.qw_expr.specs.Computes.{Known}
 use Rattle.qw_expr.proofs.known.text_of.Given as goal

@@ -1,4 +1,4 @@
-use Rattle.qw_meaning.specs.Tree.{condition_of, expression_of}
+use Rattle.qw_scalar.specs.Tree.{condition_of, expression_of}
 use Rattle.qw_expr.specs.Bindings.{known_of}
 use Rattle.qw_expr.proofs.Tests.{emitted_scale, truth_tests}
 use Rattle.qw_expr.proofs.test.emit_test.Goals as goal

@@ -1,10 +1,10 @@
 use Rattle.std.proofs.Common.{rules, ◌≤◌, IfOk, sym, subst, inr, w32, w64}
 use Rattle.qw_types.proofs.KindLemmas.{day_number}
-use Rattle.qw_meaning.specs.declared.expression.Expr.{the_lemmas}
-use Rattle.qw_meaning.specs.declared.comparison.Comparison.TheVariants.{Equal, GreaterOrEqual, LessOrEqual}
-use Rattle.qw_meaning.specs.Expression.{among, arithmetic, between, both, brought, case, cases, coalesced, column, comparison, date, either, extract, is, is_null, largest_result, negation_of, negative, null, null_if, number}
-use Rattle.qw_meaning.specs.Tree.{choices_of, condition_of, expression_of, expressions_of, matches_of}
-use Rattle.qw_meaning.specs.Typing.{IsTyped, kind_of}
+use Rattle.qw_scalar.specs.declared.expression.Expr.{the_lemmas}
+use Rattle.qw_scalar.specs.declared.comparison.Comparison.TheVariants.{Equal, GreaterOrEqual, LessOrEqual}
+use Rattle.qw_scalar.specs.Expression.{among, arithmetic, between, both, brought, case, cases, coalesced, column, comparison, date, either, extract, is, is_null, largest_result, negation_of, negative, null, null_if, number}
+use Rattle.qw_scalar.specs.Tree.{choices_of, condition_of, expression_of, expressions_of, matches_of}
+use Rattle.qw_scalar.specs.Typing.{IsTyped, kind_of}
 use Rattle.std.proofs.lemmas.Int.{to_z-of_z}
 use Rattle.qw_wide.proofs.Words.{fits_small}
 use Rattle.qw_low.proofs.Appended.{if_ok}

@@ -1,6 +1,6 @@
 use Rattle.std.proofs.Common.{arith}
-use Rattle.qw_meaning.specs.Expression.{brought, is_null, negation_of}
-use Rattle.qw_meaning.specs.Tree.{expression_of}
+use Rattle.qw_scalar.specs.Expression.{brought, is_null, negation_of}
+use Rattle.qw_scalar.specs.Tree.{expression_of}
 use Rattle.qw_expr.specs.Bindings.{known_of}
 use Rattle.qw_expr.proofs.TreeChoices.{begun_grows, null_tested, same_free, unless_null_made}
 use Rattle.qw_expr.proofs.tree.unless_null.Goals as goal

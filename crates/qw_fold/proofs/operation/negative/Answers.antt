@@ -1,5 +1,5 @@
 use Rattle.std.proofs.Common.{◌≡◌, true}
-use Rattle.qw_meaning.specs.Tree.{expression_of}
+use Rattle.qw_scalar.specs.Tree.{expression_of}
 use Rattle.qw_fold.specs.Inner.Made.{is_number}
 use Rattle.qw_fold.proofs.Evaluations.{negative_constant, negative_evaluated}
 use Rattle.qw_fold.proofs.operation.negative.Goals as goal

@@ -1,5 +1,5 @@
 use Rattle.std.proofs.Common.{◌≡◌, ◌&&◌, true, false}
-use Rattle.qw_meaning.specs.Tree.{expression_of}
+use Rattle.qw_scalar.specs.Tree.{expression_of}
 use Rattle.qw_fold.specs.Inner.Made.{is_number}
 use Rattle.qw_fold.proofs.Evaluations.{IsOperation, operation_constant, operation_evaluated, operation_stays}
 use Rattle.qw_fold.proofs.operation.operation.Goals as goal

@@ -1,7 +1,7 @@
 use Rattle.std.proofs.Common.{rules, refl, ◌∙◌}
-use Rattle.qw_meaning.specs.declared.expression.Expr.{the_lemmas}
-use Rattle.qw_meaning.specs.Expression.{coalesced, largest_result}
-use Rattle.qw_meaning.specs.Tree.{choices_of, expression_of, expressions_of, matches_of}
+use Rattle.qw_scalar.specs.declared.expression.Expr.{the_lemmas}
+use Rattle.qw_scalar.specs.Expression.{coalesced, largest_result}
+use Rattle.qw_scalar.specs.Tree.{choices_of, expression_of, expressions_of, matches_of}
 use Rattle.qw_fold.proofs.Trees.{among_operand_typed, and_made, arguments_typed, arithmetic_made, between_made, case_made, case_scale, choices_typed, coalesce_made, compare_made, else_made, in_made, last_match_made, match_made, match_operand_typed, matches_typed, more_match_made, null_if_made, or_made, values_typed, when_made}
 use Rattle.qw_fold.proofs.tree.+tree.Goals as goal
 

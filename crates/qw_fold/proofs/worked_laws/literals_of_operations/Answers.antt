@@ -1,4 +1,4 @@
-use Rattle.qw_meaning.specs.Evaluation.{at_row}
+use Rattle.qw_scalar.specs.Evaluation.{at_row}
 use Rattle.std.proofs.Common.{◌≡◌, pos, [], Result, Ok, Err}
 use Rattle.qw_types.specs.declared.code.Code.{Code}
 use Rattle.qw_types.specs.declared.code.Code.TheVariants.{DivZero}

@@ -1,4 +1,4 @@
-use Rattle.qw_words.specs.Words.{reading}
+use Rattle.qw_command_line.specs.Words.{reading}
 use Rattle.qw_top.proofs.CallLemmas.{ends_by, one_settled_by}
 use Rattle.qw_top.proofs.SettleLemmas.{cause_is_refusal}
 use Rattle.qw_top.proofs.top.one_cause.Goals as goal

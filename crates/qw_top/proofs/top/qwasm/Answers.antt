@@ -1,6 +1,6 @@
 use Rattle.std.proofs.Common.{map, subst, Some}
 use Rattle.std.specs.String.{string_bytes}
-use Rattle.qw_words.specs.Words.{Reading, reading}
+use Rattle.qw_command_line.specs.Words.{Reading, reading}
 use Rattle.qw_top.specs.Call.{Explains, ExplainsBy}
 use Rattle.qw_top.specs.Limits.{limits_of}
 use Rattle.qw_top.specs.Top.{Files}

@@ -1,4 +1,4 @@
-use Rattle.qw_words.specs.Words.{reading}
+use Rattle.qw_command_line.specs.Words.{reading}
 use Rattle.qw_top.proofs.CallLemmas.{words_first}
 use Rattle.qw_top.proofs.top.refused_words_come_first.Goals as goal
 

@@ -1,6 +1,6 @@
 use Rattle.std.proofs.Common.{ap}
 use Rattle.qw_ast.specs.SyntaxTree as syntax
-use Rattle.qw_meaning.specs.Tree.{expression_of, expressions_of}
+use Rattle.qw_scalar.specs.Tree.{expression_of, expressions_of}
 use Rattle.qw_typer.specs.Faults.{first_token}
 use Rattle.qw_typer.specs.Inner.Typing.{Refuses, spelled}
 use Rattle.qw_typer.proofs.AmongLemmas.{among_err, among_given}

@@ -1,7 +1,7 @@
 use Rattle.std.proofs.Common.{◌≡◌, ℕ, ◌+◌, Result, ap, arith}
 use Rattle.std.specs.Prelude.{IfOk}
-use Rattle.qw_meaning.specs.declared.expression.Cond.{Cond}
-use Rattle.qw_meaning.specs.Nodes as typed
+use Rattle.qw_scalar.specs.declared.expression.Cond.{Cond}
+use Rattle.qw_scalar.specs.Nodes as typed
 use Rattle.qw_typer.specs.declared.refusal.Refusal.{Refusal}
 use Rattle.qw_typer.specs.Sizes.{text_octets}
 use Rattle.qw_typer.specs.Inner.Sizes.{FitsCondition}

@@ -1,5 +1,5 @@
 use Rattle.std.proofs.Common.{◌≡◌, ◌++◌, map, length}
-use Rattle.qw_meaning.specs.Tree.{expression_of}
+use Rattle.qw_scalar.specs.Tree.{expression_of}
 use Rattle.qw_typer.specs.Typed.{columns_from}
 use Rattle.qw_typer.proofs.FitLemmas.{FitsWith}
 use Rattle.qw_typer.proofs.statement.all_columns.Given as goal

@@ -1,8 +1,8 @@
 use Rattle.std.proofs.Common.{◌≡◌, ◌-◌, []}
 use Rattle.std.specs.Prelude.{map}
 use Rattle.qw_binary.specs.Contents.{export_contents}
-use Rattle.qw_grammar.specs.Vectors.{counted, one_more}
-use Rattle.qw_grammar.specs.Reading.{read}
+use Rattle.qw_octet_grammar.specs.Vectors.{counted, one_more}
+use Rattle.qw_octet_grammar.specs.Reading.{read}
 use Rattle.qw_binary.specs.Sections.{export}
 use Rattle.qw_binary.proofs.read.exports.exports_at.Given as goal
 

@@ -1,7 +1,7 @@
 use Rattle.std.proofs.Common.{◌≡◌, ◌-◌, ◌+◌, suc, Bool, length, subst, arith}
 use Rattle.std.proofs.lemmas.Result.{err_from_is_err_and}
-use Rattle.qw_grammar.specs.Reading.{read, chain}
-use Rattle.qw_grammar.proofs.Loops.{begin_items, chain_more, chain_breaks, chain_done}
+use Rattle.qw_octet_grammar.specs.Reading.{read, chain}
+use Rattle.qw_octet_grammar.proofs.Loops.{begin_items, chain_more, chain_breaks, chain_done}
 use Rattle.qw_binary.specs.Instructions.{at_first, instruction, expression}
 use Rattle.qw_binary.specs.Inner.Reader.{progress_of, sequences_in, after_instruction}
 use Rattle.qw_binary.proofs.read.expression.expression_at.Goals as goal

@@ -1,6 +1,6 @@
 use Rattle.std.proofs.Common.{◌≡◌, ◌-◌, suc, length}
-use Rattle.qw_grammar.specs.Grammar.{goes_on}
-use Rattle.qw_grammar.specs.Reading.{read, chain}
+use Rattle.qw_octet_grammar.specs.Grammar.{goes_on}
+use Rattle.qw_octet_grammar.specs.Reading.{read, chain}
 use Rattle.qw_binary.specs.Instructions.{expression, instruction}
 use Rattle.qw_binary.specs.Inner.Reader.{progress_of}
 use Rattle.qw_binary.proofs.read.expression.expression_at.Given as goal

@@ -1,9 +1,9 @@
 use Rattle.std.proofs.Common.{◌≡◌, ◌++◌, ◌∷◌, [], map, length, refl, ap, arith}
 use Rattle.std.proofs.lemmas.Result.{err_from_is_err_and}
 use Rattle.std.proofs.lemmas.List.{map_push, length-append}
-use Rattle.qw_grammar.specs.Vectors.{counted}
-use Rattle.qw_grammar.specs.Reading.{read}
-use Rattle.qw_grammar.proofs.Loops.{done_counted}
+use Rattle.qw_octet_grammar.specs.Vectors.{counted}
+use Rattle.qw_octet_grammar.specs.Reading.{read}
+use Rattle.qw_octet_grammar.proofs.Loops.{done_counted}
 use Rattle.qw_binary.specs.Contents.{function_contents}
 use Rattle.qw_binary.specs.Sections.{next_function}
 use Rattle.qw_binary.proofs.FunctionLemmas.{next_read, next_fails}

@@ -1,6 +1,6 @@
 use Rattle.std.proofs.Common.{◌≡◌, ◌-◌, [], map, length}
-use Rattle.qw_grammar.specs.Vectors.{counted}
-use Rattle.qw_grammar.specs.Reading.{read}
+use Rattle.qw_octet_grammar.specs.Vectors.{counted}
+use Rattle.qw_octet_grammar.specs.Reading.{read}
 use Rattle.qw_binary.specs.Contents.{function_contents}
 use Rattle.qw_binary.specs.Sections.{next_function}
 use Rattle.qw_binary.proofs.read.functions.codes_at.Given as goal

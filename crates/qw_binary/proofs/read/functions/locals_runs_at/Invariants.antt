@@ -1,6 +1,6 @@
 use Rattle.std.proofs.Common.{◌≡◌, ◌-◌, []}
-use Rattle.qw_grammar.specs.Vectors.{counted, one_more}
-use Rattle.qw_grammar.specs.Reading.{read}
+use Rattle.qw_octet_grammar.specs.Vectors.{counted, one_more}
+use Rattle.qw_octet_grammar.specs.Reading.{read}
 use Rattle.qw_binary.specs.Sections.{locals_run}
 use Rattle.qw_binary.proofs.read.functions.locals_runs_at.Given as goal
 

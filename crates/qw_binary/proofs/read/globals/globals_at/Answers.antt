@@ -1,8 +1,8 @@
 use Rattle.std.proofs.Common.{[], map}
 use Rattle.std.proofs.lemmas.Result.{err_from_is_err_and}
-use Rattle.qw_grammar.specs.Vectors.{counted, one_more}
-use Rattle.qw_grammar.specs.Reading.{read}
-use Rattle.qw_grammar.proofs.Loops.{ends_one_more}
+use Rattle.qw_octet_grammar.specs.Vectors.{counted, one_more}
+use Rattle.qw_octet_grammar.specs.Reading.{read}
+use Rattle.qw_octet_grammar.proofs.Loops.{ends_one_more}
 use Rattle.qw_binary.specs.Contents.{global_contents}
 use Rattle.qw_binary.specs.Sections.{global}
 use Rattle.qw_binary.proofs.read.globals.globals_at.Goals as goal

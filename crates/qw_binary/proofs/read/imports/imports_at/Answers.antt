@@ -1,8 +1,8 @@
 use Rattle.std.proofs.Common.{◌≡◌, [], ◌++◌, ◌∷◌, Ok, subst}
 use Rattle.std.proofs.lemmas.Result.{err_from_is_err_and}
-use Rattle.qw_grammar.specs.Vectors.{counted}
-use Rattle.qw_grammar.specs.Reading.{Fails, read}
-use Rattle.qw_grammar.proofs.Loops.{goes_on_counted, ends_counted, done_counted, begin_counted, one_more_ok, one_more_fails}
+use Rattle.qw_octet_grammar.specs.Vectors.{counted}
+use Rattle.qw_octet_grammar.specs.Reading.{Fails, read}
+use Rattle.qw_octet_grammar.proofs.Loops.{goes_on_counted, ends_counted, done_counted, begin_counted, one_more_ok, one_more_fails}
 use Rattle.qw_binary.specs.Sections.{import_behind, next_import}
 use Rattle.qw_binary.proofs.read.imports.imports_at.Goals as goal
 

@@ -1,6 +1,6 @@
 use Rattle.std.proofs.Common.{◌≡◌, ◌-◌, []}
-use Rattle.qw_grammar.specs.Vectors.{counted}
-use Rattle.qw_grammar.specs.Reading.{read}
+use Rattle.qw_octet_grammar.specs.Vectors.{counted}
+use Rattle.qw_octet_grammar.specs.Reading.{read}
 use Rattle.qw_binary.specs.Sections.{next_import}
 use Rattle.qw_binary.proofs.read.imports.imports_at.Given as goal
 

@@ -1,6 +1,6 @@
 use Rattle.std.proofs.lemmas.Result.{err_from_is_err_and}
-use Rattle.qw_grammar.specs.Reading.{read_all}
-use Rattle.qw_grammar.proofs.Loops.{all_more, all_break}
+use Rattle.qw_octet_grammar.specs.Reading.{read_all}
+use Rattle.qw_octet_grammar.proofs.Loops.{all_more, all_break}
 use Rattle.qw_binary.specs.Sections.{no_sections, section}
 use Rattle.qw_binary.specs.Inner.SoFar.{sections_of}
 use Rattle.qw_binary.proofs.read.sections.sections_at.Goals as goal

@@ -1,5 +1,5 @@
 use Rattle.std.proofs.Common.{◌≡◌, ◌-◌}
-use Rattle.qw_grammar.specs.Reading.{read_all}
+use Rattle.qw_octet_grammar.specs.Reading.{read_all}
 use Rattle.qw_binary.specs.Sections.{no_sections, section}
 use Rattle.qw_binary.specs.Inner.SoFar.{sections_of}
 use Rattle.qw_binary.proofs.read.sections.sections_at.Given as goal

@@ -1,8 +1,8 @@
 use Rattle.std.proofs.Common.{◌≡◌, ◌-◌, []}
 use Rattle.std.specs.Prelude.{map}
 use Rattle.qw_module.specs.Validity.{signature_of}
-use Rattle.qw_grammar.specs.Vectors.{counted, one_more}
-use Rattle.qw_grammar.specs.Reading.{read}
+use Rattle.qw_octet_grammar.specs.Vectors.{counted, one_more}
+use Rattle.qw_octet_grammar.specs.Reading.{read}
 use Rattle.qw_binary.specs.Types.{func_type}
 use Rattle.qw_binary.proofs.read.types.func_types_at.Given as goal
 

@@ -1,6 +1,6 @@
 use Rattle.std.proofs.Common.{◌≡◌, ◌-◌, []}
-use Rattle.qw_grammar.specs.Vectors.{counted, one_more}
-use Rattle.qw_grammar.specs.Reading.{read}
+use Rattle.qw_octet_grammar.specs.Vectors.{counted, one_more}
+use Rattle.qw_octet_grammar.specs.Reading.{read}
 use Rattle.qw_binary.specs.Types.{val_type}
 use Rattle.qw_binary.proofs.read.types.val_types_at.Given as goal
 

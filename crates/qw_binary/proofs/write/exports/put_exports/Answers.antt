@@ -1,6 +1,6 @@
 use Rattle.std.proofs.Common.{arith, subst}
-use Rattle.qw_grammar.specs.Writing.{Puts}
-use Rattle.qw_grammar.proofs.WriteLaws.{views_begin, views_next}
+use Rattle.qw_octet_grammar.specs.Writing.{Puts}
+use Rattle.qw_octet_grammar.proofs.WriteLaws.{views_begin, views_next}
 use Rattle.qw_binary.specs.Sections.{export}
 use Rattle.qw_binary.specs.Contents.{export_contents}
 use Rattle.qw_binary.proofs.write.exports.put_exports.Goals as goal

@@ -1,6 +1,6 @@
 use Rattle.std.proofs.Common.{◌-◌, length, map, take}
-use Rattle.qw_grammar.specs.Vectors.{counted, one_more, vector}
-use Rattle.qw_grammar.specs.Inner.Awaiting.{Awaits}
+use Rattle.qw_octet_grammar.specs.Vectors.{counted, one_more, vector}
+use Rattle.qw_octet_grammar.specs.Inner.Awaiting.{Awaits}
 use Rattle.qw_binary.specs.Contents.{export_contents}
 use Rattle.qw_binary.specs.Sections.{export}
 use Rattle.qw_binary.proofs.write.exports.put_exports.Given as goal

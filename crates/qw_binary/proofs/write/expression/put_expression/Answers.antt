@@ -1,8 +1,8 @@
 use Rattle.std.proofs.Common.{Bool, subst}
 use Rattle.std.proofs.lemmas.Result.{err_from_is_err_and}
-use Rattle.qw_grammar.specs.Grammar.{goes_on, ends, octet}
-use Rattle.qw_grammar.specs.Writing.{Puts}
-use Rattle.qw_grammar.proofs.WriteLaws.{items_begin, items_next, items_end}
+use Rattle.qw_octet_grammar.specs.Grammar.{goes_on, ends, octet}
+use Rattle.qw_octet_grammar.specs.Writing.{Puts}
+use Rattle.qw_octet_grammar.proofs.WriteLaws.{items_begin, items_next, items_end}
 use Rattle.qw_module.specs.Validity.{sequences_of}
 use Rattle.qw_binary.specs.Instructions.{at_first, instruction}
 use Rattle.qw_binary.specs.Inner.Writer.{progress_of, next_of}

@@ -1,5 +1,5 @@
-use Rattle.qw_grammar.specs.Grammar.{goes_on}
-use Rattle.qw_grammar.specs.Inner.Awaiting.{AwaitsItems}
+use Rattle.qw_octet_grammar.specs.Grammar.{goes_on}
+use Rattle.qw_octet_grammar.specs.Inner.Awaiting.{AwaitsItems}
 use Rattle.qw_module.specs.Validity.{sequences_of}
 use Rattle.qw_binary.specs.Instructions.{at_first, instruction}
 use Rattle.qw_binary.specs.Inner.Writer.{progress_of}

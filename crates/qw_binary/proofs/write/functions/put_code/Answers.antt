@@ -1,6 +1,6 @@
 use Rattle.std.proofs.Common.{sym, subst}
 use Rattle.std.proofs.lemmas.Result.{err_from_is_err_and}
-use Rattle.qw_grammar.specs.Grammar.{Spells}
+use Rattle.qw_octet_grammar.specs.Grammar.{Spells}
 use Rattle.qw_binary.specs.Contents.{function_contents}
 use Rattle.qw_binary.specs.Sections.{locals}
 use Rattle.qw_binary.proofs.Refusals.{code_parts}

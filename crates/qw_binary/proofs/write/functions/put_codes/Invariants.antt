@@ -1,6 +1,6 @@
 use Rattle.std.proofs.Common.{◌-◌, length, map, take}
-use Rattle.qw_grammar.specs.Vectors.{counted}
-use Rattle.qw_grammar.specs.Inner.Awaiting.{Awaits}
+use Rattle.qw_octet_grammar.specs.Vectors.{counted}
+use Rattle.qw_octet_grammar.specs.Inner.Awaiting.{Awaits}
 use Rattle.qw_binary.specs.Contents.{function_contents}
 use Rattle.qw_binary.specs.Sections.{functions, next_function}
 use Rattle.qw_binary.specs.Inner.Parts.{type_index_of}

@@ -1,7 +1,7 @@
 use Rattle.std.proofs.Common.{arith, subst}
-use Rattle.qw_grammar.specs.Writing.{Puts}
-use Rattle.qw_grammar.proofs.WriteLaws.{views_begin, views_next}
-use Rattle.qw_grammar.specs.Numbers.{u32}
+use Rattle.qw_octet_grammar.specs.Writing.{Puts}
+use Rattle.qw_octet_grammar.proofs.WriteLaws.{views_begin, views_next}
+use Rattle.qw_octet_grammar.specs.Numbers.{u32}
 use Rattle.qw_binary.specs.Inner.Parts.{type_index_of}
 use Rattle.qw_binary.proofs.write.functions.put_type_indices.Goals as goal
 

@@ -1,7 +1,7 @@
 use Rattle.std.proofs.Common.{◌-◌, length, map, take}
-use Rattle.qw_grammar.specs.Numbers.{u32}
-use Rattle.qw_grammar.specs.Vectors.{counted, one_more, vector}
-use Rattle.qw_grammar.specs.Inner.Awaiting.{Awaits}
+use Rattle.qw_octet_grammar.specs.Numbers.{u32}
+use Rattle.qw_octet_grammar.specs.Vectors.{counted, one_more, vector}
+use Rattle.qw_octet_grammar.specs.Inner.Awaiting.{Awaits}
 use Rattle.qw_binary.specs.Inner.Parts.{type_index_of}
 use Rattle.qw_binary.proofs.write.functions.put_type_indices.Given as goal
 

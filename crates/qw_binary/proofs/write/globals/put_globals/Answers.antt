@@ -1,8 +1,8 @@
 use Rattle.std.proofs.Common.{arith, subst, length, refl}
 use Rattle.std.proofs.lemmas.Result.{err_from_is_err_and}
 use Rattle.std.proofs.lemmas.Option.{slice_get_read}
-use Rattle.qw_grammar.specs.Writing.{Puts}
-use Rattle.qw_grammar.proofs.WriteLaws.{views_begin, views_next, views_end}
+use Rattle.qw_octet_grammar.specs.Writing.{Puts}
+use Rattle.qw_octet_grammar.proofs.WriteLaws.{views_begin, views_next, views_end}
 use Rattle.qw_binary.specs.Sections.{global}
 use Rattle.qw_binary.specs.Contents.{global_contents}
 use Rattle.qw_binary.specs.Inner.Parts.{IsInitSpelled}

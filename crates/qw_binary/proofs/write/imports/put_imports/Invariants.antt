@@ -1,6 +1,6 @@
 use Rattle.std.proofs.Common.{◌-◌, length, take}
-use Rattle.qw_grammar.specs.Vectors.{counted}
-use Rattle.qw_grammar.specs.Inner.Awaiting.{Awaits}
+use Rattle.qw_octet_grammar.specs.Vectors.{counted}
+use Rattle.qw_octet_grammar.specs.Inner.Awaiting.{Awaits}
 use Rattle.qw_binary.specs.Sections.{imports, next_import}
 use Rattle.qw_binary.proofs.write.imports.put_imports.Given as goal
 

@@ -1,6 +1,6 @@
 use Rattle.std.proofs.Common.{arith, subst}
-use Rattle.qw_grammar.specs.Writing.{Puts}
-use Rattle.qw_grammar.proofs.WriteLaws.{views_begin, views_next}
+use Rattle.qw_octet_grammar.specs.Writing.{Puts}
+use Rattle.qw_octet_grammar.proofs.WriteLaws.{views_begin, views_next}
 use Rattle.qw_binary.specs.Types.{func_type}
 use Rattle.qw_module.specs.Validity.{signature_of}
 use Rattle.qw_binary.proofs.write.types.put_func_types.Goals as goal

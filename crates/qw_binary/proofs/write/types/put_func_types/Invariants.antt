@@ -1,6 +1,6 @@
 use Rattle.std.proofs.Common.{◌-◌, length, map, take}
-use Rattle.qw_grammar.specs.Vectors.{counted, one_more, vector}
-use Rattle.qw_grammar.specs.Inner.Awaiting.{Awaits}
+use Rattle.qw_octet_grammar.specs.Vectors.{counted, one_more, vector}
+use Rattle.qw_octet_grammar.specs.Inner.Awaiting.{Awaits}
 use Rattle.qw_module.specs.Validity.{signature_of}
 use Rattle.qw_binary.specs.Types.{func_type}
 use Rattle.qw_binary.proofs.write.types.put_func_types.Given as goal

@@ -1,5 +1,5 @@
 use Rattle.std.proofs.Common.{sym, ap, ◌∙◌}
-use Rattle.qw_meaning.specs.Typing.{is_number}
+use Rattle.qw_scalar.specs.Typing.{is_number}
 use Rattle.qw_low.proofs.Appended.{if_ok}
 use Rattle.qw_expr.proofs.Emitted.{brought_emits}
 use Rattle.qw_expr.proofs.Constants.{unscaled_emits}

@@ -1,6 +1,6 @@
 use Rattle.std.proofs.Common.{sym, ◌∙◌}
 use Rattle.qw_types.specs.declared.kind.Kind.TheVariants as kind
-use Rattle.qw_meaning.specs.Typing.{kind_of}
+use Rattle.qw_scalar.specs.Typing.{kind_of}
 use Rattle.qw_low.proofs.Appended.{if_ok}
 use Rattle.qw_expr.proofs.Comparable.{dates_of, numbers_of, some_is, texts_of}
 use Rattle.qw_expr.proofs.emitter.Emitter.compare.Goals as goal

@@ -1,4 +1,4 @@
-use Rattle.qw_meaning.specs.Expression.{brought}
+use Rattle.qw_scalar.specs.Expression.{brought}
 use Rattle.qw_expr.proofs.emitter.Emitter.first_brought.Goals as goal
 
 pub returns-clause-emits : goal.returns-clause-emits

@@ -1,5 +1,5 @@
 use Rattle.std.proofs.Common.{sym, subst}
-use Rattle.qw_meaning.specs.Expression.{is_null}
+use Rattle.qw_scalar.specs.Expression.{is_null}
 use Rattle.qw_expr.specs.Emits.{EmitsTruth}
 use Rattle.qw_expr.proofs.NullTests.{word_emits, never_emits}
 use Rattle.qw_expr.proofs.emitter.Emitter.is_null.Goals as goal

@@ -1,5 +1,5 @@
 use Rattle.std.proofs.Common.{sym, subst}
-use Rattle.qw_meaning.specs.Expression.{is}
+use Rattle.qw_scalar.specs.Expression.{is}
 use Rattle.qw_types.specs.declared.truth.Truth.TheVariants.{Unknown}
 use Rattle.qw_expr.specs.Emits.{EmitsTruth}
 use Rattle.qw_expr.proofs.NullTests.{unknown_emits, known_emits}

@@ -1,4 +1,4 @@
-use Rattle.qw_meaning.specs.Expression.{null}
+use Rattle.qw_scalar.specs.Expression.{null}
 use Rattle.qw_low.proofs.Appended.{if_ok}
 use Rattle.qw_expr.proofs.ChoicesEmitted.{first_far}
 use Rattle.qw_expr.proofs.emitter.Emitter.null_where.Goals as goal

@@ -1,5 +1,5 @@
 use Rattle.std.proofs.Common.{sym}
-use Rattle.qw_meaning.specs.Expression.{comparison}
+use Rattle.qw_scalar.specs.Expression.{comparison}
 use Rattle.qw_expr.proofs.Tests.{relation_tests, truth_tests}
 use Rattle.qw_expr.proofs.emitter.Emitter.test_comparison.Goals as goal
 

@@ -1,4 +1,4 @@
-use Rattle.qw_meaning.specs.Expression.{negation_of}
+use Rattle.qw_scalar.specs.Expression.{negation_of}
 use Rattle.qw_expr.proofs.Tests.{truth_tests, zero_tests}
 use Rattle.qw_expr.proofs.emitter.Emitter.test_negation.Goals as goal
 

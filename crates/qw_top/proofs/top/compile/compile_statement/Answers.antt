@@ -1,4 +1,4 @@
-use Rattle.qw_words.specs.Read.{texts_of}
+use Rattle.qw_command_line.specs.Read.{texts_of}
 use Rattle.qw_top.specs.Call.{CompileSettles, CompileWrites, IsScriptFile}
 use Rattle.qw_top.proofs.CommandLemmas.{answered_leaves, answered_notes}
 use Rattle.qw_top.proofs.StoppedLemmas.{stopped_noted}

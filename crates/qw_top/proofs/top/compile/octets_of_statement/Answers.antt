@@ -3,7 +3,7 @@ use Rattle.std.specs.Prelude.{slice_get}
 use Rattle.std.proofs.lemmas.List.{length-map}
 use Rattle.std.proofs.lemmas.Option.{slice_get-map}
 use Rattle.std.proofs.lemmas.Result.{err_from_is_err_and}
-use Rattle.qw_words.specs.Read.{texts_of}
+use Rattle.qw_command_line.specs.Read.{texts_of}
 use Rattle.qw_top.specs.Inner.Queries.{IsOver, asked_of}
 use Rattle.qw_top.proofs.AskingLemmas.{text_asked, texts_asked}
 use Rattle.qw_top.proofs.BenchLemmas.{all_at}

@@ -1,8 +1,8 @@
 use Rattle.std.proofs.Common.{◌≡◌, ◌∙◌, ◌++◌, ◌∷◌, [], List, ap, get_or, sym}
 use Rattle.std.specs.Prelude.{slice_get}
 use Rattle.std.specs.Option.{option_map_or}
-use Rattle.qw_meaning.specs.Tree.{expression_of}
-use Rattle.qw_meaning.specs.declared.expression.Expr.{Expr}
+use Rattle.qw_scalar.specs.Tree.{expression_of}
+use Rattle.qw_scalar.specs.declared.expression.Expr.{Expr}
 use Rattle.qw_sink.specs.declared.sink.Head.{Head}
 use Rattle.qw_top.specs.Inner.Queries.{head_of}
 use Rattle.qw_top.proofs.QueryLemmas.{heads-more, typed_at}

@@ -1,5 +1,5 @@
 use Rattle.std.proofs.Common.{◌≡◌, map, take}
-use Rattle.qw_meaning.specs.Tree.{expression_of}
+use Rattle.qw_scalar.specs.Tree.{expression_of}
 use Rattle.qw_top.specs.Inner.Queries.{heads_of}
 use Rattle.qw_top.proofs.top.header.header_of.Given as goal
 

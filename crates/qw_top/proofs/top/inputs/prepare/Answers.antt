@@ -1,6 +1,6 @@
 use Rattle.std.proofs.Common.{◌∙◌}
 use Rattle.std.proofs.lemmas.Result.{err_from_is_err_and}
-use Rattle.qw_words.specs.Read.{names_of, options_of}
+use Rattle.qw_command_line.specs.Read.{names_of, options_of}
 use Rattle.qw_top.specs.Limits.{limits_of}
 use Rattle.qw_top.proofs.AskingLemmas.{queries_asked, schema_asked, tables_asked}
 use Rattle.qw_top.proofs.StopLemmas.{all_accepted, queries_stop, schema_stops, tables_accepted, tables_stop}

@@ -1,8 +1,8 @@
 use Rattle.std.proofs.Common.{◌≡◌, map, sym, subst, arith}
 use Rattle.std.proofs.lemmas.Grind.{common_steps}
 use Rattle.std.specs.String.{string_bytes}
-use Rattle.qw_words.specs.Read.{names_of, options_of, texts_of}
-use Rattle.qw_words.specs.Words.{Reading, reading, command, run, compile, check}
+use Rattle.qw_command_line.specs.Read.{names_of, options_of, texts_of}
+use Rattle.qw_command_line.specs.Words.{Reading, reading, command, run, compile, check}
 use Rattle.qw_top.specs.Asking.{IsOne}
 use Rattle.qw_top.specs.Call.{IsLimit, IsLimitBy, IsRunLimit, IsTextLimit, NotesBy}
 use Rattle.qw_top.specs.Limits.{most_module_octets}

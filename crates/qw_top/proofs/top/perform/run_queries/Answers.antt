@@ -1,4 +1,4 @@
-use Rattle.qw_words.specs.Read.{names_of, options_of}
+use Rattle.qw_command_line.specs.Read.{names_of, options_of}
 use Rattle.qw_top.specs.declared.status.Status.TheVariants.{NoMemory}
 use Rattle.qw_top.specs.Limits.{limits_of}
 use Rattle.qw_top.specs.Top.{FilesSettle, IsFileOf}

@@ -6,7 +6,7 @@ use Rattle.qw_types.specs.Contents.{column_type}
 use Rattle.qw_types.specs.Schema.{AreColumns}
 use Rattle.qw_types.specs.declared.schema.ColumnType.{ColumnType}
 use Rattle.qw_meaning.specs.Select.{specification_of}
-use Rattle.qw_emit.proofs.SameLemmas.{compiled_same}
+use Rattle.qw_promise.proofs.SameLemmas.{compiled_same}
 use Rattle.qw_compile.specs.Named.{IsOfTable}
 use Rattle.qw_top.proofs.BenchLemmas.{columns_in}
 use Rattle.qw_top.proofs.QueryLemmas.{columns_kept, sized_types}

@@ -1,7 +1,7 @@
 use Rattle.std.proofs.Common.{◌≡◌, ◌∙◌, ℕ, ap, arith, length, map}
 use Rattle.std.specs.Prelude.{replicate}
 use Rattle.std.proofs.lemmas.Result.{err_from_is_err_and}
-use Rattle.qw_words.specs.Read.{options_of}
+use Rattle.qw_command_line.specs.Read.{options_of}
 use Rattle.qw_top.specs.Limits.{limits_of}
 use Rattle.qw_top.specs.Top.{same_limits}
 use Rattle.qw_top.specs.Inner.Queries.{asked_of}

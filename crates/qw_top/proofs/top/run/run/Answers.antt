@@ -1,6 +1,6 @@
 use Rattle.std.proofs.Common.{map}
 use Rattle.std.proofs.lemmas.Result.{err_from_is_err_and}
-use Rattle.qw_words.specs.Read.{names_of, options_of}
+use Rattle.qw_command_line.specs.Read.{names_of, options_of}
 use Rattle.qw_top.specs.Limits.{limits_of}
 use Rattle.qw_top.specs.Inner.Queries.{asked_of}
 use Rattle.qw_top.proofs.BenchLemmas.{accepted_contents, accepted_few, accepted_stops, entries_read}

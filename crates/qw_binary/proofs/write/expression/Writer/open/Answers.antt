@@ -1,7 +1,7 @@
 use Rattle.std.proofs.Common.{sym, subst}
 use Rattle.std.proofs.lemmas.Result.{on_ok_weaker, IfErr-weaker}
-use Rattle.qw_grammar.specs.Grammar.{goes_on, octet}
-use Rattle.qw_grammar.specs.Writing.{Puts}
+use Rattle.qw_octet_grammar.specs.Grammar.{goes_on, octet}
+use Rattle.qw_octet_grammar.specs.Writing.{Puts}
 use Rattle.qw_module.specs.Validity.{sequences_of}
 use Rattle.qw_binary.specs.Instructions.{instruction}
 use Rattle.qw_binary.specs.Inner.Writer.{progress_of}

@@ -1,0 +1,5 @@
+pub mod Columns
+pub mod Node
+pub mod Tree
+pub mod WorkedPlans
+pub mod Written

@@ -1,4 +1,0 @@
-pub mod Inner
-pub mod Results
-pub mod RowCells
-pub mod RunsOf

@@ -1,0 +1,17 @@
+use Rattle.std.proofs.Common.{◌≡◌, ◌∙◌, ap, ap₂, rules}
+use Rattle.std.proofs.lemmas.Result.{IfOk-weaker}
+use Rattle.clap.specs.Simple.{App, with_subcommand}
+use Rattle.clap.specs.Words.{app_of}
+use Rattle.clap.specs.Built.{AddsSubcommand}
+use Rattle.clap.specs.declared.builder.command.Command.{Command}
+use Rattle.qw_command_line.specs.Words.{bare_app}
+use Rattle.qw_command_line.specs.Inner.Programs.{IsApp}
+use Rattle.qw_command_line.proofs.ProgramLemmas.{subcommand_added}
+use Rattle.qw_command_line.proofs.program.program.Goals as goal
+
+pub returns : goal.returns
+returns c =
+    let bare : IsApp c.subcommand_required-program.result bare_app = record { is = search rules; local = search rules } in
+    let first = subcommand_added _ _ _ _ _ bare c.in_ok-run.ensures c.in_ok-program.ensures in
+    let second = subcommand_added _ _ _ _ _ first c.in_ok-compile.ensures c.in_ok-program-2.ensures in
+    IfOk-weaker c.subcommand-3.result _ _ (λ program adds. subcommand_added _ _ _ _ _ second c.in_ok-check.ensures adds) c.subcommand-3.ensures

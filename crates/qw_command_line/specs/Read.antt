@@ -1,0 +1,34 @@
+-- What `read` returns of the words of the command line.
+use Rattle.std.specs.Prelude.{◌≡◌, Result, Ok, Err}
+use Rattle.qw_command_line.specs.Words.{Command, Names, RunOptions, TextNames, run, compile, check, Reading, command, no_number, no_command}
+use Rattle.qw_command_line.specs.declared.command.CompileWords.{CompileWords}
+use Rattle.qw_command_line.specs.declared.command.RunOptions.{RunOptions as ReadOptions}
+use Rattle.qw_command_line.specs.declared.command.RunWords.{RunWords}
+use Rattle.qw_command_line.specs.declared.command.Command.{Command as Read}
+use Rattle.qw_command_line.specs.declared.command.Command.TheVariants.{Run, Compile, Check}
+use Rattle.qw_command_line.specs.declared.command.WordsFault.{WordsFault}
+use Rattle.qw_command_line.specs.declared.command.WordsFault.TheVariants.{Refused, StatementOutOfRange, NoMemory}
+
+-- the names that words which were read give
+abbrev pub names_of : RunWords → Names
+names_of words = record { schema = words.schema.now; folder = words.folder.now; queries = words.queries.now }
+
+-- the options that were read
+abbrev pub options_of : ReadOptions → RunOptions
+options_of options = record { pages = options.pages; steps = options.steps; quantum = options.quantum; counts = options.counts }
+
+abbrev pub texts_of : CompileWords → TextNames
+texts_of words = record { schema = words.schema.now; queries = words.queries.now }
+
+-- the command that was read
+abbrev pub command_of : Read → Command
+command_of (Run words) = run (names_of words) (options_of words.options)
+command_of (Compile words) = compile (texts_of words) words.statement
+command_of (Check file) = check file.now
+
+-- words that are read so give this answer; where memory is wanted nothing is said
+abbrev pub Answers : Reading → Result Read WordsFault → Type 0
+Answers reading (Ok read) = reading ≡ command (command_of read)
+Answers reading (Err (Refused text)) = reading ≡ no_command
+Answers reading (Err StatementOutOfRange) = reading ≡ no_number
+Answers reading (Err NoMemory) = Unit {0}

@@ -1,5 +1,0 @@
-use Rattle.qw_emit.proofs.EmptyModules.{no_query}
-use Rattle.qw_emit.proofs.compiled_laws.empty_modules.Goals as goal
-
-pub returns : goal.returns
-returns c = no_query

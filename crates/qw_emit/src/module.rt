@@ -1,0 +1,108 @@
+//! The module whose function `run` is a block's code.
+
+ghost use Rattle.std.specs.Prelude.{◌≡◌, ℕ, ◌+◌, ◌^◌, ◌≤◌, List, [], ◌∷◌, length, replicate, sum_by, IfOk};
+ghost use Rattle.std.specs.List.{AllByRecursion};
+ghost use Rattle.qw_binary.specs.Contents.{contents_of};
+ghost use Rattle.qw_binary.specs.Modules.{SpellsModule};
+ghost use Rattle.qw_types.specs.declared.value.Val.{Val};
+ghost use Rattle.qw_module.specs.declared.instruction.ValType.TheVariants.{I32};
+ghost use Rattle.qw_module.specs.declared.module.Function.{Function};
+ghost use Rattle.qw_module.specs.declared.module.Locals as runs;
+ghost use Rattle.qw_module.specs.Form.{CallsNestWithin, NeverAsksSize};
+ghost use Rattle.qw_module.specs.Start.{weight, weight_of_function};
+ghost use Rattle.qw_module.specs.Validity.{IsShaped, code_of_body, declared_types, imported_functions, sequences_of};
+ghost use Rattle.qw_map.specs.Behaving.{IsRunnable, beginning};
+ghost use Rattle.qw_map.specs.Layout.{Layout, IsReady};
+ghost use Rattle.qw_map.specs.declared.layout.Placed.{Placed};
+ghost use Rattle.qw_emit.specs.RunsOf.{RunsOf};
+ghost use Rattle.qw_low.specs.Meaning.{meaning};
+ghost use Rattle.qw_low.specs.Places.{RunsAs};
+ghost use Rattle.qw_low.specs.Size.{size};
+ghost use Rattle.qw_low.specs.State.{Own, Number, Address};
+ghost use Rattle.qw_low.specs.Steps.{steps_of};
+ghost use Rattle.qw_low.specs.Syntax.{Statement};
+ghost use Rattle.qw_low.specs.Typing.{IsTyped};
+ghost use Rattle.qw_emit.specs.Inner.Around.{IsAround};
+
+use qw_low::block::Block;
+use qw_low::body::body_of;
+use qw_module::instruction::ValType;
+use qw_module::module::{
+    Body, Export, ExportKind, FuncType, Function, Import, Limits, Locals, Module,
+};
+use qw_types::NoMemory;
+use std::alloc::Global;
+
+/// The index of the type of `raise` and `run`, the only one of the module: one i32, and no result.
+const TYPE_INDEX: u32 = 0;
+
+/// The index of the module's own function `run`, behind the imported `raise`.
+const RUN_INDEX: u32 = 1;
+
+/// Locals of these types, each declared by itself.
+fn declared(alloc: Global, types: &[ValType]) -> Result<Vec<Locals>, NoMemory>
+    ensures types { IfOk result (λ locals. declared_types locals.items ≡ types.now) }
+    ensures single { IfOk result (λ locals. AllByRecursion (λ (run : runs.Locals). run.count ≡ 1) locals.items) }
+{
+    let mut locals = Vec::new(alloc);
+    for ty in types {
+        locals.push(Locals { count: 1, ty: *ty })?;
+    }
+    Ok(locals)
+}
+
+/// The module with this body and these locals of `run`.
+fn module_around(alloc: Global, body: Body, locals: Vec<Locals>) -> Result<Module, NoMemory>
+    ensures around { IfOk result (λ m. IsAround (declared_types locals.items) (sequences_of body) m) }
+    ensures run { IfOk result (λ m. (run : Function) × (m.functions.items ≡ run ∷ []) × (run.type_index ≡ 0) × (run.locals ≡ locals) × (run.body ≡ body)) }
+{
+    let run = Function {
+        type_index: TYPE_INDEX,
+        locals,
+        body,
+    };
+    let signature = FuncType {
+        params: vec![in alloc; ValType::I32]?,
+        results: Vec::new(alloc),
+    };
+    let memory = Import::Memory(Limits { min: 1, max: None });
+    let export = Export {
+        name: String::from_str(alloc, "run")?,
+        kind: ExportKind::Function(RUN_INDEX),
+    };
+    Ok(Module {
+        types: vec![in alloc; signature]?,
+        imports: vec![in alloc; memory, Import::Raise(TYPE_INDEX)]?,
+        functions: vec![in alloc; run]?,
+        memories: Vec::new(alloc),
+        globals: Vec::new(alloc),
+        exports: vec![in alloc; export]?,
+    })
+}
+
+/// The module whose `run` does what a block does: its argument is the first local, the address of the first page, and behind it are
+/// locals of these types, which begin as 0. Of a block whose steps are a typed statement's, it can be run, it has as many instructions
+/// as the statement, with those that it calls too, its calls nest at most three deep, it never asks for the memory's size, and each of its
+/// runs over a memory that is ready is the statement's run of the first state. Of at most 2^22 instructions and 2^21 locals it is spelled in
+/// at most 64 MiB.
+///
+/// # Errors
+///
+/// [`NoMemory`] where the module does not fit memory.
+pub fn module_of(alloc: Global, block: &Block, locals: &[ValType]) -> Result<Module, NoMemory>
+    ensures runnable { IfOk result (λ m. (s : Statement) → block.now.code.items ≡ steps_of s → IsTyped (I32 ∷ locals.now) s → IsRunnable m) }
+    ensures short { IfOk result (λ m. (s : Statement) → block.now.code.items ≡ steps_of s →
+        sum_by (λ (function : Function). weight (code_of_body function.body)) m.functions.items ≡ size s) }
+    ensures light { IfOk result (λ m. (s : Statement) → block.now.code.items ≡ steps_of s → (number : ℕ) → IsShaped m number →
+        weight_of_function m (length (imported_functions m) + number) ≡ size s) }
+    ensures nests { IfOk result (λ m. (s : Statement) → block.now.code.items ≡ steps_of s → IsTyped (I32 ∷ locals.now) s → CallsNestWithin m 3) }
+    ensures no_size { IfOk result (λ m. (s : Statement) → block.now.code.items ≡ steps_of s → NeverAsksSize m) }
+    ensures spelled { IfOk result (λ m. (s : Statement) → block.now.code.items ≡ steps_of s → IsTyped (I32 ∷ locals.now) s → size s ≤ 2 ^ 22 → length locals.now ≤ 2 ^ 21 →
+        (text : List ℕ) × SpellsModule (contents_of m) text × (length text ≤ 2 ^ 26)) }
+    ensures runs { IfOk result (λ m. (s : Statement) → block.now.code.items ≡ steps_of s → RunsOf m s (length locals.now)) }
+{
+    let declared = declared(alloc, locals)?;
+    let body = body_of(alloc, &block.code)?;
+    let module = module_around(alloc, body, declared)?;
+    Ok(module)
+}

@@ -1,0 +1,3 @@
+pub mod Hash
+pub mod Key
+pub mod Row

@@ -1,5 +1,0 @@
-use Rattle.qw_meaning.proofs.EvaluationLemmas.{left_first}
-use Rattle.qw_meaning.proofs.evaluation_laws.left_operand_first.Goals as goal
-
-pub returns : goal.returns
-returns c = left_first

@@ -1,5 +1,0 @@
-use Rattle.qw_meaning.proofs.EvaluationLemmas.{is_null_known, is_known}
-use Rattle.qw_meaning.proofs.evaluation_laws.never_unknown.Goals as goal
-
-pub returns : goal.returns
-returns c = record { null = is_null_known; truth = is_known }

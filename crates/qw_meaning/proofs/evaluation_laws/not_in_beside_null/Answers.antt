@@ -1,5 +1,0 @@
-use Rattle.qw_meaning.proofs.EvaluationLemmas.{not_among}
-use Rattle.qw_meaning.proofs.evaluation_laws.not_in_beside_null.Goals as goal
-
-pub returns : goal.returns
-returns c = not_among

@@ -1,5 +1,0 @@
-use Rattle.qw_meaning.proofs.EvaluationLemmas.{null_left, null_right}
-use Rattle.qw_meaning.proofs.evaluation_laws.null_operand.Goals as goal
-
-pub returns : goal.returns
-returns c = record { left = null_left; right = null_right }

@@ -1,5 +1,0 @@
-use Rattle.qw_meaning.proofs.TypingLemmas.{typed_value}
-use Rattle.qw_meaning.proofs.typing_laws.values_are_of_their_kind.Goals as goal
-
-pub returns : goal.returns
-returns c = typed_value

@@ -1,5 +1,0 @@
-use Rattle.qw_meaning.proofs.UnitsLemmas.{coalesce_units, nested_units}
-use Rattle.qw_meaning.proofs.units_laws.coalesce.Goals as goal
-
-pub returns : goal.returns
-returns c = record { once = coalesce_units; nested = nested_units; deep = nested_units 31 }

@@ -1,0 +1,4 @@
+use Rattle.qw_octet_grammar.proofs.write.+put_leb.Given as goal
+
+abbrev pub decreases-put_leb : goal.decreases-put_leb
+decreases-put_leb l = l.most

@@ -1,0 +1,106 @@
+-- A primary is told by which token is next: the reader that asks for one token after another, as src/read does, is the one that
+-- looks at the first token.
+use Rattle.std.proofs.Common.{◌≡◌, ℕ, Bool, true, false, cond, List, [], ◌∷◌, Option, Some, None, Result, Ok, Err, refl}
+use Rattle.std.specs.Prelude.{codes}
+use Rattle.std.specs.Option.{option_map_or}
+use Rattle.qw_token.specs.Token.{Lexeme}
+use Rattle.qw_ast.specs.declared.script.Expr.{Expr}
+use Rattle.qw_ast.specs.Syntax.{Expression, Clause, expression, date}
+use Rattle.qw_ast.specs.SyntaxTree.{expression_of}
+use Rattle.qw_parse.specs.declared.read.parser.Stop.{Stop}
+use Rattle.qw_parse.specs.Inner.Parser.{Reads, is_there}
+use Rattle.qw_parse.specs.Inner.Readers.{◌>>=◌, one_at, token_at, word_at, octets_if, as_clause, case_at, coalesce_at, null_if_at, extract_at, date_at, column_at, keyed_at, primary_at, primary_by}
+
+-- ---- one token
+
+one_or : {A : Type 0} (test : Lexeme → Bool) (f : List Lexeme → A) (t : Lexeme) (ts : List Lexeme) (d : A) → option_map_or f (one_at test (t ∷ ts)) d ≡ cond (test t) (f ts) d
+unfolding one_at
+one_or test f t ts d = by_test (test t) f ts d
+  where
+    by_test : {A : Type 0} (b : Bool) (f : List Lexeme → A) (ts : List Lexeme) (d : A) → option_map_or f (cond b (Some ts) None) d ≡ cond b (f ts) d
+    by_test true f ts d = refl
+    by_test false f ts d = refl
+
+octets_or : {A : Type 0} (test : Lexeme → Bool) (f : List ℕ × List Lexeme → A) (t : Lexeme) (ts : List Lexeme) (d : A) → option_map_or f (token_at (octets_if test) (t ∷ ts)) d ≡ cond (test t) (f (t.octets, ts)) d
+unfolding token_at
+octets_or test f t ts d = by_test (test t) f t.octets ts d
+  where
+    by_test : {A : Type 0} (b : Bool) (f : List ℕ × List Lexeme → A) (octets : List ℕ) (ts : List Lexeme) (d : A) → option_map_or f (cond b (Some octets) None >>= (λ x. Some (x, ts))) d ≡ cond b (f (octets, ts)) d
+    by_test true f octets ts d = refl
+    by_test false f octets ts d = refl
+
+nothing_same : (inner : List Lexeme → Option (Clause × List Lexeme)) → primary_at inner [] ≡ primary_by inner []
+unfolding primary_at primary_by keyed_at token_at one_at column_at as_clause
+nothing_same inner = refl
+
+pub primary_same : (inner : List Lexeme → Option (Clause × List Lexeme)) (ts : List Lexeme) → primary_at inner ts ≡ primary_by inner ts
+unfolding primary_at primary_by keyed_at
+primary_same inner [] = nothing_same inner
+primary_same inner (t ∷ ts) = simp (octets_or, one_or)
+
+-- ---- a primary that begins with a word
+
+-- an expression, read as a clause
+pub as_clause_reads : (o : Option (Expression × List Lexeme)) (r : Result Expr Stop) (new : List Lexeme) → Reads expression_of o r new → Reads (λ e. expression (expression_of e)) (as_clause o) r new
+unfolding as_clause
+as_clause_reads o (Ok e) new h = rw h refl
+as_clause_reads o (Err s) new h = λ more. rw (h more) refl
+
+pub there : {A : Type 0} (o : Option A) → true ≡ is_there o → (x : A) × (o ≡ Some x)
+there None e = absurd cc
+there (Some x) e = (x, refl)
+
+pub not_there : {A : Type 0} (o : Option A) → false ≡ is_there o → o ≡ None
+not_there None e = refl
+not_there (Some x) e = absurd cc
+
+-- The key words that were asked for before, in vain: after each the tokens are the same.
+pub record Past (word : List ℕ) (ts us : List Lexeme) : Type 0 where
+  pub absent : word_at word ts ≡ None
+  pub kept : us ≡ ts
+
+module _ (inner : List Lexeme → Option (Clause × List Lexeme)) (ts : List Lexeme) where
+  pub keyed_case : (rest : List Lexeme) → word_at (codes "CASE") ts ≡ Some rest → keyed_at inner ts ≡ as_clause (case_at inner rest)
+  unfolding keyed_at
+  keyed_case rest e = rw e refl
+
+  module _ (us : List Lexeme) (no_case : Past (codes "CASE") ts us) where
+    pub keyed_coalesce : (rest : List Lexeme) → word_at (codes "COALESCE") us ≡ Some rest → keyed_at inner ts ≡ as_clause (coalesce_at inner rest)
+    unfolding keyed_at
+    keyed_coalesce rest e = let found = rw no_case.kept at e in rw (no_case.absent, found) refl
+
+    module _ (vs : List Lexeme) (no_coalesce : Past (codes "COALESCE") us vs) where
+      pub keyed_null_if : (rest : List Lexeme) → word_at (codes "NULLIF") vs ≡ Some rest → keyed_at inner ts ≡ as_clause (null_if_at inner rest)
+      unfolding keyed_at
+      keyed_null_if rest e =
+          let second = rw no_case.kept at no_coalesce.absent in
+          let found = rw (no_coalesce.kept, no_case.kept) at e in
+          rw (no_case.absent, second, found) refl
+
+      module _ (ws : List Lexeme) (no_null_if : Past (codes "NULLIF") vs ws) where
+        pub keyed_extract : (rest : List Lexeme) → word_at (codes "EXTRACT") ws ≡ Some rest → keyed_at inner ts ≡ as_clause (extract_at inner rest)
+        unfolding keyed_at
+        keyed_extract rest e =
+            let second = rw no_case.kept at no_coalesce.absent in
+            let third = rw (no_coalesce.kept, no_case.kept) at no_null_if.absent in
+            let found = rw (no_null_if.kept, no_coalesce.kept, no_case.kept) at e in
+            rw (no_case.absent, second, third, found) refl
+
+        module _ (xs : List Lexeme) (no_extract : Past (codes "EXTRACT") ws xs) where
+          pub keyed_date : (rest : List Lexeme) → word_at (codes "DATE") xs ≡ Some rest → keyed_at inner ts ≡ as_clause (date_at xs >>= (λ d. Some (date d.0.string d.0.intervals, d.1)))
+          unfolding keyed_at
+          keyed_date rest e =
+              let second = rw no_case.kept at no_coalesce.absent in
+              let third = rw (no_coalesce.kept, no_case.kept) at no_null_if.absent in
+              let fourth = rw (no_null_if.kept, no_coalesce.kept, no_case.kept) at no_extract.absent in
+              let found = rw (no_extract.kept, no_null_if.kept, no_coalesce.kept, no_case.kept) at e in
+              rw (no_case.absent, second, third, fourth, found, no_extract.kept, no_null_if.kept, no_coalesce.kept, no_case.kept) refl
+
+          pub keyed_column : word_at (codes "DATE") xs ≡ None → keyed_at inner ts ≡ as_clause (column_at xs)
+          unfolding keyed_at
+          keyed_column e =
+              let second = rw no_case.kept at no_coalesce.absent in
+              let third = rw (no_coalesce.kept, no_case.kept) at no_null_if.absent in
+              let fourth = rw (no_null_if.kept, no_coalesce.kept, no_case.kept) at no_extract.absent in
+              let gone = rw (no_extract.kept, no_null_if.kept, no_coalesce.kept, no_case.kept) at e in
+              rw (no_case.absent, second, third, fourth, gone, no_extract.kept, no_null_if.kept, no_coalesce.kept, no_case.kept) refl

@@ -1,0 +1,272 @@
+-- Queries are read exactly, where expressions and conditions are; so tokens are one query at most.
+use Rattle.std.proofs.Common.{◌≡◌, ℕ, ◌<◌, ◌≤◌, false, List, [], ◌∷◌, length, Option, Some, None, refl, sym, ap, subst, ◌∙◌, arith, inl, inr}
+use Rattle.std.specs.Prelude.{codes, IsTrue}
+use Rattle.std.proofs.lemmas.Bool.{cases_Bool, false≢true}
+use Rattle.qw_token.specs.Token.{Lexeme}
+use Rattle.qw_token.specs.declared.token.Kind.TheVariants.{Word}
+use Rattle.qw_ast.specs.Grammar.{folded}
+use Rattle.qw_ast.specs.Syntax.{Condition, Clause, condition, expression, SelectItem, Selected, all_columns, items, Select}
+use Rattle.qw_ast.specs.ScriptGrammar.{is_word, is_symbol, is_name, is_regular, is_comma, IsOperator, operator, AreFurther, IsNested, IsNaming, unnamed, named, named_as, IsItem, item, IsSelectList, asterisk, some_items, IsOptionalAll, all_absent, all_there, IsFilter, unfiltered, filtered, IsSelect, a_select, IsSelectOf}
+use Rattle.qw_parse.specs.Inner.Readers.{token_at, word_at, symbol_at, octets_if, further_at, expression_at, condition_at, the_condition, nested_at, naming_at, item_at, select_list_at, behind_all, filter_at, select_at, whole, select_of}
+use Rattle.qw_parse.proofs.LoopLemmas.{bind_some, some_same, cases_option}
+use Rattle.qw_parse.proofs.TokenLemmas.{word_is, symbol_is, Front, front, one_takes, one_is, one_not, one_none, Found, found, token_takes, token_is, token_not, token_none, octets_found, octets_are, strength, Stops, stops_at, stops_none}
+use Rattle.qw_parse.proofs.ExactLemmas.{starts, Starts, starts_not, Exact, series_front, list_takes, list_is, other_word, no_word, word_stops, symbol_stops}
+use Rattle.qw_parse.proofs.PrimaryLemmas.{name_no_word, expression_takes, expression_is}
+use Rattle.qw_parse.proofs.ConditionLemmas.{nested_exact, the_condition_is}
+
+-- ---- what ends a name
+
+-- no name and no AS
+pub record EndsName (ts : List Lexeme) : Type 0 where
+  pub no_as : word_at (codes "AS") ts ≡ None
+  pub no_name : token_at (octets_if is_name) ts ≡ None
+
+-- and nothing that goes on with an expression
+pub record EndsItem (ts : List Lexeme) : Type 0 where
+  pub stops : Stops 1 ts
+  pub name : EndsName ts
+
+not_name : (t : Lexeme) (rest : List Lexeme) → is_name t ≡ false → token_at (octets_if is_name) (t ∷ rest) ≡ None
+not_name t rest h = token_not (octets_if is_name) t rest (rw h refl)
+
+word_ends : (w : List ℕ) (t : Lexeme) (rest : List Lexeme) → folded w ≡ w → is_name (record { kind = Word; octets = w }) ≡ false → is_word (codes "AS") (record { kind = Word; octets = w }) ≡ false → IsTrue (is_word w t) → EndsName (t ∷ rest)
+word_ends w t rest f no_name no_as h =
+    let i = word_is w t h in
+    record { no_as = other_word w (codes "AS") t rest f no_as h; no_name = not_name t rest (rw (i.0, i.1) (rw f at no_name)) }
+
+comma_ends : (o : Unit {0}) (ts rest : List Lexeme) → IsOperator is_comma o ts rest → EndsItem ts
+comma_ends _ _ _ (operator o t rest h) =
+    elim (cases_Bool (is_symbol (codes ",") t)) [
+      | inr e ↦ absurd (let none : None ≡ Some o = rw e at h in cc)
+      | inl e ↦ (
+          let i = symbol_is (codes ",") t e in
+          record {
+            stops = symbol_stops (codes ",") 1 t rest refl (omega arith) e;
+            name = record { no_as = no_word (codes ",") (codes "AS") t rest e; no_name = not_name t rest (rw i.0 refl) };
+          })
+    ]
+
+from_ends : (t : Lexeme) (rest : List Lexeme) → IsTrue (is_word (codes "FROM") t) → EndsItem (t ∷ rest)
+from_ends t rest h = record { stops = word_stops (codes "FROM") 1 t rest refl refl (omega arith) h; name = word_ends (codes "FROM") t rest refl refl refl h }
+
+none_ends : EndsName []
+none_ends = record { no_as = one_none (is_word (codes "AS")); no_name = token_none (octets_if is_name) }
+
+-- ---- a name
+
+named_made : (n : List ℕ) (ts rest : List Lexeme) → Found (octets_if is_name) n ts rest → IsNaming (Some n) ts rest
+named_made _ _ _ (found n t rest h) = let o = octets_found is_name t n h in subst (λ x. IsNaming (Some x) (t ∷ rest) rest) o.1 (named t rest o.0)
+
+named_as_made : (n : List ℕ) (ts us rest : List Lexeme) → Front (is_word (codes "AS")) ts us → Found (octets_if is_name) n us rest → IsNaming (Some n) ts rest
+named_as_made _ _ _ _ (front w _ f) (found n t rest h) = let o = octets_found is_name t n h in subst (λ x. IsNaming (Some x) (w ∷ t ∷ rest) rest) o.1 (named_as w t rest f o.0)
+
+naming_takes : (ts : List Lexeme) (x : Option (List ℕ) × List Lexeme) → naming_at ts ≡ Some x → IsNaming x.0 ts x.1
+unfolding naming_at
+naming_takes ts x e =
+    elim (cases_option (word_at (codes "AS") ts)) [
+      | inr us ↦ (
+          let t = bind_some (token_at (octets_if is_name) us.0) _ x (rw us.1 at e) in
+          subst (λ (y : Option (List ℕ) × List Lexeme). IsNaming y.0 ts y.1) (some_same (Some t.0.0, t.0.1) x t.2) (named_as_made t.0.0 ts us.0 t.0.1 (one_takes (is_word (codes "AS")) ts us.0 us.1) (token_takes (octets_if is_name) us.0 t.0 t.1)))
+      | inl no_as ↦ elim (cases_option (token_at (octets_if is_name) ts)) [
+        | inr t ↦ subst (λ (y : Option (List ℕ) × List Lexeme). IsNaming y.0 ts y.1) (some_same (Some t.0.0, t.0.1) x (rw (no_as, t.1) at e)) (named_made t.0.0 ts t.0.1 (token_takes (octets_if is_name) ts t.0 t.1))
+        | inl no_name ↦ subst (λ (y : Option (List ℕ) × List Lexeme). IsNaming y.0 ts y.1) (some_same (None, ts) x (rw (no_as, no_name) at e)) (unnamed ts)
+      ]
+    ]
+
+naming_is : (n : Option (List ℕ)) (ts rest : List Lexeme) → IsNaming n ts rest → EndsName rest → naming_at ts ≡ Some (n, rest)
+unfolding naming_at
+naming_is _ _ _ (unnamed rest) ends = rw (ends.no_as, ends.no_name) refl
+naming_is _ _ _ (named t rest h) ends = rw (one_not (is_word (codes "AS")) t rest (name_no_word (codes "AS") t refl refl h), token_is (octets_if is_name) t rest t.octets (octets_are is_name t h)) refl
+naming_is _ _ _ (named_as w t rest f h) ends = rw (one_is (is_word (codes "AS")) w (t ∷ rest) f, token_is (octets_if is_name) t rest t.octets (octets_are is_name t h)) refl
+
+naming_shorter : (n : Option (List ℕ)) (ts rest : List Lexeme) → IsNaming n ts rest → length rest ≤ length ts
+naming_shorter _ _ _ (unnamed rest) = omega arith
+naming_shorter _ _ _ (named t rest h) = omega arith
+naming_shorter _ _ _ (named_as w t rest f h) = omega arith
+
+-- what stops an expression stands there
+naming_stops : (n : Option (List ℕ)) (ts rest : List Lexeme) → IsNaming n ts rest → Stops 1 rest → Stops 1 ts
+naming_stops _ _ _ (unnamed rest) ends = ends
+naming_stops _ _ _ (named t rest h) ends = let s : strength t ≡ 0 = rw h refl in stops_at 1 t rest (omega (arith, s))
+naming_stops _ _ _ (named_as w t rest f h) ends = word_stops (codes "AS") 1 w (t ∷ rest) refl refl (omega arith) f
+
+starts_no_asterisk : (ts : List Lexeme) → Starts ts → symbol_at (codes "*") ts ≡ None
+unfolding Starts
+starts_no_asterisk [] h = absurd h
+starts_no_asterisk (t ∷ ts) h =
+    elim (cases_Bool (is_symbol (codes "*") t)) [
+      | inl e ↦ absurd (let i = symbol_is (codes "*") t e in let never : starts t ≡ false = rw (i.0, i.1) refl in false≢true (sym never ∙ h))
+      | inr e ↦ one_not (is_symbol (codes "*")) t ts e
+    ]
+
+module _ (Inner : Clause → List Lexeme → List Lexeme → Type 0) (inner : List Lexeme → Option (Clause × List Lexeme)) (reads : Exact Inner (Stops 1) inner) where
+  -- ---- a select list
+
+  item_takes : (ts : List Lexeme) (x : SelectItem × List Lexeme) → item_at inner ts ≡ Some x → IsItem Inner x.0 ts x.1
+  unfolding item_at
+  item_takes ts x e =
+      let v = bind_some (expression_at inner ts) _ x e in
+      let n = bind_some (naming_at v.0.1) _ x v.2 in
+      subst (λ (y : SelectItem × List Lexeme). IsItem Inner y.0 ts y.1) (some_same (record { value = v.0.0; name = n.0.0 }, n.0.1) x n.2)
+      (item v.0.0 n.0.0 ts v.0.1 n.0.1 (expression_takes Inner inner reads ts v.0 v.1) (naming_takes v.0.1 n.0 n.1))
+
+  item_is : (i : SelectItem) (ts rest : List Lexeme) → IsItem Inner i ts rest → EndsItem rest → item_at inner ts ≡ Some (i, rest)
+  unfolding item_at
+  item_is _ _ _ (item e n ts us rest h i) ends = rw (expression_is Inner inner reads e ts us h (naming_stops n us rest i ends.stops), naming_is n us rest i ends.name) refl
+
+  item_shorter : (i : SelectItem) (ts rest : List Lexeme) → IsItem Inner i ts rest → length rest < length ts
+  item_shorter _ _ _ (item e n ts us rest h i) =
+      let p = reads.shorter (expression e) ts us h in
+      let q = naming_shorter n us rest i in
+      omega (arith, p, q)
+
+  item_begins : (i : SelectItem) (ts rest : List Lexeme) → IsItem Inner i ts rest → Starts ts
+  item_begins _ _ _ (item e n ts us rest h i) = reads.begins (expression e) ts us h
+
+  pub item_exact : Exact (IsItem Inner) EndsItem (item_at inner)
+  item_exact = record { takes = item_takes; is = item_is; shorter = item_shorter; begins = item_begins }
+
+  items_take : (ts : List Lexeme) (x : List SelectItem × List Lexeme) → further_at (item_at inner) ts ≡ Some x → AreFurther (IsItem Inner) x.0 ts x.1
+  unfolding further_at
+  items_take ts x e = list_takes is_comma EndsItem item_exact ts x e
+
+  items_are : (xs : List SelectItem) (ts rest : List Lexeme) → AreFurther (IsItem Inner) xs ts rest → EndsItem rest → token_at is_comma rest ≡ None → further_at (item_at inner) ts ≡ Some (xs, rest)
+  unfolding further_at
+  items_are xs ts rest h ends none = list_is is_comma EndsItem item_exact comma_ends xs ts rest h ends none
+
+  items_end : (xs : List SelectItem) (ts rest : List Lexeme) → AreFurther (IsItem Inner) xs ts rest → EndsItem rest → EndsItem ts
+  items_end xs ts rest h ends =
+      elim (series_front EndsItem comma_ends xs ts rest h) [
+        | inl none ↦ subst EndsItem (sym none.1) ends
+        | inr hit ↦ hit
+      ]
+
+  asterisk_made : (ts rest : List Lexeme) → Front (is_symbol (codes "*")) ts rest → IsSelectList Inner all_columns ts rest
+  asterisk_made _ _ (front t rest h) = asterisk t rest h
+
+  select_list_takes : (ts : List Lexeme) (x : Selected × List Lexeme) → select_list_at inner ts ≡ Some x → IsSelectList Inner x.0 ts x.1
+  unfolding select_list_at
+  select_list_takes ts x e =
+      elim (cases_option (symbol_at (codes "*") ts)) [
+        | inr rest ↦ subst (λ (y : Selected × List Lexeme). IsSelectList Inner y.0 ts y.1) (some_same (all_columns, rest.0) x (rw rest.1 at e)) (asterisk_made ts rest.0 (one_takes (is_symbol (codes "*")) ts rest.0 rest.1))
+        | inl none ↦ (
+            let i = bind_some (item_at inner ts) _ x (rw none at e) in
+            let more = bind_some (further_at (item_at inner) i.0.1) _ x i.2 in
+            subst (λ (y : Selected × List Lexeme). IsSelectList Inner y.0 ts y.1) (some_same (items (i.0.0 ∷ more.0.0), more.0.1) x more.2)
+            (some_items i.0.0 more.0.0 ts i.0.1 more.0.1 (item_takes ts i.0 i.1) (items_take i.0.1 more.0 more.1)))
+      ]
+
+  select_list_is : (l : Selected) (ts rest : List Lexeme) → IsSelectList Inner l ts rest → EndsItem rest → token_at is_comma rest ≡ None → select_list_at inner ts ≡ Some (l, rest)
+  unfolding select_list_at
+  select_list_is _ _ _ (asterisk t rest h) ends none = rw (one_is (is_symbol (codes "*")) t rest h) refl
+  select_list_is _ _ _ (some_items i xs ts us rest h more) ends none =
+      rw (starts_no_asterisk ts (item_begins i ts us h), item_is i ts us h (items_end xs us rest more ends), items_are xs us rest more ends none) refl
+
+  select_list_no_all : (l : Selected) (ts rest : List Lexeme) → IsSelectList Inner l ts rest → word_at (codes "ALL") ts ≡ None
+  select_list_no_all _ _ _ (asterisk t rest h) = no_word (codes "*") (codes "ALL") t rest h
+  select_list_no_all _ _ _ (some_items i xs ts us rest h more) = starts_not (codes "ALL") refl refl ts (item_begins i ts us h)
+
+  -- ---- ALL and WHERE
+
+  all_made : (ts us : List Lexeme) → Front (is_word (codes "ALL")) ts us → IsOptionalAll ts us
+  all_made _ _ (front t rest h) = all_there t rest h
+
+  all_takes : (ts : List Lexeme) → IsOptionalAll ts (behind_all ts)
+  unfolding behind_all
+  all_takes ts =
+      elim (cases_option (word_at (codes "ALL") ts)) [
+        | inl none ↦ rw none (all_absent ts)
+        | inr us ↦ rw us.1 (all_made ts us.0 (one_takes (is_word (codes "ALL")) ts us.0 us.1))
+      ]
+
+  all_is : (ts rest : List Lexeme) → IsOptionalAll ts rest → word_at (codes "ALL") rest ≡ None → behind_all ts ≡ rest
+  unfolding behind_all
+  all_is _ _ (all_absent rest) none = rw none refl
+  all_is _ _ (all_there t rest h) none = rw (one_is (is_word (codes "ALL")) t rest h) refl
+
+  inner_condition_takes : (ts : List Lexeme) (x : Condition × List Lexeme) → condition_at inner ts ≡ Some x → Inner (condition x.0) ts x.1
+  unfolding condition_at
+  inner_condition_takes ts x e =
+      let c = bind_some (inner ts) _ x e in
+      let d = bind_some (the_condition c.0.0) _ x c.2 in
+      subst (λ (y : Condition × List Lexeme). Inner (condition y.0) ts y.1) (some_same (d.0, c.0.1) x d.2) (subst (λ y. Inner y ts c.0.1) (the_condition_is c.0.0 d.0 d.1) (reads.takes ts c.0 c.1))
+
+  filter_made : (c : Condition) (ts us rest : List Lexeme) → Front (is_word (codes "WHERE")) ts us → Inner (condition c) us rest → IsFilter Inner (Some c) ts rest
+  filter_made c _ us rest (front w _ f) h = filtered c w us rest f h
+
+  filter_takes : (ts : List Lexeme) (x : Option Condition × List Lexeme) → filter_at inner ts ≡ Some x → IsFilter Inner x.0 ts x.1
+  unfolding filter_at
+  filter_takes ts x e =
+      elim (cases_option (word_at (codes "WHERE") ts)) [
+        | inl none ↦ subst (λ (y : Option Condition × List Lexeme). IsFilter Inner y.0 ts y.1) (some_same (None, ts) x (rw none at e)) (unfiltered ts)
+        | inr us ↦ (
+            let c = bind_some (condition_at inner us.0) _ x (rw us.1 at e) in
+            subst (λ (y : Option Condition × List Lexeme). IsFilter Inner y.0 ts y.1) (some_same (Some c.0.0, c.0.1) x c.2) (filter_made c.0.0 ts us.0 c.0.1 (one_takes (is_word (codes "WHERE")) ts us.0 us.1) (inner_condition_takes us.0 c.0 c.1)))
+      ]
+
+  filter_is : (f : Option Condition) (ts rest : List Lexeme) → IsFilter Inner f ts rest → rest ≡ [] → filter_at inner ts ≡ Some (f, rest)
+  unfolding filter_at condition_at
+  filter_is _ _ _ (unfiltered rest) end = rw (ap (word_at (codes "WHERE")) end ∙ one_none (is_word (codes "WHERE"))) refl
+  filter_is _ _ _ (filtered c w ts rest f h) end = rw (one_is (is_word (codes "WHERE")) w ts f, reads.is (condition c) ts rest h (subst (Stops 1) (sym end) (stops_none 1))) refl
+
+  filter_ends : (f : Option Condition) (ts rest : List Lexeme) → IsFilter Inner f ts rest → rest ≡ [] → EndsName ts
+  filter_ends _ _ _ (unfiltered rest) end = subst EndsName (sym end) none_ends
+  filter_ends _ _ _ (filtered c w ts rest f h) end = word_ends (codes "WHERE") w ts refl refl refl f
+
+  -- ---- a query
+
+  select_made : (l : Selected) (n : List ℕ) (alias : Option (List ℕ)) (f : Option Condition) (ts us vs ws xs ys zs rest : List Lexeme) → Front (is_word (codes "SELECT")) ts us → IsOptionalAll us vs → IsSelectList Inner l vs ws → Front (is_word (codes "FROM")) ws xs
+      → Found (octets_if is_regular) n xs ys → IsNaming alias ys zs → IsFilter Inner f zs rest → IsSelect Inner (record { selected = l; table = n; alias = alias; filter = f }) ts rest
+  select_made l _ alias f _ us vs _ _ ys zs rest (front w _ a) all h (front v _ b) (found n t _ c) i j =
+      let o = octets_found is_regular t n c in
+      subst (λ x. IsSelect Inner (record { selected = l; table = x; alias = alias; filter = f }) (w ∷ us) rest) o.1 (a_select l alias f w v t us vs ys zs rest a all h b o.0 i j)
+
+  pub select_takes : (ts : List Lexeme) (x : Select × List Lexeme) → select_at inner ts ≡ Some x → IsSelect Inner x.0 ts x.1
+  unfolding select_at
+  select_takes ts x e =
+      let us = bind_some (word_at (codes "SELECT") ts) _ x e in
+      let l = bind_some (select_list_at inner (behind_all us.0)) _ x us.2 in
+      let vs = bind_some (word_at (codes "FROM") l.0.1) _ x l.2 in
+      let t = bind_some (token_at (octets_if is_regular) vs.0) _ x vs.2 in
+      let alias = bind_some (naming_at t.0.1) _ x t.2 in
+      let f = bind_some (filter_at inner alias.0.1) _ x alias.2 in
+      subst (λ (y : Select × List Lexeme). IsSelect Inner y.0 ts y.1) (some_same (record { selected = l.0.0; table = t.0.0; alias = alias.0.0; filter = f.0.0 }, f.0.1) x f.2)
+      (select_made l.0.0 t.0.0 alias.0.0 f.0.0 ts us.0 (behind_all us.0) l.0.1 vs.0 t.0.1 alias.0.1 f.0.1 (one_takes (is_word (codes "SELECT")) ts us.0 us.1) (all_takes us.0) (select_list_takes (behind_all us.0) l.0 l.1)
+      (one_takes (is_word (codes "FROM")) l.0.1 vs.0 vs.1) (token_takes (octets_if is_regular) vs.0 t.0 t.1) (naming_takes t.0.1 alias.0 alias.1) (filter_takes alias.0.1 f.0 f.1))
+
+  from_no_comma : (t : Lexeme) (rest : List Lexeme) → IsTrue (is_word (codes "FROM") t) → token_at is_comma (t ∷ rest) ≡ None
+  from_no_comma t rest h = let i = word_is (codes "FROM") t h in token_not is_comma t rest (rw i.0 refl)
+
+  pub select_is : (s : Select) (ts rest : List Lexeme) → IsSelect Inner s ts rest → rest ≡ [] → select_at inner ts ≡ Some (s, rest)
+  unfolding select_at
+  select_is _ _ _ (a_select l alias f w v t ts us vs ws rest a all h b c i j) end =
+      rw (
+        one_is (is_word (codes "SELECT")) w ts a,
+        all_is ts us all (select_list_no_all l us (v ∷ t ∷ vs) h),
+        select_list_is l us (v ∷ t ∷ vs) h (from_ends v (t ∷ vs) b) (from_no_comma v (t ∷ vs) b),
+        one_is (is_word (codes "FROM")) v (t ∷ vs) b,
+        token_is (octets_if is_regular) t vs t.octets (octets_are is_regular t c),
+        naming_is alias vs ws i (filter_ends f ws rest j end),
+        filter_is f ws rest j end,
+      ) refl
+
+-- ---- all tokens
+
+whole_some : (o : Option (Select × List Lexeme)) (s : Select) → whole o ≡ Some s → o ≡ Some (s, [])
+whole_some None s e = absurd cc
+whole_some (Some (t, [])) s e = ap (λ (x : Select). Some (x, [])) (some_same t s e)
+whole_some (Some (t, u ∷ us)) s e = absurd cc
+
+-- what is read is the query that the tokens are
+pub select_read : (ts : List Lexeme) (s : Select) → select_of ts ≡ Some s → IsSelectOf ts s
+unfolding select_of
+select_read ts s e = select_takes (IsNested 33) (nested_at 33) (nested_exact 33) ts (s, []) (whole_some (select_at (nested_at 33) ts) s e)
+
+-- the query that they are is read
+pub select_is_read : (ts : List Lexeme) (s : Select) → IsSelectOf ts s → select_of ts ≡ Some s
+unfolding select_of
+select_is_read ts s h = rw (select_is (IsNested 33) (nested_at 33) (nested_exact 33) s ts [] h refl) refl
+
+-- so they are one at most
+pub one_select : (ts : List Lexeme) (s t : Select) → IsSelectOf ts s → IsSelectOf ts t → s ≡ t
+one_select ts s t h i = some_same s t (sym (select_is_read ts s h) ∙ select_is_read ts t i)

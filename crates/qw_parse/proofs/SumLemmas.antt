@@ -1,0 +1,515 @@
+-- Primaries, factors, terms and sums are read exactly, where what stands in brackets and in CASE is.
+use Rattle.std.proofs.Common.{◌≡◌, ℕ, ◌<◌, ◌≤◌, true, false, ◌||◌, List, [], ◌∷◌, length, Option, Some, None, refl, sym, subst, ◌∙◌, arith, inl, inr}
+use Rattle.std.specs.Prelude.{◌⊎◌, codes, IsTrue}
+use Rattle.std.proofs.lemmas.Bool.{cases_Bool, or_left, or_right}
+use Rattle.qw_token.specs.Token.{Lexeme}
+use Rattle.qw_token.specs.declared.token.Kind.TheVariants.{Word, Symbol}
+use Rattle.qw_scalar.specs.declared.expression.Operator.{Operator}
+use Rattle.qw_ast.specs.declared.script.Sign.{Sign}
+use Rattle.qw_ast.specs.Grammar.{folded}
+use Rattle.qw_ast.specs.Syntax.{Expression, number, text, date, column, signed, arithmetic, Condition, Clause, condition, expression}
+use Rattle.qw_ast.specs.ScriptGrammar.{is_word, is_symbol, is_number, is_string, is_name, sign_of, addition_of, multiplication_of, Series, first, IsOperator, operator, Dated, IsPrimary, a_number, a_string, a_date, a_column, a_qualified_column, brackets, a_searched_case, a_simple_case, a_coalesce, a_null_if, an_extract, IsFactor, unsigned_factor, signed_factor, IsTerm, IsValueExpression}
+use Rattle.qw_parse.specs.Inner.Readers.{◌>>=◌, token_at, word_at, symbol_at, octets_if, the_expression, case_at, coalesce_at, null_if_at, extract_at, brackets_at, column_at, date_at, as_clause, in_brackets, primary_of, primary_at, interval_sign_at, factor_at, join_arithmetic, term_at, sum_at}
+use Rattle.qw_parse.proofs.LoopLemmas.{bind_some, some_same, cases_option, series_begins}
+use Rattle.qw_parse.proofs.TokenLemmas.{word_is, symbol_is, Front, front, one_takes, one_is, one_not, Found, found, token_takes, token_is, token_not, octets_found, octets_are, choose, strength, Stops, stops_at, stops_weaker, stops_one, stops_token, strong_symbol}
+use Rattle.qw_parse.proofs.RankLemmas.{rank_exact}
+use Rattle.qw_parse.proofs.ExactLemmas.{starts, Starts, starts_at, starts_not, Exact, other_word, date_takes, date_is, date_shorter, date_begins}
+use Rattle.qw_parse.proofs.PrimaryLemmas.{the_expression_is, string_no_number, name_kind, name_no_symbol, name_no_word, number_no_symbol, string_no_symbol, number_no_word, string_no_word, Of, IsBracketed, between_brackets, EndsPrimary, as_clause_some, as_clause_is, case_takes, searched_is, simple_is, coalesce_takes, coalesce_is, null_if_takes, null_if_is, extract_takes, extract_is, closing_ends, branches_shorter, else_shorter, further_down}
+
+-- ---- what the operators are
+
+pub sign_symbol : (t : Lexeme) (s : Sign) → sign_of t ≡ Some s → IsTrue (is_symbol (codes "+") t) ⊎ IsTrue (is_symbol (codes "-") t)
+sign_symbol t s e =
+    elim (cases_Bool (is_symbol (codes "+") t)) [
+      | inl h ↦ inl h
+      | inr h ↦ elim (cases_Bool (is_symbol (codes "-") t)) [
+        | inl i ↦ inr i
+        | inr i ↦ absurd (let none : None ≡ Some s = rw (h, i) at e in cc)
+      ]
+    ]
+
+pub addition_symbol : (t : Lexeme) (o : Operator) → addition_of t ≡ Some o → IsTrue (is_symbol (codes "+") t) ⊎ IsTrue (is_symbol (codes "-") t)
+addition_symbol t o e =
+    elim (cases_Bool (is_symbol (codes "+") t)) [
+      | inl h ↦ inl h
+      | inr h ↦ elim (cases_Bool (is_symbol (codes "-") t)) [
+        | inl i ↦ inr i
+        | inr i ↦ absurd (let none : None ≡ Some o = rw (h, i) at e in cc)
+      ]
+    ]
+
+multiplication_symbol : (t : Lexeme) (o : Operator) → multiplication_of t ≡ Some o → IsTrue (is_symbol (codes "*") t) ⊎ IsTrue (is_symbol (codes "/") t)
+multiplication_symbol t o e =
+    elim (cases_Bool (is_symbol (codes "*") t)) [
+      | inl h ↦ inl h
+      | inr h ↦ elim (cases_Bool (is_symbol (codes "/") t)) [
+        | inl i ↦ inr i
+        | inr i ↦ absurd (let none : None ≡ Some o = rw (h, i) at e in cc)
+      ]
+    ]
+
+pub addition_strong : (t : Lexeme) (o : Operator) → addition_of t ≡ Some o → strength t ≡ 5
+addition_strong t o e =
+    elim (addition_symbol t o e) [
+      | inl h ↦ strong_symbol (codes "+") 5 t refl h
+      | inr h ↦ strong_symbol (codes "-") 5 t refl h
+    ]
+
+pub multiplication_strong : (t : Lexeme) (o : Operator) → multiplication_of t ≡ Some o → strength t ≡ 6
+multiplication_strong t o e =
+    elim (multiplication_symbol t o e) [
+      | inl h ↦ strong_symbol (codes "*") 6 t refl h
+      | inr h ↦ strong_symbol (codes "/") 6 t refl h
+    ]
+
+pub sign_strong : (t : Lexeme) (s : Sign) → sign_of t ≡ Some s → strength t ≡ 5
+sign_strong t s e =
+    elim (sign_symbol t s e) [
+      | inl h ↦ strong_symbol (codes "+") 5 t refl h
+      | inr h ↦ strong_symbol (codes "-") 5 t refl h
+    ]
+
+symbol_strong : (s : List ℕ) (n m : ℕ) → strength (record { kind = Symbol; octets = s }) ≡ m → n ≤ m → (t : Lexeme) → IsTrue (is_symbol s t) → n ≤ strength t
+symbol_strong s n m e le t h = let z = strong_symbol s m t e h in omega (arith, z, le)
+
+-- ---- what stops a factor
+
+-- no sign before INTERVAL
+pub no_interval : (ts : List Lexeme) → token_at sign_of ts ≡ None → interval_sign_at ts ≡ None
+unfolding interval_sign_at
+no_interval ts e = rw e refl
+
+-- nothing as strong as a point follows, and no interval
+pub record EndsFactor (n : ℕ) (ts : List Lexeme) : Type 0 where
+  pub stops : Stops n ts
+  pub no_interval : interval_sign_at ts ≡ None
+
+ends_primary : (n : ℕ) (ts : List Lexeme) → n ≤ 7 → EndsFactor n ts → EndsPrimary ts
+ends_primary n ts le ends =
+    let s = stops_weaker n 7 ts le ends.stops in
+    record {
+      no_point = stops_one 7 (is_symbol (codes ".")) (symbol_strong (codes ".") 7 7 refl (omega arith)) ts s;
+      date = record {
+        no_brackets = stops_one 7 (is_symbol (codes "(")) (symbol_strong (codes "(") 7 7 refl (omega arith)) ts s;
+        no_interval = ends.no_interval;
+      };
+    }
+
+pub stops_factor : (n : ℕ) (ts : List Lexeme) → n ≤ 5 → Stops n ts → EndsFactor n ts
+stops_factor n ts le h = record {
+  stops = h;
+  no_interval = no_interval ts (stops_token n sign_of (λ t s e. let z = sign_strong t s e in omega (arith, z, le)) ts h);
+}
+
+module _ (Inner : Clause → List Lexeme → List Lexeme → Type 0) (inner : List Lexeme → Option (Clause × List Lexeme)) (reads : Exact Inner (Stops 1) inner) where
+  -- ---- brackets and columns
+
+  brackets_made : (c : Clause) (t : Lexeme) (ts us rest : List Lexeme) → IsTrue (is_symbol (codes "(") t) → Inner c ts us → Front (is_symbol (codes ")")) us rest → Of (IsPrimary Inner) (IsBracketed Inner) (in_brackets c) (t ∷ ts) rest
+  brackets_made (expression e) t ts _ rest f h (front c _ g) = brackets e t c ts rest f h g
+  brackets_made (condition d) t ts _ rest f h (front c _ g) = between_brackets d t c ts rest f h g
+
+  brackets_takes : (t : Lexeme) → IsTrue (is_symbol (codes "(") t) → (ts : List Lexeme) (x : Clause × List Lexeme) → brackets_at inner ts ≡ Some x → Of (IsPrimary Inner) (IsBracketed Inner) x.0 (t ∷ ts) x.1
+  unfolding brackets_at
+  brackets_takes t f ts x e =
+      let c = bind_some (inner ts) _ x e in
+      let rest = bind_some (symbol_at (codes ")") c.0.1) _ x c.2 in
+      subst (λ (y : Clause × List Lexeme). Of (IsPrimary Inner) (IsBracketed Inner) y.0 (t ∷ ts) y.1) (some_same (in_brackets c.0.0, rest.0) x rest.2)
+      (brackets_made c.0.0 t ts c.0.1 rest.0 f (reads.takes ts c.0 c.1) (one_takes (is_symbol (codes ")")) c.0.1 rest.0 rest.1))
+
+  brackets_are : (c : Clause) (closing : Lexeme) (ts rest : List Lexeme) → Inner c ts (closing ∷ rest) → IsTrue (is_symbol (codes ")") closing) → brackets_at inner ts ≡ Some (in_brackets c, rest)
+  unfolding brackets_at
+  brackets_are c closing ts rest h g = rw (reads.is c ts (closing ∷ rest) h (closing_ends Inner inner reads closing rest g), one_is (is_symbol (codes ")")) closing rest g) refl
+
+  column_made : (n : List ℕ) (ts rest : List Lexeme) → Found (octets_if is_name) n ts rest → IsPrimary Inner (column None n) ts rest
+  column_made _ _ _ (found n t rest h) = let o = octets_found is_name t n h in subst (λ x. IsPrimary Inner (column None x) (t ∷ rest) rest) o.1 (a_column t rest o.0)
+
+  qualified_made : (q n : List ℕ) (ts us vs rest : List Lexeme) → Found (octets_if is_name) q ts us → Front (is_symbol (codes ".")) us vs → Found (octets_if is_name) n vs rest → IsPrimary Inner (column (Some q) n) ts rest
+  qualified_made _ _ _ _ _ _ (found q t _ h) (front p _ f) (found n u rest i) =
+      let a = octets_found is_name t q h in
+      let b = octets_found is_name u n i in
+      subst (λ x. IsPrimary Inner (column (Some x) n) (t ∷ p ∷ u ∷ rest) rest) a.1
+      (subst (λ x. IsPrimary Inner (column (Some t.octets) x) (t ∷ p ∷ u ∷ rest) rest) b.1 (a_qualified_column t p u rest a.0 f b.0))
+
+  column_takes : (ts : List Lexeme) (x : Expression × List Lexeme) → column_at ts ≡ Some x → IsPrimary Inner x.0 ts x.1
+  unfolding column_at
+  column_takes ts x e =
+      let q = bind_some (token_at (octets_if is_name) ts) _ x e in
+      let is_q = token_takes (octets_if is_name) ts q.0 q.1 in
+      elim (cases_option (symbol_at (codes ".") q.0.1)) [
+        | inl none ↦ subst (λ (y : Expression × List Lexeme). IsPrimary Inner y.0 ts y.1) (some_same (column None q.0.0, q.0.1) x (rw none at q.2)) (column_made q.0.0 ts q.0.1 is_q)
+        | inr us ↦ (
+            let t = bind_some (token_at (octets_if is_name) us.0) _ x (rw us.1 at q.2) in
+            subst (λ (y : Expression × List Lexeme). IsPrimary Inner y.0 ts y.1) (some_same (column (Some q.0.0) t.0.0, t.0.1) x t.2)
+            (qualified_made q.0.0 t.0.0 ts q.0.1 us.0 t.0.1 is_q (one_takes (is_symbol (codes ".")) q.0.1 us.0 us.1) (token_takes (octets_if is_name) us.0 t.0 t.1)))
+      ]
+
+  column_is : (t : Lexeme) (rest : List Lexeme) → IsTrue (is_name t) → symbol_at (codes ".") rest ≡ None → column_at (t ∷ rest) ≡ Some (column None t.octets, rest)
+  unfolding column_at
+  column_is t rest h none = rw (token_is (octets_if is_name) t rest t.octets (octets_are is_name t h), none) refl
+
+  qualified_is : (q p t : Lexeme) (rest : List Lexeme) → IsTrue (is_name q) → IsTrue (is_symbol (codes ".") p) → IsTrue (is_name t) → column_at (q ∷ p ∷ t ∷ rest) ≡ Some (column (Some q.octets) t.octets, rest)
+  unfolding column_at
+  qualified_is q p t rest h f i =
+      rw (token_is (octets_if is_name) q (p ∷ t ∷ rest) q.octets (octets_are is_name q h), one_is (is_symbol (codes ".")) p (t ∷ rest) f, token_is (octets_if is_name) t rest t.octets (octets_are is_name t i)) refl
+
+  -- ---- a primary
+
+  as_primary : (ts : List Lexeme) (o : Option (Expression × List Lexeme)) (x : Clause × List Lexeme) → as_clause o ≡ Some x → ((y : Expression × List Lexeme) → o ≡ Some y → IsPrimary Inner y.0 ts y.1) → Of (IsPrimary Inner) (IsBracketed Inner) x.0 ts x.1
+  as_primary ts o x e made =
+      let y = as_clause_some o x e in
+      subst (λ (z : Clause × List Lexeme). Of (IsPrimary Inner) (IsBracketed Inner) z.0 ts z.1) y.2 (made y.0 y.1)
+
+  date_made : (ts : List Lexeme) (y : Expression × List Lexeme) → (date_at ts >>= (λ d. Some (date d.0.string d.0.intervals, d.1))) ≡ Some y → IsPrimary Inner y.0 ts y.1
+  date_made ts y e =
+      let d = bind_some (date_at ts) _ y e in
+      subst (λ (z : Expression × List Lexeme). IsPrimary Inner z.0 ts z.1) (some_same (date d.0.0.string d.0.0.intervals, d.0.1) y d.2) (a_date d.0.0 ts d.0.1 (date_takes ts d.0 d.1))
+
+  primary_takes : (ts : List Lexeme) (x : Clause × List Lexeme) → primary_at inner ts ≡ Some x → Of (IsPrimary Inner) (IsBracketed Inner) x.0 ts x.1
+  unfolding primary_at
+  primary_takes [] x e = absurd cc
+  primary_takes (t ∷ ts) x e0 =
+      let R = λ (y : Clause × List Lexeme). Of (IsPrimary Inner) (IsBracketed Inner) y.0 (t ∷ ts) y.1 in
+      elim (choose (is_number t) _ _ x e0) [
+        | inl h ↦ subst R (some_same (expression (number t.octets), ts) x h.1) (a_number t ts h.0)
+        | inr e1 ↦ elim (choose (is_string t) _ _ x e1.1) [
+          | inl h ↦ subst R (some_same (expression (text t.octets), ts) x h.1) (a_string t ts h.0)
+          | inr e2 ↦ elim (choose (is_symbol (codes "(") t) _ _ x e2.1) [
+            | inl h ↦ brackets_takes t h.0 ts x h.1
+            | inr e3 ↦ elim (choose (is_word (codes "CASE") t) _ _ x e3.1) [
+              | inl h ↦ as_primary (t ∷ ts) (case_at inner ts) x h.1 (case_takes Inner inner reads t h.0 ts)
+              | inr e4 ↦ elim (choose (is_word (codes "COALESCE") t) _ _ x e4.1) [
+                | inl h ↦ as_primary (t ∷ ts) (coalesce_at inner ts) x h.1 (coalesce_takes Inner inner reads t h.0 ts)
+                | inr e5 ↦ elim (choose (is_word (codes "NULLIF") t) _ _ x e5.1) [
+                  | inl h ↦ as_primary (t ∷ ts) (null_if_at inner ts) x h.1 (null_if_takes Inner inner reads t h.0 ts)
+                  | inr e6 ↦ elim (choose (is_word (codes "EXTRACT") t) _ _ x e6.1) [
+                    | inl h ↦ as_primary (t ∷ ts) (extract_at inner ts) x h.1 (extract_takes Inner inner reads t h.0 ts)
+                    | inr e7 ↦ elim (choose (is_word (codes "DATE") t) _ _ x e7.1) [
+                      | inl h ↦ as_primary (t ∷ ts) _ x h.1 (date_made (t ∷ ts))
+                      | inr e8 ↦ as_primary (t ∷ ts) (column_at (t ∷ ts)) x e8.1 (column_takes (t ∷ ts))
+                    ]
+                  ]
+                ]
+              ]
+            ]
+          ]
+        ]
+      ]
+
+  -- the first token tells which primary it is
+
+  by_word : (w : List ℕ) (t : Lexeme) (ts : List Lexeme) (o : Option (Clause × List Lexeme)) → IsTrue (is_word w t) → folded w ≡ w
+      → ((u : Lexeme) → u.kind ≡ Word → folded u.octets ≡ w → primary_of inner u ts ≡ o) → primary_at inner (t ∷ ts) ≡ o
+  unfolding primary_at
+  by_word w t ts o h f same = let is = word_is w t h in same t is.0 is.1
+
+  name_primary : (t : Lexeme) (ts : List Lexeme) → IsTrue (is_name t) → primary_at inner (t ∷ ts) ≡ as_clause (column_at (t ∷ ts))
+  unfolding primary_at
+  name_primary t ts h =
+      let k = name_kind t t.kind refl h in
+      rw (k.0, k.1, name_no_symbol (codes "(") t h, name_no_word (codes "CASE") t refl refl h, name_no_word (codes "COALESCE") t refl refl h, name_no_word (codes "NULLIF") t refl refl h, name_no_word (codes "EXTRACT") t refl refl h, name_no_word (codes "DATE") t refl refl h) refl
+
+  date_step : (d : Dated) (ts rest : List Lexeme) (o : Option (Expression × List Lexeme)) → date_at ts ≡ Some (d, rest) → o ≡ (date_at ts >>= (λ x. Some (date x.0.string x.0.intervals, x.1))) → o ≡ Some (date d.string d.intervals, rest)
+  date_step d ts rest o e same = same ∙ rw e refl
+
+  date_literal : (t : Lexeme) (us : List Lexeme) → IsTrue (is_word (codes "DATE") t) → (d : Dated) (rest : List Lexeme) → date_at (t ∷ us) ≡ Some (d, rest) → primary_at inner (t ∷ us) ≡ Some (expression (date d.string d.intervals), rest)
+  unfolding primary_at
+  date_literal t us h d rest e =
+      let is = word_is (codes "DATE") t h in
+      let number : is_number t ≡ false = rw is.0 refl in
+      let string : is_string t ≡ false = rw is.0 refl in
+      let opening : is_symbol (codes "(") t ≡ false = rw is.0 refl in
+      let case : is_word (codes "CASE") t ≡ false = rw (is.0, is.1) refl in
+      let coalesce_word : is_word (codes "COALESCE") t ≡ false = rw (is.0, is.1) refl in
+      let null_if_word : is_word (codes "NULLIF") t ≡ false = rw (is.0, is.1) refl in
+      let extract_word : is_word (codes "EXTRACT") t ≡ false = rw (is.0, is.1) refl in
+      rw (number, string, opening, case, coalesce_word, null_if_word, extract_word, h) (as_clause_is _ (date d.string d.intervals) rest (date_step d (t ∷ us) rest _ e refl))
+
+  date_primary : (d : Dated) (ts us rest : List Lexeme) → Front (is_word (codes "DATE")) ts us → date_at ts ≡ Some (d, rest) → primary_at inner ts ≡ Some (expression (date d.string d.intervals), rest)
+  date_primary d _ us rest (front t _ h) e = date_literal t us h d rest e
+
+  primary_is : (e : Expression) (ts rest : List Lexeme) → IsPrimary Inner e ts rest → EndsPrimary rest → primary_at inner ts ≡ Some (expression e, rest)
+  unfolding primary_at
+  primary_is _ _ _ (a_number t rest h) ends = rw h refl
+  primary_is _ _ _ (a_string t rest h) ends = rw (string_no_number t h, h) refl
+  primary_is _ _ _ (a_date d ts rest h) ends = let b = date_begins d ts rest h in date_primary d ts b.0 rest b.1 (date_is d ts rest h ends.date)
+  primary_is _ _ _ (a_column t rest h) ends = name_primary t rest h ∙ as_clause_is (column_at (t ∷ rest)) (column None t.octets) rest (column_is t rest h ends.no_point)
+  primary_is _ _ _ (a_qualified_column q p t rest h f i) ends = name_primary q (p ∷ t ∷ rest) h ∙ as_clause_is (column_at (q ∷ p ∷ t ∷ rest)) (column (Some q.octets) t.octets) rest (qualified_is q p t rest h f i)
+  primary_is _ _ _ (brackets e opening closing ts rest f h g) ends = let is = symbol_is (codes "(") opening f in rw (is.0, is.1) (brackets_are (expression e) closing ts rest h g)
+  primary_is _ _ _ (a_searched_case b bs other t ts us rest w h end) ends = let is = word_is (codes "CASE") t w in rw (is.0, is.1) (as_clause_is (case_at inner ts) _ rest (searched_is Inner inner reads b bs other ts us rest h end))
+  primary_is _ _ _ (a_simple_case x b bs other t ts us vs rest w i h end) ends = let is = word_is (codes "CASE") t w in rw (is.0, is.1) (as_clause_is (case_at inner ts) _ rest (simple_is Inner inner reads x b bs other ts us vs rest i h end))
+  primary_is _ _ _ (a_coalesce e y es t o c ts us rest w f i h g) ends = let is = word_is (codes "COALESCE") t w in rw (is.0, is.1) (as_clause_is (coalesce_at inner (o ∷ ts)) _ rest (coalesce_is Inner inner reads e y es o c ts us rest f i h g))
+  primary_is _ _ _ (a_null_if a b t o m c ts us rest w f i g j k) ends = let is = word_is (codes "NULLIF") t w in rw (is.0, is.1) (as_clause_is (null_if_at inner (o ∷ ts)) _ rest (null_if_is Inner inner reads a b o m c ts us rest f i g j k))
+  primary_is _ _ _ (an_extract field e t o n m c ts rest w f g h i k) ends = let is = word_is (codes "EXTRACT") t w in rw (is.0, is.1) (as_clause_is (extract_at inner (o ∷ n ∷ m ∷ ts)) _ rest (extract_is Inner inner reads field e o n m c ts rest f g h i k))
+
+  pub bracketed_is : (c : Condition) (ts rest : List Lexeme) → IsBracketed Inner c ts rest → primary_at inner ts ≡ Some (condition c, rest)
+  unfolding primary_at
+  bracketed_is _ _ _ (between_brackets c opening closing ts rest f h g) = let is = symbol_is (codes "(") opening f in rw (is.0, is.1) (brackets_are (condition c) closing ts rest h g)
+
+  clause_is : (c : Clause) (ts rest : List Lexeme) → Of (IsPrimary Inner) (IsBracketed Inner) c ts rest → EndsPrimary rest → primary_at inner ts ≡ Some (c, rest)
+  clause_is (expression e) ts rest h ends = primary_is e ts rest h ends
+  clause_is (condition c) ts rest h ends = bracketed_is c ts rest h
+
+  primary_shorter : (e : Expression) (ts rest : List Lexeme) → IsPrimary Inner e ts rest → length rest < length ts
+  primary_shorter _ _ _ (a_number t rest h) = omega arith
+  primary_shorter _ _ _ (a_string t rest h) = omega arith
+  primary_shorter _ _ _ (a_date d ts rest h) = date_shorter d ts rest h
+  primary_shorter _ _ _ (a_column t rest h) = omega arith
+  primary_shorter _ _ _ (a_qualified_column q p t rest h f i) = omega arith
+  primary_shorter _ _ _ (brackets e opening closing ts rest f h g) = let s = reads.shorter (expression e) ts (closing ∷ rest) h in omega (arith, s)
+  primary_shorter _ _ _ (a_searched_case b bs other t ts us rest w h end) =
+      let s = branches_shorter Inner inner reads true (b ∷ bs) ts us h in
+      let z = else_shorter Inner inner reads other us rest end in
+      omega (arith, s, z)
+  primary_shorter _ _ _ (a_simple_case x b bs other t ts us vs rest w i h end) =
+      let q = reads.shorter (expression x) ts us i in
+      let s = branches_shorter Inner inner reads false (b ∷ bs) us vs h in
+      let z = else_shorter Inner inner reads other vs rest end in
+      omega (arith, q, s, z)
+  primary_shorter _ _ _ (a_coalesce e y es t o c ts us rest w f i h g) =
+      let q = reads.shorter (expression e) ts us i in
+      let s = further_down Inner inner reads (y ∷ es) us (c ∷ rest) h in
+      omega (arith, q, s)
+  primary_shorter _ _ _ (a_null_if a b t o m c ts us rest w f i g j k) =
+      let q = reads.shorter (expression a) ts (m ∷ us) i in
+      let s = reads.shorter (expression b) us (c ∷ rest) j in
+      omega (arith, q, s)
+  primary_shorter _ _ _ (an_extract field e t o n m c ts rest w f g h i k) = let q = reads.shorter (expression e) ts (c ∷ rest) i in omega (arith, q)
+
+  word_starts : (w : List ℕ) (t : Lexeme) (ts : List Lexeme) → starts (record { kind = Word; octets = w }) ≡ true → folded w ≡ w → IsTrue (is_word w t) → Starts (t ∷ ts)
+  word_starts w t ts e f h = let is = word_is w t h in starts_at t ts (rw (is.0, is.1) (rw f at e))
+
+  symbol_starts : (s : List ℕ) (t : Lexeme) (ts : List Lexeme) → starts (record { kind = Symbol; octets = s }) ≡ true → IsTrue (is_symbol s t) → Starts (t ∷ ts)
+  symbol_starts s t ts e h = let is = symbol_is s t h in starts_at t ts (rw (is.0, is.1) e)
+
+  name_starts : (t : Lexeme) (ts : List Lexeme) → IsTrue (is_name t) → Starts (t ∷ ts)
+  name_starts t ts h = starts_at t ts (or_right (is_number t || is_string t) _ (or_left (is_name t) _ h))
+
+  front_starts : (ts us : List Lexeme) → Front (is_word (codes "DATE")) ts us → Starts ts
+  front_starts _ _ (front t rest h) = word_starts (codes "DATE") t rest refl refl h
+
+  primary_begins : (e : Expression) (ts rest : List Lexeme) → IsPrimary Inner e ts rest → Starts ts
+  primary_begins _ _ _ (a_number t rest h) = starts_at t rest (rw h refl)
+  primary_begins _ _ _ (a_string t rest h) = starts_at t rest (rw (string_no_number t h, h) refl)
+  primary_begins _ _ _ (a_date d ts rest h) = let b = date_begins d ts rest h in front_starts ts b.0 b.1
+  primary_begins _ _ _ (a_column t rest h) = name_starts t rest h
+  primary_begins _ _ _ (a_qualified_column q p t rest h f i) = name_starts q (p ∷ t ∷ rest) h
+  primary_begins _ _ _ (brackets e opening closing ts rest f h g) = symbol_starts (codes "(") opening ts refl f
+  primary_begins _ _ _ (a_searched_case b bs other t ts us rest w h end) = word_starts (codes "CASE") t ts refl refl w
+  primary_begins _ _ _ (a_simple_case x b bs other t ts us vs rest w i h end) = word_starts (codes "CASE") t ts refl refl w
+  primary_begins _ _ _ (a_coalesce e y es t o c ts us rest w f i h g) = word_starts (codes "COALESCE") t (o ∷ ts) refl refl w
+  primary_begins _ _ _ (a_null_if a b t o m c ts us rest w f i g j k) = word_starts (codes "NULLIF") t (o ∷ ts) refl refl w
+  primary_begins _ _ _ (an_extract field e t o n m c ts rest w f g h i k) = word_starts (codes "EXTRACT") t (o ∷ n ∷ m ∷ ts) refl refl w
+
+  bracketed_shorter : (c : Condition) (ts rest : List Lexeme) → IsBracketed Inner c ts rest → length rest < length ts
+  bracketed_shorter _ _ _ (between_brackets c opening closing ts rest f h g) = let s = reads.shorter (condition c) ts (closing ∷ rest) h in omega (arith, s)
+
+  bracketed_begins : (c : Condition) (ts rest : List Lexeme) → IsBracketed Inner c ts rest → Starts ts
+  bracketed_begins _ _ _ (between_brackets c opening closing ts rest f h g) = symbol_starts (codes "(") opening ts refl f
+
+  -- ---- a factor
+
+  no_sign_of : (t : Lexeme) (ts : List Lexeme) → is_symbol (codes "+") t ≡ false → is_symbol (codes "-") t ≡ false → token_at sign_of (t ∷ ts) ≡ None
+  no_sign_of t ts a b = token_not sign_of t ts (rw (a, b) refl)
+
+  no_sign_word : (w : List ℕ) (t : Lexeme) (ts : List Lexeme) → IsTrue (is_word w t) → token_at sign_of (t ∷ ts) ≡ None
+  no_sign_word w t ts h = let is = word_is w t h in no_sign_of t ts (rw is.0 refl) (rw is.0 refl)
+
+  no_sign_name : (t : Lexeme) (ts : List Lexeme) → IsTrue (is_name t) → token_at sign_of (t ∷ ts) ≡ None
+  no_sign_name t ts h = no_sign_of t ts (name_no_symbol (codes "+") t h) (name_no_symbol (codes "-") t h)
+
+  no_sign_front : (ts us : List Lexeme) → Front (is_word (codes "DATE")) ts us → token_at sign_of ts ≡ None
+  no_sign_front _ _ (front t rest h) = no_sign_word (codes "DATE") t rest h
+
+  primary_no_sign : (e : Expression) (ts rest : List Lexeme) → IsPrimary Inner e ts rest → token_at sign_of ts ≡ None
+  primary_no_sign _ _ _ (a_number t rest h) = no_sign_of t rest (number_no_symbol (codes "+") t h) (number_no_symbol (codes "-") t h)
+  primary_no_sign _ _ _ (a_string t rest h) = no_sign_of t rest (string_no_symbol (codes "+") t h) (string_no_symbol (codes "-") t h)
+  primary_no_sign _ _ _ (a_date d ts rest h) = let b = date_begins d ts rest h in no_sign_front ts b.0 b.1
+  primary_no_sign _ _ _ (a_column t rest h) = no_sign_name t rest h
+  primary_no_sign _ _ _ (a_qualified_column q p t rest h f i) = no_sign_name q (p ∷ t ∷ rest) h
+  primary_no_sign _ _ _ (brackets e opening closing ts rest f h g) = let is = symbol_is (codes "(") opening f in no_sign_of opening ts (rw (is.0, is.1) refl) (rw (is.0, is.1) refl)
+  primary_no_sign _ _ _ (a_searched_case b bs other t ts us rest w h end) = no_sign_word (codes "CASE") t ts w
+  primary_no_sign _ _ _ (a_simple_case x b bs other t ts us vs rest w i h end) = no_sign_word (codes "CASE") t ts w
+  primary_no_sign _ _ _ (a_coalesce e y es t o c ts us rest w f i h g) = no_sign_word (codes "COALESCE") t (o ∷ ts) w
+  primary_no_sign _ _ _ (a_null_if a b t o m c ts us rest w f i g j k) = no_sign_word (codes "NULLIF") t (o ∷ ts) w
+  primary_no_sign _ _ _ (an_extract field e t o n m c ts rest w f g h i k) = no_sign_word (codes "EXTRACT") t (o ∷ n ∷ m ∷ ts) w
+
+  bracketed_no_sign : (c : Condition) (ts rest : List Lexeme) → IsBracketed Inner c ts rest → token_at sign_of ts ≡ None
+  bracketed_no_sign _ _ _ (between_brackets c opening closing ts rest f h g) = let is = symbol_is (codes "(") opening f in no_sign_of opening ts (rw (is.0, is.1) refl) (rw (is.0, is.1) refl)
+
+  signed_made : (s : Sign) (c : Clause) (e : Expression) (ts us rest : List Lexeme) → Found sign_of s ts us → Of (IsPrimary Inner) (IsBracketed Inner) c us rest → c ≡ expression e → IsFactor Inner (signed s e) ts rest
+  signed_made _ c e _ us rest (found s t _ f) h same = signed_factor s e t us rest f (subst (λ y. Of (IsPrimary Inner) (IsBracketed Inner) y us rest) same h)
+
+  to_factor : (c : Clause) (ts rest : List Lexeme) → Of (IsPrimary Inner) (IsBracketed Inner) c ts rest → Of (IsFactor Inner) (IsBracketed Inner) c ts rest
+  to_factor (expression e) ts rest h = unsigned_factor e ts rest h
+  to_factor (condition c) ts rest h = h
+
+  factor_takes : (ts : List Lexeme) (x : Clause × List Lexeme) → factor_at inner ts ≡ Some x → Of (IsFactor Inner) (IsBracketed Inner) x.0 ts x.1
+  unfolding factor_at
+  factor_takes ts x e =
+      elim (cases_option (token_at sign_of ts)) [
+        | inl none ↦ to_factor x.0 ts x.1 (primary_takes ts x (rw none at e))
+        | inr s ↦ (
+            let c = bind_some (primary_at inner s.0.1) _ x (rw s.1 at e) in
+            let d = bind_some (the_expression c.0.0) _ x c.2 in
+            subst (λ (y : Clause × List Lexeme). Of (IsFactor Inner) (IsBracketed Inner) y.0 ts y.1) (some_same (expression (signed s.0.0 d.0), c.0.1) x d.2)
+            (signed_made s.0.0 c.0.0 d.0 ts s.0.1 c.0.1 (token_takes sign_of ts s.0 s.1) (primary_takes s.0.1 c.0 c.1) (the_expression_is c.0.0 d.0 d.1)))
+      ]
+
+  factor_of : (e : Expression) (ts rest : List Lexeme) → IsFactor Inner e ts rest → EndsFactor 7 rest → factor_at inner ts ≡ Some (expression e, rest)
+  unfolding factor_at
+  factor_of _ _ _ (unsigned_factor e ts rest h) ends = rw (primary_no_sign e ts rest h) (primary_is e ts rest h (ends_primary 7 rest (omega arith) ends))
+  factor_of _ _ _ (signed_factor s e t ts rest f h) ends = rw (token_is sign_of t ts s f, primary_is e ts rest h (ends_primary 7 rest (omega arith) ends)) refl
+
+  factor_down : (e : Expression) (ts rest : List Lexeme) → IsFactor Inner e ts rest → length rest < length ts
+  factor_down _ _ _ (unsigned_factor e ts rest h) = primary_shorter e ts rest h
+  factor_down _ _ _ (signed_factor s e t ts rest f h) = let z = primary_shorter e ts rest h in omega (arith, z)
+
+  sign_starts : (t : Lexeme) (ts : List Lexeme) (s : Sign) → sign_of t ≡ Some s → Starts (t ∷ ts)
+  sign_starts t ts s e =
+      elim (sign_symbol t s e) [
+        | inl h ↦ symbol_starts (codes "+") t ts refl h
+        | inr h ↦ symbol_starts (codes "-") t ts refl h
+      ]
+
+  factor_front : (e : Expression) (ts rest : List Lexeme) → IsFactor Inner e ts rest → Starts ts
+  factor_front _ _ _ (unsigned_factor e ts rest h) = primary_begins e ts rest h
+  factor_front _ _ _ (signed_factor s e t ts rest f h) = sign_starts t ts s f
+
+  factor_is : (c : Clause) (ts rest : List Lexeme) → Of (IsFactor Inner) (IsBracketed Inner) c ts rest → EndsFactor 7 rest → factor_at inner ts ≡ Some (c, rest)
+  unfolding factor_at
+  factor_is (condition c) ts rest h ends = rw (bracketed_no_sign c ts rest h) (bracketed_is c ts rest h)
+  factor_is (expression e) ts rest h ends = factor_of e ts rest h ends
+
+  factor_shorter : (c : Clause) (ts rest : List Lexeme) → Of (IsFactor Inner) (IsBracketed Inner) c ts rest → length rest < length ts
+  factor_shorter (condition c) ts rest h = bracketed_shorter c ts rest h
+  factor_shorter (expression e) ts rest h = factor_down e ts rest h
+
+  factor_begins : (c : Clause) (ts rest : List Lexeme) → Of (IsFactor Inner) (IsBracketed Inner) c ts rest → Starts ts
+  factor_begins (condition c) ts rest h = bracketed_begins c ts rest h
+  factor_begins (expression e) ts rest h = factor_front e ts rest h
+
+  pub factor_exact : Exact (Of (IsFactor Inner) (IsBracketed Inner)) (EndsFactor 7) (factor_at inner)
+  factor_exact = record { takes = factor_takes; is = factor_is; shorter = factor_shorter; begins = factor_begins }
+
+  -- ---- neither begins with NOT
+
+  no_not_of : (t : Lexeme) (ts : List Lexeme) → is_word (codes "NOT") t ≡ false → word_at (codes "NOT") (t ∷ ts) ≡ None
+  no_not_of t ts e = one_not (is_word (codes "NOT")) t ts e
+
+  no_not_symbol : (s : List ℕ) (t : Lexeme) → IsTrue (is_symbol s t) → is_word (codes "NOT") t ≡ false
+  no_not_symbol s t h = let is = symbol_is s t h in rw is.0 refl
+
+  no_not_front : (ts us : List Lexeme) → Front (is_word (codes "DATE")) ts us → word_at (codes "NOT") ts ≡ None
+  no_not_front _ _ (front t rest h) = other_word (codes "DATE") (codes "NOT") t rest refl refl h
+
+  primary_no_not : (e : Expression) (ts rest : List Lexeme) → IsPrimary Inner e ts rest → word_at (codes "NOT") ts ≡ None
+  primary_no_not _ _ _ (a_number t rest h) = no_not_of t rest (number_no_word (codes "NOT") t h)
+  primary_no_not _ _ _ (a_string t rest h) = no_not_of t rest (string_no_word (codes "NOT") t h)
+  primary_no_not _ _ _ (a_date d ts rest h) = let b = date_begins d ts rest h in no_not_front ts b.0 b.1
+  primary_no_not _ _ _ (a_column t rest h) = no_not_of t rest (name_no_word (codes "NOT") t refl refl h)
+  primary_no_not _ _ _ (a_qualified_column q p t rest h f i) = no_not_of q (p ∷ t ∷ rest) (name_no_word (codes "NOT") q refl refl h)
+  primary_no_not _ _ _ (brackets e opening closing ts rest f h g) = no_not_of opening ts (no_not_symbol (codes "(") opening f)
+  primary_no_not _ _ _ (a_searched_case b bs other t ts us rest w h end) = other_word (codes "CASE") (codes "NOT") t ts refl refl w
+  primary_no_not _ _ _ (a_simple_case x b bs other t ts us vs rest w i h end) = other_word (codes "CASE") (codes "NOT") t ts refl refl w
+  primary_no_not _ _ _ (a_coalesce e y es t o c ts us rest w f i h g) = other_word (codes "COALESCE") (codes "NOT") t (o ∷ ts) refl refl w
+  primary_no_not _ _ _ (a_null_if a b t o m c ts us rest w f i g j k) = other_word (codes "NULLIF") (codes "NOT") t (o ∷ ts) refl refl w
+  primary_no_not _ _ _ (an_extract field e t o n m c ts rest w f g h i k) = other_word (codes "EXTRACT") (codes "NOT") t (o ∷ n ∷ m ∷ ts) refl refl w
+
+  sign_no_not : (t : Lexeme) (ts : List Lexeme) (s : Sign) → sign_of t ≡ Some s → word_at (codes "NOT") (t ∷ ts) ≡ None
+  sign_no_not t ts s e =
+      elim (sign_symbol t s e) [
+        | inl h ↦ no_not_of t ts (no_not_symbol (codes "+") t h)
+        | inr h ↦ no_not_of t ts (no_not_symbol (codes "-") t h)
+      ]
+
+  factor_no_not : (e : Expression) (ts rest : List Lexeme) → IsFactor Inner e ts rest → word_at (codes "NOT") ts ≡ None
+  factor_no_not _ _ _ (unsigned_factor e ts rest h) = primary_no_not e ts rest h
+  factor_no_not _ _ _ (signed_factor s e t ts rest f h) = sign_no_not t ts s f
+
+  pub expression_no_not : (e : Expression) (ts rest : List Lexeme) → IsValueExpression Inner e ts rest → word_at (codes "NOT") ts ≡ None
+  expression_no_not e ts rest h =
+      series_begins (λ us. word_at (codes "NOT") us ≡ None) (λ a us vs f. series_begins (λ us. word_at (codes "NOT") us ≡ None) factor_no_not a us vs f) e ts rest h
+
+  pub bracketed_no_not : (c : Condition) (ts rest : List Lexeme) → IsBracketed Inner c ts rest → word_at (codes "NOT") ts ≡ None
+  bracketed_no_not _ _ _ (between_brackets c opening closing ts rest f h g) = no_not_of opening ts (no_not_symbol (codes "(") opening f)
+
+-- ---- terms and sums
+
+alone_in : (F : Expression → List Lexeme → List Lexeme → Type 0) (B : Condition → List Lexeme → List Lexeme → Type 0) (meaning : Lexeme → Option Operator) (p : Clause) (ts rest : List Lexeme) → Of F B p ts rest → Of (λ e us vs. Series F (IsOperator meaning) F arithmetic e us vs) B p ts rest
+alone_in F B meaning (expression e) ts rest h = first e ts rest h
+alone_in F B meaning (condition c) ts rest h = h
+
+sorts_in : (F : Expression → List Lexeme → List Lexeme → Type 0) (B : Condition → List Lexeme → List Lexeme → Type 0) (meaning : Lexeme → Option Operator) (p : Clause) (ts rest : List Lexeme) → Of (λ e us vs. Series F (IsOperator meaning) F arithmetic e us vs) B p ts rest
+    → ((a : Expression) × (p ≡ expression a) × Series F (IsOperator meaning) F arithmetic a ts rest) ⊎ Of F B p ts rest
+sorts_in F B meaning (expression e) ts rest h = inl (e, refl, h)
+sorts_in F B meaning (condition c) ts rest h = inr h
+
+arithmetic_parts : (o : Operator) (p q r : Clause) → join_arithmetic o p q ≡ Some r → (a : Expression) × (b : Expression) × (p ≡ expression a) × (q ≡ expression b) × (r ≡ expression (arithmetic o a b))
+arithmetic_parts o (expression a) (expression b) r e = (a, b, refl, refl, sym (some_same (expression (arithmetic o a b)) r e))
+arithmetic_parts o (expression a) (condition d) r e = absurd cc
+arithmetic_parts o (condition c) (expression b) r e = absurd cc
+arithmetic_parts o (condition c) (condition d) r e = absurd cc
+
+interval_none : (t : Lexeme) (ts : List Lexeme) → word_at (codes "INTERVAL") ts ≡ None → interval_sign_at (t ∷ ts) ≡ None
+unfolding interval_sign_at
+interval_none t ts e =
+    elim (cases_option (sign_of t)) [
+      | inl none ↦ rw (token_not sign_of t ts none) refl
+      | inr s ↦ rw (token_is sign_of t ts s.0 s.1, e) refl
+    ]
+
+module _ (Inner : Clause → List Lexeme → List Lexeme → Type 0) (inner : List Lexeme → Option (Clause × List Lexeme)) (reads : Exact Inner (Stops 1) inner) where
+  multiplication_ends : (o : Operator) (ts rest : List Lexeme) → IsOperator multiplication_of o ts rest → EndsFactor 7 ts
+  multiplication_ends _ _ _ (operator o t rest h) =
+      let s = multiplication_strong t o h in
+      record { stops = stops_at 7 t rest (omega (arith, s)); no_interval = no_interval (t ∷ rest) (token_not sign_of t rest (never t o h)) }
+    where
+      never : (t : Lexeme) (o : Operator) → multiplication_of t ≡ Some o → sign_of t ≡ None
+      never t o h =
+          elim (multiplication_symbol t o h) [
+            | inl e ↦ (let is = symbol_is (codes "*") t e in rw (is.0, is.1) refl)
+            | inr e ↦ (let is = symbol_is (codes "/") t e in rw (is.0, is.1) refl)
+          ]
+
+  pub term_exact : Exact (Of (IsTerm Inner) (IsBracketed Inner)) (EndsFactor 6) (term_at inner)
+  unfolding term_at
+  term_exact =
+      rank_exact expression multiplication_of (IsFactor Inner) arithmetic join_arithmetic (Of (IsFactor Inner) (IsBracketed Inner)) (Of (IsTerm Inner) (IsBracketed Inner)) (EndsFactor 7) (EndsFactor 6) (factor_at inner)
+      record {
+        operand = λ a ts rest h. h;
+        clause = λ a ts rest h. h;
+        alone = alone_in (IsFactor Inner) (IsBracketed Inner) multiplication_of;
+        whole = λ a ts rest h. h;
+        series = λ a ts rest h. h;
+        sorts = sorts_in (IsFactor Inner) (IsBracketed Inner) multiplication_of;
+        joins = λ o a b. refl;
+        parts = arithmetic_parts;
+        ends = λ rest e. record { stops = stops_weaker 6 7 rest (omega arith) e.stops; no_interval = e.no_interval };
+        none = λ rest e. stops_token 6 multiplication_of (λ t o h. let s = multiplication_strong t o h in omega (arith, s)) rest e.stops;
+        between = λ o a us vs rest h f. multiplication_ends o us vs h;
+      }
+      (factor_exact Inner inner reads)
+
+  addition_ends : (o : Operator) (ts rest : List Lexeme) → IsOperator addition_of o ts rest → Starts rest → EndsFactor 6 ts
+  addition_ends _ _ _ (operator o t rest h) begins =
+      let s = addition_strong t o h in
+      record { stops = stops_at 6 t rest (omega (arith, s)); no_interval = interval_none t rest (starts_not (codes "INTERVAL") refl refl rest begins) }
+
+  pub sum_exact : Exact (Of (IsValueExpression Inner) (IsBracketed Inner)) (Stops 5) (sum_at inner)
+  unfolding sum_at
+  sum_exact =
+      rank_exact expression addition_of (IsTerm Inner) arithmetic join_arithmetic (Of (IsTerm Inner) (IsBracketed Inner)) (Of (IsValueExpression Inner) (IsBracketed Inner)) (EndsFactor 6) (Stops 5) (term_at inner)
+      record {
+        operand = λ a ts rest h. h;
+        clause = λ a ts rest h. h;
+        alone = alone_in (IsTerm Inner) (IsBracketed Inner) addition_of;
+        whole = λ a ts rest h. h;
+        series = λ a ts rest h. h;
+        sorts = sorts_in (IsTerm Inner) (IsBracketed Inner) addition_of;
+        joins = λ o a b. refl;
+        parts = arithmetic_parts;
+        ends = λ rest e. let f = stops_factor 5 rest (omega arith) e in record { stops = stops_weaker 5 6 rest (omega arith) e; no_interval = f.no_interval };
+        none = λ rest e. stops_token 5 addition_of (λ t o h. let s = addition_strong t o h in omega (arith, s)) rest e;
+        between = λ o a us vs rest h f. addition_ends o us vs h (term_exact.begins (expression a) vs rest f);
+      }
+      term_exact

@@ -1,5 +1,0 @@
-use Rattle.qw_parse.proofs.NameLemmas.{name_of-quoted}
-use Rattle.qw_parse.proofs.parse.delimited_names.Goals as goal
-
-pub returns : goal.returns
-returns c = name_of-quoted

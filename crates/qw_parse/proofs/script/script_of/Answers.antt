@@ -1,0 +1,40 @@
+use Rattle.std.proofs.Common.{sym, arith, inr}
+use Rattle.std.proofs.lemmas.Bool.{eqb-true}
+use Rattle.std.proofs.lemmas.Result.{err_from_is_err_and}
+use Rattle.qw_token.specs.Token.{lexemes}
+use Rattle.qw_parse.proofs.AcceptLemmas.{fault_refused, many_refused, none_refused, queries_kept, script_read, selects, some_left, tokens_refused}
+use Rattle.qw_parse.proofs.script.script_of.Goals as goal
+
+pub returns-in_err-tokens-clause-refused : goal.returns-in_err-tokens-clause-refused
+returns-in_err-tokens-clause-refused c =
+    let p = err_from_is_err_and c.from_residual.result c.from_residual.ensures.1 in
+    rw (p.1, p.2) (tokens_refused c.args.text.now c.in_err-tokens.field-0.0 c.in_err-tokens.ensures.not_utf8.0 c.in_err-tokens.ensures.not_token)
+
+pub returns-then-len-gt-MAX_STATEMENTS-clause-refused : goal.returns-then-len-gt-MAX_STATEMENTS-clause-refused
+returns-then-len-gt-MAX_STATEMENTS-clause-refused c =
+    let split = rw c.deref.ensures.value at c.in_ok-statements.ensures in
+    inr (many_refused c.args.text.now (lexemes c.in_ok-tokens.tokens.items) c.in_ok-statements.statements.items c.in_ok-tokens.ensures.read split (omega (arith, c.if-len-gt-MAX_STATEMENTS.true, c.len.ensures)))
+
+pub returns-then-is_empty-clause-refused : goal.returns-then-is_empty-clause-refused
+returns-then-is_empty-clause-refused c =
+    let split = rw c.deref.ensures.value at c.in_ok-statements.ensures in
+    inr (none_refused c.args.text.now (lexemes c.in_ok-tokens.tokens.items) c.in_ok-statements.statements.items c.in_ok-tokens.ensures.read split (omega (arith, eqb-true _ 0 (sym c.if-is_empty.ensures))))
+
+pub returns-in_err-queries-clause-refused : goal.returns-in_err-queries-clause-refused
+returns-in_err-queries-clause-refused c =
+    let p = err_from_is_err_and c.from_residual-in_err-queries.result c.from_residual-in_err-queries.ensures.1 in
+    let split = rw c.deref.ensures.value at c.in_ok-statements.ensures in
+    let fault = rw c.deref-2.ensures.value at c.in_err-queries.ensures.refused in
+    rw (p.1, p.2) (fault_refused c.args.text.now (lexemes c.in_ok-tokens.tokens.items) c.in_ok-statements.statements.items c.in_err-queries.field-0.0 c.in_ok-tokens.ensures.read split (omega (arith, c.if-len-gt-MAX_STATEMENTS.false, c.len.ensures)) fault)
+
+pub new-requires : goal.new-requires
+new-requires c =
+    let accepted = rw c.deref-2.ensures.value at c.in_ok-queries.ensures.accepted in
+    queries_kept c.in_ok-statements.statements.items (selects c.in_ok-queries.queries.items) accepted (omega (arith, some_left _ c.if-is_empty.ensures)) (omega (arith, c.if-len-gt-MAX_STATEMENTS.false, c.len.ensures))
+
+pub returns-clause-script : goal.returns-clause-script
+returns-clause-script c =
+    let split = rw c.deref.ensures.value at c.in_ok-statements.ensures in
+    let accepted = rw c.deref-2.ensures.value at c.in_ok-queries.ensures.accepted in
+    rw c.new.ensures
+    (script_read c.args.text.now (lexemes c.in_ok-tokens.tokens.items) c.in_ok-statements.statements.items (selects c.in_ok-queries.queries.items) c.in_ok-tokens.ensures.read split (omega (arith, c.if-len-gt-MAX_STATEMENTS.false, c.len.ensures)) (omega (arith, some_left _ c.if-is_empty.ensures)) accepted)

@@ -1,0 +1,12 @@
+use Rattle.std.proofs.Common.{arith}
+use Rattle.qw_parse.proofs.AcceptLemmas.{many_items, many_nodes, many_octets}
+use Rattle.qw_parse.proofs.script.within_limits.Goals as goal
+
+pub returns-then-item_count-gt-MAX_ITEMS-clause-passed : goal.returns-then-item_count-gt-MAX_ITEMS-clause-passed
+returns-then-item_count-gt-MAX_ITEMS-clause-passed c = many_items _ _ (omega arith)
+
+pub returns-then-size-gt-MAX_NODES-clause-passed : goal.returns-then-size-gt-MAX_NODES-clause-passed
+returns-then-size-gt-MAX_NODES-clause-passed c = many_nodes _ _ (omega arith) (omega arith)
+
+pub returns-then-size-gt-MAX_LITERAL_OCTETS-clause-passed : goal.returns-then-size-gt-MAX_LITERAL_OCTETS-clause-passed
+returns-then-size-gt-MAX_LITERAL_OCTETS-clause-passed c = many_octets _ _ (omega arith) (omega arith) (omega arith)

@@ -1,0 +1,65 @@
+//! Laws of the grammar, and worked cases of it.
+
+ghost use Rattle.std.specs.Prelude.{◌≡◌, ℕ, List, [], ◌∷◌, codes, false};
+ghost use Rattle.qw_scalar.specs.declared.expression.Operator.TheVariants.{Add, Multiply, Subtract};
+ghost use Rattle.qw_scalar.specs.declared.comparison.Comparison.TheVariants.{Equal, Greater};
+ghost use Rattle.qw_token.specs.Token.{Lexeme};
+ghost use Rattle.qw_ast.specs.declared.script.Sign.TheVariants.{Minus};
+ghost use Rattle.qw_ast.specs.Syntax.{Select, arithmetic, between, both, bracketed, comparison, condition, date, either, expression, negation_of, null, number, otherwise, searched_case, signed, text, when};
+ghost use Rattle.qw_ast.specs.ScriptGrammar.{IsSelectOf};
+ghost use Rattle.qw_parse.specs.declared.fault.ParseFault.{ParseFault};
+ghost use Rattle.qw_ast.specs.Limits.{nodes, nodes_condition, octets};
+ghost use Rattle.qw_parse.specs.declared.fault.Count.TheVariants.{LiteralOctets, Nodes, SelectItems};
+ghost use Rattle.qw_parse.specs.Script.{IsPassedFirst, IsScriptRefused, Limit, ReadsScript, limits};
+ghost use Rattle.qw_parse.specs.Worked.{Says, equals, n, s, the_column, w};
+
+/// Tokens are one query at most.
+pub fn one_query_specification()
+    ensures { (tokens : List Lexeme) (query other : Select) → IsSelectOf tokens query → IsSelectOf tokens other → query ≡ other }
+{}
+
+/// A text is one script, or is refused for one cause, and never both.
+pub fn one_script()
+    ensures script { (script : List ℕ) (queries others : List Select) → ReadsScript script queries → ReadsScript script others → queries ≡ others }
+    ensures cause { (script : List ℕ) (fault other : ParseFault) → IsScriptRefused script fault → IsScriptRefused script other → fault ≡ other }
+    ensures either { (script : List ℕ) (queries : List Select) (fault : ParseFault) → ReadsScript script queries → IsScriptRefused script fault → ⊥ }
+{}
+
+/// NOT binds closer than AND, AND closer than OR, and BETWEEN takes the AND next to it (ISO/IEC 9075:1992, 8.12 and 8.3).
+pub fn worked_conditions()
+    ensures or_and { Says (w (codes "a") ∷ s (codes "=") ∷ n (codes "1") ∷ w (codes "OR") ∷ w (codes "b") ∷ s (codes "=") ∷ n (codes "2") ∷ w (codes "AND") ∷ w (codes "NOT") ∷ w (codes "c") ∷ s (codes "=") ∷ n (codes "3") ∷ []) (condition (either (equals (codes "a") (codes "1")) (both (equals (codes "b") (codes "2")) (negation_of (equals (codes "c") (codes "3")))))) }
+    ensures between { Says (w (codes "x") ∷ w (codes "BETWEEN") ∷ n (codes "1") ∷ w (codes "AND") ∷ n (codes "2") ∷ w (codes "AND") ∷ w (codes "y") ∷ s (codes "=") ∷ n (codes "3") ∷ []) (condition (both (between false (the_column (codes "x")) (number (codes "1")) (number (codes "2"))) (equals (codes "y") (codes "3")))) }
+    ensures not { Says (w (codes "NOT") ∷ w (codes "a") ∷ s (codes "=") ∷ w (codes "b") ∷ []) (condition (negation_of (comparison Equal (the_column (codes "a")) (the_column (codes "b"))))) }
+{}
+
+/// Operators of one rank associate to the left, and a sign binds closer than `*` (6.12).
+pub fn worked_expressions()
+    ensures left { Says (n (codes "1") ∷ s (codes "-") ∷ n (codes "2") ∷ s (codes "-") ∷ n (codes "3") ∷ []) (expression (arithmetic Subtract (arithmetic Subtract (number (codes "1")) (number (codes "2"))) (number (codes "3")))) }
+    ensures sign { Says (s (codes "-") ∷ w (codes "a") ∷ s (codes "*") ∷ w (codes "b") ∷ []) (expression (arithmetic Multiply (signed Minus (the_column (codes "a"))) (the_column (codes "b")))) }
+{}
+
+/// Brackets hold an expression or a condition, whichever stands in them. Round a condition they are part of the tree, so that
+/// `(a AND b) AND c` has two conjuncts and `a AND b AND c` three; round an expression they aren't.
+pub fn worked_brackets()
+    ensures operand { Says (s (codes "(") ∷ w (codes "a") ∷ s (codes ")") ∷ s (codes "=") ∷ n (codes "1") ∷ []) (condition (equals (codes "a") (codes "1"))) }
+    ensures predicate { Says (s (codes "(") ∷ w (codes "a") ∷ s (codes "=") ∷ n (codes "1") ∷ s (codes ")") ∷ []) (condition (bracketed (equals (codes "a") (codes "1")))) }
+    ensures sum { Says (s (codes "(") ∷ s (codes "(") ∷ w (codes "a") ∷ s (codes ")") ∷ s (codes "+") ∷ n (codes "1") ∷ s (codes ")") ∷ s (codes ">") ∷ n (codes "2") ∷ []) (condition (comparison Greater (arithmetic Add (the_column (codes "a")) (number (codes "1"))) (number (codes "2")))) }
+    ensures nested { Says (s (codes "(") ∷ s (codes "(") ∷ w (codes "a") ∷ s (codes "=") ∷ n (codes "1") ∷ s (codes ")") ∷ w (codes "AND") ∷ w (codes "b") ∷ s (codes "=") ∷ n (codes "2") ∷ s (codes ")") ∷ []) (condition (bracketed (both (bracketed (equals (codes "a") (codes "1"))) (equals (codes "b") (codes "2"))))) }
+{}
+
+/// Nodes and literal octets: NULL as a result is no node, two quotes in a string are one octet, and a date has none.
+pub fn worked_sizes()
+    ensures condition { nodes_condition (both (equals (codes "a") (codes "1")) (negation_of (between false (the_column (codes "x")) (number (codes "1")) (number (codes "2"))))) ≡ 9 }
+    ensures case { nodes (searched_case (when (condition (equals (codes "a") (codes "1"))) null (otherwise (text (codes "'x'"))))) ≡ 5 }
+    ensures string { octets (text (codes "'it''s'")) ≡ 4 }
+    ensures date { (nodes (date (codes "'2024-01-31'") []) ≡ 1) × (octets (date (codes "'2024-01-31'") []) ≡ 0) }
+{}
+
+/// Of several limits that are passed the first is told: items, then nodes, then octets of literals. Of 1,000 nodes there aren't too many,
+/// of 1,001 there are.
+pub fn worked_limits()
+    ensures items { IsPassedFirst (limits 65 1001 16385) (record { many = 65; what = SelectItems; most = 64 }) }
+    ensures nodes { IsPassedFirst (limits 64 1001 16385) (record { many = 1001; what = Nodes; most = 1000 }) }
+    ensures octets { IsPassedFirst (limits 64 1000 16385) (record { many = 16385; what = LiteralOctets; most = 16384 }) }
+    ensures none { (limit : Limit) → IsPassedFirst (limits 64 1000 16384) limit → ⊥ }
+{}

@@ -1,0 +1,161 @@
+//! Predicates and boolean tests (ISO/IEC 9075:1992, 8.2, 8.3, 8.4, 8.6, 8.12).
+
+ghost use Rattle.std.specs.Prelude.{◌≡◌};
+ghost use Rattle.qw_ast.specs.SyntaxTree.{clause_of, condition_of, expression_of};
+ghost use Rattle.qw_parse.specs.Inner.Readers.{between_at, compare_at, condition_clause, expression_at, in_at, nested_at, null_test_at, predicate_at, sum_at, tail_at, test_at, truth_test_at};
+ghost use Rattle.qw_parse.specs.Inner.Parser.{Reads, left};
+ghost use Rattle.qw_parse.specs.Inner.Nests.{Nests};
+
+use super::call::listed;
+use super::parser::{Parser, Stop};
+use super::rules::Rules;
+use super::tree::{boxed, the_expression};
+use qw_ast::script::{Cond, Expr, Phrase};
+use qw_scalar::comparison::Comparison;
+
+/// Reads what stands behind `operand IS`, of a test for NULL.
+#[tactic(auto, unfolding(crate::specs::Inner::Readers::null_test_at))]
+fn null_test<'a>(parser: &mut Parser<'a>, operand: Expr<'a>) -> Result<Cond<'a>, Stop>
+    ensures { Reads condition_of (null_test_at (expression_of operand.entry) (left parser.old)) result (left parser.new) }
+{
+    let negated = parser.not();
+    parser.expect_word(b"NULL")?;
+    Ok(Cond::IsNull(negated, boxed(parser.alloc, operand)?))
+}
+
+/// Reads IS and a truth value behind a condition, or nothing.
+#[tactic(auto, unfolding(crate::specs::Inner::Readers::truth_test_at))]
+fn truth_test<'a>(parser: &mut Parser<'a>, operand: Cond<'a>) -> Result<Cond<'a>, Stop>
+    ensures { Reads condition_of (truth_test_at (condition_of operand.entry) (left parser.old)) result (left parser.new) }
+{
+    if !parser.word(b"IS") {
+        return Ok(operand);
+    }
+    let negated = parser.not();
+    let truth = parser.truth()?;
+    Ok(Cond::Is(negated, boxed(parser.alloc, operand)?, truth))
+}
+
+impl<'a, F: Fn(&mut Parser<'a>, usize) -> Result<Phrase<'a>, Stop>> Rules<F> {
+    /// Reads a sum that is an expression.
+    #[tactic(auto, unfolding(crate::specs::Inner::Readers::expression_at))]
+    fn operand(&self, parser: &mut Parser<'a>) -> Result<Expr<'a>, Stop>
+        requires { Nests self.now.levels (F.pre self.now.inner) (F.post self.now.inner) }
+        ensures { Reads expression_of (expression_at (sum_at (nested_at self.now.levels)) (left parser.old)) result (left parser.new) }
+    {
+        let phrase = self.sum(parser)?;
+        the_expression(phrase)
+    }
+
+    /// Reads what stands behind `operand comparison`.
+    #[tactic(auto, unfolding(crate::specs::Inner::Readers::compare_at))]
+    fn compare(
+        &self,
+        parser: &mut Parser<'a>,
+        comparison: Comparison,
+        operand: Expr<'a>,
+    ) -> Result<Cond<'a>, Stop>
+        requires { Nests self.now.levels (F.pre self.now.inner) (F.post self.now.inner) }
+        ensures { Reads condition_of (compare_at (nested_at self.now.levels) comparison (expression_of operand.entry) (left parser.old)) result (left parser.new) }
+    {
+        let right = self.operand(parser)?;
+        let left = boxed(parser.alloc, operand)?;
+        Ok(Cond::Compare(comparison, left, boxed(parser.alloc, right)?))
+    }
+
+    /// Reads what stands behind `operand [NOT] BETWEEN`.
+    #[tactic(auto, unfolding(crate::specs::Inner::Readers::between_at))]
+    fn between(
+        &self,
+        parser: &mut Parser<'a>,
+        negated: bool,
+        operand: Expr<'a>,
+    ) -> Result<Cond<'a>, Stop>
+        requires { Nests self.now.levels (F.pre self.now.inner) (F.post self.now.inner) }
+        ensures { Reads condition_of (between_at (nested_at self.now.levels) negated (expression_of operand.entry) (left parser.old)) result (left parser.new) }
+    {
+        let least = self.operand(parser)?;
+        parser.expect_word(b"AND")?;
+        let greatest = self.operand(parser)?;
+        let operand = boxed(parser.alloc, operand)?;
+        let least = boxed(parser.alloc, least)?;
+        let greatest = boxed(parser.alloc, greatest)?;
+        Ok(Cond::Between(negated, operand, least, greatest))
+    }
+
+    /// Reads what stands behind `operand [NOT] IN`.
+    #[tactic(auto, unfolding(crate::specs::Inner::Readers::in_at))]
+    fn among(
+        &self,
+        parser: &mut Parser<'a>,
+        negated: bool,
+        operand: Expr<'a>,
+    ) -> Result<Cond<'a>, Stop>
+        requires { Nests self.now.levels (F.pre self.now.inner) (F.post self.now.inner) }
+        ensures { Reads condition_of (in_at (nested_at self.now.levels) negated (expression_of operand.entry) (left parser.old)) result (left parser.new) }
+    {
+        parser.expect_symbol(b"(")?;
+        let first = self.expression(parser)?;
+        let others = self.further(parser)?;
+        parser.expect_symbol(b")")?;
+        let operand = boxed(parser.alloc, operand)?;
+        let values = listed(parser.alloc, first, others)?;
+        Ok(Cond::In(negated, operand, boxed(parser.alloc, values)?))
+    }
+
+    /// Reads the rest of a predicate that begins with the expression, or nothing.
+    #[tactic(auto, unfolding(crate::specs::Inner::Readers::tail_at, crate::specs::Inner::Readers::ranged_at, crate::specs::Inner::Readers::condition_clause))]
+    fn tail(&self, parser: &mut Parser<'a>, operand: Expr<'a>) -> Result<Phrase<'a>, Stop>
+        requires { Nests self.now.levels (F.pre self.now.inner) (F.post self.now.inner) }
+        ensures { Reads clause_of (tail_at (nested_at self.now.levels) (expression_of operand.entry) (left parser.old)) result (left parser.new) }
+    {
+        if let Some(comparison) = parser.comparison() {
+            let condition = self.compare(parser, comparison, operand)?;
+            return Ok(Phrase::Condition(condition));
+        }
+        if parser.word(b"IS") {
+            let condition = null_test(parser, operand)?;
+            return Ok(Phrase::Condition(condition));
+        }
+        let negated = parser.not();
+        if parser.word(b"BETWEEN") {
+            let condition = self.between(parser, negated, operand)?;
+            return Ok(Phrase::Condition(condition));
+        }
+        if parser.word(b"IN") {
+            let condition = self.among(parser, negated, operand)?;
+            return Ok(Phrase::Condition(condition));
+        }
+        if negated {
+            return Err(Stop::NotGrammar);
+        }
+        Ok(Phrase::Expression(operand))
+    }
+
+    /// Reads a predicate, a condition in brackets or an expression alone.
+    #[tactic(auto, unfolding(crate::specs::Inner::Readers::predicate_at))]
+    fn predicate(&self, parser: &mut Parser<'a>) -> Result<Phrase<'a>, Stop>
+        requires { Nests self.now.levels (F.pre self.now.inner) (F.post self.now.inner) }
+        ensures { Reads clause_of (predicate_at (nested_at self.now.levels) (left parser.old)) result (left parser.new) }
+    {
+        match self.sum(parser)? {
+            Phrase::Expression(operand) => self.tail(parser, operand),
+            Phrase::Condition(condition) => Ok(Phrase::Condition(condition)),
+        }
+    }
+
+    /// Reads a boolean test, or an expression alone.
+    #[tactic(auto, unfolding(crate::specs::Inner::Readers::test_at, crate::specs::Inner::Readers::condition_clause))]
+    pub(crate) fn test(&self, parser: &mut Parser<'a>) -> Result<Phrase<'a>, Stop>
+        requires { Nests self.now.levels (F.pre self.now.inner) (F.post self.now.inner) }
+        ensures { Reads clause_of (test_at (nested_at self.now.levels) (left parser.old)) result (left parser.new) }
+    {
+        match self.predicate(parser)? {
+            Phrase::Condition(condition) => {
+                let tested = truth_test(parser, condition)?;
+                Ok(Phrase::Condition(tested))
+            }
+            Phrase::Expression(expression) => Ok(Phrase::Expression(expression)),
+        }
+    }
+}

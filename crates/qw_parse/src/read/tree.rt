@@ -1,0 +1,115 @@
+//! Trees of a query, put together from their parts.
+
+ghost use Rattle.std.specs.Prelude.{◌≡◌, ◌≢◌, ◌⊎◌, ◌++◌, ◌∷◌, [], Some, Ok, Err, IfOk, IfErr};
+ghost use Rattle.qw_parse.specs.declared.read.parser.Stop.TheVariants.{NoMemory};
+ghost use Rattle.qw_ast.specs.SyntaxTree.{clause_of, condition_of, expression_of};
+ghost use Rattle.qw_parse.specs.Inner.Readers.{in_brackets, join_and, join_arithmetic, join_or, the_condition, the_expression};
+ghost use Rattle.qw_parse.specs.Inner.Parser.{Finds};
+
+use super::parser::Stop;
+use qw_ast::script::{Cond, Expr, Phrase};
+use qw_scalar::expression::Operator;
+use std::alloc::{AllocError, Global};
+
+/// The value on the heap.
+pub(crate) fn boxed<T: Drop>(alloc: Global, value: T) -> Result<Box<T>, AllocError>
+    ensures { IfOk result (λ b. b.value ≡ value) }
+{
+    Ok(Box::new(alloc, value)?)
+}
+
+/// Both of what was found, each on the heap, or what stopped the first that was not.
+pub(crate) fn both<T: Drop, U: Drop>(
+    alloc: Global,
+    left: Result<T, Stop>,
+    right: Result<U, Stop>,
+) -> Result<(Box<T>, Box<U>), Stop>
+    ensures found { IfOk result (λ p. (left ≡ Ok p.0.value) × (right ≡ Ok p.1.value)) }
+    ensures stopped { IfErr result (λ e. e ≢ NoMemory → (left ≡ Err e) ⊎ (right ≡ Err e)) }
+{
+    let left = left?;
+    let right = right?;
+    let left = boxed(alloc, left)?;
+    let right = boxed(alloc, right)?;
+    Ok((left, right))
+}
+
+/// The list with one more at its end.
+pub(crate) fn push<T: Drop>(list: &mut Vec<T>, value: T) -> Result<(), AllocError>
+    ensures { IfOk result (λ _. list.new.items ≡ list.old.items ++ value ∷ []) }
+{
+    list.push(value)?;
+    Ok(())
+}
+
+/// The phrase, if it is an expression.
+pub(crate) fn the_expression<'a>(phrase: Phrase<'a>) -> Result<Expr<'a>, Stop>
+    ensures { Finds expression_of (the_expression (clause_of phrase.entry)) result }
+{
+    match phrase {
+        Phrase::Expression(expression) => Ok(expression),
+        Phrase::Condition(_condition) => Err(Stop::NotGrammar),
+    }
+}
+
+/// The phrase, if it is a condition.
+pub(crate) fn the_condition<'a>(phrase: Phrase<'a>) -> Result<Cond<'a>, Stop>
+    ensures { Finds condition_of (the_condition (clause_of phrase.entry)) result }
+{
+    match phrase {
+        Phrase::Condition(condition) => Ok(condition),
+        Phrase::Expression(_expression) => Err(Stop::NotGrammar),
+    }
+}
+
+/// What brackets round the phrase are.
+pub(crate) fn in_brackets<'a>(alloc: Global, phrase: Phrase<'a>) -> Result<Phrase<'a>, Stop>
+    ensures { Finds clause_of (Some (in_brackets (clause_of phrase.entry))) result }
+{
+    match phrase {
+        Phrase::Condition(condition) => {
+            let inside = boxed(alloc, condition)?;
+            Ok(Phrase::Condition(Cond::Bracketed(inside)))
+        }
+        Phrase::Expression(expression) => Ok(Phrase::Expression(expression)),
+    }
+}
+
+/// `left operator right`, of expressions.
+pub(crate) fn arithmetic<'a>(
+    alloc: Global,
+    operator: Operator,
+    left: Phrase<'a>,
+    right: Phrase<'a>,
+) -> Result<Phrase<'a>, Stop>
+    ensures { Finds clause_of (join_arithmetic operator (clause_of left.entry) (clause_of right.entry)) result }
+{
+    let left = the_expression(left)?;
+    let right = the_expression(right)?;
+    let (left, right) = (boxed(alloc, left)?, boxed(alloc, right)?);
+    Ok(Phrase::Expression(Expr::Arithmetic(operator, left, right)))
+}
+
+/// `left AND right`, of conditions.
+pub(crate) fn conjunction<'a>(
+    alloc: Global,
+    left: Phrase<'a>,
+    right: Phrase<'a>,
+) -> Result<Phrase<'a>, Stop>
+    ensures { Finds clause_of (join_and tt (clause_of left.entry) (clause_of right.entry)) result }
+{
+    let (left, right) = both(alloc, the_condition(left), the_condition(right))?;
+    Ok(Phrase::Condition(Cond::And(left, right)))
+}
+
+/// `left OR right`, of conditions.
+pub(crate) fn disjunction<'a>(
+    alloc: Global,
+    left: Phrase<'a>,
+    right: Phrase<'a>,
+) -> Result<Phrase<'a>, Stop>
+    ensures { Finds clause_of (join_or tt (clause_of left.entry) (clause_of right.entry)) result }
+{
+    let (left, right) = both(alloc, the_condition(left), the_condition(right))?;
+    Ok(Phrase::Condition(Cond::Or(left, right)))
+}

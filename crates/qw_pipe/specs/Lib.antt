@@ -1,0 +1,4 @@
+pub mod Pipes
+pub mod Steps
+pub mod Units
+pub mod WorkedPipes

@@ -1,0 +1,5 @@
+pub mod CompiledLemmas
+mod EmptyModules
+mod OwnWeights
+pub mod SameLemmas
+mod UnitsLaws

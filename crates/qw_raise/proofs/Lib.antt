@@ -1,0 +1,4 @@
+mod MagnitudeLemmas
+pub mod RaiseLemmas
+pub mod RangeLemmas
+mod TreeLemmas

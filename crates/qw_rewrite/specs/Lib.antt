@@ -1,0 +1,5 @@
+pub mod Lowest
+pub mod Placed
+pub mod Probe
+pub mod Probed
+pub mod Sift

@@ -1,7 +1,0 @@
-use Rattle.std.proofs.Common.{◌≡◌, ◌++◌, drop}
-use Rattle.qw_low.specs.Steps.{steps_of}
-use Rattle.qw_rows.specs.Inner.Blocks.{begins_block}
-use Rattle.qw_rows.proofs.begin.emit_begins.Given as goal
-
-abbrev pub invariant-loop-reader : goal.invariant-loop-reader
-invariant-loop-reader l = l.block.code.items ++ steps_of (begins_block (drop l.reader-index l.readers)) ≡ l.initial.block.code.items ++ steps_of (begins_block l.readers)

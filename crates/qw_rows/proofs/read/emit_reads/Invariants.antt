@@ -1,7 +1,0 @@
-use Rattle.std.proofs.Common.{◌≡◌, ◌++◌, drop}
-use Rattle.qw_low.specs.Steps.{steps_of}
-use Rattle.qw_rows.specs.Inner.Blocks.{reads_block}
-use Rattle.qw_rows.proofs.read.emit_reads.Given as goal
-
-abbrev pub invariant-loop-reader : goal.invariant-loop-reader
-invariant-loop-reader l = l.block.code.items ++ steps_of (reads_block (drop l.reader-index l.readers)) ≡ l.initial.block.code.items ++ steps_of (reads_block l.readers)

@@ -1,5 +1,0 @@
-use Rattle.qw_rows.proofs.ReadyColumns.{ready_long}
-use Rattle.qw_rows.proofs.ready_laws.columns_are_long.Goals as goal
-
-pub returns : goal.returns
-returns c layout placed tables descriptor limit memory locals ready small = ready_long layout placed tables descriptor limit memory ready small

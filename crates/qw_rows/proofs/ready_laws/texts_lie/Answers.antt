@@ -1,8 +1,0 @@
-use Rattle.qw_rows.proofs.TextPlaces.{ready_lies, ready_texts}
-use Rattle.qw_rows.proofs.ready_laws.texts_lie.Goals as goal
-
-pub returns-clause-one : goal.returns-clause-one
-returns-clause-one c = λ layout placed tables descriptor limit memory locals ready small. ready_lies layout placed tables descriptor limit memory locals ready small
-
-pub returns-clause-all : goal.returns-clause-all
-returns-clause-all c = λ layout placed tables descriptor limit memory locals ready small. ready_texts layout placed tables descriptor limit memory locals ready small

@@ -1,0 +1,11 @@
+pub mod Columns
+pub mod Conjuncts
+pub mod Evaluation
+pub mod Expression
+pub mod Nodes
+pub mod Same
+pub mod Tree
+pub mod Typing
+pub mod Units
+pub mod Value
+pub mod WorkedRows

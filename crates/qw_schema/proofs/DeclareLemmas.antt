@@ -1,0 +1,77 @@
+-- Names between quotes, names that come again and columns: what loops keep.
+use Rattle.std.proofs.Common.{◌≡◌, ℕ, ◌+◌, ◌-◌, ◌<◌, ◌≤◌, Bool, true, false, ◌||◌, List, [], ◌∷◌, ◌++◌, length, map, take, drop, get_or, Option, Some, None, refl, sym, ap, ◌∙◌, arith, inl, inr, append_assoc}
+use Rattle.std.specs.Prelude.{eqb, option_map}
+use Rattle.std.specs.List.{list_any}
+use Rattle.std.specs.Str.{bytes_eq}
+use Rattle.std.proofs.lemmas.Bool.{cases_Bool}
+use Rattle.std.proofs.lemmas.Slice.{between_to_end}
+use Rattle.qw_types.specs.declared.schema.Column.{Column}
+use Rattle.qw_types.specs.declared.value.Ty.{Ty}
+use Rattle.qw_ast.specs.declared.tree.ColumnDefinition.{ColumnDefinition}
+use Rattle.qw_ast.specs.Grammar.{undoubled}
+use Rattle.qw_ast.proofs.StatementLemmas.{drop_next}
+use Rattle.qw_schema.specs.Inner.Parser.{behind_octet}
+use Rattle.qw_schema.specs.Inner.Tables.{read_of}
+use Rattle.qw_schema.specs.Inner.Judges.{is_twice, name_in, columns_of}
+use Rattle.qw_schema.proofs.TerminalLemmas.{cases_option}
+
+-- ---- names between quotes
+
+pub undoubled_more : (b : ℕ) (bs : List ℕ) → undoubled (b ∷ bs) ≡ b ∷ undoubled (behind_octet b bs)
+undoubled_more b [] = refl
+undoubled_more b (c ∷ cs) =
+    elim (cases_Bool (eqb b 34)) [
+      | inl e ↦ rw e refl
+      | inr e ↦ rw e refl
+    ]
+
+pub behind_octet_shorter : (b : ℕ) (bs : List ℕ) → length (behind_octet b bs) ≤ length bs
+behind_octet_shorter b [] = omega arith
+behind_octet_shorter b (c ∷ cs) =
+    elim (cases_Bool (eqb b 34)) [
+      | inl e ↦ rw e (omega arith)
+      | inr e ↦ rw e (omega arith)
+    ]
+
+-- ---- names that come again
+
+abbrev names_of : List ColumnDefinition → List (List ℕ)
+names_of cs = map name_in (map read_of cs)
+
+any_named : (name : List ℕ) (cs : List ColumnDefinition) → list_any (λ (c : ColumnDefinition). bytes_eq name c.name) cs ≡ list_any (bytes_eq name) (names_of cs)
+any_named name [] = refl
+any_named name (c ∷ cs) = ap (λ b. bytes_eq name c.name || b) (any_named name cs)
+
+abbrev comes_again : List ColumnDefinition → ℕ → ColumnDefinition → Bool
+comes_again cs i x = list_any (λ (c : ColumnDefinition). bytes_eq x.name c.name) (take (length cs - (i + 1)) (drop (i + 1) cs))
+
+twice_next : (cs : List ColumnDefinition) (i : ℕ) (x : ColumnDefinition) → i < length cs → x ≡ get_or cs i x → is_twice (names_of (drop i cs)) ≡ (comes_again cs i x || is_twice (names_of (drop (i + 1) cs)))
+twice_next cs i x lt is =
+    let rest = drop (i + 1) cs in
+    ap (λ (y : List ColumnDefinition). is_twice (names_of y)) (drop_next cs i x lt)
+    ∙ ap (λ (y : ColumnDefinition). is_twice (names_of (y ∷ rest))) (sym is)
+    ∙ ap (λ b. b || is_twice (names_of rest)) (sym (any_named x.name rest))
+    ∙ ap (λ (y : List ColumnDefinition). list_any (λ (other : ColumnDefinition). bytes_eq x.name other.name) y || is_twice (names_of rest)) (sym (between_to_end cs (i + 1) (length cs) (omega arith)))
+
+pub twice_ends : (cs : List ColumnDefinition) (i : ℕ) (x : ColumnDefinition) → i < length cs → x ≡ get_or cs i x → true ≡ comes_again cs i x → is_twice (names_of (drop i cs)) ≡ is_twice (names_of cs) → true ≡ is_twice (names_of cs)
+twice_ends cs i x lt is again before = ap (λ b. b || is_twice (names_of (drop (i + 1) cs))) again ∙ sym (twice_next cs i x lt is) ∙ before
+
+pub twice_goes_on : (cs : List ColumnDefinition) (i : ℕ) (x : ColumnDefinition) → i < length cs → x ≡ get_or cs i x → false ≡ comes_again cs i x → is_twice (names_of (drop i cs)) ≡ is_twice (names_of cs) → is_twice (names_of (drop (i + 1) cs)) ≡ is_twice (names_of cs)
+twice_goes_on cs i x lt is again before = ap (λ b. b || is_twice (names_of (drop (i + 1) cs))) again ∙ sym (twice_next cs i x lt is) ∙ before
+
+-- ---- the loop over columns
+
+pub columns_more : (front : List Column) (c : ColumnDefinition) (cs : List ColumnDefinition) (ty : Ty) (all : Option (List Column)) → c.ty ≡ Some ty
+    → option_map (λ x. front ++ x) (columns_of (map read_of (c ∷ cs))) ≡ all
+    → option_map (λ x. (front ++ record { name = c.name; ty = ty; not_null = c.not_null } ∷ []) ++ x) (columns_of (map read_of cs)) ≡ all
+columns_more front c cs ty all is before =
+    elim (cases_option (columns_of (map read_of cs))) [
+      | inl none ↦ (let e = rw (is, none) at before in rw none e)
+      | inr some ↦ (
+          let column : Column = record { name = c.name; ty = ty; not_null = c.not_null } in
+          let e = rw (is, some.1) at before in
+          rw some.1 (ap Some (append_assoc front (column ∷ []) some.0) ∙ e))
+    ]
+
+pub columns_stop : (front : List Column) (c : ColumnDefinition) (cs : List ColumnDefinition) (all : Option (List Column)) → c.ty ≡ None → option_map (λ x. front ++ x) (columns_of (map read_of (c ∷ cs))) ≡ all → None ≡ all
+columns_stop front c cs all is before = rw is at before

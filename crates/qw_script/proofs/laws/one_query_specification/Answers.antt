@@ -1,5 +1,0 @@
-use Rattle.qw_script.proofs.SelectLemmas.{one_select}
-use Rattle.qw_script.proofs.laws.one_query_specification.Goals as goal
-
-pub returns : goal.returns
-returns c = one_select

@@ -1,4 +1,0 @@
-use Rattle.qw_script.proofs.read.rank.+nested.Given as goal
-
-abbrev pub decreases-nested : goal.decreases-nested
-decreases-nested l = l.levels

@@ -1,7 +1,0 @@
-use Rattle.qw_script.specs.Inner.Parser.{left}
-use Rattle.qw_script.specs.Inner.Readers.{nested_at}
-use Rattle.qw_script.proofs.PrimaryReadLemmas.{primary_same}
-use Rattle.qw_script.proofs.read.rules.Rules.primary.Goals as goal
-
-pub returns : goal.returns
-returns g c = rw (primary_same (nested_at c.args.self.now.levels) (left c.args.parser.now)) c.begun.ensures

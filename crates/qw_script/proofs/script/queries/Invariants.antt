@@ -1,5 +1,0 @@
-use Rattle.qw_script.proofs.AcceptLemmas.{Accepts}
-use Rattle.qw_script.proofs.script.queries.Given as goal
-
-abbrev pub invariant-loop-index : goal.invariant-loop-index
-invariant-loop-index l = Accepts l.statements l.queries.items l.index

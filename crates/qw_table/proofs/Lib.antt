@@ -1,0 +1,14 @@
+pub mod Chains
+pub mod DirectoryRuns
+pub mod InsertRuns
+pub mod ProbeRuns
+pub mod EntryRuns
+pub mod HeldKeys
+pub mod FoldRuns
+pub mod TestRuns
+pub mod Continued
+pub mod JoinSteps
+pub mod JoinFeeds
+pub mod ProbeFeeds
+pub mod JoinClauses
+pub mod JoinTyped

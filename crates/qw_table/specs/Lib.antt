@@ -1,0 +1,5 @@
+pub mod Tables
+pub mod Entries
+pub mod Keys
+pub mod Joins
+pub mod Inner
