@@ -1,3 +1,4 @@
 pub mod Flows
 pub mod Lists
+mod Tests
 pub mod Writing

@@ -107,13 +107,13 @@ itself : {X : Type 0} (x : X) → Contains (x ∷ []) x
 itself x = (0, omega arith, refl)
 
 -- behind the words of the result, and below where free space begins
-inside_of : (base a b : ℕ) → (nat_le 24 a && nat_le (a + b) base) ≡ true → (24 ≤ a) × (a + b ≤ base)
+pub inside_of : (base a b : ℕ) → (nat_le 24 a && nat_le (a + b) base) ≡ true → (24 ≤ a) × (a + b ≤ base)
 inside_of base a b tested = let tests = and_parts (nat_le 24 a) (nat_le (a + b) base) tested in (leb-true 24 a tests.0, leb-true (a + b) base tests.1)
 
-inside_from : (base a b : ℕ) → 24 ≤ a → a + b ≤ base → (nat_le 24 a && nat_le (a + b) base) ≡ true
+pub inside_from : (base a b : ℕ) → 24 ≤ a → a + b ≤ base → (nat_le 24 a && nat_le (a + b) base) ≡ true
 inside_from base a b low high = and_from (nat_le 24 a) (nat_le (a + b) base) (le-leb 24 a low) (le-leb (a + b) base high)
 
-column_at : (rows : List (List Val)) (i c : ℕ) (row : List Val) (v : Val) → slice_get rows i ≡ Some row → slice_get row c ≡ Some v → slice_get (column_values rows c) i ≡ Some v
+pub column_at : (rows : List (List Val)) (i c : ℕ) (row : List Val) (v : Val) → slice_get rows i ≡ Some row → slice_get row c ≡ Some v → slice_get (column_values rows c) i ≡ Some v
 column_at [] i c row v there held = absurd cc
 column_at (r ∷ rows) zero c row v there held = ap Some (get_or_from_slice_get r c v val.Null (ap (λ (x : List Val). slice_get x c) (same_Some r row there) ∙ held))
 column_at (r ∷ rows) (suc i) c row v there held = column_at rows i c row v there held

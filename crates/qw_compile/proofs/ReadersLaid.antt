@@ -35,7 +35,7 @@ use Rattle.qw_compile.specs.Constants.{constants_from}
 use Rattle.qw_compile.specs.Texts.{literals_from}
 
 -- ---- where they are
-null_there : (b : Bool) (y x : ℕ) → null_word b y ≡ Some x → y ≡ x
+pub null_there : (b : Bool) (y x : ℕ) → null_word b y ≡ Some x → y ≡ x
 null_there true y x is = absurd cc
 null_there false y x is = same_Some y x is
 
@@ -62,7 +62,7 @@ pub cells_in : (b c k below : ℕ) (used : List Used) → c + 3 * length used �
 cells_in b c k below [] low = omega (arith, low)
 cells_in b c k below (u ∷ used) low = (c + 3, cell_one b c k u, cells_in (b + 3) (c + 3) (k + 1) below used (omega (arith, low)))
 
-null_one : (b : Bool) (x : ℕ) → HasNullWord b (null_word b x)
+pub null_one : (b : Bool) (x : ℕ) → HasNullWord b (null_word b x)
 null_one true x = refl
 null_one false x = (x, refl)
 
@@ -95,7 +95,7 @@ pub texts_many : (x at : ℕ) (texts : List (List ℕ)) → length (literals_fro
 texts_many x at [] = refl
 texts_many x at (t ∷ texts) = ap suc (texts_many (x + 2) (at + length t) texts)
 
-texts_described : (x at : ℕ) (texts : List (List ℕ)) → AllByRecursion (λ (q : Known). (q.operand.kind ≡ kind_of q.expression) × (q.operand.scale ≡ scale_of q.expression)) (known_texts (literals_from x at texts) texts)
+pub texts_described : (x at : ℕ) (texts : List (List ℕ)) → AllByRecursion (λ (q : Known). (q.operand.kind ≡ kind_of q.expression) × (q.operand.scale ≡ scale_of q.expression)) (known_texts (literals_from x at texts) texts)
 texts_described x at [] = tt
 texts_described x at (t ∷ texts) = ((refl, refl), texts_described (x + 2) (at + length t) texts)
 
@@ -178,12 +178,12 @@ knows b c k (u ∷ used) i t (inl is) =
 knows b c k (u ∷ used) i t (inr read) = let found = knows (b + 3) (c + 3) (k + 1) used i t read in (found.0, inr found.1)
 
 -- ---- how they are declared
-behind : {A : Type 0} (types : List A) (at : ℕ) (x y z : A) (rest : List A) → ((i : ℕ) → slice_get types (at + i) ≡ slice_get (x ∷ y ∷ z ∷ rest) i) → (i : ℕ) → slice_get types (at + 3 + i) ≡ slice_get rest i
+pub behind : {A : Type 0} (types : List A) (at : ℕ) (x y z : A) (rest : List A) → ((i : ℕ) → slice_get types (at + i) ≡ slice_get (x ∷ y ∷ z ∷ rest) i) → (i : ℕ) → slice_get types (at + 3 + i) ≡ slice_get rest i
 behind types at x y z rest same i =
     let place : at + 3 + i ≡ at + suc (suc (suc i)) = omega arith in
     ap (λ (n : ℕ). slice_get types n) place ∙ same (suc (suc (suc i)))
 
-at_first : {A : Type 0} (types : List A) (at : ℕ) (x : A) (rest : List A) → ((i : ℕ) → slice_get types (at + i) ≡ slice_get (x ∷ rest) i) → slice_get types at ≡ Some x
+pub at_first : {A : Type 0} (types : List A) (at : ℕ) (x : A) (rest : List A) → ((i : ℕ) → slice_get types (at + i) ≡ slice_get (x ∷ rest) i) → slice_get types at ≡ Some x
 at_first types at x rest same = let place : at ≡ at + 0 = omega arith in ap (λ (n : ℕ). slice_get types n) place ∙ same 0
 
 pub bases_declared : (types rest : List ValType) (b c k : ℕ) (used : List Used) → ((i : ℕ) → slice_get types (b + i) ≡ slice_get (base_types used rest) i) → AllByRecursion (DeclaresBases types) (readers_from b c k used)
@@ -199,13 +199,13 @@ behind_bases types rest b (u ∷ used) same i =
     let place : b + 3 * length (u ∷ used) + i ≡ b + 3 + 3 * length used + i = omega arith in
     ap (λ (n : ℕ). slice_get types n) place ∙ behind_bases types rest (b + 3) used (behind types b I32 I32 I32 (base_types used rest) same) i
 
-kind_declared : (types : List ValType) (t : Ty) (c : ℕ) (null : Option ℕ) → slice_get types c ≡ Some (value_type t) → slice_get types (c + 1) ≡ Some I32 → DeclaresKind types (record { value = c; length = c + 1; null = null }) (Some (type_kind t))
+pub kind_declared : (types : List ValType) (t : Ty) (c : ℕ) (null : Option ℕ) → slice_get types c ≡ Some (value_type t) → slice_get types (c + 1) ≡ Some I32 → DeclaresKind types (record { value = c; length = c + 1; null = null }) (Some (type_kind t))
 kind_declared types ty.Integer c null v l = v
 kind_declared types (ty.Decimal precision scale) c null v l = v
 kind_declared types ty.Date c null v l = v
 kind_declared types (ty.Varchar limit) c null v l = (v, l)
 
-null_declared : (types : List ValType) (b : Bool) (x : ℕ) → slice_get types x ≡ Some I32 → DeclaresNull types (null_word b x)
+pub null_declared : (types : List ValType) (b : Bool) (x : ℕ) → slice_get types x ≡ Some I32 → DeclaresNull types (null_word b x)
 null_declared types true x is = tt
 null_declared types false x is = is
 

@@ -14,7 +14,7 @@ use qw_types::{Kind, NoMemory, Ty};
 use std::alloc::Global;
 
 /// How the local of a value of a type is declared.
-fn value_type(ty: Ty) -> ValType
+pub fn value_type(ty: Ty) -> ValType
     ensures { result ≡ readers.value_type ty }
 {
     match ty {
@@ -34,7 +34,7 @@ fn push_bases(locals: &mut Vec<ValType>, used: &[Used]) -> Result<(), NoMemory>
 }
 
 /// Adds the types of the locals for so many text literals.
-fn push_texts(locals: &mut Vec<ValType>, texts: usize) -> Result<(), NoMemory>
+pub fn push_texts(locals: &mut Vec<ValType>, texts: usize) -> Result<(), NoMemory>
     ensures { OnOk result ((rest : List ValType) → locals.new.items ++ rest ≡ locals.old.items ++ readers.text_types texts rest) }
 {
     for _text in 0..texts {
@@ -44,7 +44,7 @@ fn push_texts(locals: &mut Vec<ValType>, texts: usize) -> Result<(), NoMemory>
 }
 
 /// Adds the types of the locals for so many numbers and dates.
-fn push_words(locals: &mut Vec<ValType>, words: usize) -> Result<(), NoMemory>
+pub fn push_words(locals: &mut Vec<ValType>, words: usize) -> Result<(), NoMemory>
     ensures { OnOk result ((rest : List ValType) → locals.new.items ++ rest ≡ locals.old.items ++ readers.word_types words rest) }
 {
     for _word in 0..words {

@@ -149,7 +149,11 @@ pub fn leaves_within(alloc: Global, cond: &Cond) -> Result<Vec<Leaf>, NoMemory>
 }
 
 /// Adds those of conjuncts.
-fn from_conjuncts(alloc: Global, leaves: &mut Vec<Leaf>, conjuncts: &[Cond]) -> Result<(), NoMemory>
+pub fn from_conjuncts(
+    alloc: Global,
+    leaves: &mut Vec<Leaf>,
+    conjuncts: &[Cond],
+) -> Result<(), NoMemory>
     ensures { OnOk result (Gathers leaves.old.items leaves.new.items (flat_map leaves_within conjuncts.now)) }
 {
     for conjunct in conjuncts {
@@ -159,7 +163,7 @@ fn from_conjuncts(alloc: Global, leaves: &mut Vec<Leaf>, conjuncts: &[Cond]) -> 
 }
 
 /// Adds those of a select list.
-fn from_items(alloc: Global, leaves: &mut Vec<Leaf>, items: &[Expr]) -> Result<(), NoMemory>
+pub fn from_items(alloc: Global, leaves: &mut Vec<Leaf>, items: &[Expr]) -> Result<(), NoMemory>
     ensures { OnOk result (Gathers leaves.old.items leaves.new.items (flat_map leaves_in items.now)) }
 {
     for item in items {

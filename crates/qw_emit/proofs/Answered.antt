@@ -53,6 +53,14 @@ came_to most pages P R Unfinished start runs h k b run at = absurd h
 abbrev pub IsTold : meant.Outcome → ℕ → Type 0
 IsTold out code = (code ≡ 3) ⊎ ((codes : List Code) × (one : Code) × (out ≡ meant.Raises codes) × Contains codes one × (code ≡ code_of one))
 
+-- the codes that a run of some module may raise, over any tables: a refusal's, and those of exceptions
+abbrev pub IsSomeCode : ℕ → Type 0
+IsSomeCode code = (code ≡ 3) ⊎ ((one : Code) × (code ≡ code_of one))
+
+pub told_some : (out : meant.Outcome) (code : ℕ) → IsTold out code → IsSomeCode code
+told_some out code (inl refusal) = inl refusal
+told_some out code (inr exception) = inr (exception.1, exception.4)
+
 module _ (out : meant.Outcome) (layout : Layout) (most pages left descriptor : ℕ) (start : Moment)
     -- what is promised of the state at a return: no request was refused, and in any memory that stands for it are the rows of the outcome
     (P : LowState → Type 0)

@@ -3,10 +3,13 @@ mod Around
 pub mod CellsRead
 mod FormLemmas
 mod Locals
+pub mod ModuleCompiled
 mod ModuleRuns
 mod ModuleSpelled
 mod ModuleValid
 pub mod PushRuns
+pub mod QueryBegins
+pub mod QueryEnds
 pub mod Refusals
 pub mod ReturnRuns
 pub mod RowResults
@@ -17,5 +20,6 @@ pub mod ScanCompiled
 pub mod ScanLoop
 pub mod ScanRuns
 pub mod ScanTyped
+pub mod SeenTexts
 pub mod Spending
 pub mod StartRuns

@@ -4,5 +4,5 @@ mod Constructs
 mod Evaluations
 mod Lists
 mod Literals
-mod Named
+pub mod Named
 mod Trees

@@ -5,7 +5,8 @@ ghost use Rattle.qw_scalar.specs.Nodes.{nodes, nodes_of, nodes_of_all, nodes_of_
 ghost use Rattle.qw_scalar.specs.Tree.{choices_of, condition_of, expression_of, expressions_of};
 ghost use Rattle.qw_scalar.specs.Typing.{AreTyped, IsTyped};
 ghost use Rattle.qw_fold.specs.Texts.{texts_in, texts_of_all, texts_of_branches, texts_within};
-ghost use Rattle.qw_fold.specs.Inner.Made.{AllFoldAt, AreFoldOf, BranchesFold, IsFoldOf, MatchesFold};
+ghost use Rattle.qw_fold.specs.Stands.{AreFoldOf, IsFoldOf};
+ghost use Rattle.qw_fold.specs.Inner.Made.{AllFoldAt, BranchesFold, MatchesFold};
 ghost use Rattle.qw_fold.specs.Inner.Typed.{AllTyped, ChoicesTyped, MatchesTyped};
 
 use crate::construct::{
@@ -20,9 +21,13 @@ use qw_scalar::expression::{Branches, Cond, Expr, Exprs, Matches};
 use qw_types::NoMemory;
 use std::alloc::Global;
 
-/// An expression.
+/// An expression that can stand for a typed one, with nothing left to compute.
+///
+/// # Errors
+///
+/// [`NoMemory`] where memory does not suffice.
 #[cycle(tree)]
-pub(crate) fn expression(alloc: Global, expr: &Expr) -> Result<Expr, NoMemory>
+pub fn expression(alloc: Global, expr: &Expr) -> Result<Expr, NoMemory>
     requires typed { IsTyped (expression_of expr.now) }
     ensures { IfOk result (λ new. IsFoldOf (expression_of expr.now) (nodes expr.now) (texts_in expr.now) new) }
 {
@@ -66,9 +71,13 @@ pub(crate) fn expression(alloc: Global, expr: &Expr) -> Result<Expr, NoMemory>
     }
 }
 
-/// A condition.
+/// A condition that can stand for a typed one, with nothing left to compute.
+///
+/// # Errors
+///
+/// [`NoMemory`] where memory does not suffice.
 #[cycle(tree)]
-pub(crate) fn condition(alloc: Global, cond: &Cond) -> Result<Cond, NoMemory>
+pub fn condition(alloc: Global, cond: &Cond) -> Result<Cond, NoMemory>
     requires typed { AreTyped (condition_of cond.now) }
     ensures { IfOk result (λ new. AreFoldOf (condition_of cond.now) (nodes_of cond.now) (texts_within cond.now) new) }
 {

@@ -17,6 +17,14 @@ mod keys;
 #[cfg(test)]
 mod linear_memory;
 #[cfg(test)]
+mod pipelines;
+#[cfg(test)]
+mod random_joins;
+#[cfg(test)]
+mod random_queries;
+#[cfg(test)]
+mod row_programs;
+#[cfg(test)]
 mod scripts;
 #[cfg(test)]
 mod sources_and_sinks;

@@ -15,7 +15,7 @@ ghost use Rattle.qw_meaning.specs.WorkedQueries.{item_entry};
 
 use crate::assertions::assert_text;
 use qw_meaning::Select;
-use qw_plain::outcome::{Answer, plain_outcome};
+use qw_plain::outcome::{Answer, plain_select_outcome};
 use qw_scalar::comparison::Comparison;
 use qw_scalar::expression::{Branches, Cond, Expr, Exprs, Operator};
 use qw_types::{ColumnType, NoMemory, Row, Text, Ty, Val};
@@ -82,7 +82,7 @@ fn of_items(alloc: Global, conjuncts: Vec<Cond>, list: Vec<Expr>) -> Result<Answ
 {
     let select = Select::new(0, item_columns(alloc)?, conjuncts, list);
     let tables = vec![in alloc; items(alloc)?]?;
-    plain_outcome(alloc, &select, &tables)
+    plain_select_outcome(alloc, &select, &tables)
 }
 
 /// `ID`.
@@ -207,7 +207,7 @@ fn of_nothing(alloc: Global) -> Result<Answer, NoMemory> {
         vec![in alloc;]?,
         vec![in alloc; quotient]?,
     );
-    plain_outcome(alloc, &select, vec![in alloc; Vec::new(alloc)]?.as_slice())
+    plain_select_outcome(alloc, &select, vec![in alloc; Vec::new(alloc)]?.as_slice())
 }
 
 /// `SELECT ID FROM ITEM WHERE ID NOT IN (1, PRICE)`.

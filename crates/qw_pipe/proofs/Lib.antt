@@ -1,3 +1,4 @@
 pub mod Counting
 pub mod Ordering
 pub mod Splitting
+mod Weights

@@ -1,1 +1,4 @@
-mod OneTable
+mod Held
+mod Lists
+mod Merging
+mod Steps

@@ -13,4 +13,5 @@ pub mod Sifting
 pub mod Sized
 pub mod Stages
 mod Rewriting
+mod Sizes
 mod Taken

@@ -89,7 +89,7 @@ module _ (directory : ℕ) (key cells : List Field) (free : ℕ) (a : Statement)
   within types own (suc (suc (suc zero))) t is = own 3 t is
   within types own (suc (suc (suc (suc i)))) t is = cc
 
-  pub builds_typed : (types : List ValType) → length cells ≤ 512 → AreDeclared types key → AreDeclared types cells → slice_get types 1 ≡ Some I32 → slice_get types 2 ≡ Some I32 → slice_get types directory ≡ Some I32 → Declares types free build_types → IsTyped types a
+  pub builds_typed : (types : List ValType) → length cells ≤ 2000 → AreDeclared types key → AreDeclared types cells → slice_get types 1 ≡ Some I32 → slice_get types 2 ≡ Some I32 → slice_get types directory ≡ Some I32 → Declares types free build_types → IsTyped types a
   builds_typed types few key_is cells_are free_is left_is d_is own =
       let fill : Statement = cells_block 24 (sources_of cells) in
       let n : ℕ = entry_size 0 (length cells) 0 in

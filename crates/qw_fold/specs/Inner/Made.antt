@@ -21,21 +21,7 @@ use Rattle.qw_scalar.specs.Typing.{AreTyped, IsTyped}
 use Rattle.qw_fold.specs.Folded.{AllFolded, AreAtOneScale, AreFolded, BranchesFolded, IsAtScale, IsFolded, MatchesFolded}
 use Rattle.qw_scalar.specs.Same.{AreSame, IsSame}
 use Rattle.qw_fold.specs.Texts.{texts_in, texts_of_all, texts_of_branches, texts_of_matches, texts_within}
-
--- one of these columns, each its number and its type
-abbrev pub IsAmong : List (ℕ × Ty) → ℕ → Ty → Type 0
-IsAmong columns i ty = Contains columns (i, ty)
-
--- the second can stand for the first, and names no column that the first doesn't
-pub record Follows (e f : Expression) : Type 0 where
-  pub same : IsSame e f
-  pub typed : IsTyped e → IsTyped f
-  pub columns : (columns : List (ℕ × Ty)) → HasColumns (IsAmong columns) e → HasColumns (IsAmong columns) f
-
-pub record FollowsTruth (c d : Condition) : Type 0 where
-  pub same : AreSame c d
-  pub typed : AreTyped c → AreTyped d
-  pub columns : (columns : List (ℕ × Ty)) → HaveColumns (IsAmong columns) c → HaveColumns (IsAmong columns) d
+pub use Rattle.qw_fold.specs.Stands.{AreFoldOf, Follows, FollowsTruth, IsAmong, IsFoldOf}
 
 -- so can results of a choice that are brought to a scale
 pub record FollowsResults (s : ℕ) (cs ds : Choices) : Type 0 where
@@ -113,18 +99,6 @@ pub record BroughtTogether (a b x y : Expr) : Type 0 where
   pub right_nodes : nodes y ≡ nodes b
   pub left_texts : texts_in x ≡ texts_in a
   pub right_texts : texts_in y ≡ texts_in b
-
-pub record IsFoldOf (e : Expression) (count : ℕ) (texts : List (List ℕ)) (new : Expr) : Type 0 where
-  pub follows : Follows e (expression_of new)
-  pub folded : IsFolded new
-  pub short : nodes new ≤ count
-  pub same_texts : texts_in new ≡ texts
-
-pub record AreFoldOf (c : Condition) (count : ℕ) (texts : List (List ℕ)) (new : Cond) : Type 0 where
-  pub follows : FollowsTruth c (condition_of new)
-  pub folded : AreFolded new
-  pub short : nodes_of new ≤ count
-  pub same_texts : texts_within new ≡ texts
 
 -- what stands for an expression, brought to a scale
 pub record StandsAt (s : ℕ) (e f : Expression) : Type 0 where

@@ -12,7 +12,7 @@ use qw_bench::bench::{Bench, Ended};
 use qw_csv::loading::load;
 use qw_csv::{Cell, Loaded};
 use qw_meaning::Select;
-use qw_plain::outcome::{Answer, plain_outcome};
+use qw_plain::outcome::{Answer, plain_select_outcome};
 use qw_schema::parse::schema_of;
 use qw_sink::results::received;
 use qw_top::top::queries::queries_of;
@@ -206,7 +206,7 @@ fn plain_answer(alloc: Global, select: &Select, tables: &[Vec<Row>]) -> Result<A
     if !are_rows_of(types.as_slice(), rows_at(tables, select.table())) {
         return Err("rows of other kinds".into());
     }
-    Ok(plain_outcome(alloc, select, tables)?)
+    Ok(plain_select_outcome(alloc, select, tables)?)
 }
 
 // The data types of columns.

@@ -1,0 +1,189 @@
+-- The tables that a pipeline's lookups are served by, and the entries that have a key.
+use Rattle.std.proofs.Common.{◌≡◌, ◌<ℤ◌, ℤ, ℕ, zero, suc, ◌+◌, ◌<◌, ◌==◌, if◌then◌else◌, Bool, true, false, cond, sum_by, Option, Some, None, List, [], ◌∷◌, ◌++◌, drop, get_or, length, map, take, slice_get, refl, sym, ap, ap₂, ◌∙◌, arith}
+use Rattle.std.proofs.lemmas.Bool.{eq-eqb, eqb-true}
+use Rattle.std.proofs.lemmas.List.Sorted.{sum_by-IsPermutation}
+use Rattle.std.proofs.lemmas.List.Sums.{sum_by-cons}
+use Rattle.std.specs.List.{AllByRecursion}
+use Rattle.std.specs.Ordering.{MatchOrdering, int_cmp, is_eq, nat_cmp, ordering_then}
+use Rattle.std.specs.Cmp.{int_ranks, ranks}
+use Rattle.std.specs.declared.cmp.Ordering.{Ordering}
+use Rattle.std.specs.declared.cmp.Ordering.TheVariants.{Less, Equal, Greater}
+use Rattle.qw_types.specs.Kind.{type_kind}
+use Rattle.qw_types.specs.TextOrder.{text_order}
+use Rattle.qw_types.specs.ValueOrder.{is_same_row, row_order, value_order}
+use Rattle.qw_types.specs.declared.kind.Kind.{Kind}
+use Rattle.qw_types.specs.declared.value.Val.{Val}
+use Rattle.qw_types.specs.declared.value.Val.TheVariants.{Null, Num, Date, Text}
+use Rattle.qw_layout.specs.Hash.{slot}
+use Rattle.qw_meaning.specs.Flow.{Flow}
+use Rattle.qw_scalar.specs.Conjuncts.{passes}
+use Rattle.qw_scalar.specs.Evaluation.{at_row}
+use Rattle.qw_scalar.specs.Typing.{kind_of}
+use Rattle.qw_low.specs.State.{Cells}
+use Rattle.qw_feed.specs.Cells.{kinds_of}
+use Rattle.qw_feed.specs.Feeds.{nothing, flow_by, flow_over, spend, where_true}
+use Rattle.qw_feed.specs.Rows.{Row}
+use Rattle.qw_table.specs.Joins.{keyed, sources_of, where_equal}
+use Rattle.qw_table.specs.Tables.{IsTable, in_slot, values_of}
+use Rattle.qw_table.proofs.JoinFeeds.{slot-low}
+use Rattle.qw_physical.specs.Courses.{met, pair_of}
+use Rattle.qw_physical.specs.Physical.{Operator, Probe, filter as filter_by, probe}
+use Rattle.qw_physical.specs.declared.pipeline.ReadColumn.{ReadColumn}
+use Rattle.qw_operator.proofs.PairRows.{AreStored}
+use Rattle.qw_operator.proofs.Stood.{Stood, ArePlaced, all_entries, built_of, flow_in, flow_values, slot_entries, spend_values}
+
+-- a probe's table is this one: of its key and its kept columns
+pub record Serves (p : Probe) (st : Stood) : Type 0 where
+  pub fields : st.fields ≡ length p.key
+  pub kinds : kinds_of (sources_of st.cells) ≡ map kind_of p.key ++ map (λ (c : ReadColumn). let k : Option Kind = Some (type_kind c.ty) in k) p.kept
+  pub stored : (j : ℕ) → j < 1024 → AllByRecursion (λ (e : Row). AreStored p.kept (drop (length p.key) e.values)) (st.chains j)
+
+abbrev pub AreServed : List Stood → List Operator → Type 0
+AreServed stoods [] = Unit {0}
+AreServed stoods (filter_by cs ∷ operators) = AreServed stoods operators
+AreServed stoods (probe p ∷ operators) = ((st : Stood) × (slice_get stoods p.table ≡ Some st) × Serves p st) × AreServed stoods operators
+
+-- ---- keys that aren't distinct are equal
+first_equal : (r s : Ordering) → ordering_then r s ≡ Equal → (r ≡ Equal) × (s ≡ Equal)
+first_equal Less s h = absurd cc
+first_equal Equal s h = (refl, h)
+first_equal Greater s h = absurd cc
+
+octet_equal : (a b : ℕ) (r : Ordering) → r ≡ Equal → MatchOrdering r (a < b) (a ≡ b) (b < a) → a ≡ b
+octet_equal a b Less h m = absurd cc
+octet_equal a b Equal h m = m
+octet_equal a b Greater h m = absurd cc
+
+same_text : (left right : List ℕ) → text_order left right ≡ Equal → left ≡ right
+same_text [] [] h = refl
+same_text [] (b ∷ others) h = absurd cc
+same_text (a ∷ rest) [] h = absurd cc
+same_text (a ∷ rest) (b ∷ others) h =
+    let parts = first_equal (nat_cmp a b) (text_order rest others) h in
+    let head : a ≡ b = octet_equal a b (nat_cmp a b) parts.0 (ranks a b) in
+    let tail : rest ≡ others = same_text rest others parts.1 in
+    ap₂ (λ (x : ℕ) (xs : List ℕ). x ∷ xs) head tail
+
+number_equal : (a b : ℤ) (r : Ordering) → r ≡ Equal → MatchOrdering r (a <ℤ b) (a ≡ b) (b <ℤ a) → a ≡ b
+number_equal a b Less h m = absurd cc
+number_equal a b Equal h m = m
+number_equal a b Greater h m = absurd cc
+
+same_number : (a b : ℤ) → int_cmp a b ≡ Equal → a ≡ b
+same_number a b h = number_equal a b (int_cmp a b) h (int_ranks a b)
+
+same_value : (a b : Val) → value_order a b ≡ Equal → a ≡ b
+same_value Null Null h = refl
+same_value Null (Num b) h = absurd cc
+same_value Null (Date b) h = absurd cc
+same_value Null (Text b) h = absurd cc
+same_value (Num a) Null h = absurd cc
+same_value (Num a) (Num b) h = ap Num (same_number a b h)
+same_value (Num a) (Date b) h = absurd cc
+same_value (Num a) (Text b) h = absurd cc
+same_value (Date a) Null h = absurd cc
+same_value (Date a) (Num b) h = absurd cc
+same_value (Date a) (Date b) h = ap Date (same_number a b h)
+same_value (Date a) (Text b) h = absurd cc
+same_value (Text a) Null h = absurd cc
+same_value (Text a) (Num b) h = absurd cc
+same_value (Text a) (Date b) h = absurd cc
+same_value (Text a) (Text b) h = ap Text (same_text a b h)
+
+is_equal : (r : Ordering) → is_eq r ≡ true → r ≡ Equal
+is_equal Less h = absurd cc
+is_equal Equal h = refl
+is_equal Greater h = absurd cc
+
+same_rows : (row other : List Val) → row_order row other ≡ Equal → row ≡ other
+same_rows [] [] h = refl
+same_rows [] (b ∷ others) h = absurd cc
+same_rows (a ∷ rest) [] h = absurd cc
+same_rows (a ∷ rest) (b ∷ others) h =
+    let parts = first_equal (value_order a b) (row_order rest others) h in
+    ap₂ (λ (x : Val) (xs : List Val). x ∷ xs) (same_value a b parts.0) (same_rows rest others parts.1)
+
+pub same_keys : (key other : List Val) → is_same_row key other ≡ true → key ≡ other
+same_keys key other h = same_rows key other (is_equal (row_order key other) h)
+
+-- ---- each entry is in its chain
+abbrev missed : Bool → ℕ
+missed true = 0
+missed false = 1
+
+none_missed : (slot_of : List Val → ℕ) (j : ℕ) (vs : List (List Val)) → sum_by (λ (v : List Val). missed (slot_of v == j)) (in_slot slot_of j vs) ≡ 0
+none_missed slot_of j [] = refl
+none_missed slot_of j (v ∷ vs) = one (slot_of v == j) refl (in_slot slot_of j vs) (none_missed slot_of j vs)
+  where
+    one : (b : Bool) → (slot_of v == j) ≡ b → (ws : List (List Val)) → sum_by (λ (w : List Val). missed (slot_of w == j)) ws ≡ 0 → sum_by (λ (w : List Val). missed (slot_of w == j)) (cond b (v ∷ ws) ws) ≡ 0
+    one true is ws rest =
+        let first : missed (slot_of v == j) ≡ 0 = ap missed is in
+        sum_by-cons (λ (w : List Val). missed (slot_of w == j)) v ws ∙ ap₂ (λ (x y : ℕ). x + y) first rest
+    one false is ws rest = rest
+
+not_missed : (b : Bool) → missed b ≡ 0 → b ≡ true
+not_missed true none = refl
+not_missed false none = absurd cc
+
+each_there : (slot_of : List Val → ℕ) (j : ℕ) (es : List Row) → sum_by (λ (v : List Val). missed (slot_of v == j)) (values_of es) ≡ 0 → AllByRecursion (λ (e : Row). slot_of e.values ≡ j) es
+each_there slot_of j [] none = tt
+each_there slot_of j (e ∷ es) none =
+    let more : missed (slot_of e.values == j) + sum_by (λ (v : List Val). missed (slot_of v == j)) (values_of es) ≡ 0 = sym (sum_by-cons (λ (v : List Val). missed (slot_of v == j)) e.values (values_of es)) ∙ none in
+    let first : missed (slot_of e.values == j) ≡ 0 = omega (arith, more) in
+    let rest : sum_by (λ (v : List Val). missed (slot_of v == j)) (values_of es) ≡ 0 = omega (arith, more) in (
+      eqb-true (slot_of e.values) j (not_missed (slot_of e.values == j) first),
+      each_there slot_of j es rest,
+    )
+
+pub table_placed : (Has : Cells → ℕ → ℕ → List Val → Type 0) (slot_of : List Val → ℕ) (size k o front : ℕ) (chains : ℕ → List Row) (entries : List (List Val)) (c : Cells) (own : List ℕ) → IsTable Has slot_of size k o front chains entries c own →
+    (j : ℕ) → j < 1024 → ArePlaced slot_of chains j
+table_placed Has slot_of size k o front chains entries c own table j low =
+    let miss : List Val → ℕ = λ (v : List Val). missed (slot_of v == j) in
+    let count : sum_by miss (in_slot slot_of j entries) ≡ sum_by miss (values_of (chains j)) = sum_by-IsPermutation miss (values_of (chains j)) (in_slot slot_of j entries) (table.same j low) in
+    each_there slot_of j (chains j) (sym count ∙ none_missed slot_of j entries)
+
+-- ---- what comes of a lookup
+pub built_at : (stoods : List Stood) (t : ℕ) (st : Stood) → slice_get stoods t ≡ Some st → get_or (built_of stoods) t [] ≡ all_entries st.chains
+built_at [] t st there = absurd cc
+built_at (first ∷ stoods) zero st there = ap (λ (o : Option Stood). chains_of o) there
+  where
+    chains_of : Option Stood → List (List Val)
+    chains_of None = []
+    chains_of (Some x) = all_entries x.chains
+built_at (first ∷ stoods) (suc t) st there = built_at stoods t st there
+
+module _ (p : Probe) (row key : List Val) (stoods : List Stood) (st : Stood) (there : slice_get stoods p.table ≡ Some st) (placed : (j : ℕ) → j < 1024 → ArePlaced (keyed (length p.key)) st.chains j) where
+  abbrev n : ℕ
+  n = length p.key
+
+  abbrev es : List Row
+  es = st.chains (slot key)
+
+  of_slot : in_slot (keyed n) (slot key) (get_or (built_of stoods) p.table []) ≡ values_of es
+  of_slot = ap (in_slot (keyed n) (slot key)) (built_at stoods p.table st there) ∙ slot_entries (keyed n) st.chains placed (slot key) (slot-low key)
+
+  pub slot_spent : (u : List Val → ℕ) → spend u (in_slot (keyed n) (slot key) (get_or (built_of stoods) p.table [])) ≡ spend (λ (e : Row). u e.values) es
+  slot_spent u = ap (spend u) of_slot ∙ spend_values u es
+
+  differs : (b : Bool) → b ≡ true → b ≡ false → ⊥
+  differs true so isnt = cc
+  differs false so isnt = cc
+
+  module _ (fed : List Val → Flow (List Val)) where
+    abbrev one : List Val → Flow (List Val)
+    one = met fed p row key
+
+    elsewhere : (v : List Val) → (keyed n v == slot key) ≡ false → one v ≡ nothing
+    elsewhere v other = by_test (is_same_row key (take n v)) refl
+      where
+        by_test : (b : Bool) → is_same_row key (take n v) ≡ b → (if b then flow_by (passes p.on (at_row (pair_of p row v))) (where_true (fed (pair_of p row v))) else nothing) ≡ nothing
+        by_test true is = absurd (differs (keyed n v == slot key) (eq-eqb (keyed n v) (slot key) (ap slot (sym (same_keys key (take n v) is)))) other)
+        by_test false is = refl
+
+    pub slot_met : (fields : ℕ) → fields ≡ n →
+        flow_over (met fed p row key) (get_or (built_of stoods) p.table []) ≡ flow_over (where_equal fields (λ v. flow_by (passes p.on (at_row (pair_of p row v))) (where_true (fed (pair_of p row v)))) key) es
+    slot_met fields same =
+        flow_in (keyed n) st.chains (slot key) one elsewhere (get_or (built_of stoods) p.table [])
+        ∙ (ap (flow_over one) of_slot
+        ∙ (flow_values one es
+        ∙ ap (λ (m : ℕ). flow_over (where_equal m (λ v. flow_by (passes p.on (at_row (pair_of p row v))) (where_true (fed (pair_of p row v)))) key) es) (sym same)))

@@ -1,0 +1,313 @@
+-- The units of a plan's pipelines, over tables of keys and kept columns in any order, are within the units of the plan.
+use Rattle.std.proofs.Common.{◌≡◌, ◌∙◌, ℕ, zero, suc, ◌+◌, ◌≤◌, Bool, true, false, List, [], ◌∷◌, ◌++◌, get_or, length, map, refl, sym, ap, ap₂, subst, arith, append-nil, append_assoc, length-append}
+use Rattle.std.specs.List.{AllByRecursion, flat_map}
+use Rattle.std.specs.List.Sorted.{IsPermutation}
+use Rattle.std.specs.declared.cmp.Ordering.TheVariants as ordering
+use Rattle.std.proofs.lemmas.List.{length-map}
+use Rattle.qw_types.specs.Contents.{rows_of}
+use Rattle.qw_types.specs.ValueOrder.{is_same_row, value_order}
+use Rattle.qw_types.specs.declared.code.Code.{Code}
+use Rattle.qw_types.specs.declared.value.Val.{Val}
+use Rattle.qw_scalar.specs.Conjuncts.{passes}
+use Rattle.qw_scalar.specs.Evaluation.{at_row}
+use Rattle.qw_scalar.specs.Expression.{Condition, Expression}
+use Rattle.qw_scalar.specs.Units.{units_of_all, units_of_items}
+use Rattle.qw_meaning.specs.Flow.{Flow, kept, rows_given, values_of}
+use Rattle.qw_meaning.specs.From.{at_places, entry_flow}
+use Rattle.qw_meaning.specs.Select.{AreOfEntries, IsSpecification, Specification, conjuncts_on, entries_of}
+use Rattle.qw_algebra.specs.Columns.{condition_names_only, names_only}
+use Rattle.qw_algebra.specs.Node.{Node, scan, filter, join, project, node_flow}
+use Rattle.qw_algebra.specs.Written.{written}
+use Rattle.qw_algebra.proofs.Lists.{all_append, all_more}
+use Rattle.qw_pipe.specs.General.{general_hashing}
+use Rattle.qw_pipe.specs.Pipes as pipes
+use Rattle.qw_pipe.specs.Pipes.{make, pipelines, probe, split, test, to_table}
+use Rattle.qw_pipe.specs.Units.{made_units, table_units, tested_units, units_of}
+use Rattle.qw_pipe.proofs.Splitting.{building, lookup, table_built}
+use Rattle.qw_rewrite.specs.Placed.{IsSizedPlan}
+use Rattle.qw_rewrite.specs.Probe.{keyed}
+use Rattle.qw_rewrite.specs.Probed.{beside_keys}
+use Rattle.qw_rewrite.specs.Sift.{sifted}
+use Rattle.qw_rewrite.proofs.Rows.{NamesOnly}
+use Rattle.qw_feed.specs.Feeds.{flow_over, spend}
+use Rattle.qw_physical.specs.Courses.{AreBuilt, cost, costs, fed, pipeline_cost, pipeline_fed, sink_values, where_passed}
+use Rattle.qw_physical.specs.Physical as physical
+use Rattle.qw_physical.specs.Physical.{Operator, Pipeline, Sink, select}
+use Rattle.qw_physical.specs.Reads.{AreRead, AreScaled, is_read}
+use Rattle.qw_physical.specs.Spelled.{all_spelled, items_made, kept_columns, keys_sought, spelled, spelled_steps}
+use Rattle.qw_physical.specs.declared.pipeline.ReadColumn.{ReadColumn}
+use Rattle.qw_physical.proofs.Charges.{NamesItems, Respects, charge, charges, charges_more, cost_less, cost_respects, count, fed_less, fed_respects, filter_charge, filter_respects, probe_charge, probe_respects, sink_cost, sink_fed}
+use Rattle.qw_physical.proofs.Grounded.{IsGround, IsKeyedJoin, clauses, query_grounded}
+use Rattle.qw_physical.proofs.JoinBound.{AreLeft, IsKnown, count_plus, kept_total, names_beside, names_kept, names_sought, probes_bound, probing, sought_units, table_bound, total_count}
+use Rattle.qw_physical.proofs.JoinBound as bound
+use Rattle.qw_physical.proofs.Totals.{spend_is, sum_is, total, total_flat, total_less, total_map, total_ones, total_permuted, total_plus, total_same}
+
+-- ---- pipelines one behind another
+
+pub spelled_more : (columns : List ReadColumn) (steps : List pipes.Step) (s : pipes.Step) → spelled_steps columns (steps ++ s ∷ []) ≡ spelled_steps columns steps ++ spelled_steps columns (s ∷ [])
+spelled_more columns [] s = refl
+spelled_more columns (test conjuncts ∷ steps) s = ap (λ (os : List Operator). physical.filter conjuncts ∷ os) (spelled_more columns steps s)
+spelled_more columns (probe table look ∷ steps) s =
+    ap (λ (os : List Operator). physical.probe (record { table = table; key = keys_sought look; kept = kept_columns columns look; on = beside_keys look.keys 0 look.on }) ∷ os) (spelled_more columns steps s)
+spelled_more columns (make items ∷ steps) s = spelled_more columns steps s
+
+pub spelled_append : (columns : List ReadColumn) (next : ℕ) (xs ys : List pipes.Pipeline) → all_spelled columns next (xs ++ ys) ≡ all_spelled columns next xs ++ all_spelled columns (next + length xs) ys
+spelled_append columns next [] ys = ap (λ (n : ℕ). all_spelled columns n ys) (let e : next ≡ next + 0 = omega arith in e)
+spelled_append columns next (x ∷ xs) ys =
+    let e : (next + 1) + length xs ≡ next + suc (length xs) = omega arith in
+    ap (λ (ps : List Pipeline). spelled columns next x ∷ ps) (spelled_append columns (next + 1) xs ys ∙ ap (λ (n : ℕ). all_spelled columns (next + 1) xs ++ all_spelled columns n ys) e)
+
+pub spelled_long : (columns : List ReadColumn) (next : ℕ) (xs : List pipes.Pipeline) → length (all_spelled columns next xs) ≡ length xs
+spelled_long columns next [] = refl
+spelled_long columns next (x ∷ xs) = ap suc (spelled_long columns (next + 1) xs)
+
+module _ (tables : List (List (List Val))) where
+  pub built_long : (built : List (List (List Val))) (ps : List Pipeline) (more : List (List (List Val))) → AreBuilt tables built ps more → length more ≡ length ps
+  built_long built [] [] h = refl
+  built_long built [] (e ∷ more) h = absurd h
+  built_long built (p ∷ ps) [] h = absurd h
+  built_long built (p ∷ ps) (e ∷ more) h = ap suc (built_long (built ++ e ∷ []) ps more h.2)
+
+  -- tables that were built, before and behind one
+  pub record IsParted (built : List (List (List Val))) (xs : List Pipeline) (y : Pipeline) (ys : List Pipeline) (more : List (List (List Val))) : Type 0 where
+    pub front : List (List (List Val))
+    pub entries : List (List Val)
+    pub back : List (List (List Val))
+    pub is : more ≡ front ++ entries ∷ back
+    pub front_built : AreBuilt tables built xs front
+    pub same : IsPermutation (pipeline_fed tables (built ++ front) y).rows entries
+    pub back_built : AreBuilt tables ((built ++ front) ++ entries ∷ []) ys back
+    pub cost : costs tables built (xs ++ y ∷ ys) more
+        ≡ costs tables built xs front + pipeline_cost tables (built ++ front) y + costs tables ((built ++ front) ++ entries ∷ []) ys back
+
+  first_cost : (c r : ℕ) → c + r ≡ 0 + c + r
+  first_cost c r = omega arith
+
+  more_cost : (c whole a b d : ℕ) → whole ≡ a + b + d → c + whole ≡ (c + a) + b + d
+  more_cost c whole a b d e = omega (arith, e)
+
+  pub parted_built : (built : List (List (List Val))) (xs : List Pipeline) (y : Pipeline) (ys : List Pipeline) (more : List (List (List Val))) → AreBuilt tables built (xs ++ y ∷ ys) more
+      → IsParted built xs y ys more
+  parted_built built [] y ys [] h = absurd h
+  parted_built built [] y ys (e ∷ more) h = record {
+    front = [];
+    entries = e;
+    back = more;
+    is = refl;
+    front_built = tt;
+    same = subst (λ (b : List (List (List Val))). IsPermutation (pipeline_fed tables b y).rows e) (sym (append-nil built)) h.1;
+    back_built = subst (λ (b : List (List (List Val))). AreBuilt tables (b ++ e ∷ []) ys more) (sym (append-nil built)) h.2;
+    cost = first_cost (pipeline_cost tables built y) (costs tables (built ++ e ∷ []) ys more)
+        ∙ ap (λ (b : List (List (List Val))). 0 + pipeline_cost tables b y + costs tables (b ++ e ∷ []) ys more) (sym (append-nil built));
+  }
+  parted_built built (x ∷ xs) y ys [] h = absurd h
+  parted_built built (x ∷ xs) y ys (e ∷ more) h =
+      let rest = parted_built (built ++ e ∷ []) xs y ys more h.2 in
+      let same_built : (built ++ e ∷ []) ++ rest.front ≡ built ++ e ∷ rest.front = append_assoc built (e ∷ []) rest.front in
+      record {
+        front = e ∷ rest.front;
+        entries = rest.entries;
+        back = rest.back;
+        is = ap (λ (ms : List (List (List Val))). e ∷ ms) rest.is;
+        front_built = (h.0, h.1, rest.front_built);
+        same = subst (λ (b : List (List (List Val))). IsPermutation (pipeline_fed tables b y).rows rest.entries) same_built rest.same;
+        back_built = subst (λ (b : List (List (List Val))). AreBuilt tables (b ++ rest.entries ∷ []) ys rest.back) same_built rest.back_built;
+        cost = more_cost (pipeline_cost tables built x) (costs tables (built ++ e ∷ []) (xs ++ y ∷ ys) more) (costs tables (built ++ e ∷ []) xs rest.front)
+            (pipeline_cost tables ((built ++ e ∷ []) ++ rest.front) y) (costs tables (((built ++ e ∷ []) ++ rest.front) ++ rest.entries ∷ []) ys rest.back) rest.cost
+            ∙ ap (λ (b : List (List (List Val))). (pipeline_cost tables built x + costs tables (built ++ e ∷ []) xs rest.front) + pipeline_cost tables b y + costs tables (b ++ rest.entries ∷ []) ys rest.back) same_built;
+      }
+
+-- ---- plans
+
+filter_true : (c s u tested k below : ℕ) → c + s ≤ u + below → below ≡ tested + k → c + s ≤ (u + tested) + k
+filter_true c s u tested k below h e = omega (arith, h, e)
+
+filter_step : (counted : Bool) (c s u tested k below : ℕ) → count counted c + s ≤ count counted u + below → below ≡ count counted tested + k → count counted c + s ≤ count counted (u + tested) + k
+filter_step true c s u tested k below h e = filter_true c s u tested k below h e
+filter_step false c s u tested k below h e = omega (arith, h, e)
+
+join_true : (whole cf pc cb s t ur sr ul tl w j tu : ℕ) → whole ≡ cf + pc + cb → pc ≤ t → cf + t ≤ ur + sr → cb + s ≤ ul + tl → tl ≤ w + j → sr + w ≤ tu → whole + s ≤ (ul + ur + tu) + j
+join_true whole cf pc cb s t ur sr ul tl w j tu e a b c d f = omega (arith, e, a, b, c, d, f)
+
+join_step : (counted : Bool) (whole cf pc cb s t ur sr ul tl w j tu : ℕ) → whole ≡ cf + pc + cb → pc ≤ t → cf + t ≤ ur + sr → count counted cb + s ≤ count counted ul + tl → tl ≤ count counted w + j → sr + w ≤ tu
+    → count counted whole + s ≤ count counted (ul + ur + tu) + j
+join_step true whole cf pc cb s t ur sr ul tl w j tu e a b c d f = join_true whole cf pc cb s t ur sr ul tl w j tu e a b c d f
+join_step false whole cf pc cb s t ur sr ul tl w j tu e a b c d f = omega (arith, c, d)
+
+scan_step : (counted : Bool) (n s k : ℕ) → s ≡ count counted n + k → count counted 0 + s ≤ count counted n + k
+scan_step true n s k e = omega (arith, e)
+scan_step false n s k e = omega (arith, e)
+
+module _ (same_rows : (row other : List Val) → is_same_row row other ≡ true → row ≡ other) (same_value : (a : Val) → value_order a a ≡ ordering.Equal)
+    (columns : List ReadColumn) (tables : List (List (List Val))) where
+  abbrev read : ℕ → Bool
+  read = is_read columns
+
+  abbrev scanned : pipes.Pipeline → List (List Val)
+  scanned p = (entry_flow tables p.entry p.table).rows
+
+  abbrev steps_of : (next : ℕ) → Node → List Operator
+  steps_of next node = spelled_steps columns (split next node).last.steps
+
+  abbrev builds_of : (next : ℕ) → Node → List Pipeline
+  builds_of next node = all_spelled columns next (split next node).builds
+
+  -- over all tables that pipelines of the plan build and look up, with what each row that it comes to costs after it
+  abbrev Bound : (counted : Bool) (node : Node) (next : ℕ) (built more full : List (List (List Val))) → (List Val → ℕ) → Type 0
+  Bound counted node next built more full after =
+      count counted (costs tables built (builds_of next node) more) + total (λ row. count counted 1 + charges counted full (steps_of next node) after row) (scanned (split next node).last)
+      ≤ count counted (units_of general_hashing tables node) + total after (node_flow tables node).rows
+
+  filter_total : (counted : Bool) (after : List Val → ℕ) (conjuncts : List Condition) (rows : List (List Val))
+      → total (filter_charge counted after conjuncts) rows ≡ count counted (tested_units conjuncts rows) + total after (flat_map (λ row. rows_given (kept conjuncts row)) rows)
+  filter_total counted after conjuncts rows =
+      total_plus (λ row. count counted (units_of_all conjuncts (at_row row))) (λ row. where_passed (passes conjuncts (at_row row)) (after row)) rows
+      ∙ ap₂ (λ a b. a + b)
+      (total_count counted (λ row. units_of_all conjuncts (at_row row)) rows ∙ ap (count counted) (sym (sum_is (λ (row : List Val). units_of_all conjuncts (at_row row)) rows)))
+      (total_same (λ row. where_passed (passes conjuncts (at_row row)) (after row)) (λ row. total after (rows_given (kept conjuncts row))) rows (λ row. sym (kept_total after conjuncts row))
+      ∙ sym (total_flat after (λ row. rows_given (kept conjuncts row)) rows))
+
+  scan_total : (counted : Bool) (after : List Val → ℕ) (entry : ℕ) (rows : List (List Val))
+      → total (λ row. count counted 1 + after row) (map (at_places entry) rows) ≡ count counted (length rows) + total after (map (at_places entry) rows)
+  scan_total counted after entry rows =
+      total_plus (λ (row : List Val). count counted 1) after (map (at_places entry) rows)
+      ∙ ap (λ n. n + total after (map (at_places entry) rows))
+      (total_count counted (λ (row : List Val). 1) (map (at_places entry) rows) ∙ ap (count counted) (total_ones (map (at_places entry) rows) ∙ length-map rows (at_places entry)))
+
+  -- of a pipeline that builds, what it takes and what it feeds
+  pub build_cost : (built : List (List (List Val))) (p : Pipeline) → pipeline_cost tables built p ≤ total (λ row. 1 + charges true built p.operators (sink_cost p.sink) row) (entry_flow tables p.entry p.table).rows
+  build_cost built p =
+      let rows : List (List Val) = (entry_flow tables p.entry p.table).rows in
+      let spent = spend_is (cost built p.operators p.sink) rows in
+      let less = total_less (λ row. 1 + cost built p.operators p.sink row) (λ row. 1 + charges true built p.operators (sink_cost p.sink) row) rows
+      (λ row. let one = cost_less built p.operators p.sink row in omega (arith, one)) in
+      omega (arith, spent, less)
+
+  pub build_fed : (built : List (List (List Val))) (p : Pipeline) (g : List Val → ℕ)
+      → total g (pipeline_fed tables built p).rows ≤ total (λ row. 0 + charges false built p.operators (λ r. total g (sink_fed p.sink r).rows) row) (entry_flow tables p.entry p.table).rows
+  build_fed built p g =
+      let rows : List (List Val) = (entry_flow tables p.entry p.table).rows in
+      let flat = total_flat g (λ row. (fed built p.operators p.sink row).rows) rows in
+      let less = total_less (λ row. total g (fed built p.operators p.sink row).rows) (λ row. 0 + charges false built p.operators (λ r. total g (sink_fed p.sink r).rows) row) rows
+      (λ row. let one = fed_less built g p.operators p.sink row in omega (arith, one)) in
+      omega (arith, flat, less)
+
+  module _ (counted : Bool) where
+    filter_bound : (conjuncts : List Condition) (below : Node) (next : ℕ) (built more full : List (List (List Val))) (after : List Val → ℕ)
+        → Bound counted below next built more full (filter_charge counted after conjuncts) → Bound counted (filter conjuncts below) next built more full after
+    filter_bound conjuncts below next built more full after h =
+        let steps : charges counted full (steps_of next (filter conjuncts below)) after ≡ charges counted full (steps_of next below) (filter_charge counted after conjuncts) =
+        ap (λ (os : List Operator). charges counted full os after) (spelled_more columns (split next below).last.steps (test conjuncts))
+        ∙ charges_more counted full (steps_of next below) (physical.filter conjuncts) after in
+        filter_step counted (costs tables built (builds_of next below) more) (total (λ row. count counted 1 + charges counted full (steps_of next (filter conjuncts below)) after row) (scanned (split next below).last))
+        (units_of general_hashing tables below) (tested_units conjuncts (node_flow tables below).rows) (total after (node_flow tables (filter conjuncts below)).rows)
+        (total (filter_charge counted after conjuncts) (node_flow tables below).rows)
+        (subst (λ (c : List Val → ℕ). count counted (costs tables built (builds_of next below) more) + total (λ row. count counted 1 + c row) (scanned (split next below).last)
+        ≤ count counted (units_of general_hashing tables below) + total (filter_charge counted after conjuncts) (node_flow tables below).rows) (sym steps) h)
+        (filter_total counted after conjuncts (node_flow tables below).rows)
+
+  -- a join, by what is known of its sides
+  module _ (left right : Node) (on : List Condition) (keys : List ℕ) (ground : IsKeyedJoin tables (IsKnown columns) left right on keys) (next : ℕ) (built more full tail : List (List (List Val)))
+      (long : length built ≡ next) (whole : full ≡ (built ++ more) ++ tail) where
+    abbrev m : ℕ
+    m = next + length (split next right).builds
+
+    abbrev y : Pipeline
+    y = spelled columns m (building tables next right on keys)
+
+    module _ (h : IsParted tables built (builds_of next right) y (builds_of (m + 1) left) more) where
+      abbrev before : List (List (List Val))
+      before = built ++ h.front
+
+      abbrev after_it : List (List (List Val))
+      after_it = before ++ h.entries ∷ []
+
+      before_long : length before ≡ m
+      before_long =
+          length-append built h.front
+          ∙ ap₂ (λ a b. a + b) long (built_long tables built (builds_of next right) h.front h.front_built ∙ spelled_long columns next (split next right).builds)
+
+      after_long : length after_it ≡ m + 1
+      after_long = length-append before (h.entries ∷ []) ∙ ap (λ n. n + 1) before_long
+
+      whole_after : full ≡ (after_it ++ h.back) ++ tail
+      whole_after =
+          whole ∙ ap (λ (ms : List (List (List Val))). (built ++ ms) ++ tail) h.is
+          ∙ ap (λ (bs : List (List (List Val))). bs ++ tail) (sym (append_assoc built h.front (h.entries ∷ h.back)) ∙ sym (append_assoc before (h.entries ∷ []) h.back))
+
+      there : get_or full m [] ≡ h.entries
+      there = table_built tables before h.entries (h.back ++ tail) m full (whole_after ∙ append_assoc after_it h.back tail) before_long
+
+      -- what the rows of the right side leave
+      left_by : ((g : List Val → ℕ) → Bound false right next built h.front before (λ r. total g (sink_fed y.sink r).rows)) → AreLeft same_rows same_value columns tables m left right on keys ground h.entries
+      left_by fed_bound g =
+          let permuted = total_permuted g (pipeline_fed tables before y).rows h.entries h.same in
+          let fed_less = build_fed before y g in
+          let within = fed_bound g in
+          omega (arith, permuted, fed_less, within)
+
+      join_bound : (counted : Bool) (after : List Val → ℕ) → Respects read after
+          → ((g : List Val → ℕ) → Bound false right next built h.front before (λ r. total g (sink_fed y.sink r).rows)) → Bound true right next built h.front before (sink_cost y.sink)
+          → Bound counted left (m + 1) after_it h.back full (probe_charge counted after (probing same_rows same_value columns tables m left right on keys ground) h.entries)
+          → count counted (costs tables built (builds_of next right ++ y ∷ builds_of (m + 1) left) more)
+          + total (λ row. count counted 1 + charges counted full (steps_of next (join left right on keys)) after row) (scanned (split (m + 1) left).last)
+          ≤ count counted (units_of general_hashing tables (join left right on keys)) + total after (node_flow tables (join left right on keys)).rows
+      join_bound counted after respects fed_bound right_bound left_bound =
+          let p = probing same_rows same_value columns tables m left right on keys ground in
+          let K : List Val → ℕ = probe_charge counted after p h.entries in
+          let charged : charge counted full (physical.probe p) after ≡ K = ap (probe_charge counted after p) there in
+          let steps : charges counted full (steps_of next (join left right on keys)) after ≡ charges counted full (steps_of (m + 1) left) K =
+          ap (λ (os : List Operator). charges counted full os after) (spelled_more columns (split (m + 1) left).last.steps (probe m (lookup tables right on keys)))
+          ∙ charges_more counted full (steps_of (m + 1) left) (physical.probe p) after ∙ ap (charges counted full (steps_of (m + 1) left)) charged in
+          let probes = probes_bound same_rows same_value columns tables m left right on keys ground h.entries (left_by fed_bound) counted after respects in
+          let table = table_bound same_rows same_value columns tables m left right on keys ground in
+          join_step counted (costs tables built (builds_of next right ++ y ∷ builds_of (m + 1) left) more) (costs tables built (builds_of next right) h.front) (pipeline_cost tables before y)
+          (costs tables after_it (builds_of (m + 1) left) h.back)
+          (total (λ row. count counted 1 + charges counted full (steps_of next (join left right on keys)) after row) (scanned (split (m + 1) left).last))
+          (total (λ row. 1 + charges true before (steps_of next right) (sink_cost y.sink) row) (scanned (split next right).last))
+          (units_of general_hashing tables right) (total (sink_cost y.sink) (node_flow tables right).rows) (units_of general_hashing tables left) (total K (node_flow tables left).rows)
+          (sought_units same_rows same_value columns tables m left right on keys ground h.entries (left_by fed_bound) counted after respects)
+          (total after (node_flow tables (join left right on keys)).rows)
+          (table_units general_hashing (lookup tables right on keys) (node_flow tables left).rows (node_flow tables right).rows)
+          h.cost (build_cost before y) right_bound
+          (subst (λ (c : List Val → ℕ). count counted (costs tables after_it (builds_of (m + 1) left) h.back) + total (λ row. count counted 1 + c row) (scanned (split (m + 1) left).last)
+          ≤ count counted (units_of general_hashing tables left) + total K (node_flow tables left).rows) (sym steps) left_bound)
+          probes table
+
+  -- ---- all plans without a select list
+
+  pub joined_builds : (next : ℕ) (left right : Node) (on : List Condition) (keys : List ℕ)
+      → builds_of next (join left right on keys)
+      ≡ builds_of next right ++ spelled columns (next + length (split next right).builds) (building tables next right on keys) ∷ builds_of (next + length (split next right).builds + 1) left
+  joined_builds next left right on keys = spelled_append columns next (split next right).builds (building tables next right on keys ∷ (split (next + length (split next right).builds + 1) left).builds)
+
+  pub bounds : (node : Node) (counted : Bool) (next : ℕ) (built more full tail : List (List (List Val))) (after : List Val → ℕ) → IsGround tables (IsKnown columns) node → length built ≡ next
+      → full ≡ (built ++ more) ++ tail → Respects read after → AreBuilt tables built (builds_of next node) more → Bound counted node next built more full after
+  bounds (scan entry table) counted next built [] full tail after g long whole respects h =
+      scan_step counted (length (rows_of tables table)) (total (λ row. count counted 1 + after row) (map (at_places entry) (rows_of tables table))) (total after (map (at_places entry) (rows_of tables table)))
+      (scan_total counted after entry (rows_of tables table))
+  bounds (scan entry table) counted next built (e ∷ more) full tail after g long whole respects h = absurd h
+  bounds (filter conjuncts below) counted next built more full tail after g long whole respects h =
+      filter_bound counted conjuncts below next built more full after
+      (bounds below counted next built more full tail (filter_charge counted after conjuncts) g.1 long whole
+      (filter_respects read counted after conjuncts (all_more (IsKnown columns) (λ c. condition_names_only read c ≡ true) conjuncts (λ c k. k.0) g.0) respects) h)
+  bounds (join left right on keys) counted next built more full tail after g long whole respects h =
+      let m : ℕ = next + length (split next right).builds in
+      let y : Pipeline = spelled columns m (building tables next right on keys) in
+      let s = parted_built tables built (builds_of next right) y (builds_of (m + 1) left) more (subst (λ (ps : List Pipeline). AreBuilt tables built ps more) (joined_builds next left right on keys) h) in
+      let before : List (List (List Val)) = built ++ s.front in
+      let own : before ≡ (built ++ s.front) ++ [] = sym (append-nil (built ++ s.front)) in
+      let fed_bound : (f : List Val → ℕ) → Bound false right next built s.front before (λ r. total f (sink_fed y.sink r).rows) =
+      λ f. bounds right false next built s.front before [] (λ r. total f (sink_fed y.sink r).rows) g.1.1 long own
+      (fed_respects read f y.sink (names_kept same_rows same_value columns tables m left right on keys g.0)) s.front_built in
+      let right_bound : Bound true right next built s.front before (sink_cost y.sink) =
+      bounds right true next built s.front before [] (sink_cost y.sink) g.1.1 long own (cost_respects read y.sink (names_kept same_rows same_value columns tables m left right on keys g.0)) s.front_built in
+      let p = probing same_rows same_value columns tables m left right on keys g.0 in
+      let left_bound = bounds left counted (m + 1) (before ++ s.entries ∷ []) s.back full tail (probe_charge counted after p s.entries) g.1.0
+      (after_long left right on keys g.0 next built more full tail long whole s) (whole_after left right on keys g.0 next built more full tail long whole s)
+      (probe_respects read counted after p s.entries (names_sought same_rows same_value columns tables m left right on keys g.0) (names_beside same_rows same_value columns tables m left right on keys g.0) respects)
+      s.back_built in
+      subst (λ (ps : List Pipeline). count counted (costs tables built ps more) + total (λ row. count counted 1 + charges counted full (steps_of next (join left right on keys)) after row) (scanned (split (m + 1) left).last)
+      ≤ count counted (units_of general_hashing tables (join left right on keys)) + total after (node_flow tables (join left right on keys)).rows) (sym (joined_builds next left right on keys))
+      (join_bound left right on keys g.0 next built more full tail long whole s counted after respects fed_bound right_bound left_bound)
+  bounds (project below items) counted next built more full tail after g long whole respects h = absurd g

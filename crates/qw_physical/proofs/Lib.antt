@@ -1,0 +1,48 @@
+pub mod Alikeness
+pub mod Firsts
+pub mod Folds
+pub mod Followed
+pub mod NamedRead
+pub mod Naming
+pub mod Operands
+pub mod Orders
+pub mod Permuted
+pub mod Plans
+pub mod ReadTests
+pub mod Readable
+pub mod Reading
+pub mod Results
+pub mod Scaled
+pub mod Sight
+pub mod Sharing
+pub mod Smaller
+pub mod Steps
+pub mod Through
+pub mod Typing
+mod Apart
+pub mod Begun
+mod Bounded
+mod Building
+mod Charges
+mod Declared
+mod Entries
+mod EntryRows
+mod EqualKeys
+mod Feeding
+mod Grounded
+pub mod Holding
+mod JoinBound
+mod Joining
+mod Meeting
+mod Outcomes
+mod Placed
+mod SeenUnits
+mod Throughout
+mod Totals
+pub mod ServedBy
+pub mod AlikeLookups
+mod PlanSeen
+pub mod Shown
+pub mod QuerySeen
+pub mod QueryFew
+pub mod QueryScans

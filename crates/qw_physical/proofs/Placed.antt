@@ -1,0 +1,377 @@
+-- What the steps of a well placed plan keep, so that its joins may look up by keys of their own and rows made again from what is kept.
+use Rattle.std.proofs.Common.{◌≡◌, ◌∙◌, ℕ, zero, suc, ◌+◌, ◌/◌, ◌%◌, Bool, true, false, not, ◌&&◌, ◌||◌, if◌then◌else◌, List, [], ◌∷◌, ◌++◌, map, length, IfOk, Option, Some, Result, Ok, slice_get, refl, sym, ap, subst, subst₂, arith}
+use Rattle.std.specs.List.{AllByRecursion, filter_map, flat_map}
+use Rattle.std.specs.List as list
+use Rattle.qw_types.specs.Value.{IsSized}
+use Rattle.qw_types.specs.declared.code.Code.{Code}
+use Rattle.qw_types.specs.declared.schema.ColumnType.{ColumnType}
+use Rattle.qw_types.specs.declared.value.Ty.{Ty}
+use Rattle.qw_types.specs.declared.value.Val.{Val}
+use Rattle.qw_scalar.specs.Columns.{HasColumns, HaveColumns}
+use Rattle.qw_scalar.specs.Evaluation.{at_row, value_of}
+use Rattle.qw_scalar.specs.Expression.{Expression, Condition, comparison, is_null, both, either, negation_of, is}
+use Rattle.qw_scalar.specs.Typing.{AreTyped, IsTyped, IsValueOf, kind_of}
+use Rattle.qw_scalar.proofs.ColumnLemmas.{columns_more, conditions_more}
+use Rattle.qw_scalar.proofs.TypingLemmas.{typed_value}
+use Rattle.qw_raise.specs.Raise.{can_raise, condition_can_raise}
+use Rattle.qw_raise.specs.Range.{IsInRange, IsSizedColumn}
+use Rattle.qw_raise.proofs.RaiseLemmas.{holds_of, or_false, quiet_value}
+use Rattle.qw_meaning.specs.Select.{AreJoinsOver, AreOfEntries, AreSourcesOver, Entry, IsColumnOf, IsConditionOver, IsReached, IsSpecification, Joined, Source, Specification, conjuncts_on, entries_in, entries_of, type_in, types_of}
+use Rattle.qw_algebra.specs.Columns.{condition_names_only, is_of, names_only, owns}
+use Rattle.qw_algebra.specs.Node.{Node, scan, filter, join, project, node_flow}
+use Rattle.qw_algebra.specs.Written.{from_written, source_written, with_joins, with_sources, written}
+use Rattle.qw_algebra.proofs.Lists.{all_append, all_map, all_more, all_of_any}
+use Rattle.qw_rewrite.specs.Placed.{IsSizedCondition, IsSizedPlan, IsWellPlaced}
+use Rattle.qw_rewrite.specs.Probe.{are_alike, face, is_eligible, is_equality, keyed, keys_from, keys_of_join}
+use Rattle.qw_rewrite.specs.Probed.{AreProbes, at_keys, beside_keys, is_key, probed}
+use Rattle.qw_rewrite.specs.Sift.{beyond, is_clean_on, is_quiet, moved, quiet_front, sifted, stayed, within}
+use Rattle.qw_rewrite.proofs.Grounds.{FitsAt, IsLaid, IsTypedNode, clauses_sound, sound, written_sized}
+use Rattle.qw_rewrite.proofs.Joins.{tested}
+use Rattle.qw_rewrite.proofs.Keys.{keys_are, none_of}
+use Rattle.qw_rewrite.proofs.Moved.{moved_all, stayed_all}
+use Rattle.qw_rewrite.proofs.Once.{keyed_entries, sifted_entries}
+use Rattle.qw_rewrite.proofs.Probes.{placed_probes}
+use Rattle.qw_rewrite.proofs.Rows.{NamesOnly, and_left, and_right}
+use Rattle.qw_rewrite.proofs.Sifting.{AreApart, IsFine, IsOver, IsSound, rows_over}
+use Rattle.qw_rewrite.proofs.Stages.{all_filtered}
+use Rattle.qw_pipe.specs.Units.{operand_of}
+use Rattle.qw_physical.specs.Reads.{IsScaled, is_read}
+use Rattle.qw_physical.specs.declared.pipeline.ReadColumn.{ReadColumn}
+use Rattle.qw_physical.proofs.EqualKeys.{AllOperands, HasOneScale, IsDivided, IsTold, divided, operand_has, sought}
+
+-- ---- conjuncts
+
+pub both_all : {A : Type 0} (P Q : A → Type 0) (xs : List A) → AllByRecursion P xs → AllByRecursion Q xs → AllByRecursion (λ x. P x × Q x) xs
+both_all P Q [] h g = tt
+both_all P Q (x ∷ xs) h g = ((h.0, g.0), both_all P Q xs h.1 g.1)
+
+pub parts_all : {A : Type 0} (P : A → Type 0) (xs ys : List A) → AllByRecursion P (xs ++ ys) → AllByRecursion P xs × AllByRecursion P ys
+parts_all P [] ys h = (tt, h)
+parts_all P (x ∷ xs) ys h = let rest = parts_all P xs ys h.1 in ((h.0, rest.0), rest.1)
+
+-- something holds of each conjunct of a plan
+abbrev pub AllConjuncts : (Condition → Type 0) → Node → Type 0
+AllConjuncts P (scan entry table) = Unit {0}
+AllConjuncts P (filter conjuncts below) = AllByRecursion P conjuncts × AllConjuncts P below
+AllConjuncts P (join left right on keys) = AllByRecursion P on × (AllConjuncts P left × AllConjuncts P right)
+AllConjuncts P (project below items) = AllConjuncts P below
+
+module _ (P : Condition → Type 0) where
+  pub sifted_all : (node : Node) (clean : Bool) (above : List Condition) → AllByRecursion P above → AllConjuncts P node → AllConjuncts P (sifted clean above node)
+  sifted_all (scan entry table) clean above ha h = (ha, tt)
+  sifted_all (filter conjuncts below) clean above ha h =
+      let own : Bool = clean && is_quiet below in (
+        stayed_all P own conjuncts h.0,
+        sifted_all below clean (moved own conjuncts ++ above) (all_append P (moved own conjuncts) above (moved_all P own conjuncts h.0) ha) h.1,
+      )
+  sifted_all (join left right on keys) clean above ha h =
+      let own : Bool = is_clean_on clean left right in
+      let down : List Condition = moved own on ++ above in
+      let hd : AllByRecursion P down = all_append P (moved own on) above (moved_all P own on h.0) ha in
+      let rest : AllByRecursion P (beyond left down) = all_filtered P (λ c. not (condition_names_only (owns left) c)) down hd in (
+        all_append P (beyond right (beyond left down)) (stayed own on) (all_filtered P (λ c. not (condition_names_only (owns right) c)) (beyond left down) rest) (stayed_all P own on h.0),
+        (
+          sifted_all left clean (within left down) (all_filtered P (condition_names_only (owns left)) down hd) h.1.0,
+          sifted_all right (clean && is_quiet left) (within right (beyond left down)) (all_filtered P (condition_names_only (owns right)) (beyond left down) rest) h.1.1,
+        ),
+      )
+  sifted_all (project below items) clean above ha h = sifted_all below clean above ha h
+
+  pub keyed_all : (node : Node) (clean : Bool) → AllConjuncts P node → AllConjuncts P (keyed clean node)
+  keyed_all (scan entry table) clean h = tt
+  keyed_all (filter conjuncts below) clean h = (h.0, keyed_all below clean h.1)
+  keyed_all (join left right on keys) clean h = (h.0, (keyed_all left clean h.1.0, keyed_all right (clean && is_quiet left) h.1.1))
+  keyed_all (project below items) clean h = keyed_all below clean h
+
+  joins_all : (joins : List Joined) (next : ℕ) (node : Node) → AllConjuncts P node → AllByRecursion P (flat_map (λ (j : Joined). j.on) joins) → AllConjuncts P (with_joins next node joins)
+  joins_all [] next node h g = h
+  joins_all (j ∷ joins) next node h g =
+      let p = parts_all P j.on (flat_map (λ (i : Joined). i.on) joins) g in
+      joins_all joins (next + 1) (join node (scan next j.entry.table) j.on []) (p.0, (h, tt)) p.1
+
+  sources_all : (sources : List Source) (next : ℕ) (node : Node) → AllConjuncts P node → AllByRecursion P (conjuncts_on sources) → AllConjuncts P (with_sources next node sources)
+  sources_all [] next node h g = h
+  sources_all (source ∷ sources) next node h g =
+      let p = parts_all P (flat_map (λ (j : Joined). j.on) source.joins) (conjuncts_on sources) g in
+      sources_all sources (next + length (entries_in source)) (join node (source_written next source) [] [])
+      (tt, (h, joins_all source.joins (next + 1) (scan next source.first.table) tt p.0)) p.1
+
+  pub from_all : (sources : List Source) → AllByRecursion P (conjuncts_on sources) → AllConjuncts P (from_written sources)
+  from_all [] g = tt
+  from_all (source ∷ sources) g =
+      let p = parts_all P (flat_map (λ (j : Joined). j.on) source.joins) (conjuncts_on sources) g in
+      sources_all sources (length (entries_in source)) (source_written 0 source) (joins_all source.joins 1 (scan 0 source.first.table) tt p.0) p.1
+
+-- each ON is over columns of the entries
+joins_over : (entries : List Entry) (first next : ℕ) (joins : List Joined) → AreJoinsOver entries first next joins
+    → AllByRecursion (IsConditionOver (IsColumnOf entries)) (flat_map (λ (j : Joined). j.on) joins)
+joins_over entries first next [] h = tt
+joins_over entries first next (j ∷ joins) h =
+    all_append (IsConditionOver (IsColumnOf entries)) j.on (flat_map (λ (i : Joined). i.on) joins)
+    (all_more (IsConditionOver (IsReached entries first (next + 1))) (IsConditionOver (IsColumnOf entries)) j.on
+    (λ c t. (t.0, conditions_more (IsReached entries first (next + 1)) (IsColumnOf entries) (λ i ty r. r.0) c t.1)) h.0)
+    (joins_over entries first (next + 1) joins h.1)
+
+pub sources_over : (entries : List Entry) (first : ℕ) (sources : List Source) → AreSourcesOver entries first sources → AllByRecursion (IsConditionOver (IsColumnOf entries)) (conjuncts_on sources)
+sources_over entries first [] h = tt
+sources_over entries first (source ∷ sources) h =
+    all_append (IsConditionOver (IsColumnOf entries)) (flat_map (λ (j : Joined). j.on) source.joins) (conjuncts_on sources)
+    (joins_over entries first (first + 1) source.joins h.0) (sources_over entries (first + length (entries_in source)) sources h.1)
+
+-- ---- keys
+
+abbrev pub IsKey : (tl tr : ℕ → Bool) → Condition → Type 0
+IsKey tl tr c = (is_eligible tl tr c ≡ true) × (condition_can_raise c ≡ false)
+
+-- the keys of each join are eligible equalities of its ON, in their order
+abbrev pub AreKeyed : Node → Type 0
+AreKeyed (scan entry table) = Unit {0}
+AreKeyed (filter conjuncts below) = AreKeyed below
+AreKeyed (join left right on keys) =
+    ((filter_map (λ k. slice_get on k) keys ≡ at_keys keys 0 on) × AllByRecursion (IsKey (owns left) (owns right)) (at_keys keys 0 on)) × (AreKeyed left × AreKeyed right)
+AreKeyed (project below items) = AreKeyed below
+
+front_quiet : (cs : List Condition) → AllByRecursion (λ c. condition_can_raise c ≡ false) (quiet_front cs)
+front_quiet [] = tt
+front_quiet (c ∷ cs) = one (condition_can_raise c) refl (front_quiet cs)
+  where
+    one : (b : Bool) → condition_can_raise c ≡ b → AllByRecursion (λ d. condition_can_raise d ≡ false) (quiet_front cs)
+        → AllByRecursion (λ d. condition_can_raise d ≡ false) (if b then [] else c ∷ quiet_front cs)
+    one true e h = tt
+    one false e h = (e, h)
+
+module _ (tl tr : ℕ → Bool) (on : List Condition) where
+  -- the keys are looked up by their positions
+  found_step : (a b : Bool) (c : Condition) (ks : List ℕ) (k : ℕ) (rest front : List Condition) → slice_get on k ≡ Some c → filter_map (λ i. slice_get on i) ks ≡ rest
+      → is_eligible tl tr c ≡ b → list.filter (is_eligible tl tr) front ≡ rest
+      → filter_map (λ i. slice_get on i) (if a then [] else if b then k ∷ ks else ks) ≡ list.filter (is_eligible tl tr) (if a then [] else c ∷ front)
+  found_step true b c ks k rest front here h e f = refl
+  found_step false true c ks k rest front here h e f = rw (here, e) (ap (λ (xs : List Condition). c ∷ xs) (h ∙ sym f))
+  found_step false false c ks k rest front here h e f = rw e (h ∙ sym f)
+
+  found_are : (cs : List Condition) (k : ℕ) → ((j : ℕ) → slice_get on (k + j) ≡ slice_get cs j)
+      → filter_map (λ i. slice_get on i) (keys_from tl tr k cs) ≡ list.filter (is_eligible tl tr) (quiet_front cs)
+  found_are [] k at = refl
+  found_are (c ∷ cs) k at =
+      found_step (condition_can_raise c) (is_eligible tl tr c) c (keys_from tl tr (k + 1) cs) k (list.filter (is_eligible tl tr) (quiet_front cs)) (quiet_front cs)
+      (ap (slice_get on) (none_more k) ∙ at 0) (found_are cs (k + 1) (λ j. ap (slice_get on) (one_more k j) ∙ at (suc j))) refl refl
+    where
+      one_more : (n j : ℕ) → (n + 1) + j ≡ n + suc j
+      one_more n j = omega arith
+
+      none_more : (n : ℕ) → n ≡ n + 0
+      none_more n = omega arith
+
+keys_of : (clean : Bool) (left right : Node) (on : List Condition)
+    → (filter_map (λ k. slice_get on k) (keys_of_join clean left right on) ≡ at_keys (keys_of_join clean left right on) 0 on)
+    × AllByRecursion (IsKey (owns left) (owns right)) (at_keys (keys_of_join clean left right on) 0 on)
+keys_of clean left right on = one (is_clean_on clean left right)
+  where
+    tl : ℕ → Bool
+    tl = owns left
+
+    tr : ℕ → Bool
+    tr = owns right
+
+    from_none : (j : ℕ) → 0 + j ≡ j
+    from_none j = omega arith
+
+    none : at_keys [] 0 on ≡ []
+    none = (none_of [] 0 on tt).0
+
+    some : at_keys (keys_from tl tr 0 on) 0 on ≡ list.filter (is_eligible tl tr) (quiet_front on)
+    some = (keys_are tl tr on 0 [] tt).0
+
+    one : (b : Bool) → (filter_map (λ k. slice_get on k) (if b then keys_from tl tr 0 on else []) ≡ at_keys (if b then keys_from tl tr 0 on else []) 0 on)
+        × AllByRecursion (IsKey tl tr) (at_keys (if b then keys_from tl tr 0 on else []) 0 on)
+    one true = (
+      found_are tl tr on on 0 (λ j. ap (slice_get on) (from_none j)) ∙ sym some,
+      subst (AllByRecursion (IsKey tl tr)) (sym some)
+          (both_all (λ c. is_eligible tl tr c ≡ true) (λ c. condition_can_raise c ≡ false) (list.filter (is_eligible tl tr) (quiet_front on))
+          (tested (is_eligible tl tr) (quiet_front on)) (all_filtered (λ c. condition_can_raise c ≡ false) (is_eligible tl tr) (quiet_front on) (front_quiet on))),
+    )
+    one false = (sym none, subst (AllByRecursion (IsKey tl tr)) (sym none) tt)
+
+pub keyed_keys : (node : Node) (clean : Bool) → AreKeyed (keyed clean node)
+keyed_keys (scan entry table) clean = tt
+keyed_keys (filter conjuncts below) clean = keyed_keys below clean
+keyed_keys (join left right on keys) clean =
+    let k = keys_of clean left right on in (
+      (
+        k.0,
+        subst₂ (λ (ls rs : List ℕ). AllByRecursion (IsKey (is_of ls) (is_of rs)) (at_keys (keys_of_join clean left right on) 0 on))
+            (sym (keyed_entries left clean)) (sym (keyed_entries right (clean && is_quiet left))) k.1,
+      ),
+      (keyed_keys left clean, keyed_keys right (clean && is_quiet left)),
+    )
+keyed_keys (project below items) clean = keyed_keys below clean
+
+one_scale : (tl tr : ℕ → Bool) (c : Condition) → is_eligible tl tr c ≡ true → IsScaled c → HasOneScale c
+one_scale tl tr (comparison op a b) h scaled =
+    scaled (and_right (face tl tr a b) (are_alike (kind_of a) (kind_of b)) (and_right (is_equality op) (face tl tr a b && are_alike (kind_of a) (kind_of b)) h))
+one_scale tl tr (is_null a) h scaled = tt
+one_scale tl tr (both c d) h scaled = tt
+one_scale tl tr (either c d) h scaled = tt
+one_scale tl tr (negation_of c) h scaled = tt
+one_scale tl tr (is c t) h scaled = tt
+
+-- ---- sizes of columns
+
+type_sized : (columns : List ColumnType) (j : ℕ) (ty : Ty) → AllByRecursion (λ (c : ColumnType). IsSized c.ty) columns → slice_get (types_of columns) j ≡ Some ty → IsSized ty
+type_sized [] j ty h e = absurd cc
+type_sized (c ∷ columns) zero ty h e =
+    let same : c.ty ≡ ty = cc in
+    subst IsSized same h.0
+type_sized (c ∷ columns) (suc j) ty h e = type_sized columns j ty h.1 e
+
+entry_sized : (entries : List Entry) (k j : ℕ) (ty : Ty) → AllByRecursion (λ (e : Entry). AllByRecursion (λ (c : ColumnType). IsSized c.ty) e.columns) entries
+    → type_in (slice_get entries k) j ≡ Some ty → IsSized ty
+entry_sized [] k j ty h e = absurd cc
+entry_sized (entry ∷ entries) zero j ty h e = type_sized entry.columns j ty h.0 e
+entry_sized (entry ∷ entries) (suc k) j ty h e = entry_sized entries k j ty h.1 e
+
+-- ---- plans over tables
+
+module _ (entries : List Entry) (tables : List (List (List Val))) (columns : List ReadColumn)
+    (sized : AllByRecursion (λ (e : Entry). AllByRecursion (λ (c : ColumnType). IsSized c.ty) e.columns) entries) where
+  abbrev pub F : ℕ → Val → Type 0
+  F = FitsAt entries tables
+
+  -- a plan is laid out, also where conjuncts are moved and keys are found
+  pub laid_of : (node : Node) → IsSound tables F node → IsLaid entries tables node
+  laid_of (scan entry table) s = s
+  laid_of (filter conjuncts below) s = laid_of below s.1
+  laid_of (join left right on keys) s = (s.0.1, (laid_of left s.1.0, laid_of right s.1.1))
+  laid_of (project below items) s = absurd s
+
+  pub sifted_laid : (node : Node) (clean : Bool) (above : List Condition) → IsLaid entries tables node → IsLaid entries tables (sifted clean above node)
+  sifted_laid (scan entry table) clean above l = l
+  sifted_laid (filter conjuncts below) clean above l = sifted_laid below clean (moved (clean && is_quiet below) conjuncts ++ above) l
+  sifted_laid (join left right on keys) clean above l =
+      let down : List Condition = moved (is_clean_on clean left right) on ++ above in (
+        subst₂ (λ (ls rs : List ℕ). (i : ℕ) → is_of ls i ≡ true → is_of rs i ≡ false) (sym (sifted_entries left clean (within left down)))
+            (sym (sifted_entries right (clean && is_quiet left) (within right (beyond left down)))) l.0,
+        (sifted_laid left clean (within left down) l.1.0, sifted_laid right (clean && is_quiet left) (within right (beyond left down)) l.1.1),
+      )
+  sifted_laid (project below items) clean above l = absurd l
+
+  pub keyed_laid : (node : Node) (clean : Bool) → IsLaid entries tables node → IsLaid entries tables (keyed clean node)
+  keyed_laid (scan entry table) clean l = l
+  keyed_laid (filter conjuncts below) clean l = keyed_laid below clean l
+  keyed_laid (join left right on keys) clean l = (
+    subst₂ (λ (ls rs : List ℕ). (i : ℕ) → is_of ls i ≡ true → is_of rs i ≡ false) (sym (keyed_entries left clean)) (sym (keyed_entries right (clean && is_quiet left))) l.0,
+    (keyed_laid left clean l.1.0, keyed_laid right (clean && is_quiet left) l.1.1),
+  )
+  keyed_laid (project below items) clean l = absurd l
+
+  abbrev IsOver_entries : Condition → Type 0
+  IsOver_entries c = IsConditionOver (IsColumnOf entries) c
+
+  pub typed_of : (node : Node) → AllConjuncts IsOver_entries node → IsTypedNode entries tables node
+  typed_of (scan entry table) h = tt
+  typed_of (filter conjuncts below) h = (h.0, typed_of below h.1)
+  typed_of (join left right on keys) h = (h.0, (typed_of left h.1.0, typed_of right h.1.1))
+  typed_of (project below items) h = typed_of below h
+
+  sized_condition : (c : Condition) → IsOver_entries c → IsSizedCondition c
+  sized_condition c t = (t.0, conditions_more (IsColumnOf entries) IsSizedColumn (λ i ty h. entry_sized entries (i / 64) (i % 64) ty sized h) c t.1)
+
+  pub sized_of : (node : Node) → AllConjuncts IsOver_entries node → IsSizedPlan node
+  sized_of (scan entry table) h = tt
+  sized_of (filter conjuncts below) h = (all_more IsOver_entries IsSizedCondition conjuncts sized_condition h.0, sized_of below h.1)
+  sized_of (join left right on keys) h = (all_more IsOver_entries IsSizedCondition on sized_condition h.0, (sized_of left h.1.0, sized_of right h.1.1))
+  sized_of (project below items) h = sized_of below h
+
+  -- ---- operands of keys have values
+
+  told_operand : (row : List Val) → IsFine tables F row → (e : Expression) → IsTyped e → HasColumns (IsColumnOf entries) e → can_raise e ≡ false → IsTold row e
+  told_operand row fine e t h q =
+      let within_range : HasColumns (IsInRange row) e = columns_more (IsColumnOf entries) (IsInRange row) (λ i ty c. fine i ty c (entry_sized entries (i / 64) (i % 64) ty sized c)) e h in
+      let g = quiet_value row e t within_range q in
+      record {
+        value = g.value;
+        is = g.is;
+        kind = subst (λ (r : Result Val Code). IfOk r (λ v. IsValueOf (kind_of e) v)) g.is (typed_value e row t (holds_of row e within_range));
+      }
+
+  told_operands : (row : List Val) → IsFine tables F row → (tl tr : ℕ → Bool) (c : Condition) → IsKey tl tr c → IsOver_entries c → AllOperands (IsTold row) c
+  told_operands row fine tl tr (comparison op a b) k t =
+      let quiet = or_false (can_raise a) (can_raise b) k.1 in
+      (told_operand row fine a t.0.0.0 t.1.0 quiet.0, told_operand row fine b t.0.0.1 t.1.1 quiet.1)
+  told_operands row fine tl tr (is_null a) k t = absurd (let no = k.0 in cc)
+  told_operands row fine tl tr (both c d) k t = absurd (let no = k.0 in cc)
+  told_operands row fine tl tr (either c d) k t = absurd (let no = k.0 in cc)
+  told_operands row fine tl tr (negation_of c) k t = absurd (let no = k.0 in cc)
+  told_operands row fine tl tr (is c u) k t = absurd (let no = k.0 in cc)
+
+  pub told_keys : (row : List Val) → IsFine tables F row → (tl tr test : ℕ → Bool) (cs : List Condition) → AllByRecursion (IsKey tl tr) cs → AllByRecursion IsOver_entries cs
+      → AllByRecursion (IsTold row) (map (operand_of test) cs)
+  told_keys row fine tl tr test [] k t = tt
+  told_keys row fine tl tr test (c ∷ cs) k t =
+      (operand_has (IsTold row) test c (told_operands row fine tl tr c k.0 t.0), told_keys row fine tl tr test cs k.1 t.1)
+
+  -- what holds of all conjuncts of ON holds of its keys, and of the others
+  pub keys_have : (P : Condition → Type 0) (keys : List ℕ) (k : ℕ) (cs : List Condition) → AllByRecursion P cs → AllByRecursion P (at_keys keys k cs) × AllByRecursion P (beside_keys keys k cs)
+  keys_have P keys k [] h = (tt, tt)
+  keys_have P keys k (c ∷ cs) h = one (is_key keys k) (keys_have P keys (k + 1) cs h.1)
+    where
+      one : (b : Bool) → AllByRecursion P (at_keys keys (k + 1) cs) × AllByRecursion P (beside_keys keys (k + 1) cs)
+          → AllByRecursion P (if b then c ∷ at_keys keys (k + 1) cs else at_keys keys (k + 1) cs) × AllByRecursion P (if b then beside_keys keys (k + 1) cs else c ∷ beside_keys keys (k + 1) cs)
+      one true g = ((h.0, g.0), g.1)
+      one false g = (g.0, (h.0, g.1))
+
+  -- ---- ready to be run
+
+  -- What a join needs. A key's operands name only columns of their side, since it is divided.
+  pub record ReadyJoin (left right : Node) (on : List Condition) (keys : List ℕ) : Type 0 where
+    pub apart : (i : ℕ) → owns left i ≡ true → owns right i ≡ false
+    pub over_left : AllByRecursion (IsOver tables F (owns left)) (node_flow tables left).rows
+    pub over_right : AllByRecursion (IsOver tables F (owns right)) (node_flow tables right).rows
+    pub equal : filter_map (λ k. slice_get on k) keys ≡ at_keys keys 0 on
+    pub divided : AllByRecursion (IsDivided (owns left) (owns right)) (at_keys keys 0 on)
+    pub told : (test : ℕ → Bool) (row : List Val) → IsFine tables F row → AllByRecursion (IsTold row) (map (operand_of test) (at_keys keys 0 on))
+    pub named : (test : ℕ → Bool) → AllByRecursion (λ e. names_only (is_read columns) e ≡ true) (map (operand_of test) (at_keys keys 0 on))
+    pub others : NamesOnly (is_read columns) (beside_keys keys 0 on)
+    pub probe : node_flow tables (join left right on keys) ≡ probed (owns left) (owns right) (at_keys keys 0 on) (beside_keys keys 0 on) (node_flow tables left) (node_flow tables right)
+
+  abbrev pub IsReady : Node → Type 0
+  IsReady (scan entry table) = IsSound tables F (scan entry table)
+  IsReady (filter conjuncts below) = NamesOnly (is_read columns) conjuncts × IsReady below
+  IsReady (join left right on keys) = ReadyJoin left right on keys × (IsReady left × IsReady right)
+  IsReady (project below items) = ⊥
+
+  named_operands : (test : ℕ → Bool) (c : Condition) → condition_names_only (is_read columns) c ≡ true → names_only (is_read columns) (operand_of test c) ≡ true
+  named_operands test (comparison op a b) h =
+      operand_has (λ e. names_only (is_read columns) e ≡ true) test (comparison op a b)
+      (and_left (names_only (is_read columns) a) (names_only (is_read columns) b) h, and_right (names_only (is_read columns) a) (names_only (is_read columns) b) h)
+  named_operands test (is_null a) h = refl
+  named_operands test (both c d) h = refl
+  named_operands test (either c d) h = refl
+  named_operands test (negation_of c) h = refl
+  named_operands test (is c u) h = refl
+
+  pub ready : (node : Node) → IsSound tables F node → AreProbes tables node → AreKeyed node → AllConjuncts IsOver_entries node → AllConjuncts (λ c. condition_names_only (is_read columns) c ≡ true) node → AllConjuncts IsScaled node
+      → IsReady node
+  ready (scan entry table) s p k t n z = s
+  ready (filter conjuncts below) s p k t n z = (n.0, ready below s.1 p k t.1 n.1 z.1)
+  ready (join left right on keys) s p k t n z =
+      let eligible : AllByRecursion (IsKey (owns left) (owns right)) (at_keys keys 0 on) = k.0.1 in
+      let typed : AllByRecursion IsOver_entries (at_keys keys 0 on) = (keys_have IsOver_entries keys 0 on t.0).0 in
+      let names = keys_have (λ c. condition_names_only (is_read columns) c ≡ true) keys 0 on n.0 in (
+        record {
+          apart = s.0.1;
+          over_left = rows_over tables F left s.1.0;
+          over_right = rows_over tables F right s.1.1;
+          equal = k.0.0;
+          divided = all_more (λ c. IsKey (owns left) (owns right) c × IsScaled c) (IsDivided (owns left) (owns right)) (at_keys keys 0 on)
+              (λ c e. divided (owns left) (owns right) s.0.1 c e.0.0 (one_scale (owns left) (owns right) c e.0.0 e.1))
+              (both_all (IsKey (owns left) (owns right)) IsScaled (at_keys keys 0 on) eligible (keys_have IsScaled keys 0 on z.0).0);
+          told = λ test row fine. told_keys row fine (owns left) (owns right) test (at_keys keys 0 on) eligible typed;
+          named = λ test. all_map (λ e. names_only (is_read columns) e ≡ true) (operand_of test) (at_keys keys 0 on)
+              (all_more (λ c. condition_names_only (is_read columns) c ≡ true) (λ c. names_only (is_read columns) (operand_of test c) ≡ true) (at_keys keys 0 on) (named_operands test) names.0);
+          others = names.1;
+          probe = p.0;
+        },
+        (ready left s.1.0 p.1.0 k.1.0 t.1.0 n.1.0 z.1.0, ready right s.1.1 p.1.1 k.1.1 t.1.1 n.1.1 z.1.1),
+      )
+  ready (project below items) s p k t n z = absurd s

@@ -1,0 +1,13 @@
+pub mod Coded
+pub mod Courses
+pub mod Follows
+pub mod Held
+pub mod Inner
+pub mod Named
+pub mod Physical
+pub mod Reads
+pub mod Sides
+pub mod Sizes
+pub mod Spelled
+pub mod Typed
+pub mod WorkedCourses

@@ -1,0 +1,24 @@
+pub mod Budgets
+pub mod CourseBegins
+pub mod CoursePlaced
+pub mod CourseSteps
+pub mod LocalsPlaced
+pub mod PipelineRuns
+pub mod QuerySteps
+pub mod QueryCompiled
+pub mod QueryPlaced
+pub mod QueryRuns
+pub mod QueryBounded
+pub mod QueryCan
+pub mod QueryFinds
+pub mod QueryReach
+pub mod QueryTold
+pub mod QueryTyped
+pub mod QueryWithin
+pub mod Spent
+pub mod StoodBuilt
+pub mod TableBegins
+pub mod KeptColumns
+pub mod Named
+mod OneTable
+pub mod Within
