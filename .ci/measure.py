@@ -3,6 +3,8 @@
 
 measure.py loading [RECORDS]    tables of so many records and of half as many, and a query that keeps one row
 measure.py scanning [RECORDS]   a table of so many records, and a script of ten queries over it
+measure.py joining [LEFT RIGHT] tables of so many records and of half as many, and a join of them by an INTEGER column, of as many rows as the
+                                left one has; each key of the right one comes once
 """
 import os
 import random
@@ -29,6 +31,11 @@ SCANNING = [
 ]
 
 
+PAIR = "CREATE TABLE A (K INTEGER NOT NULL, X INTEGER NOT NULL);\nCREATE TABLE B (K INTEGER NOT NULL, Y INTEGER NOT NULL);\n"
+JOIN = "SELECT A.X, B.Y FROM A JOIN B ON A.K = B.K"
+PAGES = "8192"
+
+
 def record():
     label = "".join(random.choice("abcdefghijklmnop") for _ in range(random.randint(3, 20)))
     day = f"{random.randint(1990, 2020)}-{random.randint(1, 12):02}-{random.randint(1, 28):02}"
@@ -41,28 +48,24 @@ def written(path, text):
     return path
 
 
-def rows(report, is_peer):
-    """Returns the rows that a report has, of all queries: for the peer's every line, and else those behind each heading."""
-    lines = report.splitlines()
+def row_count(report, is_peer):
+    """Returns how many rows a report has, of all queries: for the peer each line is one, and else each heading tells how many follow."""
     if is_peer:
-        return [line.replace('"', "") for line in lines]
-    found, at = [], 0
-    while at < len(lines):
-        count = int(lines[at].split()[3])
-        found += lines[at + 2 : at + 2 + count]
-        at += 2 + count
-    return found
+        return sum(1 for _ in report)
+    headings = (line.split() for line in report if line.startswith("QUERY "))
+    return sum(int(words[3]) for words in headings)
 
 
-def taken(command):
-    """Returns processor seconds, the greatest size in MB, and what was written."""
+def taken(command, is_peer):
+    """Returns processor seconds, the greatest size in MB, and the number of rows. What was written is never in memory whole: a child's size is at
+    least that of the process that it was forked from."""
     with tempfile.TemporaryFile("w+") as out:
         process = subprocess.Popen(command, stdout=out)
         _, status, used = os.wait4(process.pid, 0)
         if status:
             sys.exit(f"{command[0]} ended with {status}")
         out.seek(0)
-        return used.ru_utime + used.ru_stime, used.ru_maxrss / 1024, out.read()
+        return used.ru_utime + used.ru_stime, used.ru_maxrss / 1024, row_count(out, is_peer)
 
 
 def commands(room, folder, queries):
@@ -71,6 +74,17 @@ def commands(room, folder, queries):
     peer = ["sqlite3", ":memory:", SCHEMA.format(*PEER_TYPES), ".mode csv", f".import --skip 1 {folder}/item.csv ITEM"]
     peer += [query.format(date="") for query in queries]
     return {"qwasm": [PROGRAM, "run", schema, folder, script], "sqlite3": peer}
+
+
+def measured(tried):
+    """Prints the least of five runs of each command, which are run in turn."""
+    least, found = {}, {}
+    for _ in range(5):
+        for key, command in tried.items():
+            seconds, size, found[key] = taken(command, key[0] == "sqlite3")
+            least[key] = min(least.get(key, (1e9, 0)), (seconds, size))
+    for (name, count), (seconds, size) in least.items():
+        print(f"{name} {count} records: {seconds:.2f} s, {size:.0f} MB, {found[name, count]} rows")
 
 
 def measure(counts, queries):
@@ -84,14 +98,28 @@ def measure(counts, queries):
                 file.write("ID,PRICE,SOLD,LABEL\n")
                 file.writelines(record() for _ in range(count))
             tried |= {(name, count): command for name, command in commands(room, folder, queries).items()}
-        least, reports = {}, {}
-        for _ in range(5):
-            for key, command in tried.items():
-                seconds, size, report = taken(command)
-                least[key] = min(least.get(key, (1e9, 0)), (seconds, size))
-                reports[key] = sorted(rows(report, key[0] == "sqlite3"))
-        for (name, count), (seconds, size) in least.items():
-            print(f"{name} {count} records: {seconds:.2f} s, {size:.0f} MB, {len(reports[name, count])} rows")
+        measured(tried)
+
+
+def measure_join(counts):
+    random.seed(1)
+    with tempfile.TemporaryDirectory() as room:
+        tried = {}
+        for left, right in counts:
+            folder = f"{room}/{left}_{right}"
+            os.mkdir(folder)
+            keys = random.sample(range(-2**31, 2**31), right)
+            with open(f"{folder}/a.csv", "w") as file:
+                file.write("K,X\n")
+                file.writelines(f"{random.choice(keys)},{row}\n" for row in range(left))
+            with open(f"{folder}/b.csv", "w") as file:
+                file.write("K,Y\n")
+                file.writelines(f"{key},{row}\n" for row, key in enumerate(keys))
+            schema, script = written(f"{folder}/schema.sql", PAIR), written(f"{folder}/queries.sql", JOIN)
+            peer = ["sqlite3", ":memory:", PAIR, ".mode csv", f".import --skip 1 {folder}/a.csv A", f".import --skip 1 {folder}/b.csv B", JOIN + ";"]
+            tried["qwasm", f"{left} by {right}"] = [PROGRAM, "run", schema, folder, script, "--pages", PAGES]
+            tried["sqlite3", f"{left} by {right}"] = peer
+        measured(tried)
 
 
 def main():
@@ -101,6 +129,9 @@ def main():
         measure((records, records // 2), LOADING)
     elif what == "scanning":
         measure((records,), SCANNING)
+    elif what == "joining":
+        left, right = (int(word) for word in sys.argv[2:4]) if len(sys.argv) > 3 else (100_000, 100_000)
+        measure_join([(left, right), (left // 2, right // 2)])
     else:
         sys.exit(__doc__)
 

@@ -36,25 +36,49 @@ function tokensOf(text) {
 
 const NUMBER = (scale) => ({ kind: "number", scale });
 
-// What a host has to know of a query: the table, the columns that it names, WHERE first, the text literals, and of each result column the
-// name and the kind. Kinds are those that a reader of the query would come to; conditions have none.
+// What a host has to know of a query: the tables of FROM, the columns that it reads, its text literals, and of each result column the name
+// and the kind. Columns and literals come in the order in which ON, WHERE and then the select list name them; behind these columns stand the
+// first ones of the tables of which none is named. Column c of entry e of FROM has the number 64 * e + c. Kinds are those that a reader of the
+// query would come to; conditions have none.
 class Query {
   constructor(tokens, schema) {
     this.tokens = tokens;
-    this.at = 0;
-    const from = this.place("FROM");
-    this.table = schema.find(({ name }) => name === fold(tokens[from + 1]));
-    const where = tokens.findIndex((token) => token.toUpperCase() === "WHERE");
-    const list = this.textsBetween(1, from);
-    this.texts = where < 0 ? list : [...this.textsBetween(where, tokens.length), ...list];
     this.named = new Set();
-    if (where >= 0) {
-      this.at = where + 1;
-      this.condition();
-    }
+    this.entries = [];
+    const from = this.place("FROM");
+    this.texts = [...this.textsBetween(from, tokens.length), ...this.textsBetween(1, from)];
+    this.at = from + 1;
+    this.sources(schema);
+    this.reached = this.entries;
+    if (this.take("WHERE")) this.condition();
     this.at = 0;
     this.results = this.list();
-    this.columns = this.named.size > 0 ? [...this.named] : [0];
+    const isNamed = (entry) => [...this.named].some((number) => number >> 6 === entry);
+    this.entries.forEach((_, entry) => isNamed(entry) || this.named.add(64 * entry));
+    this.columns = [...this.named].map((number) => ({ table: this.entries[number >> 6].table, column: number & 63 }));
+  }
+
+  // an ON reaches the entries of its source that stand before it
+  sources(schema) {
+    do {
+      this.reached = [];
+      this.entry(schema);
+      while (this.take("INNER", "JOIN")) {
+        this.take("JOIN");
+        this.entry(schema);
+        this.take("ON");
+        this.condition();
+      }
+    } while (this.take(","));
+  }
+
+  entry(schema) {
+    const table = schema.find(({ name }) => name === fold(this.tokens[this.at]));
+    this.next();
+    const isAlias = this.take("AS") || (this.at < this.tokens.length && !this.is(",", "INNER", "JOIN", "ON", "WHERE"));
+    const entry = { number: this.entries.length, name: isAlias ? fold(this.next()) : table.name, table };
+    this.entries.push(entry);
+    this.reached.push(entry);
   }
 
   // FROM stands in EXTRACT too, between brackets
@@ -80,7 +104,8 @@ class Query {
   list() {
     this.take("SELECT");
     this.take("ALL");
-    if (this.take("*")) return this.table.columns.map((_, index) => this.columnAt(index)).map(({ column, ...kind }) => ({ name: column, ...kind }));
+    if (this.take("*")) return this.entries.flatMap((entry) => entry.table.columns.map((_, index) => this.columnAt(entry, index)))
+      .map(({ column, ...kind }) => ({ name: column, ...kind }));
     const results = [];
     do {
       const { kind, scale, column } = this.sum();
@@ -143,7 +168,7 @@ class Query {
     const token = this.next();
     if (token.startsWith("'")) return { kind: "text" };
     if (/^[\d.]/.test(token)) return NUMBER((token.split(".")[1] ?? "").length);
-    return this.column(this.take(".") ? this.next() : token);
+    return this.take(".") ? this.column(this.next(), fold(token)) : this.column(token);
   }
 
   // a condition or an expression: an expression ends where its brackets do
@@ -161,13 +186,15 @@ class Query {
     return { kind: "date" };
   }
 
-  column(token) {
-    return this.columnAt(this.table.columns.findIndex(({ name }) => name === fold(token)));
+  column(token, qualifier) {
+    const indexIn = ({ table }) => table.columns.findIndex(({ name }) => name === fold(token));
+    const entry = this.reached.find((entry) => (qualifier === undefined || qualifier === entry.name) && indexIn(entry) >= 0);
+    return this.columnAt(entry, indexIn(entry));
   }
 
-  columnAt(index) {
-    this.named.add(index);
-    return { column: this.table.columns[index].name, ...kindOf(this.table.columns[index]) };
+  columnAt({ number, table }, index) {
+    this.named.add(64 * number + index);
+    return { column: table.columns[index].name, ...kindOf(table.columns[index]) };
   }
 
   arguments() {
@@ -264,12 +291,12 @@ class Raised extends Error {
   constructor(code) { super(`raise ${code}`); this.code = code; }
 }
 
-// The columns that the query names have an entry in the descriptor, and the octets of its texts stand behind them.
-function run(bytes, { pieces, tables, pages }, schema, { table, columns, texts }) {
+// The columns that the query reads have an entry in the descriptor, and the octets of its texts stand behind them.
+function run(bytes, { pieces, tables, pages }, schema, { columns, texts }) {
   const memory = new WebAssembly.Memory({ initial: pages + 1, maximum: pages + PAGE_LIMIT });
   pieces.forEach(([at, octets]) => new Uint8Array(memory.buffer).set(octets, at));
   const descriptor = pages * PAGE;
-  const entries = columns.flatMap((column) => tables[schema.indexOf(table)][column]);
+  const entries = columns.flatMap(({ table, column }) => tables[schema.indexOf(table)][column]);
   const literals = Buffer.concat(texts);
   const behind = descriptor + 64 + 4 * entries.length;
   const words = new DataView(memory.buffer);

@@ -1,11 +1,11 @@
 -- How large a query is, and which queries a script may have (ISO/IEC 9075:1992, 7.9). The standard leaves the limits to the implementation.
-use Rattle.std.specs.Prelude.{◌≤◌, ◌+◌, ◌-◌, ◌==◌, ℕ, if◌then◌else◌, List, [], ◌∷◌, length, take, drop, Option, Some, None}
-use Rattle.std.specs.List.{AllByRecursion}
+use Rattle.std.specs.Prelude.{◌≤◌, ◌+◌, ◌-◌, ◌==◌, ℕ, if◌then◌else◌, List, [], ◌∷◌, length, map, take, drop, Option, Some, None}
+use Rattle.std.specs.List.{AllByRecursion, flat_map}
 use Rattle.qw_types.specs.Octets.{single_quote}
 use Rattle.qw_token.specs.Token.{Lexeme}
 use Rattle.qw_ast.specs.SchemaGrammar.{IsTooDeep}
 use Rattle.qw_ast.specs.ScriptGrammar.{IsSelectOf}
-use Rattle.qw_ast.specs.Syntax.{Expression, null, number, text, date, column, signed, arithmetic, extract, searched_case, simple_case, coalesce, null_if, Condition, comparison, between, among, is_null, both, either, negation_of, is, bracketed, Clause, condition, expression, Expressions, last, further, Branching, otherwise, when, SelectItem, Selected, all_columns, items, Select}
+use Rattle.qw_ast.specs.Syntax.{Expression, null, number, text, date, column, signed, arithmetic, extract, searched_case, simple_case, coalesce, null_if, Condition, comparison, between, among, is_null, both, either, negation_of, is, bracketed, Clause, condition, expression, Expressions, last, further, Branching, otherwise, when, SelectItem, Selected, all_columns, items, Entry, Joined, Source, Select}
 
 -- ---- how large a query is
 
@@ -103,10 +103,25 @@ abbrev pub items_of : Selected → List SelectItem
 items_of all_columns = []
 items_of (items list) = list
 
--- a number of each item and of the condition, in all
+-- the entries of a source, and of FROM, from left to right
+abbrev pub entries_in : Source → List Entry
+entries_in source = source.first ∷ map (λ (j : Joined). j.entry) source.joins
+
+abbrev pub entries_of : List Source → List Entry
+entries_of sources = flat_map entries_in sources
+
+-- a number of each item, of the condition of each ON, and of the condition of WHERE, in all
 abbrev pub over_items : (Expression → ℕ) → List SelectItem → ℕ
 over_items size [] = 0
 over_items size (i ∷ others) = size i.value + over_items size others
+
+abbrev pub over_joins : (Condition → ℕ) → List Joined → ℕ
+over_joins size [] = 0
+over_joins size (j ∷ others) = size j.on + over_joins size others
+
+abbrev pub over_sources : (Condition → ℕ) → List Source → ℕ
+over_sources size [] = 0
+over_sources size (s ∷ others) = over_joins size s.joins + over_sources size others
 
 abbrev pub over_filter : (Condition → ℕ) → Option Condition → ℕ
 over_filter size None = 0
@@ -115,17 +130,22 @@ over_filter size (Some c) = size c
 abbrev pub query_items : Select → ℕ
 query_items s = length (items_of s.selected)
 
+abbrev pub query_entries : Select → ℕ
+query_entries s = length (entries_of s.sources)
+
 abbrev pub query_nodes : Select → ℕ
-query_nodes s = over_items nodes (items_of s.selected) + over_filter nodes_condition s.filter
+query_nodes s = over_items nodes (items_of s.selected) + (over_sources nodes_condition s.sources + over_filter nodes_condition s.filter)
 
 abbrev pub query_octets : Select → ℕ
-query_octets s = over_items octets (items_of s.selected) + over_filter octets_condition s.filter
+query_octets s = over_items octets (items_of s.selected) + (over_sources octets_condition s.sources + over_filter octets_condition s.filter)
 
 -- ---- limits
 
--- the sizes of a query that are taken: the items of its select list, its nodes, the octets of its character strings
-pub record AreTaken (items nodes octets : ℕ) : Type 0 where
+-- the sizes of a query that are taken: the items of its select list, the entries of its FROM, its nodes, the octets of its character
+-- strings
+pub record AreTaken (items entries nodes octets : ℕ) : Type 0 where
   pub few_items : items ≤ 64
+  pub few_entries : entries ≤ 8
   pub few_nodes : nodes ≤ 1000
   pub few_octets : octets ≤ 16384
 
@@ -138,7 +158,7 @@ pub record IsScriptLength (statements : ℕ) : Type 0 where
 pub record IsAccepted (tokens : List Lexeme) (s : Select) : Type 0 where
   pub shallow : IsTooDeep tokens → ⊥
   pub query : IsSelectOf tokens s
-  pub sizes : AreTaken (query_items s) (query_nodes s) (query_octets s)
+  pub sizes : AreTaken (query_items s) (query_entries s) (query_nodes s) (query_octets s)
   pub open sizes use *
 
 -- Some tokens are this query, and it keeps each limit.

@@ -18,7 +18,7 @@ use Rattle.qw_token.specs.Token.{Lexeme}
 use Rattle.qw_ast.specs.declared.script.Sign.{Sign}
 use Rattle.qw_ast.specs.declared.script.Sign.TheVariants.{Plus, Minus}
 use Rattle.qw_ast.specs.Grammar.{folded, reserved}
-use Rattle.qw_ast.specs.Syntax.{Days, Expression, null, number, text, date, column, signed, arithmetic, extract, searched_case, simple_case, coalesce, null_if, Condition, comparison, between, among, is_null, both, either, negation_of, is, bracketed, Clause, condition, expression, Expressions, last, further, Branching, otherwise, when, SelectItem, Selected, all_columns, items, Select}
+use Rattle.qw_ast.specs.Syntax.{Days, Expression, null, number, text, date, column, signed, arithmetic, extract, searched_case, simple_case, coalesce, null_if, Condition, comparison, between, among, is_null, both, either, negation_of, is, bracketed, Clause, condition, expression, Expressions, last, further, Branching, otherwise, when, SelectItem, Selected, all_columns, items, Entry, Joined, Source, Select}
 
 -- ---- tokens (5.2, 5.4)
 
@@ -325,11 +325,36 @@ pub data IsFilter (Inner : Clause → List Lexeme → List Lexeme → Type 0) : 
   unfiltered : (rest : List Lexeme) → IsFilter Inner None rest rest
   filtered : (c : Condition) (word : Lexeme) (ts rest : List Lexeme) → IsTrue (is_word (codes "WHERE") word) → Inner (condition c) ts rest → IsFilter Inner (Some c) (word ∷ ts) rest
 
--- a query specification over one table (7.9, 7.3, 7.4)
+-- a table reference: the name of a table, and a correlation name or none (6.3)
+pub data IsEntry : Entry → List Lexeme → List Lexeme → Type 0 where
+  an_entry : (t : Lexeme) (alias : Option (List ℕ)) (us rest : List Lexeme) → IsTrue (is_regular t) → IsNaming alias us rest → IsEntry (record { table = t.octets; alias = alias }) (t ∷ us) rest
+
+-- JOIN, behind INNER or not (7.5)
+pub data IsJoin : Unit {0} → List Lexeme → List Lexeme → Type 0 where
+  a_join : (t : Lexeme) (rest : List Lexeme) → IsTrue (is_word (codes "JOIN") t) → IsJoin tt (t ∷ rest) rest
+  an_inner_join : (word t : Lexeme) (rest : List Lexeme) → IsTrue (is_word (codes "INNER") word) → IsTrue (is_word (codes "JOIN") t) → IsJoin tt (word ∷ t ∷ rest) rest
+
+-- what stands behind JOIN: a table reference, and ON with a condition (7.5)
+pub data IsJoined (Inner : Clause → List Lexeme → List Lexeme → Type 0) : Joined → List Lexeme → List Lexeme → Type 0 where
+  a_joined : (e : Entry) (c : Condition) (word : Lexeme) (ts us rest : List Lexeme) → IsEntry e ts (word ∷ us) → IsTrue (is_word (codes "ON") word) → Inner (condition c) us rest → IsJoined Inner (record { entry = e; on = c }) ts rest
+
+-- any number of joins, each joined to all that stands before it (7.5)
+abbrev pub AreJoins : Rule Clause → Rule (List Joined)
+AreJoins Inner js ts rest = Series IsNothing IsJoin (IsJoined Inner) appended js ts rest
+
+-- a table reference, and what is joined to it (7.4, 7.5)
+pub data IsSource (Inner : Clause → List Lexeme → List Lexeme → Type 0) : Source → List Lexeme → List Lexeme → Type 0 where
+  a_source : (e : Entry) (js : List Joined) (ts us rest : List Lexeme) → IsEntry e ts us → AreJoins Inner js us rest → IsSource Inner (record { first = e; joins = js }) ts rest
+
+-- what stands behind FROM (7.4)
+pub data AreSources (Inner : Clause → List Lexeme → List Lexeme → Type 0) : List Source → List Lexeme → List Lexeme → Type 0 where
+  some_sources : (s : Source) (others : List Source) (ts us rest : List Lexeme) → IsSource Inner s ts us → AreFurther (IsSource Inner) others us rest → AreSources Inner (s ∷ others) ts rest
+
+-- a query specification (7.9, 7.3, 7.4)
 pub data IsSelect (Inner : Clause → List Lexeme → List Lexeme → Type 0) : Select → List Lexeme → List Lexeme → Type 0 where
-  a_select : (selected : Selected) (alias : Option (List ℕ)) (filter : Option Condition) (word from table : Lexeme) (ts us vs ws rest : List Lexeme) → IsTrue (is_word (codes "SELECT") word) → IsOptionalAll ts us
-      → IsSelectList Inner selected us (from ∷ table ∷ vs) → IsTrue (is_word (codes "FROM") from) → IsTrue (is_regular table) → IsNaming alias vs ws → IsFilter Inner filter ws rest
-      → IsSelect Inner (record { selected = selected; table = table.octets; alias = alias; filter = filter }) (word ∷ ts) rest
+  a_select : (selected : Selected) (sources : List Source) (filter : Option Condition) (word from : Lexeme) (ts us vs ws rest : List Lexeme) → IsTrue (is_word (codes "SELECT") word) → IsOptionalAll ts us
+      → IsSelectList Inner selected us (from ∷ vs) → IsTrue (is_word (codes "FROM") from) → AreSources Inner sources vs ws → IsFilter Inner filter ws rest
+      → IsSelect Inner (record { selected = selected; sources = sources; filter = filter }) (word ∷ ts) rest
 
 -- The tokens are this query. A statement with more than 32 brackets and CASEs open is refused before, and so none is a query here.
 abbrev pub IsSelectOf : List Lexeme → Select → Type 0

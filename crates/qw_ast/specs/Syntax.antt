@@ -71,9 +71,23 @@ pub data Selected : Type 0 where
   all_columns : Selected
   items : List SelectItem → Selected
 
+-- a table reference: a table by its name, and the name that it is given if any (6.3)
+pub record Entry : Type 0 where
+  pub table : List ℕ
+  pub alias : Option (List ℕ)
+
+-- JOIN entry ON condition (7.5)
+pub record Joined : Type 0 where
+  pub entry : Entry
+  pub on : Condition
+
+-- what stands between two commas of FROM: an entry, and those joined to it from left to right (7.4, 7.5)
+pub record Source : Type 0 where
+  pub first : Entry
+  pub joins : List Joined
+
 -- SELECT .. FROM .. WHERE .. (7.9, 7.4, 7.6)
 pub record Select : Type 0 where
   pub selected : Selected
-  pub table : List ℕ
-  pub alias : Option (List ℕ)
+  pub sources : List Source
   pub filter : Option Condition

@@ -7,13 +7,16 @@ use Rattle.qw_ast.specs.declared.script.Cond.{Cond}
 use Rattle.qw_ast.specs.declared.script.Phrase.{Phrase}
 use Rattle.qw_ast.specs.declared.script.Exprs.{Exprs}
 use Rattle.qw_ast.specs.declared.script.Branches.{Branches}
+use Rattle.qw_ast.specs.declared.script.Entry as coded_entry
 use Rattle.qw_ast.specs.declared.script.Item.{Item}
+use Rattle.qw_ast.specs.declared.script.Joined as coded_join
+use Rattle.qw_ast.specs.declared.script.Source as coded_source
 use Rattle.qw_ast.specs.declared.script.SelectList.{SelectList}
 use Rattle.qw_ast.specs.declared.script.SelectList.TheVariants.{All, Items}
 use Rattle.qw_ast.specs.declared.script.Statement.{Statement}
 use Rattle.qw_ast.specs.declared.script.Expr.TheVariants.{Null, Number, Text, Date, Column, Signed', Arithmetic', Extract', Case', Match', Coalesce', NullIf'}
 use Rattle.qw_ast.specs.declared.script.Cond.TheVariants.{Compare', Between', In', IsNull', And', Or', Not', Is', Bracketed'}
-use Rattle.qw_ast.specs.Syntax.{Days, Expression, null, number, text, date, column, signed, arithmetic, extract, searched_case, simple_case, coalesce, null_if, Condition, comparison, between, among, is_null, both, either, negation_of, is, bracketed, Clause, condition, expression, Expressions, last, further, Branching, otherwise, when, SelectItem, Selected, all_columns, items, Select}
+use Rattle.qw_ast.specs.Syntax.{Days, Expression, null, number, text, date, column, signed, arithmetic, extract, searched_case, simple_case, coalesce, null_if, Condition, comparison, between, among, is_null, both, either, negation_of, is, bracketed, Clause, condition, expression, Expressions, last, further, Branching, otherwise, when, SelectItem, Selected, all_columns, items, Entry, Joined, Source, Select}
 
 -- octets that may be there
 abbrev pub octets_of : Option (Bor (List ℕ)) → Option (List ℕ)
@@ -67,8 +70,17 @@ abbrev pub selected_of : SelectList → Selected
 selected_of All = all_columns
 selected_of (Items items') = items (map item_of items'.items)
 
+abbrev pub entry_of : coded_entry.Entry → Entry
+entry_of e = record { table = e.table.now; alias = octets_of e.alias }
+
+abbrev pub joined_of : coded_join.Joined → Joined
+joined_of j = record { entry = entry_of j.entry; on = condition_of j.on }
+
+abbrev pub source_of : coded_source.Source → Source
+source_of s = record { first = entry_of s.first; joins = map joined_of s.joins.items }
+
 abbrev pub select_of : Statement → Select
-select_of s = record { selected = selected_of s.list; table = s.table.now; alias = octets_of s.alias; filter = option_map condition_of s.condition }
+select_of s = record { selected = selected_of s.list; sources = map source_of s.sources.items; filter = option_map condition_of s.condition }
 
 -- the queries that statements are, in order
 abbrev pub selects_of : List Statement → List Select

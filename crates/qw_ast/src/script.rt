@@ -115,12 +115,32 @@ pub enum SelectList<'a> {
     Items(Vec<Item<'a>>),
 }
 
-/// `SELECT list FROM table [[AS] alias] [WHERE condition]` (7.9, 7.4, 7.6).
+/// `table [[AS] alias]` (6.3 "table reference").
+#[derive(Clone, Copy, Debug)]
+pub struct Entry<'a> {
+    pub table: &'a [u8],
+    pub alias: Option<&'a [u8]>,
+}
+
+/// `JOIN entry ON condition` (7.5).
+#[derive(Drop)]
+pub struct Joined<'a> {
+    pub entry: Entry<'a>,
+    pub on: Cond<'a>,
+}
+
+/// What stands between two commas of FROM: an entry, and those joined to it from left to right (7.4, 7.5).
+#[derive(Drop)]
+pub struct Source<'a> {
+    pub first: Entry<'a>,
+    pub joins: Vec<Joined<'a>>,
+}
+
+/// `SELECT list FROM sources [WHERE condition]` (7.9, 7.4, 7.6), with one source or more.
 #[derive(Drop)]
 pub struct Statement<'a> {
     pub list: SelectList<'a>,
-    pub table: &'a [u8],
-    pub alias: Option<&'a [u8]>,
+    pub sources: Vec<Source<'a>>,
     pub condition: Option<Cond<'a>>,
 }
 

@@ -122,12 +122,15 @@ pub record IsAt (promise : Promise) (tables : List (List (List Val))) (memory : 
   pub answers : IfSome end (λ one. Answers (promise.outcome tables) t.program.layout (bound promise tables t.program.module' number) (promise.pages tables) t.descriptor
       i.world memory one)
 
--- how the instance of a number ended, if it has, and how many instructions it has run
+-- how the instance of a number ended, if it has, how many instructions it has run, and how many pages it holds
 abbrev pub end_in : Shared → ℕ → Option End
 end_in s i = option_and_then (λ (instance : Instance). instance.end) (slice_get s.instances i)
 
 abbrev pub ran_in : Shared → ℕ → ℕ
 ran_in s i = option_map_or (λ (instance : Instance). instance.ran) (slice_get s.instances i) 0
+
+abbrev pub held_in : Shared → ℕ → ℕ
+held_in s i = option_map_or (λ (instance : Instance). instance.world.held) (slice_get s.instances i) 0
 
 -- the numbers below n of the instances that haven't ended, in order
 abbrev pub unended_below : Shared → (n : ℕ) → List ℕ

@@ -295,7 +295,7 @@ impl Bench {
     ghost use Rattle.qw_bench.specs.Bench.{AreRounds, IsColumnIn, IsStart, Program, round};
     ghost use Rattle.qw_bench.specs.Inner.Rounds.{steps_left};
     ghost use Rattle.qw_bench.specs.Standing.{AreLimits, AreTasksOf, IsBench, end_of, total_pages};
-    ghost use Rattle.qw_bench.specs.Bench.{end_in, ran_in};
+    ghost use Rattle.qw_bench.specs.Bench.{end_in, held_in, ran_in};
 
     /// A bench with an instance of each job, in order, over tables, which have the columns that the
     /// jobs' layouts use. All columns of the tables stand in its memory, in the first pages, and the
@@ -434,7 +434,7 @@ impl Bench {
     /// How many pages an instance holds.
     pub fn pages(&self, i: usize) -> u32
         requires { i < length self.now.shared.instances }
-        ensures { IfSome (slice_get self.now.shared.instances i) (λ instance. result ≡ instance.world.held) }
+        ensures { result ≡ held_in self.now.shared i }
     {
         self.seats[i].held
     }

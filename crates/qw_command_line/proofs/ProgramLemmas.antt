@@ -1,5 +1,5 @@
 -- What a program is made of.
-use Rattle.std.proofs.Common.{◌≡◌, ◌∙◌, ap, ap₂, rules}
+use Rattle.std.proofs.Common.{◌∙◌, ap, ap₂, rules}
 use Rattle.clap.specs.Words.{App, with_subcommand}
 use Rattle.clap.specs.Built.{AddsSubcommand}
 use Rattle.clap.specs.declared.builder.command.Command.{Command}

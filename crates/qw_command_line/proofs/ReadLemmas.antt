@@ -1,39 +1,101 @@
--- Which words are numbers within bounds, and the value of a match of the command line.
-use Rattle.std.proofs.Common.{◌≡◌, ◌∙◌, ℕ, ◌<◌, ◌≤◌, ◌^◌, true, false, List, [], length, Option, Some, None, Result, Ok, Err, refl, sym, ap, rules, arith, inl, inr}
-use Rattle.std.specs.Prelude.{nat_le, option_map, ◌&&◌}
+-- Which words are numbers in range, values of a match of the command line, and the options of `run`.
+use Rattle.std.proofs.Common.{◌≡◌, ◌∙◌, ℕ, ◌<◌, ◌^◌, true, false, List, Option, Some, None, Result, Ok, Err, refl, sym, ap, arith}
+use Rattle.std.specs.Prelude.{IsErrAnd, nat_le, option_map, ◌&&◌, codes}
+use Rattle.std.specs.Option.{ok_or, option_map_or}
 use Rattle.std.specs.Borrow.{Bor}
 use Rattle.std.specs.Str.Parse.{digits_value, ParsesUnsigned}
-use Rattle.std.proofs.lemmas.Bool.{cases_lt, le-ltb}
 use Rattle.std.proofs.lemmas.Str.Parse.{parse_digits}
 use Rattle.clap.proofs.WalkLemmas.{first_value-rows}
-use Rattle.clap.specs.Words.{first_of, first_value, rows_of}
+use Rattle.clap.specs.Words.{Row, first_of, first_value, rows_of}
 use Rattle.clap.specs.declared.parser.matches.Found.{Found}
 use Rattle.qw_types.specs.Digits.{are_digits}
 use Rattle.qw_types.proofs.DigitLemmas.{all_digits, own, some_digit}
-use Rattle.qw_command_line.specs.Words.{number_within}
-use Rattle.qw_command_line.specs.Inner.Values.{IsRefusal, IsValue}
+use Rattle.qw_command_line.specs.Words.{Reading, RunOptions, command, default_options, is_given, most_of, name_of, out_of_range, read_run, run, value_in_range, with_option, with_options}
+use Rattle.qw_command_line.specs.Inner.Values.{IsRefusal, IsValue, number_read, options_read}
+use Rattle.qw_command_line.specs.declared.command.RunOptions.{RunOptions as ReadOptions}
+use Rattle.qw_command_line.specs.declared.command.Number.{Number}
+use Rattle.qw_command_line.specs.declared.command.Number.TheVariants.{Quantum, Pages, Steps, Statement}
 use Rattle.qw_command_line.specs.declared.command.WordsFault.{WordsFault}
-use Rattle.qw_command_line.specs.declared.command.WordsFault.TheVariants.{Refused, StatementOutOfRange, NoMemory}
+use Rattle.qw_command_line.specs.declared.command.WordsFault.TheVariants.{Refused, OutOfRange, NoMemory}
 
 -- ---- numbers
 
-past : (least most : ℕ) (bs : List ℕ) → most < 2 ^ 64 → (digits_value 10 bs < 2 ^ 64 → ⊥) → number_within least most bs ≡ None
-past least most bs most_fits large = grind (arith)
+fits : (number : Number) → most_of number < 2 ^ 64
+fits Quantum = search arith
+fits Pages = search arith
+fits Steps = search arith
+fits Statement = search arith
 
-pub none_within : {E : Type 0} (least most : ℕ) (bs : List ℕ) (r : Result ℕ E) (e : E) → are_digits bs ≡ true → most < 2 ^ 64 → ParsesUnsigned 64 10 bs r → r ≡ Err e → None ≡ number_within least most bs
-none_within least most bs (Ok v) e digits fits h is = absurd cc
-none_within least most bs (Err d) e digits fits h is =
-    sym (past least most bs fits (λ small. parse_digits own 64 bs (Err d) h (all_digits bs digits) (some_digit bs digits, small)))
+past : (most : ℕ) (bs : List ℕ) → most < 2 ^ 64 → (digits_value 10 bs < 2 ^ 64 → ⊥) → (are_digits bs && (nat_le 1 (digits_value 10 bs) && nat_le (digits_value 10 bs) most)) ≡ false
+past most bs most_fits large = grind (arith)
+
+pub none_in_range : {E : Type 0} (number : Number) (bs : List ℕ) (r : Result ℕ E) (e : E) → are_digits bs ≡ true → ParsesUnsigned 64 10 bs r → r ≡ Err e → None ≡ value_in_range number bs
+none_in_range number bs (Ok v) e digits h is = absurd cc
+none_in_range number bs (Err d) e digits h is =
+    let large : digits_value 10 bs < 2 ^ 64 → ⊥ = λ small. parse_digits own 64 bs (Err d) h (all_digits bs digits) (some_digit bs digits, small) in
+    rw (past (most_of number) bs (fits number) large) refl
 
 -- ---- values
 
 pub value_found : (f : Found) (id : List ℕ) (found : Option (Bor (List ℕ))) (value : Bor (List ℕ)) → option_map (λ s. s.now) found ≡ first_value f id → found ≡ Some value → first_of id (rows_of f) ≡ Some value.now
 value_found f id found value is e = sym (first_value-rows f id) ∙ sym is ∙ ap (option_map (λ (s : Bor (List ℕ)). s.now)) e
 
-none_found : (f : Found) (id : List ℕ) (found : Option (Bor (List ℕ))) → option_map (λ s. s.now) found ≡ first_value f id → found ≡ None → first_of id (rows_of f) ≡ None
+pub none_found : (f : Found) (id : List ℕ) (found : Option (Bor (List ℕ))) → option_map (λ s. s.now) found ≡ first_value f id → found ≡ None → first_of id (rows_of f) ≡ None
 none_found f id found is e = sym (first_value-rows f id) ∙ sym is ∙ ap (option_map (λ (s : Bor (List ℕ)). s.now)) e
 
 pub no_value : (f : Found) (id : List ℕ) (found : Option (Bor (List ℕ))) (fault : WordsFault) → option_map (λ s. s.now) found ≡ first_value f id → found ≡ None → IsRefusal fault → IsValue (Err fault) (first_of id (rows_of f))
 no_value f id found (Refused text) is e refusal = none_found f id found is e
-no_value f id found StatementOutOfRange is e refusal = absurd refusal
+no_value f id found (OutOfRange number) is e refusal = absurd refusal
 no_value f id found NoMemory is e refusal = tt
+
+-- ---- numbers that may be left out
+
+number_is_read : (number : Number) (value : Option ℕ) (read : ℕ → Reading) → option_map_or read value (out_of_range number) ≡ number_read (ok_or value number) read
+number_is_read number None read = refl
+number_is_read number (Some value) read = refl
+
+-- its word was found
+pub number_found : (rows : List Row) (number : Number) (otherwise : ℕ) (name word : List ℕ) (value : Option ℕ) (r : Result ℕ Number) (read : ℕ → Reading) →
+    name ≡ name_of number → first_of name rows ≡ Some word → value ≡ value_in_range number word → r ≡ ok_or value number → with_option rows number otherwise read ≡ number_read r read
+number_found rows number otherwise name word value r read named found is answer =
+    let there : first_of (name_of number) rows ≡ Some word = rw named at found in
+    rw there (ap (λ v. option_map_or read v (out_of_range number)) (sym is) ∙ number_is_read number value read ∙ ap (λ a. number_read a read) (sym answer))
+
+-- it wasn't
+pub number_left_out : (rows : List Row) (number : Number) (otherwise : ℕ) (name : List ℕ) (read : ℕ → Reading) →
+    name ≡ name_of number → first_of name rows ≡ None → with_option rows number otherwise read ≡ read otherwise
+number_left_out rows number otherwise name read named none = rw (← named, none) refl
+
+-- ---- the options of `run`
+
+-- a number is read as this, whatever is made of it
+abbrev Reads : List Row → Number → (otherwise : ℕ) → Result ℕ Number → Type 0
+Reads rows number otherwise value = (read : ℕ → Reading) → with_option rows number otherwise read ≡ number_read value read
+
+-- all are in range
+pub options_in_range : (rows : List Row) (read : RunOptions → Reading) (quantum pages steps : ℕ) → Reads rows Quantum default_options.quantum (Ok quantum) →
+    Reads rows Pages default_options.pages (Ok pages) → Reads rows Steps default_options.steps (Ok steps) →
+    with_options rows read ≡ read (record { pages = pages; steps = steps; quantum = quantum; counts = is_given rows (codes "stats") })
+options_in_range rows read quantum pages steps q p s = q _ ∙ (p _ ∙ s _)
+
+-- one isn't
+pub pages_out_of_range : (rows : List Row) (read : RunOptions → Reading) (quantum : ℕ) (number : Number) → Reads rows Quantum default_options.quantum (Ok quantum) →
+    Reads rows Pages default_options.pages (Err number) → with_options rows read ≡ out_of_range number
+pages_out_of_range rows read quantum number q p = q _ ∙ p _
+
+pub steps_out_of_range : (rows : List Row) (read : RunOptions → Reading) (quantum pages : ℕ) (number : Number) → Reads rows Quantum default_options.quantum (Ok quantum) →
+    Reads rows Pages default_options.pages (Ok pages) → Reads rows Steps default_options.steps (Err number) → with_options rows read ≡ out_of_range number
+steps_out_of_range rows read quantum pages number q p s = q _ ∙ (p _ ∙ s _)
+
+-- the number that is told
+pub told : (r : Result ReadOptions Number) (number : Number) (read : RunOptions → Reading) → IsErrAnd r (λ (e : Number). e ≡ number) → out_of_range number ≡ options_read r read
+told (Ok options) number read h = absurd h
+told (Err e) number read is = rw is refl
+
+-- ---- the words of `run`
+
+pub run_read : (rows : List Row) (schema folder queries : List ℕ) (r : Result ReadOptions Number) → first_of (codes "SCHEMA") rows ≡ Some schema →
+    first_of (codes "DIR") rows ≡ Some folder → first_of (codes "QUERIES") rows ≡ Some queries →
+    ((read : RunOptions → Reading) → with_options rows read ≡ options_read r read) →
+    read_run rows ≡ options_read r (λ options. command (run (record { schema = schema; folder = folder; queries = queries }) options))
+run_read rows schema folder queries r s f q o = rw (s, f, q) (o _)

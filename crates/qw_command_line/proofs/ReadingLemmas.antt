@@ -1,5 +1,5 @@
 -- Words that clap takes, and words that it doesn't.
-use Rattle.std.proofs.Common.{◌≡◌, ◌∙◌, true, false, List, [], ◌∷◌, Option, Result, Ok, Err, refl, sym, subst, ap, inl, inr}
+use Rattle.std.proofs.Common.{◌≡◌, ◌∙◌, true, List, [], ◌∷◌, Option, Result, Err, refl, subst, ap, inl, inr}
 use Rattle.clap.proofs.OnLiterals.{clap_on_literals}
 use Rattle.clap.specs.Kinds.{HasKind, IsAmong, Kinds}
 use Rattle.clap.specs.Values.{kind_of}
@@ -11,7 +11,7 @@ use Rattle.qw_command_line.specs.Read.{Answers}
 use Rattle.qw_command_line.specs.Inner.Values.{IsRefusal}
 use Rattle.qw_command_line.specs.declared.command.Command.{Command}
 use Rattle.qw_command_line.specs.declared.command.WordsFault.{WordsFault}
-use Rattle.qw_command_line.specs.declared.command.WordsFault.TheVariants.{Refused, StatementOutOfRange, NoMemory}
+use Rattle.qw_command_line.specs.declared.command.WordsFault.TheVariants.{Refused, OutOfRange, NoMemory}
 
 program_is_simple : is_simple program ≡ true
 unfolding clap_on_literals
@@ -41,7 +41,7 @@ pub refused_answers : (words : List Text) (app : App) (error : Error) (fault : W
     IsRefusal fault → (kind_of error ≡ kind.OutOfMemory → fault ≡ NoMemory) → Answers (reading words) (Err fault)
 unfolding reading
 refused_answers words app error NoMemory is faults refusal memory = tt
-refused_answers words app error StatementOutOfRange is faults refusal memory = absurd refusal
+refused_answers words app error (OutOfRange number) is faults refusal memory = absurd refusal
 refused_answers words app error (Refused text) is faults refusal memory =
     let kinds : HasKind (fault_of program words) error = subst (λ (a : App). HasKind (fault_of a words) error) is (faults (ap is_simple_and_free is ∙ program_is_free)) in
     let other : Refused text ≡ NoMemory → ⊥ = λ e. absurd cc in

@@ -1,3 +1,4 @@
 pub mod Inner
 pub mod Read
 pub mod Words
+pub mod Worked

@@ -1,13 +1,13 @@
 -- What `read` returns of the words of the command line.
 use Rattle.std.specs.Prelude.{◌≡◌, Result, Ok, Err}
-use Rattle.qw_command_line.specs.Words.{Command, Names, RunOptions, TextNames, run, compile, check, Reading, command, no_number, no_command}
+use Rattle.qw_command_line.specs.Words.{Command, Names, RunOptions, TextNames, run, compile, check, Reading, command, out_of_range, no_command}
 use Rattle.qw_command_line.specs.declared.command.CompileWords.{CompileWords}
 use Rattle.qw_command_line.specs.declared.command.RunOptions.{RunOptions as ReadOptions}
 use Rattle.qw_command_line.specs.declared.command.RunWords.{RunWords}
 use Rattle.qw_command_line.specs.declared.command.Command.{Command as Read}
 use Rattle.qw_command_line.specs.declared.command.Command.TheVariants.{Run, Compile, Check}
 use Rattle.qw_command_line.specs.declared.command.WordsFault.{WordsFault}
-use Rattle.qw_command_line.specs.declared.command.WordsFault.TheVariants.{Refused, StatementOutOfRange, NoMemory}
+use Rattle.qw_command_line.specs.declared.command.WordsFault.TheVariants.{Refused, OutOfRange, NoMemory}
 
 -- the names that words which were read give
 abbrev pub names_of : RunWords → Names
@@ -30,5 +30,5 @@ command_of (Check file) = check file.now
 abbrev pub Answers : Reading → Result Read WordsFault → Type 0
 Answers reading (Ok read) = reading ≡ command (command_of read)
 Answers reading (Err (Refused text)) = reading ≡ no_command
-Answers reading (Err StatementOutOfRange) = reading ≡ no_number
+Answers reading (Err (OutOfRange number)) = reading ≡ out_of_range number
 Answers reading (Err NoMemory) = Unit {0}

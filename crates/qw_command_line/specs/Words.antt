@@ -6,7 +6,32 @@ use Rattle.std.specs.Str.Parse.{digits_value}
 use Rattle.clap.specs.Words.{App, Row, Rule, Text, fault_of, first_of, new_app, new_rule, subcommand_of, with_rule, with_subcommand}
 use Rattle.clap.specs.Simple.{on_top}
 use Rattle.clap.specs.Kinds.{Kinds}
+use Rattle.clap.specs.declared.builder.action.ArgAction.TheVariants.{SetTrue}
 use Rattle.qw_types.specs.Digits.{are_digits}
+use Rattle.qw_command_line.specs.declared.command.Number.{Number}
+use Rattle.qw_command_line.specs.declared.command.Number.TheVariants.{Quantum, Pages, Steps, Statement}
+
+-- ---- the numbers that words give
+
+-- the name of a number, which is that of its option
+abbrev pub name_of : Number → Text
+name_of Quantum = codes "quantum"
+name_of Pages = codes "pages"
+name_of Steps = codes "steps"
+name_of Statement = codes "statement"
+
+-- its greatest value; the least of each is 1
+abbrev pub most_of : Number → ℕ
+most_of Quantum = 1000000000
+most_of Pages = 65535
+most_of Steps = 999999999999999999
+most_of Statement = 64
+
+-- its value by a word, which is one or more digits and in its range
+abbrev pub value_in_range : Number → Text → Option ℕ
+value_in_range number word =
+    let value = digits_value 10 word in
+    if are_digits word && (nat_le 1 value && nat_le value (most_of number)) then Some value else None
 
 -- ---- the program in clap's terms
 
@@ -14,13 +39,26 @@ use Rattle.qw_types.specs.Digits.{are_digits}
 abbrev pub place : Text → Rule
 place name = record (new_rule name) { required = true }
 
+-- the option `--NAME`, with a value
+abbrev pub option : (name : Text) → Rule
+option name = record (new_rule name) { long = Some name }
+
 -- the option `--statement`, which has to be given
 abbrev pub statement_option : Rule
-statement_option = record (new_rule (codes "statement")) { long = Some (codes "statement"); required = true }
+statement_option = record (option (name_of Statement)) { required = true }
+
+-- the option `--stats`, which has no value
+abbrev pub stats_option : Rule
+stats_option = record (option (codes "stats")) { action = Some SetTrue }
 
 -- `run SCHEMA DIR QUERIES`
+abbrev pub bare_run_app : App
+bare_run_app = with_rule (with_rule (with_rule (new_app (codes "run")) (place (codes "SCHEMA"))) (place (codes "DIR"))) (place (codes "QUERIES"))
+
+-- `run SCHEMA DIR QUERIES [--quantum N] [--pages N] [--steps N] [--stats]`
 abbrev pub run_app : App
-run_app = with_rule (with_rule (with_rule (new_app (codes "run")) (place (codes "SCHEMA"))) (place (codes "DIR"))) (place (codes "QUERIES"))
+run_app =
+    with_rule (with_rule (with_rule (with_rule bare_run_app (option (name_of Quantum))) (option (name_of Pages))) (option (name_of Steps))) stats_option
 
 -- `compile SCHEMA QUERIES --statement K`
 abbrev pub compile_app : App
@@ -68,30 +106,43 @@ pub data Command : Type 0 where
   compile : TextNames → (statement : ℕ) → Command
   check : (file : Text) → Command
 
--- How words are read: as a command; as those of `compile`, but for the number of the statement; as those of no command.
+-- How words are read: as a command; as those of one but for this number, whose word isn't digits or is out of its range; as those of no command.
 pub data Reading : Type 0 where
   command : Command → Reading
-  no_number : Reading
+  out_of_range : Number → Reading
   no_command : Reading
-
--- the number of a word that is one or more digits, within these bounds
-abbrev pub number_within : (least most : ℕ) → Text → Option ℕ
-number_within least most word =
-    if are_digits word && (nat_le least (digits_value 10 word) && nat_le (digits_value 10 word) most) then Some (digits_value 10 word) else None
 
 -- what the value of a place or an option is read as, which has to be among the matches
 abbrev pub with_value : List Row → (id : Text) → (Text → Reading) → Reading
 with_value rows id read = option_map_or read (first_of id rows) no_command
 
--- the matches of `run`, which has no option
+-- what the word of a number is read as
+abbrev pub with_number : Number → (word : Text) → (ℕ → Reading) → Reading
+with_number number word read = option_map_or read (value_in_range number word) (out_of_range number)
+
+-- what a number is read as that may be left out, for another then
+abbrev pub with_option : List Row → Number → (otherwise : ℕ) → (ℕ → Reading) → Reading
+with_option rows number otherwise read = option_map_or (λ word. with_number number word read) (first_of (name_of number) rows) (read otherwise)
+
+-- whether an option without a value was given, which clap says by this text
+abbrev pub is_given : List Row → (id : Text) → Bool
+is_given rows id = option_map_or (λ text. bytes_eq text (codes "true")) (first_of id rows) false
+
+-- what the options of `run` are read as, of which the first that is out of its range is told
+abbrev pub with_options : List Row → (RunOptions → Reading) → Reading
+with_options rows read = with_option rows Quantum default_options.quantum (λ quantum. with_option rows Pages default_options.pages (λ pages.
+    with_option rows Steps default_options.steps (λ steps.
+    read (record { pages = pages; steps = steps; quantum = quantum; counts = is_given rows (codes "stats") }))))
+
+-- the matches of `run`
 abbrev pub read_run : List Row → Reading
 read_run rows = with_value rows (codes "SCHEMA") (λ schema. with_value rows (codes "DIR") (λ folder. with_value rows (codes "QUERIES") (λ queries.
-    command (run (record { schema = schema; folder = folder; queries = queries }) default_options))))
+    with_options rows (λ options. command (run (record { schema = schema; folder = folder; queries = queries }) options)))))
 
--- those of `compile`; the number of a statement is from 1 to 64
+-- those of `compile`
 abbrev pub read_compile : List Row → Reading
 read_compile rows = with_value rows (codes "SCHEMA") (λ schema. with_value rows (codes "QUERIES") (λ queries. with_value rows (codes "statement") (λ word.
-    option_map_or (λ statement. command (compile (record { schema = schema; queries = queries }) statement)) (number_within 1 64 word) no_number)))
+    with_number Statement word (λ statement. command (compile (record { schema = schema; queries = queries }) statement)))))
 
 -- those of `check`
 abbrev pub read_check : List Row → Reading

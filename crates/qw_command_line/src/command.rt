@@ -1,8 +1,48 @@
 //! What words that were read ask for, and why others aren't read.
 
-ghost use Rattle.std.specs.Prelude.{◌≤◌};
+ghost use Rattle.std.specs.Prelude.{◌≡◌, ◌≤◌};
+ghost use Rattle.qw_command_line.specs.Words.{most_of, name_of};
 
 use thiserror::Error;
+
+/// A number that a word gives, from 1 to a greatest value of its own.
+#[derive(Clone, Copy, Debug)]
+pub enum Number {
+    /// How many instructions of a query have a turn.
+    Quantum,
+    /// How many pages a query may hold.
+    Pages,
+    /// How many instructions a query may run.
+    Steps,
+    /// Which statement of a script is compiled, counted from 1.
+    Statement,
+}
+
+impl Number {
+    /// Its name, which is that of its option.
+    pub fn name(self) -> &'static str
+        ensures { result.now ≡ name_of self }
+    {
+        match self {
+            Number::Quantum => "quantum",
+            Number::Pages => "pages",
+            Number::Steps => "steps",
+            Number::Statement => "statement",
+        }
+    }
+
+    /// Its greatest value.
+    pub fn most(self) -> u64
+        ensures { result ≡ most_of self }
+    {
+        match self {
+            Number::Quantum => 1_000_000_000,
+            Number::Pages => 65_535,
+            Number::Steps => 999_999_999_999_999_999,
+            Number::Statement => 64,
+        }
+    }
+}
 
 /// What `run` is given beside its files, each in its range.
 #[derive(Clone, Copy, Debug)]
@@ -21,6 +61,7 @@ pub struct RunOptions {
     ghost some_steps: { 1 ≤ steps },
     ghost few_steps: { steps ≤ 999999999999999999 },
     ghost some_quantum: { 1 ≤ quantum },
+    ghost few_quantum: { quantum ≤ 1000000000 },
 }
 
 /// The options of `run` where no word says otherwise.
@@ -72,9 +113,9 @@ pub enum WordsFault {
     /// They are those of no command, or ask for help. The text is for the user.
     #[error("the words are those of no command")]
     Refused(String),
-    /// The number of the statement isn't digits, or out of its range.
-    #[error("the number of the statement is out of range")]
-    StatementOutOfRange,
+    /// The word for a number isn't digits, or out of its range.
+    #[error("a number is out of range")]
+    OutOfRange(Number),
     #[error("want of memory")]
     NoMemory,
 }

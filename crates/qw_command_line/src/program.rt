@@ -5,7 +5,8 @@ ghost use Rattle.clap.specs.Words.{App, with_rule};
 ghost use Rattle.qw_command_line.specs.Inner.Programs.{IsApp};
 ghost use Rattle.qw_command_line.specs.Words as spec;
 
-use clap::{Arg, Command};
+use crate::command::Number;
+use clap::{Arg, ArgAction, Command};
 use std::alloc::{AllocError, Global};
 
 /// The program: its words come without its own name, and one of its commands has to be given.
@@ -24,9 +25,19 @@ pub(crate) fn program<'a>(alloc: Global) -> Result<Command<'a>, AllocError>
     program.subcommand(check(alloc)?)
 }
 
-/// `run SCHEMA DIR QUERIES`.
+/// `run SCHEMA DIR QUERIES [--quantum N] [--pages N] [--steps N] [--stats]`.
 fn run<'a>(alloc: Global) -> Result<Command<'a>, AllocError>
     ensures { IfOk result (λ run. IsApp run spec.run_app) }
+{
+    let run = with_option(alloc, bare_run(alloc)?, Number::Quantum.name())?;
+    let run = with_option(alloc, run, Number::Pages.name())?;
+    let run = with_option(alloc, run, Number::Steps.name())?;
+    with_stats(alloc, run)
+}
+
+/// `run SCHEMA DIR QUERIES`.
+fn bare_run<'a>(alloc: Global) -> Result<Command<'a>, AllocError>
+    ensures { IfOk result (λ run. IsApp run spec.bare_run_app) }
 {
     let run = with_place(alloc, Command::new(alloc, "run"), "SCHEMA")?;
     let run = with_place(alloc, run, "DIR")?;
@@ -61,4 +72,25 @@ fn with_place<'a>(
     ensures { IfOk result (λ more. (app : App) → IsApp command.entry app → IsApp more (with_rule app (spec.place name.entry.now))) }
 {
     command.arg(Arg::new(alloc, name).required(true))
+}
+
+/// The command with one more option, `--NAME` with a value, which may be left out.
+fn with_option<'a>(
+    alloc: Global,
+    command: Command<'a>,
+    name: &'a str,
+) -> Result<Command<'a>, AllocError>
+    ensures { IfOk result (λ more. (app : App) → IsApp command.entry app → IsApp more (with_rule app (spec.option name.entry.now))) }
+{
+    command.arg(Arg::new(alloc, name).long(name))
+}
+
+/// The command with the option `--stats`, which has no value.
+fn with_stats<'a>(alloc: Global, command: Command<'a>) -> Result<Command<'a>, AllocError>
+    ensures { IfOk result (λ more. (app : App) → IsApp command.entry app → IsApp more (with_rule app spec.stats_option)) }
+{
+    let stats = Arg::new(alloc, "stats")
+        .long("stats")
+        .action(ArgAction::SetTrue);
+    command.arg(stats)
 }

@@ -1,28 +1,27 @@
 //! Words, read as one of the commands.
 
-ghost use Rattle.std.specs.Prelude.{◌≡◌, map, option_map};
+ghost use Rattle.std.specs.Prelude.{◌≡◌, ◌≤◌, ℕ, map, IfOk};
 ghost use Rattle.std.specs.String.{string_bytes};
 ghost use Rattle.clap.specs.Words.{first_of, found_of, kind_of, rows_of, subcommand_rows_of};
-ghost use Rattle.qw_command_line.specs.Inner.Values.{IsRefusal, IsValue};
+ghost use Rattle.qw_command_line.specs.Inner.Values.{IsRefusal, IsValue, number_read, options_read};
 ghost use Rattle.qw_command_line.specs.Read.{Answers};
 ghost use Rattle.qw_command_line.specs.Words as spec;
 
-use crate::command::{Command, CompileWords, DEFAULT_OPTIONS, RunWords, WordsFault};
+use crate::command::{
+    Command, CompileWords, DEFAULT_OPTIONS, Number, RunOptions, RunWords, WordsFault,
+};
 use crate::program::program;
 use clap::error::ErrorKind;
 use clap::{ArgMatches, Error};
 use qw_types::digits::are_digits;
 use std::alloc::Global;
 
-/// The greatest number of a statement.
-const MOST_STATEMENTS: u64 = 64;
-
 /// Reads the words of a command line, without the program's own name.
 ///
 /// # Errors
 ///
-/// `Refused` where `clap` takes them for no command of the program, with its text; `StatementOutOfRange` where it does, and the
-/// word for the number of a statement isn't one or more digits with a value from 1 to 64; `NoMemory`.
+/// `Refused` where `clap` takes them for no command of the program, with its text; `OutOfRange` where it does, and the word for this
+/// number isn't one or more digits with a value in its range, those for `quantum`, `pages` and `steps` being read in this order; `NoMemory`.
 pub fn read<'a>(alloc: Global, words: &'a [String]) -> Result<Command<'a>, WordsFault>
     ensures { Answers (spec.reading (map string_bytes words.entry.now)) result }
 {
@@ -86,12 +85,15 @@ fn read_run<'a>(alloc: Global, matches: &ArgMatches<'a>) -> Result<Command<'a>, 
     let schema = value(alloc, matches, "SCHEMA")?;
     let folder = value(alloc, matches, "DIR")?;
     let queries = value(alloc, matches, "QUERIES")?;
-    Ok(Command::Run(RunWords {
-        schema,
-        folder,
-        queries,
-        options: DEFAULT_OPTIONS,
-    }))
+    match options_of(matches) {
+        Ok(options) => Ok(Command::Run(RunWords {
+            schema,
+            folder,
+            queries,
+            options,
+        })),
+        Err(number) => Err(WordsFault::OutOfRange(number)),
+    }
 }
 
 /// The matches of `compile`.
@@ -101,13 +103,13 @@ fn read_compile<'a>(alloc: Global, matches: &ArgMatches<'a>) -> Result<Command<'
     let schema = value(alloc, matches, "SCHEMA")?;
     let queries = value(alloc, matches, "QUERIES")?;
     let word = value(alloc, matches, "statement")?;
-    match number_within(1, MOST_STATEMENTS, word) {
+    match value_in_range(Number::Statement, word) {
         Some(statement) => Ok(Command::Compile(CompileWords {
             schema,
             queries,
             statement,
         })),
-        None => Err(WordsFault::StatementOutOfRange),
+        None => Err(WordsFault::OutOfRange(Number::Statement)),
     }
 }
 
@@ -139,18 +141,61 @@ fn no_command(alloc: Global) -> WordsFault
     }
 }
 
-/// The number of a word that is one or more digits, within these bounds.
-fn number_within(least: u64, most: u64, word: &str) -> Option<u64>
-    ensures { result ≡ spec.number_within least most word.now }
+/// The options of `run`.
+fn options_of(matches: &ArgMatches) -> Result<RunOptions, Number>
+    ensures { (read : spec.RunOptions → spec.Reading) → spec.with_options (rows_of (found_of matches.now)) read ≡ options_read result read }
+{
+    let quantum = number_of(matches, Number::Quantum, DEFAULT_OPTIONS.quantum)?;
+    let pages = number_of(matches, Number::Pages, u64::from(DEFAULT_OPTIONS.pages))?;
+    let steps = number_of(matches, Number::Steps, DEFAULT_OPTIONS.steps)?;
+    Ok(RunOptions {
+        pages: pages as u32,
+        steps,
+        quantum,
+        counts: is_given(matches, "stats"),
+    })
+}
+
+/// The value of a number that may be left out, for another then.
+///
+/// # Errors
+///
+/// The number where its word isn't digits, or out of its range.
+fn number_of(matches: &ArgMatches, number: Number, otherwise: u64) -> Result<u64, Number>
+    requires least { 1 ≤ otherwise }
+    requires most { otherwise ≤ spec.most_of number }
+    ensures reads { (read : ℕ → spec.Reading) → spec.with_option (rows_of (found_of matches.now)) number otherwise read ≡ number_read result read }
+    ensures least { IfOk result (λ value. 1 ≤ value) }
+    ensures most { IfOk result (λ value. value ≤ spec.most_of number) }
+{
+    match matches.get_str(number.name()) {
+        Some(word) => value_in_range(number, word).ok_or(number),
+        None => Ok(otherwise),
+    }
+}
+
+/// Whether an option without a value was given, which `clap` says by the text of a `bool`.
+fn is_given(matches: &ArgMatches, id: &str) -> bool
+    ensures { result ≡ spec.is_given (rows_of (found_of matches.now)) id.now }
+{
+    match matches.get_str(id) {
+        Some(text) => text == "true",
+        None => false,
+    }
+}
+
+/// The value of a number by its word, which has to be one or more digits.
+fn value_in_range(number: Number, word: &str) -> Option<u64>
+    ensures { result ≡ spec.value_in_range number word.now }
 {
     if !are_digits(word.as_bytes()) {
         return None;
     }
-    let Ok(number) = word.parse::<u64>() else {
+    let Ok(value) = word.parse::<u64>() else {
         return None;
     };
-    if least <= number && number <= most {
-        Some(number)
+    if 1 <= value && value <= number.most() {
+        Some(value)
     } else {
         None
     }

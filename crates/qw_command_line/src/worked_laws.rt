@@ -1,19 +1,21 @@
-//! Words by their reading, worked out. The function here computes nothing.
+//! Words by their reading, worked out. No function here computes anything.
 
-ghost use Rattle.std.specs.Prelude.{◌≡◌, ◌-◌, ◌^◌, [], ◌∷◌, codes, false};
+ghost use Rattle.std.specs.Prelude.{◌≡◌, ◌-◌, ◌^◌, [], ◌∷◌, codes, true, false};
 ghost use Rattle.qw_command_line.specs.Words as spec;
+ghost use Rattle.qw_command_line.specs.Worked.{run_with, runs};
+ghost use Rattle.qw_command_line.specs.declared.command.Number.TheVariants.{Quantum, Pages, Steps, Statement};
 
 /// Words of each command, and words that are refused: the number of a statement may have leading zeros, but no sign, and is from 1
-/// to 64; options stand anywhere, with or without `=`, and not twice; `run` has its default options; a request for help is none of the commands.
+/// to 64; the option stands anywhere, with or without `=`; `run` has its default options; a request for help is none of the commands.
 pub fn worked_words()
     ensures run { spec.reading (codes "run" ∷ codes "s" ∷ codes "d" ∷ codes "q" ∷ []) ≡ spec.command (spec.run (record { schema = codes "s"; folder = codes "d"; queries = codes "q" }) spec.default_options) }
     ensures defaults { spec.default_options ≡ record { pages = 128; steps = 10 ^ 18 - 1; quantum = 10000; counts = false } }
     ensures compile { spec.reading (codes "compile" ∷ codes "s" ∷ codes "q" ∷ codes "--statement" ∷ codes "1" ∷ []) ≡ spec.command (spec.compile (record { schema = codes "s"; queries = codes "q" }) 1) }
     ensures equals_sign { spec.reading (codes "compile" ∷ codes "--statement=064" ∷ codes "s" ∷ codes "q" ∷ []) ≡ spec.command (spec.compile (record { schema = codes "s"; queries = codes "q" }) 64) }
     ensures check { spec.reading (codes "check" ∷ codes "m" ∷ []) ≡ spec.command (spec.check (codes "m")) }
-    ensures zero { spec.reading (codes "compile" ∷ codes "s" ∷ codes "q" ∷ codes "--statement" ∷ codes "0" ∷ []) ≡ spec.no_number }
-    ensures large { spec.reading (codes "compile" ∷ codes "s" ∷ codes "q" ∷ codes "--statement" ∷ codes "65" ∷ []) ≡ spec.no_number }
-    ensures sign { spec.reading (codes "compile" ∷ codes "s" ∷ codes "q" ∷ codes "--statement" ∷ codes "+1" ∷ []) ≡ spec.no_number }
+    ensures zero { spec.reading (codes "compile" ∷ codes "s" ∷ codes "q" ∷ codes "--statement" ∷ codes "0" ∷ []) ≡ spec.out_of_range Statement }
+    ensures large { spec.reading (codes "compile" ∷ codes "s" ∷ codes "q" ∷ codes "--statement" ∷ codes "65" ∷ []) ≡ spec.out_of_range Statement }
+    ensures sign { spec.reading (codes "compile" ∷ codes "s" ∷ codes "q" ∷ codes "--statement" ∷ codes "+1" ∷ []) ≡ spec.out_of_range Statement }
     ensures no_statement { spec.reading (codes "compile" ∷ codes "s" ∷ codes "q" ∷ []) ≡ spec.no_command }
     ensures nothing { spec.reading [] ≡ spec.no_command }
     ensures too_few { spec.reading (codes "run" ∷ codes "s" ∷ codes "d" ∷ []) ≡ spec.no_command }
@@ -21,4 +23,39 @@ pub fn worked_words()
     ensures option { spec.reading (codes "run" ∷ codes "-s" ∷ codes "d" ∷ codes "q" ∷ []) ≡ spec.no_command }
     ensures help { spec.reading (codes "check" ∷ codes "--help" ∷ []) ≡ spec.no_command }
     ensures other { spec.reading (codes "gen" ∷ codes "7" ∷ codes "0" ∷ []) ≡ spec.no_command }
+{}
+
+/// The options of `run` that are numbers, at both ends of their ranges and beside them.
+pub fn worked_ranges()
+    ensures least_quantum { run_with (codes "--quantum" ∷ codes "1" ∷ []) ≡ runs (record spec.default_options { quantum = 1 }) }
+    ensures greatest_quantum { run_with (codes "--quantum" ∷ codes "1000000000" ∷ []) ≡ runs (record spec.default_options { quantum = 10 ^ 9 }) }
+    ensures no_quantum { run_with (codes "--quantum" ∷ codes "0" ∷ []) ≡ spec.out_of_range Quantum }
+    ensures large_quantum { run_with (codes "--quantum" ∷ codes "1000000001" ∷ []) ≡ spec.out_of_range Quantum }
+    ensures least_pages { run_with (codes "--pages" ∷ codes "1" ∷ []) ≡ runs (record spec.default_options { pages = 1 }) }
+    ensures greatest_pages { run_with (codes "--pages" ∷ codes "65535" ∷ []) ≡ runs (record spec.default_options { pages = 65535 }) }
+    ensures no_pages { run_with (codes "--pages" ∷ codes "0" ∷ []) ≡ spec.out_of_range Pages }
+    ensures large_pages { run_with (codes "--pages" ∷ codes "65536" ∷ []) ≡ spec.out_of_range Pages }
+    ensures least_steps { run_with (codes "--steps" ∷ codes "1" ∷ []) ≡ runs (record spec.default_options { steps = 1 }) }
+    ensures greatest_steps { run_with (codes "--steps" ∷ codes "999999999999999999" ∷ []) ≡ runs (record spec.default_options { steps = 10 ^ 18 - 1 }) }
+    ensures no_steps { run_with (codes "--steps" ∷ codes "0" ∷ []) ≡ spec.out_of_range Steps }
+    ensures large_steps { run_with (codes "--steps" ∷ codes "1000000000000000000" ∷ []) ≡ spec.out_of_range Steps }
+{}
+
+/// Options of `run` stand anywhere behind the command, with or without `=`. A value that isn't digits is out of range, and of several
+/// numbers the first of quantum, pages and steps is told. An option without its value, one with a value that has none, one that is given
+/// twice, one before the command, and one of another command are refused.
+pub fn worked_options()
+    ensures counts { run_with (codes "--stats" ∷ []) ≡ runs (record spec.default_options { counts = true }) }
+    ensures anywhere { spec.reading (codes "run" ∷ codes "--pages=5" ∷ codes "s" ∷ codes "--stats" ∷ codes "d" ∷ codes "--steps" ∷ codes "7" ∷ codes "q" ∷ codes "--quantum=009" ∷ [])
+        ≡ runs (record { pages = 5; steps = 7; quantum = 9; counts = true }) }
+    ensures letters { run_with (codes "--pages" ∷ codes "5x" ∷ []) ≡ spec.out_of_range Pages }
+    ensures empty { run_with (codes "--steps" ∷ [] ∷ []) ≡ spec.out_of_range Steps }
+    ensures below { run_with (codes "--pages=-5" ∷ []) ≡ spec.out_of_range Pages }
+    ensures first { run_with (codes "--steps" ∷ codes "0" ∷ codes "--pages" ∷ codes "0" ∷ codes "--quantum" ∷ codes "0" ∷ []) ≡ spec.out_of_range Quantum }
+    ensures second { run_with (codes "--steps" ∷ codes "0" ∷ codes "--pages" ∷ codes "0" ∷ []) ≡ spec.out_of_range Pages }
+    ensures no_value { run_with (codes "--pages" ∷ []) ≡ spec.no_command }
+    ensures some_value { run_with (codes "--stats=true" ∷ []) ≡ spec.no_command }
+    ensures twice { run_with (codes "--pages" ∷ codes "5" ∷ codes "--pages" ∷ codes "5" ∷ []) ≡ spec.no_command }
+    ensures before { spec.reading (codes "--stats" ∷ codes "run" ∷ codes "s" ∷ codes "d" ∷ codes "q" ∷ []) ≡ spec.no_command }
+    ensures other { spec.reading (codes "check" ∷ codes "m" ∷ codes "--stats" ∷ []) ≡ spec.no_command }
 {}

@@ -1,5 +1,5 @@
 -- The leaves of an expression: those of the trees that stand for it, and what is known of them.
-use Rattle.std.proofs.Common.{◌≡◌, ℕ, ℤ, zero, suc, ◌+◌, ◌<◌, ◌≤◌, IsUtf8, List, [], ◌∷◌, ◌++◌, get_or, take, length, sym, ap, ◌∙◌, subst, append_assoc, append-nil, arith}
+use Rattle.std.proofs.Common.{ℕ, ℤ, List, [], ◌∷◌, ◌++◌}
 use Rattle.std.specs.List.{AllByRecursion, flat_map}
 use Rattle.qw_types.proofs.KindLemmas.{day_number}
 use Rattle.qw_types.specs.declared.value.Ty.{Ty}
@@ -13,19 +13,16 @@ use Rattle.qw_scalar.specs.declared.expression.Cond.TheVariants.{Compare', Betwe
 use Rattle.qw_scalar.specs.declared.expression.Exprs.TheVariants as Exprs
 use Rattle.qw_scalar.specs.declared.expression.Branches.TheVariants as Branches
 use Rattle.qw_scalar.specs.declared.expression.Matches.TheVariants as Matches
-use Rattle.qw_scalar.specs.Columns.{HasColumns, HaveColumns}
 use Rattle.qw_scalar.specs.Expression.{Expression, Condition, null, number, date, text, column, arithmetic, negative, extract, brought, choice, comparison, is_null, both, either, negation_of, is, among, cases, coalesced}
 use Rattle.qw_scalar.specs.Typing.{AreTyped, IsTyped}
 use Rattle.qw_scalar.specs.Tree.{choices_of, condition_of, expression_of, expressions_of, matches_of}
 use Rattle.qw_map.proofs.AreaLemmas.{all-append}
 use Rattle.qw_expr.specs.declared.known.Leaf.{Leaf}
 use Rattle.qw_expr.specs.declared.known.Leaf.TheVariants as leaf
-use Rattle.qw_expr.specs.Bindings.{Knows, TakesKnown, TakeKnown, named}
-use Rattle.qw_expr.specs.Computes.{Known}
 use Rattle.qw_read.specs.Constants.{IsSmall}
 use Rattle.qw_read.specs.declared.constant.Word.{Word}
 use Rattle.qw_read.specs.declared.constant.Word.TheVariants as word
-use Rattle.qw_compile.specs.Leaves.{Gathers, OfColumn, OfText, OfWord, leaves_in, leaves_of_all, leaves_of_branches, leaves_of_matches, leaves_within, texts_among, words_among}
+use Rattle.qw_compile.specs.Leaves.{OfColumn, OfText, OfWord, leaves_in, leaves_of_all, leaves_of_branches, leaves_of_matches, leaves_within, texts_among, words_among}
 
 -- ---- of an expression
 -- something holds of each leaf
@@ -182,97 +179,6 @@ module _ (P : Leaf → Type 0) where
       joined (leaves_in v) (leaves_in e ++ leaves_of_matches rest) (leaves_have v h.0.1) (joined (leaves_in e) (leaves_of_matches rest) (leaves_have e h.1.0) (matches_leaves rest s x h.1.1).1),
     )
 
--- ---- what expressions take is known where their leaves are
-module _ (known : List Known) where
-  abbrev pub IsKnown : Leaf → Type 0
-  IsKnown l = Knows known (named l)
-
-  mutual
-    pub takes_known : (e : Expression) → HasLeaves IsKnown e → TakesKnown known e
-    takes_known null h = tt
-    takes_known (number v s) h = h
-    takes_known (date d) h = h
-    takes_known (text t) h = h
-    takes_known (column i t) h = h
-    takes_known (arithmetic operator a b) h = (takes_known a h.0, takes_known b h.1)
-    takes_known (negative a) h = takes_known a h
-    takes_known (extract field a) h = takes_known a h
-    takes_known (brought a s) h = takes_known a h
-    takes_known (choice c a b) h = (take_known c h.0, (takes_known a h.1.0, takes_known b h.1.1))
-
-    pub take_known : (c : Condition) → HaveLeaves IsKnown c → TakeKnown known c
-    take_known (comparison op a b) h = (takes_known a h.0, takes_known b h.1)
-    take_known (is_null a) h = takes_known a h
-    take_known (both c d) h = (take_known c h.0, take_known d h.1)
-    take_known (either c d) h = (take_known c h.0, take_known d h.1)
-    take_known (negation_of c) h = take_known c h
-    take_known (is c t) h = take_known c h
-
-  mutual
-    pub known_leaves : (e : Expression) → TakesKnown known e → HasLeaves IsKnown e
-    known_leaves null h = tt
-    known_leaves (number v s) h = h
-    known_leaves (date d) h = h
-    known_leaves (text t) h = h
-    known_leaves (column i t) h = h
-    known_leaves (arithmetic operator a b) h = (known_leaves a h.0, known_leaves b h.1)
-    known_leaves (negative a) h = known_leaves a h
-    known_leaves (extract field a) h = known_leaves a h
-    known_leaves (brought a s) h = known_leaves a h
-    known_leaves (choice c a b) h = (known_conditions c h.0, (known_leaves a h.1.0, known_leaves b h.1.1))
-
-    pub known_conditions : (c : Condition) → TakeKnown known c → HaveLeaves IsKnown c
-    known_conditions (comparison op a b) h = (known_leaves a h.0, known_leaves b h.1)
-    known_conditions (is_null a) h = known_leaves a h
-    known_conditions (both c d) h = (known_conditions c h.0, known_conditions d h.1)
-    known_conditions (either c d) h = (known_conditions c h.0, known_conditions d h.1)
-    known_conditions (negation_of c) h = known_conditions c h
-    known_conditions (is c t) h = known_conditions c h
-
--- ---- columns
-module _ (P : ℕ → Ty → Type 0) where
-  mutual
-    pub has_columns : (e : Expression) → HasLeaves (OfColumn P) e → HasColumns P e
-    has_columns null h = tt
-    has_columns (number v s) h = tt
-    has_columns (date d) h = tt
-    has_columns (text t) h = tt
-    has_columns (column i t) h = h
-    has_columns (arithmetic operator a b) h = (has_columns a h.0, has_columns b h.1)
-    has_columns (negative a) h = has_columns a h
-    has_columns (extract field a) h = has_columns a h
-    has_columns (brought a s) h = has_columns a h
-    has_columns (choice c a b) h = (have_columns c h.0, (has_columns a h.1.0, has_columns b h.1.1))
-
-    pub have_columns : (c : Condition) → HaveLeaves (OfColumn P) c → HaveColumns P c
-    have_columns (comparison op a b) h = (has_columns a h.0, has_columns b h.1)
-    have_columns (is_null a) h = has_columns a h
-    have_columns (both c d) h = (have_columns c h.0, have_columns d h.1)
-    have_columns (either c d) h = (have_columns c h.0, have_columns d h.1)
-    have_columns (negation_of c) h = have_columns c h
-    have_columns (is c t) h = have_columns c h
-
-  mutual
-    pub columns_leaves : (e : Expression) → HasColumns P e → HasLeaves (OfColumn P) e
-    columns_leaves null h = tt
-    columns_leaves (number v s) h = tt
-    columns_leaves (date d) h = tt
-    columns_leaves (text t) h = tt
-    columns_leaves (column i t) h = h
-    columns_leaves (arithmetic operator a b) h = (columns_leaves a h.0, columns_leaves b h.1)
-    columns_leaves (negative a) h = columns_leaves a h
-    columns_leaves (extract field a) h = columns_leaves a h
-    columns_leaves (brought a s) h = columns_leaves a h
-    columns_leaves (choice c a b) h = (conditions_leaves c h.0, (columns_leaves a h.1.0, columns_leaves b h.1.1))
-
-    pub conditions_leaves : (c : Condition) → HaveColumns P c → HaveLeaves (OfColumn P) c
-    conditions_leaves (comparison op a b) h = (columns_leaves a h.0, columns_leaves b h.1)
-    conditions_leaves (is_null a) h = columns_leaves a h
-    conditions_leaves (both c d) h = (conditions_leaves c h.0, conditions_leaves d h.1)
-    conditions_leaves (either c d) h = (conditions_leaves c h.0, conditions_leaves d h.1)
-    conditions_leaves (negation_of c) h = conditions_leaves c h
-    conditions_leaves (is c t) h = conditions_leaves c h
-
 -- ---- numbers and dates of typed expressions
 mutual
   pub typed_leaves : (e : Expression) → IsTyped e → HasLeaves (OfWord IsSmall) e
@@ -324,13 +230,6 @@ words_all P (leaf.Number v s ∷ ls) all = (all.0, words_all P ls all.1)
 words_all P (leaf.Date d ∷ ls) all = (all.0, words_all P ls all.1)
 words_all P (leaf.Text t ∷ ls) all = words_all P ls all.1
 
-pub texts_less : (ls : List Leaf) → length (texts_among ls) + length (words_among ls) ≤ length ls
-texts_less [] = omega arith
-texts_less (leaf.Column i ty ∷ ls) = let rest = texts_less ls in omega (arith, rest)
-texts_less (leaf.Number v s ∷ ls) = let rest = texts_less ls in omega (arith, rest)
-texts_less (leaf.Date d ∷ ls) = let rest = texts_less ls in omega (arith, rest)
-texts_less (leaf.Text t ∷ ls) = let rest = texts_less ls in omega (arith, rest)
-
 -- all of them
 pub of_all : (P : List ℕ → Type 0) (W : Word → Type 0) (Q : ℕ → Ty → Type 0) (R : Leaf → Type 0) → ((t : List ℕ) → P t → R (leaf.Text t)) → ((v : ℤ) (s : ℕ) → W (word.Number v s) → R (leaf.Number v s)) → ((d : ℤ) → W (word.Date d) → R (leaf.Date d)) →
     ((i : ℕ) (ty : Ty) → Q i ty → R (leaf.Column i ty)) → (ls : List Leaf) → AllByRecursion (OfText P) ls → AllByRecursion (OfWord W) ls → AllByRecursion (OfColumn Q) ls → AllByRecursion R ls
@@ -339,23 +238,3 @@ of_all P W Q R one two three four (leaf.Column i ty ∷ ls) p w q = (four i ty q
 of_all P W Q R one two three four (leaf.Number v s ∷ ls) p w q = (two v s w.0, of_all P W Q R one two three four ls p.1 w.1 q.1)
 of_all P W Q R one two three four (leaf.Date d ∷ ls) p w q = (three d w.0, of_all P W Q R one two three four ls p.1 w.1 q.1)
 of_all P W Q R one two three four (leaf.Text t ∷ ls) p w q = (one t p.0, of_all P W Q R one two three four ls p.1 w.1 q.1)
-
--- ---- what was gathered
-pub gathered_none : (old : List Leaf) → Gathers old old []
-gathered_none old = (sym (append-nil old), tt)
-
-pub gathered_then : (a b c xs ys : List Leaf) → Gathers a b xs → Gathers b c ys → Gathers a c (xs ++ ys)
-gathered_then a b c xs ys one two = (two.0 ∙ (ap (λ (l : List Leaf). l ++ ys) one.0 ∙ append_assoc a xs ys), all-append (OfText IsUtf8) xs ys one.1 two.1)
-
--- of one more in a loop over a list
-one_further : {X : Type 0} (f : X → List Leaf) (xs : List X) (i : ℕ) (x : X) → i < length xs → x ≡ get_or xs i x → flat_map f (take (suc i) xs) ≡ flat_map f (take i xs) ++ f x
-one_further f [] i x less same = absurd (omega arith)
-one_further f (y ∷ xs) zero x less same = append-nil (f y) ∙ ap f (sym same)
-one_further f (y ∷ xs) (suc i) x less same =
-    ap (λ (l : List Leaf). f y ++ l) (one_further f xs i x (omega (arith, less)) same) ∙ sym (append_assoc (f y) (flat_map f (take i xs)) (f x))
-
-pub gathered_more : {X : Type 0} (f : X → List Leaf) (xs : List X) (i : ℕ) (x : X) (old mid new : List Leaf) → i < length xs → x ≡ get_or xs i x → Gathers old mid (flat_map f (take i xs)) → Gathers mid new (f x) →
-    Gathers old new (flat_map f (take (i + 1) xs))
-gathered_more f xs i x old mid new less same before one =
-    let at : i + 1 ≡ suc i = omega arith in
-    subst (Gathers old new) (sym (ap (λ (k : ℕ). flat_map f (take k xs)) at ∙ one_further f xs i x less same)) (gathered_then old mid new (flat_map f (take i xs)) (f x) before one)

@@ -1,9 +1,8 @@
--- The leaves of a specification's trees, from left to right: the columns and the literals (ISO/IEC 9075:1992, 5.3) that they take, all
+-- The leaves of trees, from left to right: the columns and the literals (ISO/IEC 9075:1992, 5.3) that they take, all
 -- but NULL.
 use Rattle.std.specs.Prelude.{◌≡◌, List, [], ◌∷◌, ◌++◌, ℕ, IsUtf8}
-use Rattle.std.specs.List.{AllByRecursion, flat_map}
+use Rattle.std.specs.List.{AllByRecursion}
 use Rattle.qw_types.specs.declared.value.Ty.{Ty}
-use Rattle.qw_meaning.specs.Select.{Parts}
 use Rattle.qw_scalar.specs.declared.expression.Expr.{Expr}
 use Rattle.qw_scalar.specs.declared.expression.Cond.{Cond}
 use Rattle.qw_scalar.specs.declared.expression.Exprs.{Exprs}
@@ -55,10 +54,6 @@ abbrev mutual
   pub leaves_of_matches : Matches → List Leaf
   leaves_of_matches (Matches.Last' _ v _ e _ other) = leaves_in v ++ (leaves_in e ++ leaves_in other)
   leaves_of_matches (Matches.When' _ v _ e _ rest) = leaves_in v ++ (leaves_in e ++ leaves_of_matches rest)
-
--- those of a specification: of its conjuncts, and then of its items
-abbrev pub leaves_of : Parts → List Leaf
-leaves_of parts = flat_map leaves_within parts.conjuncts ++ flat_map leaves_in parts.items
 
 -- the texts among leaves, and the numbers and the dates
 abbrev pub texts_among : List Leaf → List (List ℕ)

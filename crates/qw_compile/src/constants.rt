@@ -1,8 +1,8 @@
-//! The numbers and the dates of a specification (ISO/IEC 9075:1992, 5.3), and the locals for them.
+//! The numbers and the dates of a query (ISO/IEC 9075:1992, 5.3), and the locals for them.
 
 ghost use Rattle.std.specs.Prelude.{◌≡◌, ◌≤◌, ◌+◌, ◌++◌, IfOk, OnOk, length};
 ghost use Rattle.qw_read.specs.declared.constant.Word.{Word};
-ghost use Rattle.qw_compile.specs.Constants.{constants_from};
+ghost use Rattle.qw_compile.specs.Literals.{constants_from};
 ghost use Rattle.qw_compile.specs.Leaves.{words_among};
 
 use qw_expr::known::Leaf;

@@ -1,8 +1,7 @@
-//! The leaves of a specification's trees, from left to right: the columns and the literals that they take.
+//! The leaves of trees, from left to right: the columns and the literals that they take.
 
-ghost use Rattle.std.specs.Prelude.{◌++◌, [], IfOk, OnOk};
+ghost use Rattle.std.specs.Prelude.{OnOk};
 ghost use Rattle.std.specs.List.{flat_map};
-ghost use Rattle.qw_compile.specs.Leaves as gathered;
 ghost use Rattle.qw_compile.specs.Leaves.{Gathers, leaves_in, leaves_of_all, leaves_of_branches, leaves_of_matches, leaves_within};
 
 use crate::texts::copy_of;
@@ -135,21 +134,8 @@ fn from_matches(alloc: Global, leaves: &mut Vec<Leaf>, matches: &Matches) -> Res
     }
 }
 
-/// The leaves of a condition.
-///
-/// # Errors
-///
-/// [`NoMemory`] where memory does not suffice.
-pub fn leaves_within(alloc: Global, cond: &Cond) -> Result<Vec<Leaf>, NoMemory>
-    ensures { IfOk result (λ leaves. Gathers [] leaves.items (gathered.leaves_within cond.now)) }
-{
-    let mut leaves = Vec::new(alloc);
-    from_condition(alloc, &mut leaves, cond)?;
-    Ok(leaves)
-}
-
 /// Adds those of conjuncts.
-pub fn from_conjuncts(
+pub(crate) fn from_conjuncts(
     alloc: Global,
     leaves: &mut Vec<Leaf>,
     conjuncts: &[Cond],
@@ -163,25 +149,15 @@ pub fn from_conjuncts(
 }
 
 /// Adds those of a select list.
-pub fn from_items(alloc: Global, leaves: &mut Vec<Leaf>, items: &[Expr]) -> Result<(), NoMemory>
+pub(crate) fn from_items(
+    alloc: Global,
+    leaves: &mut Vec<Leaf>,
+    items: &[Expr],
+) -> Result<(), NoMemory>
     ensures { OnOk result (Gathers leaves.old.items leaves.new.items (flat_map leaves_in items.now)) }
 {
     for item in items {
         from_expression(alloc, leaves, item)?;
     }
     Ok(())
-}
-
-/// The leaves of conjuncts and a select list, in the order in which they stand there.
-///
-/// # Errors
-///
-/// [`NoMemory`] where memory does not suffice.
-pub fn leaves_of(alloc: Global, conjuncts: &[Cond], items: &[Expr]) -> Result<Vec<Leaf>, NoMemory>
-    ensures { IfOk result (λ leaves. Gathers [] leaves.items (flat_map leaves_within conjuncts.now ++ flat_map leaves_in items.now)) }
-{
-    let mut leaves = Vec::new(alloc);
-    from_conjuncts(alloc, &mut leaves, conjuncts)?;
-    from_items(alloc, &mut leaves, items)?;
-    Ok(leaves)
 }

@@ -1,32 +1,26 @@
-//! From a typed query specification to the blocks of its scan.
+//! From a typed query to its module: the passes of a query one after another.
 //!
-//! - [`compile`]: the module of a specification, and its layout.
-//! - [`leaves`]: the columns and the literals of its trees.
-//! - [`named`]: the columns that it names, as a layout has them.
-//! - [`readers`]: the locals that they are read by and into.
-//! - [`texts`]: the text literals, their octets and the locals for them.
-//! - [`constants`]: the numbers and dates, and the locals for them.
-//! - [`columns`]: the locals of a scan, and the kinds of its cells.
-//! - [`lists`]: the conjuncts and the select list, one after another.
-//! - [`needed`]: how many columns are read where an expression is evaluated.
-//! - [`nesting`]: what is done where a conjunct is true stands within its choice.
-//! - [`cells`]: the cells of a result row.
-//! - [`row`]: what is done at a row.
-//! - [`scan`]: the rows one after another.
-//! - [`worked_laws`]: worked cases of the definitions, with numbers.
+//! - [`compile`]: all of them, in their order.
+//! - `passes`: from a query, by its plan, to its physical pipelines.
+//! - [`used`]: the columns of tables that it reads; [`written_texts`]: its text literals.
+//! - [`query_leaves`], [`leaves`]: the columns and the literals of pipelines, and of trees.
+//! - [`texts`], [`constants`]: the literals, and the locals for them; [`query_locals`]: all locals of a query.
+//! - [`bindings`]: what is known where expressions are evaluated.
+//! - [`courses`]: the blocks of pipelines, one pipeline after another.
+//! - [`query_statement`]: the steps of a query, its locals and its layout.
+//! - [`planned_laws`]: the bounds of queries, which their plans tell.
 #![tactic(auto)]
 
-pub mod cells;
-pub mod columns;
+pub mod bindings;
 pub mod compile;
 pub mod constants;
+pub mod courses;
 pub mod leaves;
-pub mod lists;
-pub mod named;
-pub mod needed;
-pub mod nesting;
-pub mod readers;
-pub mod row;
-pub mod scan;
+mod passes;
+pub mod planned_laws;
+pub mod query_leaves;
+pub mod query_locals;
+pub mod query_statement;
 pub mod texts;
-pub mod worked_laws;
+pub mod used;
+pub mod written_texts;

@@ -1,9 +1,9 @@
-//! The text literals of a specification (ISO/IEC 9075:1992, 5.3): their octets, which lie in the first page, and the locals for them.
+//! The text literals of a query (ISO/IEC 9075:1992, 5.3): their octets, which lie in the first page, and the locals for them.
 
 ghost use Rattle.std.specs.Prelude.{◌≡◌, ◌≤◌, ◌+◌, ◌*◌, IsUtf8, IfOk, length};
 ghost use Rattle.std.specs.List.{concat};
 ghost use Rattle.qw_compile.specs.Leaves.{texts_among};
-ghost use Rattle.qw_compile.specs.Texts as gathered;
+ghost use Rattle.qw_compile.specs.Literals as gathered;
 
 use qw_expr::known::Leaf;
 use qw_low::cell::{Cell, Local};

@@ -17,7 +17,7 @@ use Rattle.qw_low.specs.Places.{IsOutcome, RunsAs, StandsFor}
 use Rattle.qw_low.specs.Promise.{Ends}
 use Rattle.qw_low.specs.Raising.{code_of}
 use Rattle.qw_low.proofs.RefusedOnce.{Refuses, refuses}
-use Rattle.qw_emit.proofs.PushRuns.{Never}
+use Rattle.qw_feed.proofs.Frames.{Never}
 use Rattle.qw_emit.proofs.Refusals.{WasRefused, Tells, told}
 use Rattle.qw_promise.specs.Compiled.{AnswersAt, raised_for}
 use Rattle.qw_emit.proofs.RunWorlds.{Keeps, run-keeps}

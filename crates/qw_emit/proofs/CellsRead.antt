@@ -12,7 +12,7 @@ use Rattle.qw_map.specs.Areas.{Area, World}
 use Rattle.qw_map.specs.Layout.{cell_at, cells_at, text_cell}
 use Rattle.qw_low.specs.State.{Part, Own, Value, Number, Address, LowState}
 use Rattle.qw_low.specs.Places.{area_of, Means, Holds, StandsFor}
-use Rattle.qw_emit.specs.RowCells.{AreOfKinds, HasCell, HasCells, HasRow}
+use Rattle.qw_feed.specs.Cells.{AreOfKinds, HasCell, HasCells, HasRow}
 
 module _ (Text : Part → ℕ → List ℕ → Type 0) (texts : List Area) (w : World) (t : LowState) (memory : List ℕ) (stands : StandsFor w t memory)
     (text_there : (p : Part) (off word : ℕ) (octets : List ℕ) → Text p off octets → Means w (Address p off) word → text_cell texts memory word (length octets) ≡ Some (val.Text octets)) where

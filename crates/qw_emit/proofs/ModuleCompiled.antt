@@ -1,6 +1,6 @@
--- The module of a statement is a compiled form of what is promised, where two things are known of its runs. Over tables of the entries that are ready, the
--- statement ends within the promise's units and pages, with the rows of the outcome in the result, in any order. And over any tables that are ready it ends
--- with some rows, within some number of instructions and of pages. What the statement does on the way is not told.
+-- The module of a statement is a compiled form of what is promised, where over tables of the entries that are ready the statement ends within the promise's
+-- units and pages, with the rows of the outcome in the result, in any order. Over any other tables that are ready it does what it does over such ones
+-- (Conformed). What the statement does on the way is not told.
 use Rattle.std.proofs.Common.{◌≡◌, ℕ, ◌+◌, ◌*◌, ◌^◌, ◌≤◌, List, [], ◌∷◌, ◌++◌, length, map, Some, None, slice_get, refl, sym, ap, ◌∙◌, subst, append_assoc, arith}
 use Rattle.std.proofs.lemmas.List.{append-nil}
 use Rattle.qw_types.specs.declared.value.Val.{Val}
@@ -28,12 +28,14 @@ use Rattle.qw_low.specs.Size.{size}
 use Rattle.qw_low.proofs.Promises.{Ends-weaker}
 use Rattle.qw_promise.specs.Compiled.{AnswersAt, GoesWith, IsCompiled, bound}
 use Rattle.qw_promise.specs.Promise.{Promise}
-use Rattle.qw_emit.specs.Results.{Row, in_order, HasAnswer}
-use Rattle.qw_emit.specs.RowCells.{HasRow}
+use Rattle.qw_feed.specs.Rows.{Row, in_order, HasAnswer}
+use Rattle.qw_feed.specs.Cells.{HasRow}
 use Rattle.qw_emit.specs.RunsOf.{comes_to, first_locals, IsMadeOf}
-use Rattle.qw_emit.proofs.Answered.{IsSomeCode, IsTold, promised_answers}
+use Rattle.qw_emit.specs.Alike.{AreAlike}
+use Rattle.qw_emit.proofs.Answered.{IsSomeCode, IsTold, promised_answers, told_some}
 use Rattle.qw_emit.proofs.CellsRead.{row_read}
-use Rattle.qw_emit.proofs.PushRuns.{Never}
+use Rattle.qw_emit.proofs.Conformed.{conform_of, conform_ready, conformed}
+use Rattle.qw_feed.proofs.Frames.{Never}
 use Rattle.qw_emit.proofs.ReturnRuns as back
 use Rattle.qw_emit.proofs.RunWorlds.{Keeps, run-keeps}
 use Rattle.qw_emit.proofs.SeenTexts.{shown, StandsIn, stands-same, text_read}
@@ -155,39 +157,49 @@ ends-done most P X R Wrong h = absurd h
 ends-done most P X R Unfinished h = absurd h
 
 -- ---- over any tables that are ready: the module is a job, and steady
-module _ (layout : Layout) (whole : Statement) (others : ℕ) (n pages fuel : List (List (List Val)) → ℕ) (small : descriptor_size layout ≤ page)
-    (settles : (tables : List (List (List Val))) (limit : ℕ) → AreReady layout tables limit →
+module _ (promise : Promise) (layout : Layout) (whole : Statement) (others : ℕ) (n pages fuel : List (List (List Val)) → ℕ) (goes_with : GoesWith promise layout) (alike : AreAlike promise.entries)
+    (settles : (tables : List (List (List Val))) (limit : ℕ) → AreOfEntries promise.entries tables → AreReady layout tables limit →
     Ends (n tables) (Settled layout tables) Never IsSomeCode (meaning (pages tables) (fuel tables) whole (first_state layout tables limit (first_locals others))))
     (m : Module) (is_made : IsMadeOf m whole others) where
+  -- what runs over these tables come to, told of such ones of the entries
+  abbrev like : List (List (List Val)) → List (List (List Val))
+  like tables = conformed layout.columns promise.entries tables
+
   abbrev any_low : List (List (List Val)) → (limit : ℕ) → Outcome
-  any_low tables limit = comes_to (pages tables) (fuel tables) whole layout tables limit others
+  any_low tables limit = comes_to (pages (like tables)) (fuel (like tables)) whole layout (like tables) limit others
 
   module _ (number : ℕ) (shape : IsShaped m number) (descriptor limit : ℕ) (placed : List Placed) (tables : List (List (List Val))) (memory : List ℕ) (ready : IsReady layout placed tables descriptor limit memory) where
-    any_runs : RunsAs (any_low tables limit) (pages tables) (beginning m number layout placed descriptor limit memory)
-    any_runs = is_made.runs.runs (pages tables) (fuel tables) number descriptor limit layout placed tables memory shape small ready
+    like_ready : IsReady layout placed (like tables) descriptor limit memory
+    like_ready = conform_ready layout promise.entries alike goes_with.columns placed tables descriptor limit memory ready
 
-    any_ends : Ends (n tables) (Settled layout tables) Never IsSomeCode (any_low tables limit)
-    any_ends = settles tables limit (record { placed = placed; descriptor = descriptor; memory = memory; ready = ready })
+    any_runs : RunsAs (any_low tables limit) (pages (like tables)) (beginning m number layout placed descriptor limit memory)
+    any_runs = is_made.runs.runs (pages (like tables)) (fuel (like tables)) number descriptor limit layout placed (like tables) memory shape goes_with.small like_ready
+
+    any_ends : Ends (n (like tables)) (Settled layout (like tables)) Never IsSomeCode (any_low tables limit)
+    any_ends =
+        settles (like tables) limit (conform_of layout promise.entries alike goes_with.columns placed tables descriptor limit memory ready)
+        (record { placed = placed; descriptor = descriptor; memory = memory; ready = like_ready })
 
     run_done : IsDone (any_low tables limit)
-    run_done = ends-done (n tables) (Settled layout tables) Never IsSomeCode (any_low tables limit) any_ends
+    run_done = ends-done (n (like tables)) (Settled layout (like tables)) Never IsSomeCode (any_low tables limit) any_ends
 
     run_of_job : Behaves most_run (λ b. HasRows layout descriptor b b.state) (beginning m number layout placed descriptor limit memory)
-    run_of_job = job_runs (n tables) (pages tables) layout tables IsSomeCode small descriptor (beginning m number layout placed descriptor limit memory) refl (any_low tables limit) any_runs any_ends
+    run_of_job = job_runs (n (like tables)) (pages (like tables)) layout (like tables) IsSomeCode goes_with.small descriptor (beginning m number layout placed descriptor limit memory) refl (any_low tables limit) any_runs any_ends
 
   course_of : (number limit : ℕ) (tables : List (List (List Val))) → IsShaped m number →
       (course : ℕ → Seen) × (IsDone (any_low tables limit) → (k descriptor : ℕ) (placed : List Placed) (memory : List ℕ) (b : Moment) →
-      IsReady layout placed tables descriptor limit memory → OpenRun k (beginning m number layout placed descriptor limit memory) b → seen b ≡ course k)
-  course_of number limit tables shape = is_made.runs.course (pages tables) (fuel tables) number limit layout tables shape small
+      IsReady layout placed (like tables) descriptor limit memory → OpenRun k (beginning m number layout placed descriptor limit memory) b → seen b ≡ course k)
+  course_of number limit tables shape = is_made.runs.course (pages (like tables)) (fuel (like tables)) number limit layout (like tables) shape goes_with.small
 
   steady : IsSteady layout m
   steady = record {
     course = λ number limit tables shape. (
       (course_of number limit tables shape).0,
-      λ k descriptor placed memory b ready run. (course_of number limit tables shape).1 (run_done number shape descriptor limit placed tables memory ready) k descriptor placed memory b ready run,
+      λ k descriptor placed memory b ready run.
+          (course_of number limit tables shape).1 (run_done number shape descriptor limit placed tables memory ready) k descriptor placed memory b (like_ready number shape descriptor limit placed tables memory ready) run,
     );
     rows = λ number limit tables shape k j descriptor other placed elsewhere memory another b c ready second run again at also.
-        let all = left_there (n tables) (pages tables) layout tables IsSomeCode small (any_low tables limit) (any_ends number shape descriptor limit placed tables memory ready) in
+        let all = left_there (n (like tables)) (pages (like tables)) layout (like tables) IsSomeCode goes_with.small (any_low tables limit) (any_ends number shape descriptor limit placed tables memory ready) in
         all.1 descriptor (beginning m number layout placed descriptor limit memory) refl (any_runs number shape descriptor limit placed tables memory ready) k b run at
         ∙ sym (all.1 other (beginning m number layout elsewhere other limit another) refl (any_runs number shape other limit elsewhere tables another second) j c again also);
   }
@@ -197,7 +209,7 @@ module _ (layout : Layout) (whole : Statement) (others : ℕ) (n pages fuel : Li
     valid = is_made.runnable.valid;
     shaped = is_made.runnable.shaped;
     descends = is_made.runnable.descends;
-    small = small;
+    small = goes_with.small;
     behaves = λ number descriptor limit placed tables memory shape some ready. run_of_job number shape descriptor limit placed tables memory ready;
   }
 
@@ -238,17 +250,21 @@ module _ (promise : Promise) (layout : Layout) (whole : Statement) (others : ℕ
         promised_answers (promise.outcome tables) layout most (promise.pages tables) most_run descriptor start (Ending promise layout tables) (returned layout tables goes_with.small descriptor start refl promise) (fuel tables) whole (first tables limit) refl runs
         (Ends-weaker (count tables) most (Ending promise layout tables) (Ending promise layout tables) Never Never (IsTold (promise.outcome tables)) (IsTold (promise.outcome tables)) (low tables limit) within (λ t x. x) (λ t x. x) (λ code x. x) all_end)
 
-  -- `n`, `pages` and `turns` bound what the statement does over any tables that are ready
-  module _ (n pages turns : List (List (List Val)) → ℕ) (goes_with : GoesWith promise layout) (short : size whole ≤ 2 ^ 22)
+  module _ (goes_with : GoesWith promise layout) (alike : AreAlike promise.entries) (short : size whole ≤ 2 ^ 22)
       (ends : (tables : List (List (List Val))) (limit : ℕ) → AreOfEntries promise.entries tables → AreReady layout tables limit →
       Ends (count tables) (Ending promise layout tables) Never (IsTold (promise.outcome tables)) (low tables limit))
-      (settles : (tables : List (List (List Val))) (limit : ℕ) → AreReady layout tables limit →
-      Ends (n tables) (Settled layout tables) Never IsSomeCode (meaning (pages tables) (turns tables) whole (first tables limit)))
       (m : Module) (is_made : IsMadeOf m whole others) where
+    -- whatever the rows are
+    settles : (tables : List (List (List Val))) (limit : ℕ) → AreOfEntries promise.entries tables → AreReady layout tables limit →
+        Ends (count tables) (Settled layout tables) Never IsSomeCode (low tables limit)
+    settles tables limit of ready =
+        Ends-weaker (count tables) (count tables) (Ending promise layout tables) (Settled layout tables) Never Never (IsTold (promise.outcome tables)) IsSomeCode (low tables limit) (omega arith)
+        (λ t h. h.settled) (λ t x. x) (λ code told. told_some (promise.outcome tables) code told) (ends tables limit of ready)
+
     pub module_compiled : IsCompiled promise layout m
     module_compiled = record {
       runnable = is_made.runnable;
-      is_job = job layout whole others n pages turns goes_with.small settles m is_made;
+      is_job = job promise layout whole others count promise.pages fuel goes_with alike settles m is_made;
       goes_with = goes_with;
       nests = is_made.nests;
       no_size = is_made.no_size;
@@ -256,5 +272,5 @@ module _ (promise : Promise) (layout : Layout) (whole : Statement) (others : ℕ
       short = omega (arith, is_made.weight, short);
       light = λ number shape. omega (arith, is_made.called number shape, short);
       behaves = λ number descriptor limit placed tables memory of shape ready. run_behaves goes_with ends m is_made number shape descriptor limit placed tables memory of ready;
-      steady = steady layout whole others n pages turns goes_with.small settles m is_made;
+      steady = steady promise layout whole others count promise.pages fuel goes_with alike settles m is_made;
     }

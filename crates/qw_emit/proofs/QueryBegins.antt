@@ -25,7 +25,7 @@ use Rattle.qw_feed.specs.Rows.{begin_block, HasRows}
 use Rattle.qw_feed.proofs.BeginRuns.{rows_begin}
 use Rattle.qw_emit.specs.RunsOf.{first_locals}
 use Rattle.qw_emit.proofs.ModuleCompiled.{AreReady}
-use Rattle.qw_emit.proofs.PushRuns.{Never}
+use Rattle.qw_feed.proofs.Frames.{Never}
 
 -- Free space begins behind the descriptor, which has so many octets, and nothing has been placed. All else is as in the first state: of the locals
 -- behind the first page's address two were set, and the others are 0.

@@ -15,11 +15,11 @@ use Rattle.qw_feed.specs.Frames.{Keeps}
 use Rattle.qw_feed.proofs.CellFills.{row-same}
 use Rattle.qw_feed.proofs.FinishRuns.{finish_ends}
 use Rattle.qw_promise.specs.Promise.{Promise}
-use Rattle.qw_emit.specs.Results.{HasAnswer, HasRows, finish_block, in_order}
-use Rattle.qw_emit.specs.RowCells.{HasRow}
+use Rattle.qw_feed.specs.Rows.{HasAnswer, HasRows, finish_block, in_order}
+use Rattle.qw_feed.specs.Cells.{HasRow}
 use Rattle.qw_emit.specs.RunsOf.{first_locals}
 use Rattle.qw_emit.proofs.ModuleCompiled.{Ending, Settled, Text}
-use Rattle.qw_emit.proofs.PushRuns.{Never}
+use Rattle.qw_feed.proofs.Frames.{Never}
 
 -- the places of the first page behind the words of the result, up to the descriptor's end
 abbrev pub BehindWords : (descriptor_size at width : ℕ) → Type 0

@@ -10,7 +10,8 @@ use Rattle.qw_map.proofs.Chains.{onto, length-onto}
 use Rattle.qw_low.specs.State.{Own, Value, Number, Address, Cells, LowState}
 use Rattle.qw_low.specs.Places.{area_of, Means, Holds, StandsFor}
 use Rattle.qw_low.proofs.Standing.{lies-at, area_of-sized}
-use Rattle.qw_emit.specs.Results.{pos, Row, address, start_of, AreRows, HasAnswer}
+use Rattle.qw_feed.specs.Frames.{pos}
+use Rattle.qw_feed.specs.Rows.{Row, address, start_of, AreRows, HasAnswer}
 
 -- the chain as it is read: from an address on, each row in a page
 abbrev pub Chained : (Has : Cells → ℕ → ℕ → List Val → Type 0) → (size part : ℕ) → Cells → Value → List Row → Type 0

@@ -1,4 +1,3 @@
+pub mod Alike
 pub mod Inner
-pub mod Results
-pub mod RowCells
 pub mod RunsOf

@@ -104,7 +104,13 @@ const VALUES: [((usize, usize, usize), Cell<'static>); 13] = [
     ((1, 0, 0), Cell::Num(7)),
 ];
 
-fn column(alloc: Global, name: &str, ty: Ty, not_null: bool) -> Result<Column, AllocError>
+/// A column of a name and a type.
+pub(crate) fn column(
+    alloc: Global,
+    name: &str,
+    ty: Ty,
+    not_null: bool,
+) -> Result<Column, AllocError>
     ensures { IfOk result (λ c. (c.name ≡ name.now) × (c.ty ≡ ty) × (c.not_null ≡ not_null)) }
 {
     Ok(Column {
@@ -114,8 +120,10 @@ fn column(alloc: Global, name: &str, ty: Ty, not_null: bool) -> Result<Column, A
     })
 }
 
-fn table(alloc: Global, columns: Vec<Column>) -> Result<Table, AllocError>
+/// CREATE TABLE T ( columns )
+pub(crate) fn table(alloc: Global, columns: Vec<Column>) -> Result<Table, AllocError>
     requires { AreColumns columns.items }
+    ensures { IfOk result (λ table. table.columns ≡ columns.items) }
 {
     Ok(Table {
         name: Text::new(String::from_str(alloc, "T")?),

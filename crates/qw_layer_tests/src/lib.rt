@@ -15,13 +15,21 @@ mod folded_queries;
 #[cfg(test)]
 mod keys;
 #[cfg(test)]
+mod larger_joins;
+#[cfg(test)]
 mod linear_memory;
 #[cfg(test)]
 mod pipelines;
 #[cfg(test)]
 mod random_joins;
 #[cfg(test)]
+mod random_modules;
+#[cfg(test)]
 mod random_queries;
+#[cfg(test)]
+mod random_tables;
+#[cfg(test)]
+mod random_values;
 #[cfg(test)]
 mod row_programs;
 #[cfg(test)]

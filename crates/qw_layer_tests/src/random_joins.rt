@@ -4,9 +4,11 @@ ghost use Rattle.std.specs.Prelude.{map};
 ghost use Rattle.std.specs.List.{AllByRecursion};
 ghost use Rattle.qw_meaning.specs.Query.{query_of};
 ghost use Rattle.qw_meaning.specs.Select.{entries_of};
-ghost use Rattle.qw_layer_tests.specs.RandomQueries.{HasRowsOfTwo, IsOfTwoColumns};
+ghost use Rattle.qw_layer_tests.specs.RandomQueries.{HasRandomRows, IsRandomEntry};
 
-use crate::random_queries::{Random, random_query, random_tables};
+use crate::random_queries::random_query;
+use crate::random_tables::random_tables;
+use crate::random_values::Random;
 use crate::row_programs::{Cells, Found, cells_of, pipelines_found, plan_found};
 use qw_algebra::Plan;
 use qw_algebra::written::plan_of;
@@ -42,8 +44,8 @@ fn difference(
     tables: &[Vec<Row>],
     seen: &mut Seen,
 ) -> Result<Option<&'static str>, Fail>
-    requires entries { AllByRecursion IsOfTwoColumns (entries_of (query_of query.now).sources) }
-    requires tables { AllByRecursion HasRowsOfTwo (map (λ t. t.items) tables.now) }
+    requires entries { AllByRecursion IsRandomEntry (entries_of (query_of query.now).sources) }
+    requires tables { AllByRecursion HasRandomRows (map (λ t. t.items) tables.now) }
 {
     let answer = plain_outcome(alloc, query, tables)?;
     if query.sources().is_empty() {
@@ -155,8 +157,8 @@ fn random_queries(rt: HostRuntime) -> Result<(), Fail> {
         keyed: 0,
     };
     for _ in 0..QUERIES {
-        let tables = random_tables(alloc, &mut random)?;
-        let query = random_query(alloc, &mut random)?;
+        let tables = random_tables(alloc, &mut random, 3)?;
+        let query = random_query(alloc, &mut random, 5)?;
         let different = difference(alloc, &query, &tables, &mut seen)?;
         assert_eq!(rt; different, None);
     }

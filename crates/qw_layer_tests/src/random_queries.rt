@@ -1,109 +1,33 @@
-//! Random queries of one to four sources over small tables of two INTEGER columns: joins with and without an equality that can be a key,
-//! divisions that may raise, nulls, rows that stand twice, and tables without rows.
+//! Random queries of one to five entries over three tables of the same columns: joins with and without an equality that can be a key,
+//! divisions that may raise, and, where the numbers say so, columns and literals of all types.
 
-ghost use Rattle.std.specs.Prelude.{◌≡◌, ◌+◌, ◌*◌, ◌≤◌, ◌<◌, ◌++◌, [], IfOk, IsTrue, length, map};
+ghost use Rattle.std.specs.Prelude.{◌≡◌, ◌+◌, ◌*◌, ◌≤◌, ◌<◌, IfOk, Some, false, length, map, slice_get, ℕ};
 ghost use Rattle.std.specs.List.{AllByRecursion};
-ghost use Rattle.qw_types.specs.Arithmetic.{fits};
-ghost use Rattle.qw_types.specs.Kind.{IsOfKind, IsRowOf};
-ghost use Rattle.qw_types.specs.declared.kind.Kind.TheVariants as kind;
+ghost use Rattle.qw_types.specs.Value.{type_scale};
+ghost use Rattle.qw_types.specs.declared.value.Ty.TheVariants as type;
 ghost use Rattle.qw_scalar.specs.Expression as tree;
 ghost use Rattle.qw_scalar.specs.Tree.{condition_of, expression_of};
 ghost use Rattle.qw_meaning.specs.Query.{joined_of, query_of, source_of};
-ghost use Rattle.qw_meaning.specs.Select.{IsSpecification, entries_in, entries_of};
-ghost use Rattle.qw_layer_tests.specs.RandomQueries.{AreRandomJoins, AreRandomSources, AreTestsOver, HasRowsOfTwo, IsNumberOver, IsOfTwoColumns, IsRandomSource, IsTestOver, two_columns, two_kinds};
+ghost use Rattle.qw_meaning.specs.Select.{entries_of};
+ghost use Rattle.qw_layer_tests.specs.RandomQueries.{AreRandomJoins, AreRandomSources, AreTestsOver, IsNumberOver, IsRandomEntry, IsRandomItem, IsRandomSource, IsTestOver, IsValueOver, random_columns, random_types};
 
+use crate::random_tables::TABLES;
+use crate::random_values::{AMOUNT, Random, WORD, any_column, comparable_column, day, whole, word};
 use qw_meaning::query::{Entry, Joined, Query, Source};
 use qw_scalar::comparison::Comparison;
 use qw_scalar::expression::{Cond, Expr, Operator};
-use qw_types::{ColumnType, NoMemory, Row, Ty, Val};
+use qw_types::{ColumnType, NoMemory, Ty};
 use std::alloc::Global;
 
-/// How many tables there are.
-const TABLES: usize = 3;
-
-/// Numbers that seem random, the same ones in every run.
-#[derive(Drop)]
-pub struct Random {
-    state: u64,
-}
-
-impl Random {
-    /// Numbers that begin anew.
-    pub fn new(seed: u64) -> Self {
-        Random { state: seed }
-    }
-
-    fn next(&mut self) -> u64 {
-        let mut state = self.state;
-        state ^= state << 13;
-        state ^= state >> 7;
-        state ^= state << 17;
-        self.state = state;
-        state
-    }
-
-    /// One of the numbers below a limit.
-    fn below(&mut self, limit: usize) -> usize
-        requires { 1 ≤ limit }
-        ensures { result < limit }
-    {
-        (self.next() >> 33) as usize % limit
-    }
-}
-
-/// Tables of at most three rows.
-pub fn random_tables(alloc: Global, random: &mut Random) -> Result<Vec<Vec<Row>>, NoMemory>
-    ensures { IfOk result (λ tables. AllByRecursion HasRowsOfTwo (map (λ t. t.items) tables.items)) }
+/// A query of at most so many entries, which are five or fewer.
+pub fn random_query(alloc: Global, random: &mut Random, most: usize) -> Result<Query, NoMemory>
+    requires { (1 ≤ most) × (most ≤ 5) }
+    ensures { IfOk result (λ query. AllByRecursion IsRandomEntry (entries_of (query_of query).sources)) }
 {
-    let first = rows(alloc, random)?;
-    let second = rows(alloc, random)?;
-    let third = rows(alloc, random)?;
-    Ok(vec![in alloc; first, second, third]?)
-}
-
-fn rows(alloc: Global, random: &mut Random) -> Result<Vec<Row>, NoMemory>
-    ensures { IfOk result (λ rows. HasRowsOfTwo rows.items) }
-{
-    let mut rows = Vec::new(alloc);
-    let count = if random.below(8) == 0 {
-        0
-    } else {
-        1 + random.below(3)
-    };
-    for _ in 0..count {
-        rows.push(row(alloc, random)?)?;
-    }
-    Ok(rows)
-}
-
-fn row(alloc: Global, random: &mut Random) -> Result<Row, NoMemory>
-    ensures { IfOk result (λ row. IsRowOf two_kinds row) }
-{
-    let first = cell(random);
-    let second = cell(random);
-    Ok(Row::new(vec![in alloc; first, second]?))
-}
-
-fn cell(random: &mut Random) -> Val
-    ensures { IsOfKind (kind.Number 0) result }
-{
-    match random.below(5) {
-        0 => Val::Null,
-        1 => Val::Num(0),
-        2 => Val::Num(1),
-        3 => Val::Num(2),
-        _ => Val::Num(1),
-    }
-}
-
-/// A query of at most five entries.
-pub fn random_query(alloc: Global, random: &mut Random) -> Result<Query, NoMemory>
-    ensures { IfOk result (λ query. AllByRecursion IsOfTwoColumns (entries_of (query_of query).sources)) }
-{
-    let total = 1 + random.below(5);
+    let total = 1 + random.below(most);
     let sources = random_sources(alloc, random, total)?;
     let conjuncts = tests(alloc, random, 0, total)?;
-    let items = numbers(alloc, random, total)?;
+    let items = items(alloc, random, total)?;
     Ok(Query::new(sources, conjuncts, items))
 }
 
@@ -141,16 +65,38 @@ fn random_source(
 }
 
 fn random_entry(alloc: Global, random: &mut Random) -> Result<Entry, NoMemory>
-    ensures { IfOk result (λ entry. entry.columns.items ≡ two_columns) }
+    ensures { IfOk result (λ entry. (entry.columns.items ≡ random_columns) × (entry.table < 3)) }
 {
-    let column = ColumnType {
-        ty: Ty::Integer,
+    let table = random.below(TABLES);
+    entry_of(alloc, table)
+}
+
+/// An entry of one of the tables.
+pub fn entry_of(alloc: Global, table: usize) -> Result<Entry, NoMemory>
+    requires { table < 3 }
+    ensures { IfOk result (λ entry. (entry.columns.items ≡ random_columns) × (entry.table ≡ table)) }
+{
+    let columns = vec![in alloc;
+        nullable(Ty::Integer),
+        nullable(Ty::Integer),
+        nullable(AMOUNT),
+        nullable(Ty::Date),
+        nullable(WORD),
+        ColumnType {
+            ty: Ty::Integer,
+            not_null: true,
+        },
+    ]?;
+    Ok(Entry { table, columns })
+}
+
+fn nullable(ty: Ty) -> ColumnType
+    ensures { result ≡ record { ty = ty; not_null = false } }
+{
+    ColumnType {
+        ty,
         not_null: false,
-    };
-    Ok(Entry {
-        table: random.below(TABLES),
-        columns: vec![in alloc; column, column]?,
-    })
+    }
 }
 
 fn random_joins(
@@ -178,7 +124,7 @@ fn random_join(
     next: usize,
 ) -> Result<Joined, NoMemory>
     requires { (first < next) × (next < 5) }
-    ensures { IfOk result (λ join. IsOfTwoColumns (joined_of join).entry × AreTestsOver first (next + 1) (joined_of join).on) }
+    ensures { IfOk result (λ join. IsRandomEntry (joined_of join).entry × AreTestsOver first (next + 1) (joined_of join).on) }
 {
     let entry = random_entry(alloc, random)?;
     let on = random_on(alloc, random, first, next)?;
@@ -254,7 +200,7 @@ fn test(
             Ok(Cond::Not(Box::new(alloc, operand)?))
         }
         3 => {
-            let operand = number(alloc, random, 1, first, next)?;
+            let operand = item(alloc, random, first, next)?;
             Ok(Cond::IsNull(Box::new(alloc, operand)?))
         }
         _ => comparison(alloc, random, first, next),
@@ -270,47 +216,155 @@ fn comparison(
     requires { (first < next) × (next ≤ 5) }
     ensures { IfOk result (λ made. IsTestOver first next (condition_of made)) }
 {
-    let op = match random.below(6) {
+    let op = comparison_operator(random);
+    if random.takes_any() {
+        return of_any_type(alloc, random, op, (first, next), (first, next));
+    }
+    let left = number(alloc, random, 2, first, next)?;
+    let right = number(alloc, random, 1, first, next)?;
+    compared(alloc, op, left, right)
+}
+
+fn comparison_operator(random: &mut Random) -> Comparison {
+    match random.below(6) {
         0 => Comparison::NotEqual,
         1 => Comparison::Less,
         2 => Comparison::LessOrEqual,
         3 => Comparison::Greater,
         4 => Comparison::GreaterOrEqual,
         _ => Comparison::Equal,
-    };
-    let left = number(alloc, random, 2, first, next)?;
-    let right = number(alloc, random, 1, first, next)?;
-    compared(alloc, op, left, right)
+    }
 }
 
-/// `left = right`, of a number of the entries before number `next` and one of that entry.
+/// `left = right`, of a value of the entries before number `next` and one of that entry.
 fn equality(alloc: Global, random: &mut Random, first: usize, next: usize) -> Result<Cond, NoMemory>
     requires { (first < next) × (next < 5) }
     ensures { IfOk result (λ made. IsTestOver first (next + 1) (condition_of made)) }
 {
+    if random.takes_any() {
+        return of_any_type(
+            alloc,
+            random,
+            Comparison::Equal,
+            (first, next),
+            (next, next + 1),
+        );
+    }
     let left = number(alloc, random, 1, first, next)?;
     let right = number(alloc, random, 1, next, next + 1)?;
     compared(alloc, Comparison::Equal, left, right)
 }
 
-fn compared(alloc: Global, op: Comparison, left: Expr, right: Expr) -> Result<Cond, NoMemory>
+/// A comparison of values of two types that compare, each over entries of its own.
+fn of_any_type(
+    alloc: Global,
+    random: &mut Random,
+    op: Comparison,
+    left: (usize, usize),
+    right: (usize, usize),
+) -> Result<Cond, NoMemory>
+    requires left { (left.0 < left.1) × (left.1 ≤ 5) }
+    requires right { (right.0 < right.1) × (right.1 ≤ 5) }
+    requires order { (left.0 ≤ right.0) × (left.1 ≤ right.1) }
+    ensures { IfOk result (λ made. IsTestOver left.0 right.1 (condition_of made)) }
+{
+    let place = any_column(random);
+    let other = comparable_column(random, place.1);
+    let left = value(alloc, random, place, left.0, left.1)?;
+    let right = value(alloc, random, other, right.0, right.1)?;
+    compared(alloc, op, left, right)
+}
+
+/// `left op right`
+pub fn compared(alloc: Global, op: Comparison, left: Expr, right: Expr) -> Result<Cond, NoMemory>
     ensures { IfOk result (λ made. condition_of made ≡ tree.comparison op (expression_of left) (expression_of right)) }
 {
     Ok(Cond::Compare(op, Box::new(alloc, left)?, Box::new(alloc, right)?))
 }
 
-/// One to three numbers over the first entries, so many.
-fn numbers(alloc: Global, random: &mut Random, entries: usize) -> Result<Vec<Expr>, NoMemory>
+/// One to three items over the first entries, so many.
+fn items(alloc: Global, random: &mut Random, entries: usize) -> Result<Vec<Expr>, NoMemory>
     requires { (1 ≤ entries) × (entries ≤ 5) }
-    ensures items { IfOk result (λ items. AllByRecursion (IsNumberOver 0 entries) (map expression_of items.items)) }
+    ensures items { IfOk result (λ items. AllByRecursion (IsRandomItem 0 entries) (map expression_of items.items)) }
     ensures few { IfOk result (λ items. (1 ≤ length items.items) × (length items.items ≤ 3)) }
 {
     let mut items = Vec::new(alloc);
     let count = 1 + random.below(3);
     for _ in 0..count {
-        items.push(number(alloc, random, 1, 0, entries)?)?;
+        items.push(item(alloc, random, 0, entries)?)?;
     }
     Ok(items)
+}
+
+fn item(alloc: Global, random: &mut Random, first: usize, next: usize) -> Result<Expr, NoMemory>
+    requires { (first < next) × (next ≤ 5) }
+    ensures { IfOk result (λ made. IsRandomItem first next (expression_of made)) }
+{
+    if random.takes_any() {
+        let place = any_column(random);
+        value(alloc, random, place, first, next)
+    } else {
+        number(alloc, random, 1, first, next)
+    }
+}
+
+/// A value of the type of a column: the column, a literal, or, of a DECIMAL, an operator on the column and a number.
+fn value(
+    alloc: Global,
+    random: &mut Random,
+    place: (usize, Ty),
+    first: usize,
+    next: usize,
+) -> Result<Expr, NoMemory>
+    requires place { slice_get random_types place.0 ≡ Some place.1 }
+    requires entries { (first < next) × (next ≤ 5) }
+    ensures { IfOk result (λ made. IsValueOver first next place.1 (expression_of made)) }
+{
+    match random.below(6) {
+        0 => literal(alloc, random, place.1),
+        1 => {
+            let column = column(random, place, first, next);
+            computed(alloc, random, place.1, column, first, next)
+        }
+        _ => Ok(column(random, place, first, next)),
+    }
+}
+
+/// A literal of a type.
+fn literal(alloc: Global, random: &mut Random, ty: Ty) -> Result<Expr, NoMemory>
+    requires { type_scale ty ≤ 18 }
+    ensures { IfOk result (λ made. (first next : ℕ) → IsValueOver first next ty (expression_of made)) }
+{
+    Ok(match ty {
+        Ty::Integer => Expr::Number(whole(random), 0),
+        Ty::Decimal { scale, .. } => Expr::Number(100, scale),
+        Ty::Date => Expr::Date(day(random)),
+        Ty::Varchar { .. } => Expr::Text(word(alloc, random)?),
+    })
+}
+
+/// An operator on a value of a type of numbers and a number; a value of another type stays.
+fn computed(
+    alloc: Global,
+    random: &mut Random,
+    ty: Ty,
+    value: Expr,
+    first: usize,
+    next: usize,
+) -> Result<Expr, NoMemory>
+    requires scale { type_scale ty ≤ 18 }
+    requires value { IsValueOver first next ty (expression_of value) }
+    requires entries { (first < next) × (next ≤ 5) }
+    ensures { IfOk result (λ made. IsValueOver first next ty (expression_of made)) }
+{
+    match ty {
+        Ty::Date | Ty::Varchar { .. } => Ok(value),
+        Ty::Integer | Ty::Decimal { .. } => {
+            let operator = operator(random);
+            let number = number(alloc, random, 1, first, next)?;
+            arithmetic(alloc, operator, value, number)
+        }
+    }
 }
 
 /// A number: a column, a literal, or an operator on two numbers, `depth` operators deep at most.
@@ -353,29 +407,28 @@ fn leaf(random: &mut Random, first: usize, next: usize) -> Expr
     ensures { IsNumberOver first next (expression_of result) }
 {
     if random.below(4) == 0 {
-        Expr::Number(literal(random), 0)
+        Expr::Number(whole(random), 0)
     } else {
-        column(random, first, next)
+        let place = (random.below(2), Ty::Integer);
+        column(random, place, first, next)
     }
 }
 
-/// A small number, or one that a product takes out of range.
-fn literal(random: &mut Random) -> i64
-    ensures { IsTrue (fits result) }
-{
-    match random.below(8) {
-        0 => 0,
-        1 => 2,
-        2 => 3,
-        3 => 999_999_999_999_999_999,
-        _ => 1,
-    }
-}
-
-fn column(random: &mut Random, first: usize, next: usize) -> Expr
-    requires { (first < next) × (next ≤ 5) }
-    ensures { IsNumberOver first next (expression_of result) }
+/// A column of one of the entries.
+fn column(random: &mut Random, place: (usize, Ty), first: usize, next: usize) -> Expr
+    requires place { slice_get random_types place.0 ≡ Some place.1 }
+    requires entries { (first < next) × (next ≤ 5) }
+    ensures { IsValueOver first next place.1 (expression_of result) }
 {
     let entry = first + random.below(next - first);
-    Expr::Column(64 * entry + random.below(2), Ty::Integer)
+    column_of(entry, place)
+}
+
+/// A column of this entry.
+pub fn column_of(entry: usize, place: (usize, Ty)) -> Expr
+    requires place { slice_get random_types place.0 ≡ Some place.1 }
+    requires entry { entry < 5 }
+    ensures { expression_of result ≡ tree.column (64 * entry + place.0) place.1 }
+{
+    Expr::Column(64 * entry + place.0, place.1)
 }

@@ -12,7 +12,7 @@ use std::process::Abort;
 use std::test::Fail;
 
 // Scripts of one statement, and what it says.
-const SELECTS: [(&str, &str); 65] = [
+const SELECTS: [(&str, &str); 71] = [
     ("SELECT * FROM t", "* FROM t"),
     ("select ALL * from T;", "* FROM T"),
     ("SELECT a FROM t", "a FROM t"),
@@ -33,6 +33,25 @@ const SELECTS: [(&str, &str); 65] = [
     (
         "SELECT a FROM t u WHERE a = 1 ;",
         "a FROM t AS u WHERE a = 1",
+    ),
+    // sources, and entries that are joined to them
+    ("SELECT a FROM t, u", "a FROM t; u"),
+    ("SELECT a FROM t x, u AS y, t", "a FROM t AS x; u AS y; t"),
+    (
+        "SELECT a FROM t JOIN u ON a = b",
+        "a FROM t JOIN u ON a = b",
+    ),
+    (
+        "SELECT a FROM t x INNER JOIN u AS y ON x.a = y.b AND c > 1 JOIN v ON (d = 1) WHERE e = 2",
+        "a FROM t AS x JOIN u AS y ON (x.a = y.b AND c > 1) JOIN v ON [d = 1] WHERE e = 2",
+    ),
+    (
+        "SELECT a FROM t join u on a = b, v, w inner join x on c = d",
+        "a FROM t JOIN u ON a = b; v; w JOIN x ON c = d",
+    ),
+    (
+        "SELECT a FROM t JOIN u ON a = 1 OR b = 2, v",
+        "a FROM t JOIN u ON (a = 1 OR b = 2); v",
     ),
     // literals
     ("SELECT 1, 2.50, .5, 7. FROM t", "1; 2.50; .5; 7. FROM t"),
@@ -202,7 +221,7 @@ const SELECTS: [(&str, &str); 65] = [
 ];
 
 // Texts of one statement that is no query.
-const NO_SELECTS: [&str; 52] = [
+const NO_SELECTS: [&str; 60] = [
     "",
     ";",
     "SELECT",
@@ -217,8 +236,16 @@ const NO_SELECTS: [&str; 52] = [
     "SELECT DISTINCT a FROM t",
     "SELECT a FROM \"t\"",
     "SELECT a FROM s.t",
-    "SELECT a FROM t, u",
-    "SELECT a FROM t JOIN u ON a = b",
+    "SELECT a FROM t,",
+    "SELECT a FROM , t",
+    "SELECT a FROM t JOIN u",
+    "SELECT a FROM t JOIN u ON a",
+    "SELECT a FROM t JOIN ON a = b",
+    "SELECT a FROM t INNER u ON a = b",
+    "SELECT a FROM t LEFT JOIN u ON a = b",
+    "SELECT a FROM t CROSS JOIN u",
+    "SELECT a FROM (t JOIN u ON a = b)",
+    "SELECT a FROM t WHERE a = 1, u",
     "SELECT a FROM t ORDER BY a",
     "SELECT a FROM t WHERE",
     "SELECT a FROM t WHERE a",
@@ -273,6 +300,12 @@ const TOO_MANY_ITEMS: Option<ParseFault> = Some(ParseFault::TooMany {
     limit: 64,
 });
 
+const TOO_MANY_ENTRIES: Option<ParseFault> = Some(ParseFault::TooMany {
+    statement: 1,
+    what: Count::FromEntries,
+    limit: 8,
+});
+
 const TOO_MANY_NODES: Option<ParseFault> = Some(ParseFault::TooMany {
     statement: 1,
     what: Count::Nodes,
@@ -300,6 +333,20 @@ const ITEMS: [Case; 2] = [
     (
         &[("SELECT ", 1), ("a, ", 64), ("a FROM t", 1)],
         TOO_MANY_ITEMS,
+    ),
+];
+
+const ENTRIES: [Case; 4] = [
+    (&[("SELECT a FROM t", 1), (", t", 7)], None),
+    (&[("SELECT a FROM t", 1), (", t", 8)], TOO_MANY_ENTRIES),
+    // those that are joined count too
+    (
+        &[("SELECT a FROM t", 1), (" JOIN t ON a = b", 6), (", t", 1)],
+        None,
+    ),
+    (
+        &[("SELECT a FROM t", 1), (" JOIN t ON a = b", 7), (", t", 1)],
+        TOO_MANY_ENTRIES,
     ),
 ];
 
@@ -482,7 +529,7 @@ const LEVELS: [Case; 4] = [
     ),
 ];
 
-const FIRST_FAULTS: [Case; 10] = [
+const FIRST_FAULTS: [Case; 12] = [
     // A fault of a later kind in an earlier statement comes first.
     (
         &[("SELECT '", 1), ("x", 16_385), ("' FROM t; ", 1), ("(", 33)],
@@ -518,7 +565,15 @@ const FIRST_FAULTS: [Case; 10] = [
         Some(ParseFault::NotToken { at: 42 }),
     ),
     (&[("(", 33), (";", 65)], TOO_MANY_STATEMENTS),
-    // In one statement: items, nodes, octets.
+    // In one statement: items, entries, nodes, octets.
+    (
+        &[("SELECT ", 1), ("a, ", 64), ("1 FROM t", 1), (", t", 8)],
+        TOO_MANY_ITEMS,
+    ),
+    (
+        &[("SELECT 1", 1), (" + 1", 500), (" FROM t", 1), (", t", 8)],
+        TOO_MANY_ENTRIES,
+    ),
     (
         &[
             ("SELECT ", 1),
@@ -608,6 +663,11 @@ fn numbers_of_statements(rt: HostRuntime) -> Result<(), Fail> {
 #[test]
 fn numbers_of_items(rt: HostRuntime) -> Result<(), Fail> {
     assert_faults(&rt, rt.alloc(), &ITEMS)
+}
+
+#[test]
+fn numbers_of_entries(rt: HostRuntime) -> Result<(), Fail> {
+    assert_faults(&rt, rt.alloc(), &ENTRIES)
 }
 
 #[test]

@@ -9,12 +9,12 @@ use Rattle.qw_physical.specs.declared.pipeline.Sink.TheVariants as sink
 
 -- the most steps and locals of a sink's block
 abbrev pub sink_span : Sink → ℕ
-sink_span (sink.Build b) = 400 * sum_by nodes b.key.items + 400 * length b.key.items + 20 * length b.kept.items + 100
+sink_span (sink.Build b) = 400 * sum_by nodes b.key.items + 205 * length b.key.items + 13 * length b.kept.items + 100
 sink_span (sink.Select items) = 400 * sum_by nodes items.items + 20 * length items.items + 100
 
 -- and those of an operator, beside what is within it
 abbrev pub probe_span : Probe → ℕ
-probe_span p = 400 * sum_by nodes p.key.items + 400 * length p.key.items + 25 * length p.kept.items + 420 * sum_by nodes_of p.on.items + 100
+probe_span p = 400 * sum_by nodes p.key.items + 358 * length p.key.items + 25 * length p.kept.items + 420 * sum_by nodes_of p.on.items + 100
 
 abbrev pub operator_span : Operator → ℕ
 operator_span (operator.Filter conjuncts) = 420 * sum_by nodes_of conjuncts.items

@@ -13,14 +13,15 @@ use Rattle.qw_ast.specs.declared.script.Interval.{Interval}
 use Rattle.qw_ast.specs.declared.script.Phrase.{Phrase}
 use Rattle.qw_parse.specs.declared.read.case.Branch.{Branch as Tried}
 use Rattle.qw_parse.specs.Inner.Parser.{branch_of, first_of, behind}
-use Rattle.qw_parse.specs.Inner.Readers.{one_at, token_at, word_at, octets_if, given, append, further_at, branches_at, date_at, date_string_at, days_at, interval_sign_at, move, series_at, series_from, factor_at, term_at, expression_at, branch_at, boolean_factor_at, boolean_term_at, clause_at, item_at, nested_at}
+use Rattle.qw_parse.specs.Inner.Readers.{one_at, token_at, word_at, octets_if, given, append, further_at, join_at, joined_at, joins_at, source_at, branches_at, date_at, date_string_at, days_at, interval_sign_at, move, series_at, series_from, factor_at, term_at, expression_at, branch_at, boolean_factor_at, boolean_term_at, clause_at, item_at, nested_at}
 use Rattle.qw_parse.proofs.LoopLemmas.{Shortens, loop_end, loop_stop, loop_clash, loop_more}
 use Rattle.qw_parse.proofs.ExactLemmas.{days_shortens, exact_shortens, sign_shortens}
 use Rattle.qw_parse.proofs.PrimaryLemmas.{expression_exact, branch_exact}
 use Rattle.qw_parse.proofs.SumLemmas as sums
 use Rattle.qw_parse.proofs.ConditionLemmas as conditions
 use Rattle.qw_parse.proofs.ConditionLemmas.{nested_exact}
-use Rattle.qw_parse.proofs.SelectLemmas.{item_exact}
+use Rattle.qw_parse.proofs.SelectLemmas as queries
+use Rattle.qw_parse.proofs.SelectLemmas.{item_exact, source_exact}
 
 -- ---- operands take a token at least
 
@@ -44,6 +45,12 @@ branch_shortens n searched = exact_shortens (branch_exact (IsNested n) (nested_a
 
 pub item_shortens : (n : ℕ) → Shortens (item_at (nested_at n))
 item_shortens n = exact_shortens (item_exact (IsNested n) (nested_at n) (nested_exact n))
+
+pub joined_shortens : (n : ℕ) → Shortens (joined_at (nested_at n))
+joined_shortens n = queries.joined_shortens (IsNested n) (nested_at n) (nested_exact n)
+
+pub source_shortens : (n : ℕ) → Shortens (source_at (nested_at n))
+source_shortens n = exact_shortens (source_exact (IsNested n) (nested_at n) (nested_exact n))
 
 -- ---- levels
 
@@ -178,6 +185,10 @@ module _ {A B O : Type 0} (view : A → B) (link : List Lexeme → Option (O × 
 pub further_start : {A : Type 0} (item : List Lexeme → Option (A × List Lexeme)) (ts : List Lexeme) → Goes (token_at is_comma) item append (further_at item ts) [] ts
 unfolding further_at
 further_start item ts = going_start (token_at is_comma) item append (given []) ts ts [] refl
+
+pub joins_start : (inner : List Lexeme → Option (Clause × List Lexeme)) (ts : List Lexeme) → Goes join_at (joined_at inner) append (joins_at inner ts) [] ts
+unfolding joins_at
+joins_start inner ts = going_start join_at (joined_at inner) append (given []) ts ts [] refl
 
 pub branches_start : (inner : List Lexeme → Option (Clause × List Lexeme)) (searched : Bool) (ts : List Lexeme) → Goes (token_at is_when) (branch_at inner searched) append (branches_at inner searched ts) [] ts
 unfolding branches_at

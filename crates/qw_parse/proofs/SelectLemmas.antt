@@ -1,16 +1,16 @@
 -- Queries are read exactly, where expressions and conditions are; so tokens are one query at most.
-use Rattle.std.proofs.Common.{◌≡◌, ℕ, ◌<◌, ◌≤◌, false, List, [], ◌∷◌, length, Option, Some, None, refl, sym, ap, subst, ◌∙◌, arith, inl, inr}
+use Rattle.std.proofs.Common.{◌≡◌, ℕ, ◌<◌, ◌≤◌, ◌||◌, false, List, [], ◌∷◌, length, Option, Some, None, refl, sym, ap, subst, ◌∙◌, arith, inl, inr}
 use Rattle.std.specs.Prelude.{codes, IsTrue}
-use Rattle.std.proofs.lemmas.Bool.{cases_Bool, false≢true}
+use Rattle.std.proofs.lemmas.Bool.{cases_Bool, false≢true, or_left, or_right}
 use Rattle.qw_token.specs.Token.{Lexeme}
 use Rattle.qw_token.specs.declared.token.Kind.TheVariants.{Word}
 use Rattle.qw_ast.specs.Grammar.{folded}
-use Rattle.qw_ast.specs.Syntax.{Condition, Clause, condition, expression, SelectItem, Selected, all_columns, items, Select}
-use Rattle.qw_ast.specs.ScriptGrammar.{is_word, is_symbol, is_name, is_regular, is_comma, IsOperator, operator, AreFurther, IsNested, IsNaming, unnamed, named, named_as, IsItem, item, IsSelectList, asterisk, some_items, IsOptionalAll, all_absent, all_there, IsFilter, unfiltered, filtered, IsSelect, a_select, IsSelectOf}
-use Rattle.qw_parse.specs.Inner.Readers.{token_at, word_at, symbol_at, octets_if, further_at, expression_at, condition_at, the_condition, nested_at, naming_at, item_at, select_list_at, behind_all, filter_at, select_at, whole, select_of}
-use Rattle.qw_parse.proofs.LoopLemmas.{bind_some, some_same, cases_option}
+use Rattle.qw_ast.specs.Syntax.{Condition, Clause, condition, expression, SelectItem, Selected, all_columns, items, Entry, Joined, Source, Select}
+use Rattle.qw_ast.specs.ScriptGrammar.{is_word, is_symbol, is_name, is_regular, is_comma, is_delimited_kind, is_number, is_string, appended, first, more, IsNothing, nothing, IsOperator, operator, AreFurther, IsNested, IsNaming, unnamed, named, named_as, IsItem, item, IsSelectList, asterisk, some_items, IsOptionalAll, all_absent, all_there, IsFilter, unfiltered, filtered, IsEntry, an_entry, IsJoin, a_join, an_inner_join, IsJoined, a_joined, AreJoins, IsSource, a_source, AreSources, some_sources, IsSelect, a_select, IsSelectOf}
+use Rattle.qw_parse.specs.Inner.Readers.{token_at, word_at, symbol_at, octets_if, given, append, further_at, expression_at, condition_at, the_condition, nested_at, naming_at, item_at, select_list_at, behind_all, filter_at, entry_at, join_at, joined_at, joins_at, source_at, sources_at, select_at, whole, select_of}
+use Rattle.qw_parse.proofs.LoopLemmas.{Shortens, bind_some, cases_option, series_holds, series_is, some_same}
 use Rattle.qw_parse.proofs.TokenLemmas.{word_is, symbol_is, Front, front, one_takes, one_is, one_not, one_none, Found, found, token_takes, token_is, token_not, token_none, octets_found, octets_are, strength, Stops, stops_at, stops_none}
-use Rattle.qw_parse.proofs.ExactLemmas.{starts, Starts, starts_not, Exact, series_front, list_takes, list_is, other_word, no_word, word_stops, symbol_stops}
+use Rattle.qw_parse.proofs.ExactLemmas.{starts, starts_at, Starts, starts_not, Exact, series_front, list_takes, list_is, other_word, no_word, word_stops, symbol_stops}
 use Rattle.qw_parse.proofs.PrimaryLemmas.{name_no_word, expression_takes, expression_is}
 use Rattle.qw_parse.proofs.ConditionLemmas.{nested_exact, the_condition_is}
 
@@ -90,6 +90,95 @@ naming_stops _ _ _ (unnamed rest) ends = ends
 naming_stops _ _ _ (named t rest h) ends = let s : strength t ≡ 0 = rw h refl in stops_at 1 t rest (omega (arith, s))
 naming_stops _ _ _ (named_as w t rest f h) ends = word_stops (codes "AS") 1 w (t ∷ rest) refl refl (omega arith) f
 
+-- ---- an entry of FROM, and JOIN
+
+entry_made : (n : List ℕ) (alias : Option (List ℕ)) (ts us rest : List Lexeme) → Found (octets_if is_regular) n ts us → IsNaming alias us rest → IsEntry (record { table = n; alias = alias }) ts rest
+entry_made _ alias _ us rest (found n t _ c) i =
+    let o = octets_found is_regular t n c in
+    subst (λ x. IsEntry (record { table = x; alias = alias }) (t ∷ us) rest) o.1 (an_entry t alias us rest o.0 i)
+
+entry_takes : (ts : List Lexeme) (x : Entry × List Lexeme) → entry_at ts ≡ Some x → IsEntry x.0 ts x.1
+unfolding entry_at
+entry_takes ts x e =
+    let t = bind_some (token_at (octets_if is_regular) ts) _ x e in
+    let n = bind_some (naming_at t.0.1) _ x t.2 in
+    subst (λ (y : Entry × List Lexeme). IsEntry y.0 ts y.1) (some_same (record { table = t.0.0; alias = n.0.0 }, n.0.1) x n.2)
+    (entry_made t.0.0 n.0.0 ts t.0.1 n.0.1 (token_takes (octets_if is_regular) ts t.0 t.1) (naming_takes t.0.1 n.0 n.1))
+
+entry_is : (e : Entry) (ts rest : List Lexeme) → IsEntry e ts rest → EndsName rest → entry_at ts ≡ Some (e, rest)
+unfolding entry_at
+entry_is _ _ _ (an_entry t alias us rest h i) ends = rw (token_is (octets_if is_regular) t us t.octets (octets_are is_regular t h), naming_is alias us rest i ends) refl
+
+entry_shorter : (e : Entry) (ts rest : List Lexeme) → IsEntry e ts rest → length rest < length ts
+entry_shorter _ _ _ (an_entry t alias us rest h i) = let p = naming_shorter alias us rest i in omega (arith, p)
+
+entry_begins : (e : Entry) (ts rest : List Lexeme) → IsEntry e ts rest → Starts ts
+entry_begins _ _ _ (an_entry t alias us rest h i) =
+    starts_at t us (or_right (is_number t || is_string t) _ (or_left (is_name t) _ (or_left (is_regular t) (is_delimited_kind t.kind) h)))
+
+join_made : (ts rest : List Lexeme) → Front (is_word (codes "JOIN")) ts rest → IsJoin tt ts rest
+join_made _ _ (front t rest h) = a_join t rest h
+
+inner_join_made : (ts us rest : List Lexeme) → Front (is_word (codes "INNER")) ts us → Front (is_word (codes "JOIN")) us rest → IsJoin tt ts rest
+inner_join_made _ _ _ (front w _ h) (front t rest i) = an_inner_join w t rest h i
+
+join_takes : (ts : List Lexeme) (x : Unit {0} × List Lexeme) → join_at ts ≡ Some x → IsJoin x.0 ts x.1
+unfolding join_at
+join_takes ts x e =
+    elim (cases_option (word_at (codes "JOIN") ts)) [
+      | inr us ↦ subst (λ (y : Unit {0} × List Lexeme). IsJoin y.0 ts y.1) (some_same (tt, us.0) x (rw us.1 at e)) (join_made ts us.0 (one_takes (is_word (codes "JOIN")) ts us.0 us.1))
+      | inl none ↦ (
+          let us = bind_some (word_at (codes "INNER") ts) _ x (rw none at e) in
+          let vs = bind_some (word_at (codes "JOIN") us.0) _ x us.2 in
+          subst (λ (y : Unit {0} × List Lexeme). IsJoin y.0 ts y.1) (some_same (tt, vs.0) x vs.2)
+          (inner_join_made ts us.0 vs.0 (one_takes (is_word (codes "INNER")) ts us.0 us.1) (one_takes (is_word (codes "JOIN")) us.0 vs.0 vs.1)))
+    ]
+
+join_is : (o : Unit {0}) (ts rest : List Lexeme) → IsJoin o ts rest → join_at ts ≡ Some (o, rest)
+unfolding join_at
+join_is _ _ _ (a_join t rest h) = rw (one_is (is_word (codes "JOIN")) t rest h) refl
+join_is _ _ _ (an_inner_join w t rest h i) =
+    rw (other_word (codes "INNER") (codes "JOIN") w (t ∷ rest) refl refl h, one_is (is_word (codes "INNER")) w (t ∷ rest) h, one_is (is_word (codes "JOIN")) t rest i) refl
+
+join_shorter : (o : Unit {0}) (ts rest : List Lexeme) → IsJoin o ts rest → length rest < length ts
+join_shorter _ _ _ (a_join t rest h) = omega arith
+join_shorter _ _ _ (an_inner_join w t rest h i) = omega arith
+
+pub join_shortens : Shortens join_at
+join_shortens ts x e = join_shorter x.0 ts x.1 (join_takes ts x e)
+
+-- what goes on with a join ends what stands before it
+join_ends : (o : Unit {0}) (ts rest : List Lexeme) → IsJoin o ts rest → EndsItem ts
+join_ends _ _ _ (a_join t rest h) = record { stops = word_stops (codes "JOIN") 1 t rest refl refl (omega arith) h; name = word_ends (codes "JOIN") t rest refl refl refl h }
+join_ends _ _ _ (an_inner_join w t rest h i) = record { stops = word_stops (codes "INNER") 1 w (t ∷ rest) refl refl (omega arith) h; name = word_ends (codes "INNER") w (t ∷ rest) refl refl refl h }
+
+-- what ends a source: nothing that goes on with a condition or a name, and no JOIN
+pub record EndsSource (ts : List Lexeme) : Type 0 where
+  pub item : EndsItem ts
+  pub no_join : join_at ts ≡ None
+
+no_join_none : join_at [] ≡ None
+unfolding join_at
+no_join_none = rw (one_none (is_word (codes "JOIN")), one_none (is_word (codes "INNER"))) refl
+
+no_join_word : (w : List ℕ) (t : Lexeme) (rest : List Lexeme) → folded w ≡ w → is_word (codes "JOIN") (record { kind = Word; octets = w }) ≡ false → is_word (codes "INNER") (record { kind = Word; octets = w }) ≡ false → IsTrue (is_word w t) → join_at (t ∷ rest) ≡ None
+unfolding join_at
+no_join_word w t rest f a b h = rw (other_word w (codes "JOIN") t rest f a h, other_word w (codes "INNER") t rest f b h) refl
+
+no_join_symbol : (s : List ℕ) (t : Lexeme) (rest : List Lexeme) → IsTrue (is_symbol s t) → join_at (t ∷ rest) ≡ None
+unfolding join_at
+no_join_symbol s t rest h = rw (no_word s (codes "JOIN") t rest h, no_word s (codes "INNER") t rest h) refl
+
+comma_source : (o : Unit {0}) (ts rest : List Lexeme) → IsOperator is_comma o ts rest → EndsSource ts
+comma_source o ts rest h = record { item = comma_ends o ts rest h; no_join = by_comma o ts rest h }
+  where
+    by_comma : (o : Unit {0}) (ts rest : List Lexeme) → IsOperator is_comma o ts rest → join_at ts ≡ None
+    by_comma _ _ _ (operator o t rest h) =
+        elim (cases_Bool (is_symbol (codes ",") t)) [
+          | inr e ↦ absurd (let none : None ≡ Some o = rw e at h in cc)
+          | inl e ↦ no_join_symbol (codes ",") t rest e
+        ]
+
 starts_no_asterisk : (ts : List Lexeme) → Starts ts → symbol_at (codes "*") ts ≡ None
 unfolding Starts
 starts_no_asterisk [] h = absurd h
@@ -151,20 +240,20 @@ module _ (Inner : Clause → List Lexeme → List Lexeme → Type 0) (inner : Li
         | inr rest ↦ subst (λ (y : Selected × List Lexeme). IsSelectList Inner y.0 ts y.1) (some_same (all_columns, rest.0) x (rw rest.1 at e)) (asterisk_made ts rest.0 (one_takes (is_symbol (codes "*")) ts rest.0 rest.1))
         | inl none ↦ (
             let i = bind_some (item_at inner ts) _ x (rw none at e) in
-            let more = bind_some (further_at (item_at inner) i.0.1) _ x i.2 in
-            subst (λ (y : Selected × List Lexeme). IsSelectList Inner y.0 ts y.1) (some_same (items (i.0.0 ∷ more.0.0), more.0.1) x more.2)
-            (some_items i.0.0 more.0.0 ts i.0.1 more.0.1 (item_takes ts i.0 i.1) (items_take i.0.1 more.0 more.1)))
+            let rest' = bind_some (further_at (item_at inner) i.0.1) _ x i.2 in
+            subst (λ (y : Selected × List Lexeme). IsSelectList Inner y.0 ts y.1) (some_same (items (i.0.0 ∷ rest'.0.0), rest'.0.1) x rest'.2)
+            (some_items i.0.0 rest'.0.0 ts i.0.1 rest'.0.1 (item_takes ts i.0 i.1) (items_take i.0.1 rest'.0 rest'.1)))
       ]
 
   select_list_is : (l : Selected) (ts rest : List Lexeme) → IsSelectList Inner l ts rest → EndsItem rest → token_at is_comma rest ≡ None → select_list_at inner ts ≡ Some (l, rest)
   unfolding select_list_at
   select_list_is _ _ _ (asterisk t rest h) ends none = rw (one_is (is_symbol (codes "*")) t rest h) refl
-  select_list_is _ _ _ (some_items i xs ts us rest h more) ends none =
-      rw (starts_no_asterisk ts (item_begins i ts us h), item_is i ts us h (items_end xs us rest more ends), items_are xs us rest more ends none) refl
+  select_list_is _ _ _ (some_items i xs ts us rest h are) ends none =
+      rw (starts_no_asterisk ts (item_begins i ts us h), item_is i ts us h (items_end xs us rest are ends), items_are xs us rest are ends none) refl
 
   select_list_no_all : (l : Selected) (ts rest : List Lexeme) → IsSelectList Inner l ts rest → word_at (codes "ALL") ts ≡ None
   select_list_no_all _ _ _ (asterisk t rest h) = no_word (codes "*") (codes "ALL") t rest h
-  select_list_no_all _ _ _ (some_items i xs ts us rest h more) = starts_not (codes "ALL") refl refl ts (item_begins i ts us h)
+  select_list_no_all _ _ _ (some_items i xs ts us rest h are) = starts_not (codes "ALL") refl refl ts (item_begins i ts us h)
 
   -- ---- ALL and WHERE
 
@@ -209,17 +298,136 @@ module _ (Inner : Clause → List Lexeme → List Lexeme → Type 0) (inner : Li
   filter_is _ _ _ (unfiltered rest) end = rw (ap (word_at (codes "WHERE")) end ∙ one_none (is_word (codes "WHERE"))) refl
   filter_is _ _ _ (filtered c w ts rest f h) end = rw (one_is (is_word (codes "WHERE")) w ts f, reads.is (condition c) ts rest h (subst (Stops 1) (sym end) (stops_none 1))) refl
 
-  filter_ends : (f : Option Condition) (ts rest : List Lexeme) → IsFilter Inner f ts rest → rest ≡ [] → EndsName ts
-  filter_ends _ _ _ (unfiltered rest) end = subst EndsName (sym end) none_ends
-  filter_ends _ _ _ (filtered c w ts rest f h) end = word_ends (codes "WHERE") w ts refl refl refl f
+  filter_next : (f : Option Condition) (ts rest : List Lexeme) → IsFilter Inner f ts rest → rest ≡ [] → EndsSource ts × (token_at is_comma ts ≡ None)
+  filter_next _ _ _ (unfiltered rest) end =
+      (subst EndsSource (sym end) (record { item = record { stops = stops_none 1; name = none_ends }; no_join = no_join_none }), subst (λ (us : List Lexeme). token_at is_comma us ≡ None) (sym end) (token_none is_comma))
+  filter_next _ _ _ (filtered c w ts rest f h) end =
+      let i = word_is (codes "WHERE") w f in (
+        record {
+          item = record { stops = word_stops (codes "WHERE") 1 w ts refl refl (omega arith) f; name = word_ends (codes "WHERE") w ts refl refl refl f };
+          no_join = no_join_word (codes "WHERE") w ts refl refl refl f;
+        },
+        token_not is_comma w ts (rw i.0 refl),
+      )
+
+  -- ---- FROM
+
+  joined_made : (e : Entry) (c : Condition) (ts us vs rest : List Lexeme) → IsEntry e ts us → Front (is_word (codes "ON")) us vs → Inner (condition c) vs rest → IsJoined Inner (record { entry = e; on = c }) ts rest
+  joined_made e c ts _ vs rest h (front w _ f) i = a_joined e c w ts vs rest h f i
+
+  joined_takes : (ts : List Lexeme) (x : Joined × List Lexeme) → joined_at inner ts ≡ Some x → IsJoined Inner x.0 ts x.1
+  unfolding joined_at
+  joined_takes ts x e =
+      let h = bind_some (entry_at ts) _ x e in
+      let us = bind_some (word_at (codes "ON") h.0.1) _ x h.2 in
+      let c = bind_some (condition_at inner us.0) _ x us.2 in
+      subst (λ (y : Joined × List Lexeme). IsJoined Inner y.0 ts y.1) (some_same (record { entry = h.0.0; on = c.0.0 }, c.0.1) x c.2)
+      (joined_made h.0.0 c.0.0 ts h.0.1 us.0 c.0.1 (entry_takes ts h.0 h.1) (one_takes (is_word (codes "ON")) h.0.1 us.0 us.1) (inner_condition_takes us.0 c.0 c.1))
+
+  joined_is : (j : Joined) (ts rest : List Lexeme) → IsJoined Inner j ts rest → Stops 1 rest → joined_at inner ts ≡ Some (j, rest)
+  unfolding joined_at condition_at
+  joined_is _ _ _ (a_joined e c w ts us rest h f i) ends =
+      rw (entry_is e ts (w ∷ us) h (word_ends (codes "ON") w us refl refl refl f), one_is (is_word (codes "ON")) w us f, reads.is (condition c) us rest i ends) refl
+
+  joined_shorter : (j : Joined) (ts rest : List Lexeme) → IsJoined Inner j ts rest → length rest < length ts
+  joined_shorter _ _ _ (a_joined e c w ts us rest h f i) =
+      let p = entry_shorter e ts (w ∷ us) h in
+      let q = reads.shorter (condition c) us rest i in
+      omega (arith, p, q)
+
+  pub joined_shortens : Shortens (joined_at inner)
+  joined_shortens ts x e = joined_shorter x.0 ts x.1 (joined_takes ts x e)
+
+  joins_take : (ts : List Lexeme) (x : List Joined × List Lexeme) → joins_at inner ts ≡ Some x → AreJoins Inner x.0 ts x.1
+  unfolding joins_at
+  joins_take =
+      series_holds join_at (joined_at inner) append (AreJoins Inner)
+      (λ xs ys o b ts us vs rest h link item joins.
+      subst (λ (y : List Joined). AreJoins Inner y ts rest) (some_same (appended o xs b) ys joins)
+      (more xs o b ts us vs rest h (join_takes us (o, vs) link) (joined_takes vs (b, rest) item)))
+      (given [])
+      (λ ts x e. let same = some_same ([], ts) x e in subst (λ (y : List Joined × List Lexeme). AreJoins Inner y.0 ts y.1) same (first [] ts ts (nothing ts)))
+
+  joins_are : (js : List Joined) (ts rest : List Lexeme) → AreJoins Inner js ts rest → Stops 1 rest → join_at rest ≡ None → joins_at inner ts ≡ Some (js, rest)
+  unfolding joins_at
+  joins_are js ts rest h ends none =
+      series_is join_at (joined_at inner) append (λ (ys : List Joined). ys) (λ (y : Joined). y) IsNothing IsJoin (IsJoined Inner) appended (Stops 1)
+      (λ o a c. refl)
+      join_is
+      joined_is
+      (λ o c us vs ws between item. (join_ends o us vs between).stops)
+      join_shortens joined_shortens
+      (given [])
+      (λ ys us vs nothing_is ends. given_is ys us vs nothing_is)
+      js ts rest h ends none
+    where
+      given_is : {A : Type 0} (ys : List A) (us vs : List Lexeme) → IsNothing ys us vs → given [] us ≡ Some (ys, vs)
+      given_is _ _ _ (nothing rest) = refl
+
+  joins_end : (js : List Joined) (ts rest : List Lexeme) → AreJoins Inner js ts rest → EndsName rest → EndsName ts
+  joins_end js ts rest h ends =
+      elim (series_front EndsName (λ o us vs between. (join_ends o us vs between).name) js ts rest h) [
+        | inl none ↦ subst EndsName (sym none.1) ends
+        | inr hit ↦ hit
+      ]
+
+  joins_shorter : (js : List Joined) (ts rest : List Lexeme) → AreJoins Inner js ts rest → length rest ≤ length ts
+  joins_shorter _ _ _ (first _ _ _ (nothing rest)) = omega arith
+  joins_shorter _ _ _ (more js o j ts us vs rest h between operand) =
+      let p = joins_shorter js ts us h in
+      let q = join_shorter o us vs between in
+      let r = joined_shorter j vs rest operand in
+      omega (arith, p, q, r)
+
+  source_takes : (ts : List Lexeme) (x : Source × List Lexeme) → source_at inner ts ≡ Some x → IsSource Inner x.0 ts x.1
+  unfolding source_at
+  source_takes ts x e =
+      let h = bind_some (entry_at ts) _ x e in
+      let js = bind_some (joins_at inner h.0.1) _ x h.2 in
+      subst (λ (y : Source × List Lexeme). IsSource Inner y.0 ts y.1) (some_same (record { first = h.0.0; joins = js.0.0 }, js.0.1) x js.2)
+      (a_source h.0.0 js.0.0 ts h.0.1 js.0.1 (entry_takes ts h.0 h.1) (joins_take h.0.1 js.0 js.1))
+
+  source_is : (s : Source) (ts rest : List Lexeme) → IsSource Inner s ts rest → EndsSource rest → source_at inner ts ≡ Some (s, rest)
+  unfolding source_at
+  source_is _ _ _ (a_source e js ts us rest h i) ends = rw (entry_is e ts us h (joins_end js us rest i ends.item.name), joins_are js us rest i ends.item.stops ends.no_join) refl
+
+  source_shorter : (s : Source) (ts rest : List Lexeme) → IsSource Inner s ts rest → length rest < length ts
+  source_shorter _ _ _ (a_source e js ts us rest h i) =
+      let p = entry_shorter e ts us h in
+      let q = joins_shorter js us rest i in
+      omega (arith, p, q)
+
+  source_begins : (s : Source) (ts rest : List Lexeme) → IsSource Inner s ts rest → Starts ts
+  source_begins _ _ _ (a_source e js ts us rest h i) = entry_begins e ts us h
+
+  pub source_exact : Exact (IsSource Inner) EndsSource (source_at inner)
+  source_exact = record { takes = source_takes; is = source_is; shorter = source_shorter; begins = source_begins }
+
+  sources_take : (ts : List Lexeme) (x : List Source × List Lexeme) → sources_at inner ts ≡ Some x → AreSources Inner x.0 ts x.1
+  unfolding sources_at further_at
+  sources_take ts x e =
+      let s = bind_some (source_at inner ts) _ x e in
+      let others = bind_some (further_at (source_at inner) s.0.1) _ x s.2 in
+      subst (λ (y : List Source × List Lexeme). AreSources Inner y.0 ts y.1) (some_same (s.0.0 ∷ others.0.0, others.0.1) x others.2)
+      (some_sources s.0.0 others.0.0 ts s.0.1 others.0.1 (source_takes ts s.0 s.1) (list_takes is_comma EndsSource source_exact s.0.1 others.0 others.1))
+
+  sources_are : (ss : List Source) (ts rest : List Lexeme) → AreSources Inner ss ts rest → EndsSource rest → token_at is_comma rest ≡ None → sources_at inner ts ≡ Some (ss, rest)
+  unfolding sources_at further_at
+  sources_are _ _ _ (some_sources s others ts us rest h are) ends none =
+      rw (source_is s ts us h (sources_end others us rest are ends), list_is is_comma EndsSource source_exact comma_source others us rest are ends none) refl
+    where
+      sources_end : (others : List Source) (us rest : List Lexeme) → AreFurther (IsSource Inner) others us rest → EndsSource rest → EndsSource us
+      sources_end others us rest h ends =
+          elim (series_front EndsSource comma_source others us rest h) [
+            | inl none ↦ subst EndsSource (sym none.1) ends
+            | inr hit ↦ hit
+          ]
 
   -- ---- a query
 
-  select_made : (l : Selected) (n : List ℕ) (alias : Option (List ℕ)) (f : Option Condition) (ts us vs ws xs ys zs rest : List Lexeme) → Front (is_word (codes "SELECT")) ts us → IsOptionalAll us vs → IsSelectList Inner l vs ws → Front (is_word (codes "FROM")) ws xs
-      → Found (octets_if is_regular) n xs ys → IsNaming alias ys zs → IsFilter Inner f zs rest → IsSelect Inner (record { selected = l; table = n; alias = alias; filter = f }) ts rest
-  select_made l _ alias f _ us vs _ _ ys zs rest (front w _ a) all h (front v _ b) (found n t _ c) i j =
-      let o = octets_found is_regular t n c in
-      subst (λ x. IsSelect Inner (record { selected = l; table = x; alias = alias; filter = f }) (w ∷ us) rest) o.1 (a_select l alias f w v t us vs ys zs rest a all h b o.0 i j)
+  select_made : (l : Selected) (ss : List Source) (f : Option Condition) (ts us vs ws xs ys rest : List Lexeme) → Front (is_word (codes "SELECT")) ts us → IsOptionalAll us vs → IsSelectList Inner l vs ws → Front (is_word (codes "FROM")) ws xs
+      → AreSources Inner ss xs ys → IsFilter Inner f ys rest → IsSelect Inner (record { selected = l; sources = ss; filter = f }) ts rest
+  select_made l ss f _ us vs _ xs ys rest (front w _ a) all h (front v _ b) i j = a_select l ss f w v us vs xs ys rest a all h b i j
 
   pub select_takes : (ts : List Lexeme) (x : Select × List Lexeme) → select_at inner ts ≡ Some x → IsSelect Inner x.0 ts x.1
   unfolding select_at
@@ -227,26 +435,25 @@ module _ (Inner : Clause → List Lexeme → List Lexeme → Type 0) (inner : Li
       let us = bind_some (word_at (codes "SELECT") ts) _ x e in
       let l = bind_some (select_list_at inner (behind_all us.0)) _ x us.2 in
       let vs = bind_some (word_at (codes "FROM") l.0.1) _ x l.2 in
-      let t = bind_some (token_at (octets_if is_regular) vs.0) _ x vs.2 in
-      let alias = bind_some (naming_at t.0.1) _ x t.2 in
-      let f = bind_some (filter_at inner alias.0.1) _ x alias.2 in
-      subst (λ (y : Select × List Lexeme). IsSelect Inner y.0 ts y.1) (some_same (record { selected = l.0.0; table = t.0.0; alias = alias.0.0; filter = f.0.0 }, f.0.1) x f.2)
-      (select_made l.0.0 t.0.0 alias.0.0 f.0.0 ts us.0 (behind_all us.0) l.0.1 vs.0 t.0.1 alias.0.1 f.0.1 (one_takes (is_word (codes "SELECT")) ts us.0 us.1) (all_takes us.0) (select_list_takes (behind_all us.0) l.0 l.1)
-      (one_takes (is_word (codes "FROM")) l.0.1 vs.0 vs.1) (token_takes (octets_if is_regular) vs.0 t.0 t.1) (naming_takes t.0.1 alias.0 alias.1) (filter_takes alias.0.1 f.0 f.1))
+      let ss = bind_some (sources_at inner vs.0) _ x vs.2 in
+      let f = bind_some (filter_at inner ss.0.1) _ x ss.2 in
+      subst (λ (y : Select × List Lexeme). IsSelect Inner y.0 ts y.1) (some_same (record { selected = l.0.0; sources = ss.0.0; filter = f.0.0 }, f.0.1) x f.2)
+      (select_made l.0.0 ss.0.0 f.0.0 ts us.0 (behind_all us.0) l.0.1 vs.0 ss.0.1 f.0.1 (one_takes (is_word (codes "SELECT")) ts us.0 us.1) (all_takes us.0) (select_list_takes (behind_all us.0) l.0 l.1)
+      (one_takes (is_word (codes "FROM")) l.0.1 vs.0 vs.1) (sources_take vs.0 ss.0 ss.1) (filter_takes ss.0.1 f.0 f.1))
 
   from_no_comma : (t : Lexeme) (rest : List Lexeme) → IsTrue (is_word (codes "FROM") t) → token_at is_comma (t ∷ rest) ≡ None
   from_no_comma t rest h = let i = word_is (codes "FROM") t h in token_not is_comma t rest (rw i.0 refl)
 
   pub select_is : (s : Select) (ts rest : List Lexeme) → IsSelect Inner s ts rest → rest ≡ [] → select_at inner ts ≡ Some (s, rest)
   unfolding select_at
-  select_is _ _ _ (a_select l alias f w v t ts us vs ws rest a all h b c i j) end =
+  select_is _ _ _ (a_select l ss f w v ts us vs ws rest a all h b i j) end =
+      let next = filter_next f ws rest j end in
       rw (
         one_is (is_word (codes "SELECT")) w ts a,
-        all_is ts us all (select_list_no_all l us (v ∷ t ∷ vs) h),
-        select_list_is l us (v ∷ t ∷ vs) h (from_ends v (t ∷ vs) b) (from_no_comma v (t ∷ vs) b),
-        one_is (is_word (codes "FROM")) v (t ∷ vs) b,
-        token_is (octets_if is_regular) t vs t.octets (octets_are is_regular t c),
-        naming_is alias vs ws i (filter_ends f ws rest j end),
+        all_is ts us all (select_list_no_all l us (v ∷ vs) h),
+        select_list_is l us (v ∷ vs) h (from_ends v vs b) (from_no_comma v vs b),
+        one_is (is_word (codes "FROM")) v vs b,
+        sources_are ss vs ws i next.0 next.1,
         filter_is f ws rest j end,
       ) refl
 

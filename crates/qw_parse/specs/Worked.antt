@@ -1,9 +1,9 @@
 -- Token lists of worked cases, and what they say.
-use Rattle.std.specs.Prelude.{ℕ, List, [], None}
+use Rattle.std.specs.Prelude.{ℕ, List, [], ◌∷◌, None, codes}
 use Rattle.qw_scalar.specs.declared.comparison.Comparison.TheVariants.{Equal}
 use Rattle.qw_token.specs.declared.token.Kind.TheVariants.{Word, Number, Symbol}
 use Rattle.qw_token.specs.Token.{Lexeme}
-use Rattle.qw_ast.specs.Syntax.{Expression, number, column, Condition, comparison, Clause}
+use Rattle.qw_ast.specs.Syntax.{Expression, number, column, Condition, comparison, Clause, Entry, Joined, Source, Select, all_columns}
 use Rattle.qw_ast.specs.ScriptGrammar.{IsNested}
 
 -- a word, an unsigned number and a symbol as they stand in a text
@@ -23,6 +23,24 @@ the_column name = column None name
 -- column = number
 abbrev pub equals : List ℕ → List ℕ → Condition
 equals name digits = comparison Equal (the_column name) (number digits)
+
+-- SELECT * FROM and these tokens
+abbrev pub from : List Lexeme → List Lexeme
+from tokens = w (codes "SELECT") ∷ s (codes "*") ∷ w (codes "FROM") ∷ tokens
+
+abbrev pub all_from : List Source → Select
+all_from sources = record { selected = all_columns; sources = sources; filter = None }
+
+-- a table without an alias, and one that nothing is joined to
+abbrev pub the_table : List ℕ → Entry
+the_table name = record { table = name; alias = None }
+
+abbrev pub alone : Entry → Source
+alone entry = record { first = entry; joins = [] }
+
+-- JOIN entry ON column = number
+abbrev pub joined : Entry → List ℕ → List ℕ → Joined
+joined entry name digits = record { entry = entry; on = equals name digits }
 
 -- the tokens are this condition or expression
 abbrev pub Says : List Lexeme → Clause → Type 0

@@ -13,6 +13,7 @@ use thiserror::Error;
 pub enum Count {
     Statements,
     SelectItems,
+    FromEntries,
     Nodes,
     LiteralOctets,
 }

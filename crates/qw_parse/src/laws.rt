@@ -1,6 +1,6 @@
 //! Laws of the grammar, and worked cases of it.
 
-ghost use Rattle.std.specs.Prelude.{◌≡◌, ℕ, List, [], ◌∷◌, codes, false};
+ghost use Rattle.std.specs.Prelude.{◌≡◌, ℕ, List, [], ◌∷◌, Some, codes, false};
 ghost use Rattle.qw_scalar.specs.declared.expression.Operator.TheVariants.{Add, Multiply, Subtract};
 ghost use Rattle.qw_scalar.specs.declared.comparison.Comparison.TheVariants.{Equal, Greater};
 ghost use Rattle.qw_token.specs.Token.{Lexeme};
@@ -9,9 +9,9 @@ ghost use Rattle.qw_ast.specs.Syntax.{Select, arithmetic, between, both, bracket
 ghost use Rattle.qw_ast.specs.ScriptGrammar.{IsSelectOf};
 ghost use Rattle.qw_parse.specs.declared.fault.ParseFault.{ParseFault};
 ghost use Rattle.qw_ast.specs.Limits.{nodes, nodes_condition, octets};
-ghost use Rattle.qw_parse.specs.declared.fault.Count.TheVariants.{LiteralOctets, Nodes, SelectItems};
+ghost use Rattle.qw_parse.specs.declared.fault.Count.TheVariants.{FromEntries, LiteralOctets, Nodes, SelectItems};
 ghost use Rattle.qw_parse.specs.Script.{IsPassedFirst, IsScriptRefused, Limit, ReadsScript, limits};
-ghost use Rattle.qw_parse.specs.Worked.{Says, equals, n, s, the_column, w};
+ghost use Rattle.qw_parse.specs.Worked.{Says, all_from, alone, equals, from, joined, n, s, the_column, the_table, w};
 
 /// Tokens are one query at most.
 pub fn one_query_specification()
@@ -55,11 +55,24 @@ pub fn worked_sizes()
     ensures date { (nodes (date (codes "'2024-01-31'") []) ≡ 1) × (octets (date (codes "'2024-01-31'") []) ≡ 0) }
 {}
 
-/// Of several limits that are passed the first is told: items, then nodes, then octets of literals. Of 1,000 nodes there aren't too many,
-/// of 1,001 there are.
+/// Of several limits that are passed the first is told: items, then entries of FROM, then nodes, then octets of literals. Of 8 entries and
+/// 1,000 nodes there aren't too many, of 9 and 1,001 there are.
 pub fn worked_limits()
-    ensures items { IsPassedFirst (limits 65 1001 16385) (record { many = 65; what = SelectItems; most = 64 }) }
-    ensures nodes { IsPassedFirst (limits 64 1001 16385) (record { many = 1001; what = Nodes; most = 1000 }) }
-    ensures octets { IsPassedFirst (limits 64 1000 16385) (record { many = 16385; what = LiteralOctets; most = 16384 }) }
-    ensures none { (limit : Limit) → IsPassedFirst (limits 64 1000 16384) limit → ⊥ }
+    ensures items { IsPassedFirst (limits 65 9 1001 16385) (record { many = 65; what = SelectItems; most = 64 }) }
+    ensures entries { IsPassedFirst (limits 64 9 1001 16385) (record { many = 9; what = FromEntries; most = 8 }) }
+    ensures nodes { IsPassedFirst (limits 64 8 1001 16385) (record { many = 1001; what = Nodes; most = 1000 }) }
+    ensures octets { IsPassedFirst (limits 64 8 1000 16385) (record { many = 16385; what = LiteralOctets; most = 16384 }) }
+    ensures none { (limit : Limit) → IsPassedFirst (limits 64 8 1000 16384) limit → ⊥ }
+{}
+
+/// FROM is sources between commas, each an entry and its inner joins (ISO/IEC 9075:1992, 7.4, 7.5): INNER says nothing more than JOIN, and an
+/// outer join is no query here.
+pub fn worked_sources()
+    ensures product { IsSelectOf (from (w (codes "a") ∷ s (codes ",") ∷ w (codes "b") ∷ [])) (all_from (alone (the_table (codes "a")) ∷ alone (the_table (codes "b")) ∷ [])) }
+    ensures join { IsSelectOf (from (w (codes "a") ∷ w (codes "x") ∷ w (codes "JOIN") ∷ w (codes "b") ∷ w (codes "ON") ∷ w (codes "k") ∷ s (codes "=") ∷ n (codes "1") ∷ []))
+        (all_from (record { first = record { table = codes "a"; alias = Some (codes "x") }; joins = joined (the_table (codes "b")) (codes "k") (codes "1") ∷ [] } ∷ [])) }
+    ensures inner_join { IsSelectOf (from (w (codes "a") ∷ w (codes "INNER") ∷ w (codes "JOIN") ∷ w (codes "b") ∷ w (codes "ON") ∷ w (codes "k") ∷ s (codes "=") ∷ n (codes "1") ∷ s (codes ",") ∷ w (codes "c") ∷ []))
+        (all_from (record { first = the_table (codes "a"); joins = joined (the_table (codes "b")) (codes "k") (codes "1") ∷ [] } ∷ alone (the_table (codes "c")) ∷ [])) }
+    ensures left_join { (query : Select) → IsSelectOf (from (w (codes "a") ∷ w (codes "LEFT") ∷ w (codes "JOIN") ∷ w (codes "b") ∷ w (codes "ON") ∷ w (codes "k") ∷ s (codes "=") ∷ n (codes "1") ∷ [])) query → ⊥ }
+    ensures no_condition { (query : Select) → IsSelectOf (from (w (codes "a") ∷ w (codes "JOIN") ∷ w (codes "b") ∷ [])) query → ⊥ }
 {}

@@ -1,11 +1,13 @@
 //! How large a query is: its nodes, and the octets of the values of its character strings.
 
 ghost use Rattle.std.specs.Prelude.{◌≡◌, length, map, option_map};
-ghost use Rattle.qw_ast.specs.SyntaxTree.{branching_of, clause_of, condition_of, expression_of, expressions_of, item_of, select_of, selected_of};
-ghost use Rattle.qw_ast.specs.Limits.{items_of, nodes, nodes_all, nodes_branches, nodes_clause, nodes_condition, octets, octets_all, octets_branches, octets_clause, octets_condition, over_filter, over_items, query_nodes, query_octets, string_value, undoubled};
+ghost use Rattle.qw_ast.specs.SyntaxTree.{branching_of, clause_of, condition_of, expression_of, expressions_of, item_of, joined_of, select_of, selected_of, source_of};
+ghost use Rattle.qw_ast.specs.Limits.{items_of, nodes, nodes_all, nodes_branches, nodes_clause, nodes_condition, octets, octets_all, octets_branches, octets_clause, octets_condition, over_filter, over_items, over_joins, over_sources, query_nodes, query_octets, string_value, undoubled};
 ghost use Rattle.qw_parse.specs.Inner.Sizes.{Counts, behind_octet, counted};
 
-use qw_ast::script::{Branches, Cond, Expr, Exprs, Item, Phrase, SelectList, Statement};
+use qw_ast::script::{
+    Branches, Cond, Expr, Exprs, Item, Joined, Phrase, SelectList, Source, Statement,
+};
 
 /// Nodes, and octets of the values of character strings. Each of the two stays at the greatest number where it would pass it.
 #[derive(Clone, Copy)]
@@ -200,6 +202,28 @@ impl Size {
         }
     }
 
+    /// With the condition of each ON.
+    fn joins(self, joins: &[Joined<'_>]) -> Size
+        ensures { Counts self result (over_joins nodes_condition (map joined_of joins.now)) (over_joins octets_condition (map joined_of joins.now)) }
+    {
+        let mut size = self;
+        for join in joins {
+            size = size.condition(&join.on);
+        }
+        size
+    }
+
+    /// With the conditions of FROM.
+    fn sources(self, sources: &[Source<'_>]) -> Size
+        ensures { Counts self result (over_sources nodes_condition (map source_of sources.now)) (over_sources octets_condition (map source_of sources.now)) }
+    {
+        let mut size = self;
+        for source in sources {
+            size = size.joins(source.joins.as_slice());
+        }
+        size
+    }
+
     /// With the condition, if it is there.
     fn filter(self, condition: &Option<Cond<'_>>) -> Size
         ensures { Counts self result (over_filter nodes_condition (option_map condition_of condition.now)) (over_filter octets_condition (option_map condition_of condition.now)) }
@@ -220,5 +244,7 @@ pub(crate) fn size_of(query: &Statement<'_>) -> Size
         nodes: 0,
         octets: 0,
     };
-    none.select_list(&query.list).filter(&query.condition)
+    none.select_list(&query.list)
+        .sources(query.sources.as_slice())
+        .filter(&query.condition)
 }

@@ -1,5 +1,3 @@
 pub mod CompiledLemmas
 mod EmptyModules
 mod OwnWeights
-pub mod SameLemmas
-mod UnitsLaws

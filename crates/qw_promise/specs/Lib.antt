@@ -1,5 +1,4 @@
 pub mod Promise
-pub mod Queries
 pub mod Compiled
 pub mod WorkedQueries
 pub use Rattle.qw_module.specs.Execution

@@ -77,3 +77,8 @@ report_of_exception number code = codes "QUERY " ++ decimal number ++ codes " SQ
 -- what the report says of the query of a number that ran as many instructions as its limit says
 abbrev pub report_of_steps : (number limit : ℕ) → List ℕ
 report_of_steps number limit = codes "QUERY " ++ decimal number ++ codes " STEPS " ++ decimal limit ++ codes "\n"
+
+-- what the report says of the counts of the query of a number: how many instructions it ran, and how many pages it held
+abbrev pub report_of_counts : (number steps pages : ℕ) → List ℕ
+report_of_counts number steps pages =
+    codes "STATS " ++ decimal number ++ codes " STEPS " ++ decimal steps ++ codes " PAGES " ++ decimal pages ++ codes "\n"

@@ -1,9 +1,11 @@
 //! The header of a query's rows, and the lines of its part of the report.
 
-ghost use Rattle.std.specs.Prelude.{◌≡◌, ◌++◌, IfOk};
+ghost use Rattle.std.specs.Prelude.{◌≡◌, ◌<◌, ◌++◌, length, IfOk};
 ghost use Rattle.std.specs.String.{string_bytes};
-ghost use Rattle.qw_sink.specs.Sink.{report_of_exception, report_of_pages, report_of_steps, rows_line, sqlstate};
+ghost use Rattle.qw_bench.specs.Bench.{held_in, ran_in};
+ghost use Rattle.qw_sink.specs.Sink.{report_of_counts, report_of_exception, report_of_pages, report_of_steps, rows_line, sqlstate};
 
+use qw_bench::bench::Bench;
 use qw_types::{Code, Kind, NoMemory, Text};
 use std::alloc::Global;
 use std::marker::Model;
@@ -133,6 +135,28 @@ fn steps_line(alloc: Global, number: usize, limit: u64) -> Result<String, NoMemo
     ensures { IfOk result (λ line. string_bytes line ≡ report_of_steps number limit) }
 {
     Ok(format!(in alloc; "QUERY {number} STEPS {limit}\n")?)
+}
+
+/// A report with the counts of a query's instance: `STATS k STEPS n PAGES p`. It has run so many instructions, and holds so many pages.
+pub fn with_counts(
+    alloc: Global,
+    report: Vec<u8>,
+    number: usize,
+    bench: &Bench,
+    i: usize,
+) -> Result<Vec<u8>, NoMemory>
+    requires { i < length bench.now.shared.instances }
+    ensures { IfOk result (λ text. text.items ≡ report.items ++ report_of_counts number (ran_in bench.now.shared i) (held_in bench.now.shared i)) }
+{
+    let line = counts_line(alloc, number, bench.steps(i), bench.pages(i))?;
+    with_line(report, line.as_str())
+}
+
+/// The line on the counts of a query.
+fn counts_line(alloc: Global, number: usize, steps: u64, pages: u32) -> Result<String, NoMemory>
+    ensures { IfOk result (λ line. string_bytes line ≡ report_of_counts number steps pages) }
+{
+    Ok(format!(in alloc; "STATS {number} STEPS {steps} PAGES {pages}\n")?)
 }
 
 /// A text, and after it a line.

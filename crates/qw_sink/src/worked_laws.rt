@@ -4,7 +4,7 @@ ghost use Rattle.std.specs.Prelude.{◌≡◌, [], ◌∷◌, codes, pos, negsuc
 ghost use Rattle.qw_types.specs.declared.code.Code.TheVariants.{DivZero, OutOfRange};
 ghost use Rattle.qw_types.specs.declared.kind.Kind.TheVariants as kind;
 ghost use Rattle.qw_types.specs.declared.value.Val.TheVariants.{Null, Num, Date, Text};
-ghost use Rattle.qw_sink.specs.Sink.{date_text, printed, printed_row, report_of_exception, report_of_pages, report_of_steps, rows_line};
+ghost use Rattle.qw_sink.specs.Sink.{date_text, printed, printed_row, report_of_counts, report_of_exception, report_of_pages, report_of_steps, rows_line};
 
 /// Dates are printed as YYYY-MM-DD, with all their zeros.
 pub fn printed_dates()
@@ -24,11 +24,12 @@ pub fn printed_values()
     ensures row { printed_row [] (Null ∷ []) ≡ [] }
 {}
 
-/// The lines on ends of queries.
+/// The lines on ends of queries, and on their counts.
 pub fn lines_of_ends()
     ensures rows { rows_line 1 12 ≡ codes "QUERY 1 ROWS 12\n" }
     ensures zero { report_of_exception 3 DivZero ≡ codes "QUERY 3 SQLSTATE 22012\n" }
     ensures range { report_of_exception 64 OutOfRange ≡ codes "QUERY 64 SQLSTATE 22003\n" }
     ensures pages { report_of_pages 2 128 1 128 ≡ codes "QUERY 2 PAGES 128 1 128\n" }
     ensures steps { report_of_steps 1 5 ≡ codes "QUERY 1 STEPS 5\n" }
+    ensures counts { report_of_counts 2 1234 3 ≡ codes "STATS 2 STEPS 1234 PAGES 3\n" }
 {}

@@ -17,7 +17,7 @@ use qw_top::status::Status;
 use qw_top::top::program::job_of;
 use qw_top::top::queries::queries_of;
 use qw_top::top::qwasm;
-use qw_typer::query::TypedSelect;
+use qw_typer::query::TypedQuery;
 use qw_types::schema::MAX_TABLES;
 use qw_types::{Column, Columns, Kind, Schema, Table, Text, Ty};
 use std::alloc::{AllocError, Global};
@@ -232,7 +232,7 @@ fn bench_of_queries(
     alloc: Global,
     schema: &Schema,
     tables: &[Loaded],
-    queries: &[TypedSelect],
+    queries: &[TypedQuery],
     limits: &[Limits],
 ) -> Result<Result<Bench, BenchFault>, Fail>
     requires over { AllByRecursion (IsOver schema.now) queries.now }

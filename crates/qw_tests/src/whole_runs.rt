@@ -9,6 +9,7 @@ use std::test::Fail;
 
 mod commands;
 mod file_limits;
+mod joins;
 mod refused_texts;
 mod scripts;
 mod sizes;

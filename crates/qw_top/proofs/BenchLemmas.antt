@@ -1,78 +1,36 @@
 -- That queries over the schema can be compiled and begun over the tables' rows, and that turns run them to their ends.
-use Rattle.std.proofs.Common.{◌≡◌, ℕ, zero, suc, ◌≤◌, List, [], ◌∷◌, Some, refl, subst, length, ap, ◌∙◌, arith, map}
-use Rattle.std.specs.Prelude.{◌++◌, IsSome, replicate, slice_get}
+use Rattle.std.proofs.Common.{◌≡◌, ℕ, zero, suc, ◌≤◌, List, [], ◌∷◌, refl, length, ap, ◌∙◌, arith, map}
+use Rattle.std.specs.Prelude.{◌++◌, IsSome, replicate}
 use Rattle.std.specs.List.{AllByRecursion, AllZip}
-use Rattle.std.proofs.lemmas.Option.{none-some, same_Some}
-use Rattle.qw_types.specs.Contents.{Contents, column_type, rows_of}
-use Rattle.qw_types.specs.declared.schema.ColumnType.{ColumnType}
+use Rattle.qw_types.specs.Contents.{Contents}
+use Rattle.qw_types.specs.Limits.{most_tables}
 use Rattle.qw_types.specs.declared.schema.Table.{Table}
 use Rattle.qw_csv.proofs.ColumnLaws.{loaded_of_columns}
 use Rattle.qw_meaning.specs.Select.{AreOfEntries, entries_of}
+use Rattle.qw_schema.proofs.SchemaLemmas.{ReadsSchema-tables}
 use Rattle.qw_map.specs.Turns.{Act, EachInstance, turns}
-use Rattle.qw_map.specs.declared.layout.Used.{Used}
-use Rattle.qw_compile.specs.Named.{IsOfTable}
+use Rattle.qw_map.proofs.TurnFacts.{found-in as there}
+use Rattle.qw_typer.specs.declared.query.TypedQuery.{TypedQuery}
 use Rattle.qw_bench.specs.Bench.{AreRounds, AreServing, IsColumnIn, IsStart, Program, rows_in_tables}
 use Rattle.qw_bench.specs.Standing.{Standing, AreLimits, AreTasksOf}
 use Rattle.qw_bench.specs.declared.bench.Limits.{Limits}
-use Rattle.qw_map.proofs.TurnFacts.{found-in as there}
 use Rattle.qw_bench.proofs.Serving.{turns-serving}
 use Rattle.qw_bench.proofs.Starting.{start-serving}
 use Rattle.qw_top.specs.Delivered.{HasRun, IsProgramOf}
-use Rattle.qw_types.specs.Limits.{most_tables}
-use Rattle.qw_schema.proofs.SchemaLemmas.{ReadsSchema-tables}
 use Rattle.qw_top.specs.Top.{Asked, Files, HasQueries, HaveRoom, Names, TablesAre, same_limits}
 use Rattle.qw_top.specs.declared.stop.Stop.{Stop}
-use Rattle.qw_typer.specs.declared.query.TypedSelect.{TypedSelect}
 use Rattle.qw_top.specs.Inner.Queries.{IsJobOf, IsOver, asked_of}
-use Rattle.qw_top.specs.Inner.Stages.{AreContentsOf, FilesStop, HasAsked, IsContentsOf, StopsToRun}
+use Rattle.qw_top.specs.Inner.Stages.{AreContentsOf, FilesStop, HasAsked, StopsToRun}
+use Rattle.qw_top.proofs.EntryLemmas.{entries_loaded}
 use Rattle.qw_top.proofs.RunLemmas.{end_is, many_tasks}
 use Rattle.qw_top.proofs.StopLemmas.{run_stops}
 
--- ---- the columns of a table of the schema are columns of the tables' rows
-
--- the rows of a table of the schema
-contents_at : (schema : List Table) (tables : List Contents) (n : ℕ) (table : Table) → AreContentsOf schema tables → slice_get schema n ≡ Some table →
-    (one : Contents) × (slice_get tables n ≡ Some one) × IsContentsOf table one
-contents_at [] tables n table are found = absurd (none-some table found)
-contents_at (first ∷ schema) [] n table are found = absurd are
-contents_at (first ∷ schema) (one ∷ tables) zero table are found =
-    let same : first ≡ table = cc in (one, refl, subst (λ (t : Table). IsContentsOf t one) same are.0)
-contents_at (first ∷ schema) (one ∷ tables) (suc n) table are found = contents_at schema tables n table are.1 found
-
-pub columns_in : (schema : List Table) (tables : List Contents) (n : ℕ) (table : Table) → AreContentsOf schema tables → slice_get schema n ≡ Some table → (used : List Used) →
-    AllByRecursion (IsOfTable n (map column_type table.columns)) used → AllByRecursion (IsColumnIn tables) used
-columns_in schema tables n table are found [] all = tt
-columns_in schema tables n table are found (u ∷ used) all =
-    let one = contents_at schema tables n table are found in (
-      (
-        one.0,
-        record { ty = u.ty; not_null = u.not_null },
-        ap (λ (m : ℕ). slice_get tables m) all.0.table_is ∙ one.1,
-        ap (λ (cs : List ColumnType). slice_get cs u.column) one.2.columns ∙ all.0.column_is,
-        refl,
-        refl,
-      ),
-      columns_in schema tables n table are found used all.1,
-    )
-
 -- ---- the rows that queries read
 
-rows_there : (tables : List Contents) (n : ℕ) (one : Contents) → slice_get tables n ≡ Some one → rows_of (rows_in_tables tables) n ≡ one.rows
-rows_there [] n one found = absurd (none-some one found)
-rows_there (first ∷ tables) zero one found = ap (λ (c : Contents). c.rows) (same_Some first one found)
-rows_there (first ∷ tables) (suc n) one found = rows_there tables n one found
-
--- those of a query over a table of the schema
-pub entry_read : (schema : List Table) (tables : List Contents) (query : TypedSelect) → AreContentsOf schema tables → IsOver schema query → AreOfEntries (entries_of (asked_of query).specification.sources) (rows_in_tables tables)
-entry_read schema tables query are over =
-    let one = contents_at schema tables query.select.table over.table are over.there in
-    let rows : rows_of (rows_in_tables tables) query.select.table ≡ one.0.rows = rows_there tables query.select.table one.0 one.1 in
-    (record { few = rw rows one.2.few; typed = rw (rows, over.columns_are) one.2.typed }, tt)
-
-pub entries_read : (schema : List Table) (tables : List Contents) (queries : List TypedSelect) → AreContentsOf schema tables → AllByRecursion (IsOver schema) queries →
+pub entries_read : (schema : List Table) (tables : List Contents) (queries : List TypedQuery) → AreContentsOf schema tables → AllByRecursion (IsOver schema) queries →
     AllByRecursion (λ (asked : Asked). AreOfEntries (entries_of asked.specification.sources) (rows_in_tables tables)) (map asked_of queries)
 entries_read schema tables [] are over = tt
-entries_read schema tables (query ∷ queries) are over = (entry_read schema tables query are over.0, entries_read schema tables queries are over.1)
+entries_read schema tables (query ∷ queries) are over = (entries_loaded schema tables (entries_of (asked_of query).specification.sources) are over.0.entries, entries_read schema tables queries are over.1)
 
 -- ---- as many rows as tables
 
@@ -122,28 +80,22 @@ HasRun-from limits quantum tables queries programs before b room read compiled t
           rw (end_is b.shared k i.0 i.1) (ended k i.0 i.1);
     }
 
--- what holds of each holds of the one at a place
-pub all_at : {A : Type 0} (P : A → Type 0) (xs : List A) (i : ℕ) (x : A) → AllByRecursion P xs → slice_get xs i ≡ Some x → P x
-all_at P [] i x all found = absurd (none-some x found)
-all_at P (y ∷ xs) zero x all found = let same : y ≡ x = cc in subst P same all.0
-all_at P (y ∷ xs) (suc i) x all found = all_at P xs i x all.1 found
-
 -- ---- programs of queries
 
 -- as many as queries
-pub many_jobs : (schema : List Table) (queries : List TypedSelect) (jobs : List Program) → AllZip (IsJobOf schema) queries jobs → length jobs ≡ length queries
+pub many_jobs : (schema : List Table) (queries : List TypedQuery) (jobs : List Program) → AllZip (IsJobOf schema) queries jobs → length jobs ≡ length queries
 many_jobs schema [] [] are = refl
 many_jobs schema [] (job ∷ jobs) are = absurd are
 many_jobs schema (query ∷ queries) [] are = absurd are
 many_jobs schema (query ∷ queries) (job ∷ jobs) are = ap suc (many_jobs schema queries jobs are.1)
 
-pub jobs_compiled : (schema : List Table) (queries : List TypedSelect) (jobs : List Program) → AllZip (IsJobOf schema) queries jobs → AllZip IsProgramOf (map asked_of queries) jobs
+pub jobs_compiled : (schema : List Table) (queries : List TypedQuery) (jobs : List Program) → AllZip (IsJobOf schema) queries jobs → AllZip IsProgramOf (map asked_of queries) jobs
 jobs_compiled schema [] [] are = tt
 jobs_compiled schema [] (job ∷ jobs) are = absurd are
 jobs_compiled schema (query ∷ queries) [] are = absurd are
 jobs_compiled schema (query ∷ queries) (job ∷ jobs) are = (are.0.compiled, jobs_compiled schema queries jobs are.1)
 
-pub jobs_columns : (schema : List Table) (tables : List Contents) (queries : List TypedSelect) (jobs : List Program) → AreContentsOf schema tables → AllZip (IsJobOf schema) queries jobs →
+pub jobs_columns : (schema : List Table) (tables : List Contents) (queries : List TypedQuery) (jobs : List Program) → AreContentsOf schema tables → AllZip (IsJobOf schema) queries jobs →
     AllByRecursion (λ (job : Program). AllByRecursion (IsColumnIn tables) job.layout.columns) jobs
 jobs_columns schema tables [] [] held are = tt
 jobs_columns schema tables [] (job ∷ jobs) held are = absurd are
@@ -151,7 +103,7 @@ jobs_columns schema tables (query ∷ queries) [] held are = absurd are
 jobs_columns schema tables (query ∷ queries) (job ∷ jobs) held are = (are.0.columns tables held, jobs_columns schema tables queries jobs held are.1)
 
 -- one more
-pub jobs_more : (schema : List Table) (queries : List TypedSelect) (jobs : List Program) (query : TypedSelect) (job : Program) → AllZip (IsJobOf schema) queries jobs → IsJobOf schema query job →
+pub jobs_more : (schema : List Table) (queries : List TypedQuery) (jobs : List Program) (query : TypedQuery) (job : Program) → AllZip (IsJobOf schema) queries jobs → IsJobOf schema query job →
     AllZip (IsJobOf schema) (queries ++ query ∷ []) (jobs ++ job ∷ [])
 jobs_more schema [] [] query job are is = (is, tt)
 jobs_more schema [] (first ∷ jobs) query job are is = absurd are
@@ -159,7 +111,7 @@ jobs_more schema (first ∷ queries) [] query job are is = absurd are
 jobs_more schema (first ∷ queries) (one ∷ jobs) query job are is = (are.0, jobs_more schema queries jobs query job are.1 is)
 
 -- their limits
-pub each_limits : (limits : Limits) (queries : List TypedSelect) → replicate (length queries) limits ≡ same_limits limits (map asked_of queries)
+pub each_limits : (limits : Limits) (queries : List TypedQuery) → replicate (length queries) limits ≡ same_limits limits (map asked_of queries)
 each_limits limits [] = refl
 each_limits limits (query ∷ queries) = ap (λ (all : List Limits). limits ∷ all) (each_limits limits queries)
 

@@ -8,11 +8,12 @@ use Rattle.qw_check.specs.Check.{HasFault, SpellsValid}
 use Rattle.qw_check.specs.declared.check.CheckFault.{CheckFault}
 use Rattle.qw_check.specs.declared.check.CheckFault.TheVariants as check_faults
 use Rattle.qw_command_line.specs.Read.{Answers}
-use Rattle.qw_command_line.specs.Words.{run, compile, check, Reading, command, no_command, no_number, Names, TextNames}
+use Rattle.qw_command_line.specs.Words.{run, compile, check, Reading, command, no_command, out_of_range, Names, TextNames}
+use Rattle.qw_command_line.specs.declared.command.Number.{Number}
 use Rattle.qw_command_line.specs.declared.command.WordsFault.{WordsFault}
 use Rattle.qw_command_line.specs.declared.command.WordsFault.TheVariants as words_faults
 use Rattle.qw_top.specs.Call.{CheckSettles, CompileSettles, ExplainsBy, HasScript, HasStatement, IsEndOfWords, IsValidFile, LeavesBy, NamesBy, NotesBy, SettlesBy, TookText}
-use Rattle.qw_top.specs.Causes.{AreOne, Cause, line_of_cause, status_of_cause, words_refused, statement_out_of_range, schema_too_long, schema_refused, queries_too_long, queries_refused, queries_mistyped, no_statement, module_too_long, module_refused}
+use Rattle.qw_top.specs.Causes.{AreOne, Cause, line_of_cause, status_of_cause, words_refused, number_out_of_range, schema_too_long, schema_refused, queries_too_long, queries_refused, queries_mistyped, no_statement, module_too_long, module_refused}
 use Rattle.qw_top.specs.Limits.{limits_of, most_module_octets}
 use Rattle.qw_top.specs.Notes.{want_of_memory_line}
 use Rattle.qw_top.specs.Top.{Asked, Files, FilesSettle, IsFault, IsRefusal, IsReported, QueriesAre, RunExplains, SchemaIs}
@@ -52,8 +53,8 @@ module _ (files : Files) where
   want_explains : (r : Reading) (kept : Option Standing) (result : Status) → (result ≡ WriteFailed) ⊎ (result ≡ NoMemory) → ExplainsBy files r kept result
   want_explains no_command kept result (inl is) = subst IsEndOfWords (sym is) tt
   want_explains no_command kept result (inr is) = subst IsEndOfWords (sym is) tt
-  want_explains no_number kept result (inl is) = subst IsEndOfWords (sym is) tt
-  want_explains no_number kept result (inr is) = subst IsEndOfWords (sym is) tt
+  want_explains (out_of_range number) kept result (inl is) = subst IsEndOfWords (sym is) tt
+  want_explains (out_of_range number) kept result (inr is) = subst IsEndOfWords (sym is) tt
   want_explains (command (run names options)) kept result (inl is) = subst (RunExplains (limits_of options) files names kept) (sym is) tt
   want_explains (command (run names options)) kept result (inr is) = subst (RunExplains (limits_of options) files names kept) (sym is) tt
   want_explains (command (compile names k)) kept result (inl is) = subst (λ (s : Status). ExplainsBy files (command (compile names k)) kept s) (sym is) tt
@@ -64,33 +65,35 @@ module _ (files : Files) where
   pub words_explained : (r : Reading) (kept : Option Standing) (fault : WordsFault) (result : Status) (old new : Option (List ℕ)) → Answers r (Err fault) → NotesWords fault result old new → ExplainsBy files r kept result
   words_explained r kept (words_faults.Refused text) result old new is noted =
       subst (λ (q : Reading). ExplainsBy files q kept result) (sym is) (noted_end (string_bytes text) WordsRefused result old new tt noted)
-  words_explained r kept words_faults.StatementOutOfRange result old new is noted =
-      subst (λ (q : Reading). ExplainsBy files q kept result) (sym is) (noted_end (line_of_cause statement_out_of_range) WordsRefused result old new tt noted)
+  words_explained r kept (words_faults.OutOfRange number) result old new is noted =
+      subst (λ (q : Reading). ExplainsBy files q kept result) (sym is) (noted_end (line_of_cause (number_out_of_range number)) WordsRefused result old new tt noted)
   words_explained r kept words_faults.NoMemory result old new is noted = want_explains r kept result (want_ends result old new noted)
 
   want_notes : (r : Reading) (fault_name : Option (List ℕ)) (result : Status) (old new : Option (List ℕ)) → NotesLine want_of_memory_line NoMemory result old new → NotesBy files r fault_name result old new
   want_notes no_command fault_name result old new noted = noted_text want_of_memory_line NoMemory result old new noted
-  want_notes no_number fault_name result old new noted = want_noted (SettlesBy files no_number) (NamesBy files no_number) fault_name result old new noted
+  want_notes (out_of_range number) fault_name result old new noted = want_noted (SettlesBy files (out_of_range number)) (NamesBy files (out_of_range number)) fault_name result old new noted
   want_notes (command c) fault_name result old new noted = want_noted (SettlesBy files (command c)) (NamesBy files (command c)) fault_name result old new noted
 
-  number_noted : (fault_name : Option (List ℕ)) (result : Status) (old new : Option (List ℕ)) → NotesLine (line_of_cause statement_out_of_range) WordsRefused result old new →
-      NotesBy files no_number fault_name result old new
-  number_noted fault_name result old new (inl (is, took)) =
-      subst (λ (s : Status). NotesBy files no_number fault_name s old new) (sym is) (cause_noted (SettlesBy files no_number) (NamesBy files no_number) fault_name statement_out_of_range old new refl took)
-  number_noted fault_name result old new (inr (ends, front)) =
-      cut_short (SettlesBy files no_number) (NamesBy files no_number) fault_name (line_of_cause statement_out_of_range) result old new (inr (inr (statement_out_of_range, refl, refl))) ends front
+  number_noted : (number : Number) (fault_name : Option (List ℕ)) (result : Status) (old new : Option (List ℕ)) → NotesLine (line_of_cause (number_out_of_range number)) WordsRefused result old new →
+      NotesBy files (out_of_range number) fault_name result old new
+  number_noted number fault_name result old new (inl (is, took)) =
+      let settles = SettlesBy files (out_of_range number) in
+      subst (λ (s : Status). NotesBy files (out_of_range number) fault_name s old new) (sym is) (cause_noted settles (NamesBy files (out_of_range number)) fault_name (number_out_of_range number) old new refl took)
+  number_noted number fault_name result old new (inr (ends, front)) =
+      let settles = SettlesBy files (out_of_range number) in
+      cut_short settles (NamesBy files (out_of_range number)) fault_name (line_of_cause (number_out_of_range number)) result old new (inr (inr (number_out_of_range number, refl, refl))) ends front
 
   pub words_noted : (r : Reading) (fault : WordsFault) (fault_name : Option (List ℕ)) (result : Status) (old new : Option (List ℕ)) → Answers r (Err fault) → NotesWords fault result old new →
       NotesBy files r fault_name result old new
   words_noted r (words_faults.Refused text) fault_name result old new is noted =
       subst (λ (q : Reading). NotesBy files q fault_name result old new) (sym is) (noted_text (string_bytes text) WordsRefused result old new noted)
-  words_noted r words_faults.StatementOutOfRange fault_name result old new is noted =
-      subst (λ (q : Reading). NotesBy files q fault_name result old new) (sym is) (number_noted fault_name result old new noted)
+  words_noted r (words_faults.OutOfRange number) fault_name result old new is noted =
+      subst (λ (q : Reading). NotesBy files q fault_name result old new) (sym is) (number_noted number fault_name result old new noted)
   words_noted r words_faults.NoMemory fault_name result old new is noted = want_notes r fault_name result old new noted
 
 want_leaves : (files : Files) (r : Reading) (result : Status) (taken : Option (List ℕ)) → (result ≡ WriteFailed) ⊎ (result ≡ NoMemory) → LeavesBy files r result None taken taken
 want_leaves files no_command result taken ends = (refl, refl)
-want_leaves files no_number result taken ends = (refl, refl)
+want_leaves files (out_of_range number) result taken ends = (refl, refl)
 want_leaves files (command (run names options)) result taken (inl is) = subst (λ (s : Status). LeavesBy files (command (run names options)) s None taken taken) (sym is) (inl (refl, refl))
 want_leaves files (command (run names options)) result taken (inr is) = subst (λ (s : Status). LeavesBy files (command (run names options)) s None taken taken) (sym is) (inl (refl, refl))
 want_leaves files (command (compile names k)) result taken (inl is) = subst (λ (s : Status). LeavesBy files (command (compile names k)) s None taken taken) (sym is) (refl, inl refl)
@@ -101,12 +104,12 @@ want_leaves files (command (check name)) result taken (inr is) = subst (λ (s : 
 pub words_left : (files : Files) (r : Reading) (fault : WordsFault) (result : Status) (taken old new : Option (List ℕ)) → Answers r (Err fault) → NotesWords fault result old new →
     LeavesBy files r result None taken taken
 words_left files r (words_faults.Refused text) result taken old new is noted = subst (λ (q : Reading). LeavesBy files q result None taken taken) (sym is) (refl, refl)
-words_left files r words_faults.StatementOutOfRange result taken old new is noted = subst (λ (q : Reading). LeavesBy files q result None taken taken) (sym is) (refl, refl)
+words_left files r (words_faults.OutOfRange number) result taken old new is noted = subst (λ (q : Reading). LeavesBy files q result None taken taken) (sym is) (refl, refl)
 words_left files r words_faults.NoMemory result taken old new is noted = want_leaves files r result taken (want_ends result old new noted)
 
 pub words_not_read : (fault : WordsFault) (result : Status) (old new : Option (List ℕ)) → NotesWords fault result old new → result ≡ ReadFailed → ⊥
 words_not_read (words_faults.Refused text) result old new noted e = subst IsEndOfWords e (noted_end (string_bytes text) WordsRefused result old new tt noted)
-words_not_read words_faults.StatementOutOfRange result old new noted e = subst IsEndOfWords e (noted_end (line_of_cause statement_out_of_range) WordsRefused result old new tt noted)
+words_not_read (words_faults.OutOfRange number) result old new noted e = subst IsEndOfWords e (noted_end (line_of_cause (number_out_of_range number)) WordsRefused result old new tt noted)
 words_not_read words_faults.NoMemory result old new noted e = subst IsEndOfWords e (noted_end want_of_memory_line NoMemory result old new tt noted)
 
 -- ---- refusals are those of a cause
@@ -122,7 +125,7 @@ end_of_words _ r end = absurd r
 refusal_cause : (files : Files) (r : Reading) (kept : Option Standing) (status : Status) → IsRefusal status → ExplainsBy files r kept status →
     (cause : Cause) × SettlesBy files r cause × (status ≡ status_of_cause cause)
 refusal_cause files no_command kept status refusal why = (words_refused, refl, end_of_words status refusal why)
-refusal_cause files no_number kept status refusal why = (statement_out_of_range, refl, end_of_words status refusal why)
+refusal_cause files (out_of_range number) kept status refusal why = (number_out_of_range number, refl, end_of_words status refusal why)
 refusal_cause files (command (run names options)) kept status refusal why = refusal_settled (limits_of options) files names kept status refusal why
 refusal_cause files (command (compile names k)) kept status refusal why = text_cause ((one : Asked) × HasStatement files names k one) (CompileSettles files names k) status refusal why
 refusal_cause files (command (check name)) kept status refusal why = text_cause (IsValidFile files name) (CheckSettles files name) status refusal why
@@ -197,7 +200,7 @@ module _ (told : List ℕ → Option (List ℕ))
 
   pub one_settled_by : (r : Reading) (cause other : Cause) → SettlesBy (Some told) r cause → SettlesBy (Some told) r other → AreOne cause other
   one_settled_by no_command cause other h k = inl (h ∙ sym k)
-  one_settled_by no_number cause other h k = inl (h ∙ sym k)
+  one_settled_by (out_of_range number) cause other h k = inl (h ∙ sym k)
   one_settled_by (command (run names options)) cause other h k = one_settled (limits_of options) told names cause other h k
   one_settled_by (command (compile names n)) cause other h k = one_compile told names n cause other (compile_at (Some told) names n cause h) (compile_at (Some told) names n other k)
   one_settled_by (command (check name)) cause other h k = inl (one_check name cause other h k)
@@ -211,7 +214,7 @@ module _ (told : List ℕ → Option (List ℕ))
 
   done_settles_none : (r : Reading) (cause : Cause) (kept : Option Standing) (status : Status) → IsReported status → ExplainsBy (Some told) r kept status → SettlesBy (Some told) r cause → ⊥
   done_settles_none no_command cause kept status reported why h = not_words status reported why
-  done_settles_none no_number cause kept status reported why h = not_words status reported why
+  done_settles_none (out_of_range number) cause kept status reported why h = not_words status reported why
   done_settles_none (command (run names options)) cause kept status reported why h =
       let asked = reported_asks (limits_of options) (Some told) names kept status reported why in
       asked_settles_none (limits_of options) told names asked.0 asked.1 asked.2 cause asked.3 asked.4 h
@@ -253,15 +256,15 @@ module _ (told : List ℕ → Option (List ℕ))
       ]
 
 -- refused words explain no other end, but that what is noted of them couldn't be written
-pub words_first : (files : Files) (r : Reading) (kept : Option Standing) (status : Status) → (r ≡ no_command) ⊎ (r ≡ no_number) → ExplainsBy files r kept status →
+pub words_first : (files : Files) (r : Reading) (kept : Option Standing) (status : Status) → (r ≡ no_command) ⊎ ((number : Number) × (r ≡ out_of_range number)) → ExplainsBy files r kept status →
     (status ≡ WordsRefused) ⊎ (status ≡ WriteFailed) ⊎ (status ≡ NoMemory)
 words_first files r kept status is why = by_status status (by_reading r is why)
   where
-    by_reading : (r : Reading) → (r ≡ no_command) ⊎ (r ≡ no_number) → ExplainsBy files r kept status → IsEndOfWords status
+    by_reading : (r : Reading) → (r ≡ no_command) ⊎ ((number : Number) × (r ≡ out_of_range number)) → ExplainsBy files r kept status → IsEndOfWords status
     by_reading no_command is why = why
-    by_reading no_number is why = why
+    by_reading (out_of_range number) is why = why
     by_reading (command c) (inl is) why = absurd cc
-    by_reading (command c) (inr is) why = absurd cc
+    by_reading (command c) (inr (number, is)) why = absurd cc
 
     by_status : (status : Status) → IsEndOfWords status → (status ≡ WordsRefused) ⊎ (status ≡ WriteFailed) ⊎ (status ≡ NoMemory)
     by_status WordsRefused end = inl refl

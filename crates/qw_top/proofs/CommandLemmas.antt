@@ -145,9 +145,9 @@ module _ (files : Files) (names : TextNames) (k : ℕ) where
       settle cause (inl (is, long)) = subst (CompileSettles files names k) (sym is) long
       settle cause (inr (fault, text, is, file, refused)) = subst (CompileSettles files names k) (sym is) (text, file, refused)
 
-  pub compile_query_stops : (now : Files) (schema : List Table) (stop : Stop) → now ≡ files → SchemaIs files names.schema schema → StopsAs (IsNoScript now names.queries schema) names.queries stop →
+  pub compile_stops : (now : Files) (schema : List Table) (stop : Stop) → now ≡ files → SchemaIs files names.schema schema → StopsAs (IsNoScript now names.queries schema) names.queries stop →
       StopsBy (CompileSettles files names k) (IsScriptFile files names) stop
-  compile_query_stops now schema stop same declared stops =
+  compile_stops now schema stop same declared stops =
       stage_stops (CompileSettles files names k) (IsScriptFile files names) (IsNoScript files names.queries schema) names.queries stop (λ cause none. settle cause none) (inr (schema, declared, refl))
       (subst (λ (f : Files). StopsAs (IsNoScript f names.queries schema) names.queries stop) same stops)
     where

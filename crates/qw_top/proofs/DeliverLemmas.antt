@@ -10,6 +10,8 @@ use Rattle.qw_bench.specs.Bench.{end_in}
 use Rattle.qw_bench.specs.Standing.{Standing}
 use Rattle.qw_top.specs.Delivered.{CommandNotes, LeavesBench, Reports, RunLeaves, ShowsEnds, ends_below, is_exception, is_pages, is_steps, status_of_ends}
 use Rattle.qw_bench.specs.declared.bench.Limits.{Limits}
+use Rattle.qw_command_line.specs.Words.{RunOptions}
+use Rattle.qw_top.specs.Limits.{limits_of}
 use Rattle.qw_top.specs.Notes.{want_of_memory_line}
 use Rattle.qw_top.specs.Output.{TookFront, with_text}
 use Rattle.qw_top.specs.Top.{Asked, Files, FilesSettle, IsFileOf, Names, RunExplains}
@@ -25,17 +27,17 @@ use Rattle.qw_top.proofs.StoppedLemmas.{TookFront-none, TookFront-whole}
 -- ---- a report
 
 -- A run over files: what they ask for was run, and this is its report, which was written so.
-pub record Delivered (limits : Limits) (quantum : ℕ) (files : Files) (names : Names) (b : Standing) (result : Status) (old new : Option (List ℕ)) : Type 0 where
+pub record Delivered (options : RunOptions) (files : Files) (names : Names) (b : Standing) (result : Status) (old new : Option (List ℕ)) : Type 0 where
   pub report : List ℕ
   pub status : Status
-  pub reports : Reports limits quantum files names b report status
+  pub reports : Reports options files names b report status
   pub writes : Writes status result old new report
 
-pub delivered : (limits : Limits) (quantum : ℕ) (files : Files) (names : Names) (queries : List Asked) (b : Standing) (result : Status) (old new : Option (List ℕ)) → HasAsked limits quantum files names queries b →
-    ((ran : Ran queries b) → (report : List ℕ) × ShowsEnds ran.tables queries b 0 report × Writes (status_of_ends (ends_below b (length queries))) result old new report) →
-    Delivered limits quantum files names b result old new
-delivered limits quantum files names queries b result old new asked writes =
-    let written = writes (record { limits = limits; quantum = quantum; tables = asked.tables; run = asked.run }) in
+pub delivered : (options : RunOptions) (files : Files) (names : Names) (queries : List Asked) (b : Standing) (result : Status) (old new : Option (List ℕ)) → HasAsked (limits_of options) options.quantum files names queries b →
+    ((ran : Ran queries b) → (report : List ℕ) × ShowsEnds options.counts ran.tables queries b 0 report × Writes (status_of_ends (ends_below b (length queries))) result old new report) →
+    Delivered options files names b result old new
+delivered options files names queries b result old new asked writes =
+    let written = writes (record { limits = limits_of options; quantum = options.quantum; tables = asked.tables; run = asked.run }) in
     record {
       report = written.0;
       status = status_of_ends (ends_below b (length queries));
@@ -60,37 +62,37 @@ module _ (queries : List Asked) (b : Standing) (ran : Ran queries b) where
   pub ran_ended : (k : ℕ) → k < length queries → IsSome (end_in b.shared k)
   ran_ended k within = ran.run.ended k within
 
-  pub ran_shows : (text : List ℕ) → AreBlocks queries b 0 text → ShowsEnds ran.tables queries b 0 text
-  ran_shows text are = shows_run ran.limits ran.quantum ran.tables queries b ran.run text are
+  pub ran_shows : (counts : Bool) (text : List ℕ) → AreBlocks counts queries b 0 text → ShowsEnds counts ran.tables queries b 0 text
+  ran_shows counts text are = shows_run counts ran.limits ran.quantum ran.tables queries b ran.run text are
 
   pub ran_status : (status : Status) → status ≡ status_of_ends (ends_below b (length b.shared.instances)) → status ≡ status_of_ends (ends_below b (length queries))
   ran_status status is = is ∙ ap (λ (n : ℕ). status_of_ends (ends_below b n)) (many_instances ran.limits ran.quantum ran.tables queries b ran.run)
 
-  pub ran_report : (report : List ℕ) × ShowsEnds ran.tables queries b 0 report
-  ran_report = some_report ran.limits ran.quantum ran.tables queries b ran.run
+  pub ran_report : (counts : Bool) → (report : List ℕ) × ShowsEnds counts ran.tables queries b 0 report
+  ran_report counts = some_report counts ran.limits ran.quantum ran.tables queries b ran.run
 
-pub is_report : (queries : List Asked) (b : Standing) (text : List ℕ) (status : Status) → AreBlocks queries b 0 text → status ≡ status_of_ends (ends_below b (length b.shared.instances)) →
-    IsReport queries b text status
-is_report queries b text status are is = λ ran. (ran_shows queries b ran text are, ran_status queries b ran status is)
+pub is_report : (counts : Bool) (queries : List Asked) (b : Standing) (text : List ℕ) (status : Status) → AreBlocks counts queries b 0 text → status ≡ status_of_ends (ends_below b (length b.shared.instances)) →
+    IsReport counts queries b text status
+is_report counts queries b text status are is = λ ran. (ran_shows queries b ran counts text are, ran_status queries b ran status is)
 
 -- an end of a run whose report was written is explained
-module _ (limits : Limits) (quantum : ℕ) (files : Files) (names : Names) (b : Standing) (report : List ℕ) (status : Status) (r : Reports limits quantum files names b report status) where
-  reports_pages : status ≡ PageLimitMet → RunExplains limits files names (Some b) PageLimitMet
+module _ (options : RunOptions) (files : Files) (names : Names) (b : Standing) (report : List ℕ) (status : Status) (r : Reports options files names b report status) where
+  reports_pages : status ≡ PageLimitMet → RunExplains (limits_of options) files names (Some b) PageLimitMet
   reports_pages is =
-      let met = pages_met limits quantum r.tables r.queries b r.run (sym r.status_is ∙ is) in
+      let met = pages_met (limits_of options) options.quantum r.tables r.queries b r.run (sym r.status_is ∙ is) in
       (r.schema, r.tables, r.queries, met.0, r.asks, r.run.room, met.1, met.2)
 
-  reports_steps : status ≡ StepLimitMet → RunExplains limits files names (Some b) StepLimitMet
+  reports_steps : status ≡ StepLimitMet → RunExplains (limits_of options) files names (Some b) StepLimitMet
   reports_steps is =
-      let met = steps_met limits quantum r.tables r.queries b r.run (sym r.status_is ∙ is) in
+      let met = steps_met (limits_of options) options.quantum r.tables r.queries b r.run (sym r.status_is ∙ is) in
       (b, refl, r.schema, r.tables, r.queries, met.0, met.1, r.asks, r.run.room, met.2, met.3)
 
-  reports_raised : status ≡ Raised → RunExplains limits files names (Some b) Raised
+  reports_raised : status ≡ Raised → RunExplains (limits_of options) files names (Some b) Raised
   reports_raised is =
-      let met = exception_raised limits quantum r.tables r.queries b r.run (sym r.status_is ∙ is) in
+      let met = exception_raised (limits_of options) options.quantum r.tables r.queries b r.run (sym r.status_is ∙ is) in
       (r.schema, r.tables, r.queries, met.0, r.asks, r.run.room, met.1, met.2)
 
-  written_explained : (result : Status) (old new : Option (List ℕ)) → Writes status result old new report → RunExplains limits files names (Some b) result
+  written_explained : (result : Status) (old new : Option (List ℕ)) → Writes status result old new report → RunExplains (limits_of options) files names (Some b) result
   written_explained Done old new writes = (r.schema, r.tables, r.queries, r.asks, r.run.room)
   written_explained Raised old new writes = reports_raised writes.0
   written_explained PageLimitMet old new writes = reports_pages writes.0
@@ -99,7 +101,7 @@ module _ (limits : Limits) (quantum : ℕ) (files : Files) (names : Names) (b : 
   written_explained NoMemory old new writes = tt
   written_explained _ old new writes = absurd writes
 
-  written_left : (result : Status) (old new : Option (List ℕ)) → Writes status result old new report → RunLeaves limits quantum files names result (Some b) old new
+  written_left : (result : Status) (old new : Option (List ℕ)) → Writes status result old new report → RunLeaves options files names result (Some b) old new
   written_left Done old new writes = (b, report, status, refl, r, writes)
   written_left Raised old new writes = (b, report, status, refl, r, writes)
   written_left PageLimitMet old new writes = (b, report, status, refl, r, writes)
@@ -108,9 +110,9 @@ module _ (limits : Limits) (quantum : ℕ) (files : Files) (names : Names) (b : 
   written_left NoMemory old new writes = inr (b, report, status, refl, r, writes)
   written_left _ old new writes = absurd writes
 
-  cut_left : (result : Status) (old new : Option (List ℕ)) → TookFront old new report → (result ≡ WriteFailed) ⊎ (result ≡ NoMemory) → RunLeaves limits quantum files names result (Some b) old new
-  cut_left result old new front (inl is) = subst (λ (s : Status). RunLeaves limits quantum files names s (Some b) old new) (sym is) (inr (b, report, status, refl, r, front))
-  cut_left result old new front (inr is) = subst (λ (s : Status). RunLeaves limits quantum files names s (Some b) old new) (sym is) (inr (b, report, status, refl, r, front))
+  cut_left : (result : Status) (old new : Option (List ℕ)) → TookFront old new report → (result ≡ WriteFailed) ⊎ (result ≡ NoMemory) → RunLeaves options files names result (Some b) old new
+  cut_left result old new front (inl is) = subst (λ (s : Status). RunLeaves options files names s (Some b) old new) (sym is) (inr (b, report, status, refl, r, front))
+  cut_left result old new front (inr is) = subst (λ (s : Status). RunLeaves options files names s (Some b) old new) (sym is) (inr (b, report, status, refl, r, front))
 
 -- however the writing of a report ended, a front of it was taken
 written_front : (status result : Status) (old new : Option (List ℕ)) (report : List ℕ) → Writes status result old new report → TookFront old new report
@@ -136,35 +138,35 @@ line_ends : (line : List ℕ) (result : Status) (old new : Option (List ℕ)) �
 line_ends line result old new (inl (is, took)) = inr is
 line_ends line result old new (inr (ends, front)) = ends
 
-module _ (limits : Limits) (quantum : ℕ) (files : Files) (names : Names) (b : Standing) (result : Status) (old new : Option (List ℕ)) (d : Delivered limits quantum files names b result old new) where
-  pub delivered_explained : RunExplains limits files names (Some b) result
-  delivered_explained = written_explained limits quantum files names b d.report d.status d.reports result old new d.writes
+module _ (options : RunOptions) (files : Files) (names : Names) (b : Standing) (result : Status) (old new : Option (List ℕ)) (d : Delivered options files names b result old new) where
+  pub delivered_explained : RunExplains (limits_of options) files names (Some b) result
+  delivered_explained = written_explained options files names b d.report d.status d.reports result old new d.writes
 
-  pub delivered_left : RunLeaves limits quantum files names result (Some b) old new
-  delivered_left = written_left limits quantum files names b d.report d.status d.reports result old new d.writes
+  pub delivered_left : RunLeaves options files names result (Some b) old new
+  delivered_left = written_left options files names b d.report d.status d.reports result old new d.writes
 
-  pub delivered_front : LeavesBench limits quantum files names (Some b) (λ status report. TookFront old new report)
+  pub delivered_front : LeavesBench options files names (Some b) (λ status report. TookFront old new report)
   delivered_front = (b, d.report, d.status, refl, d.reports, written_front d.status result old new d.report d.writes)
 
   -- the writing of a report notes nothing
-  pub delivered_noted : (fault_name taken : Option (List ℕ)) → CommandNotes (FilesSettle limits files names) (IsFileOf files names) fault_name result taken taken
-  delivered_noted fault_name taken = written_noted limits files names fault_name d.status result old new taken d.report d.writes
+  pub delivered_noted : (fault_name taken : Option (List ℕ)) → CommandNotes (FilesSettle (limits_of options) files names) (IsFileOf files names) fault_name result taken taken
+  delivered_noted fault_name taken = written_noted (limits_of options) files names fault_name d.status result old new taken d.report d.writes
 
   -- and it doesn't end with a failed read
   pub delivered_reads : result ≡ ReadFailed → ⊥
   delivered_reads is = subst (λ (s : Status). Writes d.status s old new d.report) is d.writes
 
-pub wanted_left : (limits : Limits) (quantum : ℕ) (files : Files) (names : Names) (b : Standing) (result : Status) (old new before after : Option (List ℕ)) → Delivered limits quantum files names b NoMemory old new →
-    NotesLine want_of_memory_line NoMemory result before after → RunLeaves limits quantum files names result (Some b) old new
-wanted_left limits quantum files names b result old new before after d noted =
-    cut_left limits quantum files names b d.report d.status d.reports result old new d.writes (line_ends want_of_memory_line result before after noted)
+pub wanted_left : (options : RunOptions) (files : Files) (names : Names) (b : Standing) (result : Status) (old new before after : Option (List ℕ)) → Delivered options files names b NoMemory old new →
+    NotesLine want_of_memory_line NoMemory result before after → RunLeaves options files names result (Some b) old new
+wanted_left options files names b result old new before after d noted =
+    cut_left options files names b d.report d.status d.reports result old new d.writes (line_ends want_of_memory_line result before after noted)
 
-pub wanted_explained : (limits : Limits) (quantum : ℕ) (files : Files) (names : Names) (b : Standing) (result : Status) (old new before after : Option (List ℕ)) → Delivered limits quantum files names b NoMemory old new →
-    NotesLine want_of_memory_line NoMemory result before after → RunExplains limits files names (Some b) result
-wanted_explained limits quantum files names b result old new before after d noted =
+pub wanted_explained : (options : RunOptions) (files : Files) (names : Names) (b : Standing) (result : Status) (old new before after : Option (List ℕ)) → Delivered options files names b NoMemory old new →
+    NotesLine want_of_memory_line NoMemory result before after → RunExplains (limits_of options) files names (Some b) result
+wanted_explained options files names b result old new before after d noted =
     elim (line_ends want_of_memory_line result before after noted) [
-      | inl is ↦ subst (λ (s : Status). RunExplains limits files names (Some b) s) (sym is) tt
-      | inr is ↦ subst (λ (s : Status). RunExplains limits files names (Some b) s) (sym is) tt
+      | inl is ↦ subst (λ (s : Status). RunExplains (limits_of options) files names (Some b) s) (sym is) tt
+      | inr is ↦ subst (λ (s : Status). RunExplains (limits_of options) files names (Some b) s) (sym is) tt
     ]
 
 -- ---- how a report was written

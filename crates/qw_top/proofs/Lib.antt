@@ -6,6 +6,8 @@ mod CauseLemmas
 mod CommandLemmas
 mod ContentLemmas
 mod DeliverLemmas
+mod EachLemmas
+mod EntryLemmas
 mod OutputLemmas
 mod QueryLemmas
 mod ReportLemmas

@@ -6,7 +6,7 @@ use Rattle.std.proofs.lemmas.List.{append-nil}
 use Rattle.qw_map.specs.Turns.{End}
 use Rattle.qw_bench.specs.Bench.{end_in}
 use Rattle.qw_bench.specs.Standing.{Standing}
-use Rattle.qw_top.specs.Delivered.{ends_below, is_exception, is_pages, is_steps, status_of_ends}
+use Rattle.qw_top.specs.Delivered.{counts_line, ends_below, is_exception, is_pages, is_steps, status_of_ends}
 use Rattle.qw_top.specs.Top.{Asked}
 use Rattle.qw_top.specs.Inner.Reports.{AreBlocks, IsBlock, is_page_limit, is_raised, is_step_limit, status_with}
 use Rattle.qw_top.specs.declared.status.Status.{Status}
@@ -14,18 +14,25 @@ use Rattle.qw_top.specs.declared.status.Status.TheVariants.{Done, Raised, PageLi
 
 -- ---- blocks
 
-pub AreBlocks-more : (queries : List Asked) (b : Standing) (k : ℕ) (asked : Asked) (text block : List ℕ) (n : ℕ) → AreBlocks queries b k text → n ≡ k + length queries →
-    IsBlock asked.header b n (end_in b.shared n) block → AreBlocks (queries ++ asked ∷ []) b k (text ++ block)
-AreBlocks-more [] b k asked text block n are n_is here =
-    let same : n ≡ k = omega (arith, n_is) in
-    (block, [], ap (λ (t : List ℕ). t ++ block) are ∙ sym (append-nil block), subst (λ (m : ℕ). IsBlock asked.header b m (end_in b.shared m) block) same here, refl)
-AreBlocks-more (first ∷ queries) b k asked text block n (piece, pieces, is, shown, more) n_is here = (
-  piece,
-  pieces ++ block,
-  ap (λ (t : List ℕ). t ++ block) is ∙ append_assoc piece pieces block,
-  shown,
-  AreBlocks-more queries b (suc k) asked pieces block n more (omega (arith, n_is)) here,
-)
+pub AreBlocks-more : (counts : Bool) (queries : List Asked) (b : Standing) (k : ℕ) (asked : Asked) (text block : List ℕ) (n : ℕ) → AreBlocks counts queries b k text → n ≡ k + length queries →
+    IsBlock asked.header b n (end_in b.shared n) block → AreBlocks counts (queries ++ asked ∷ []) b k ((text ++ block) ++ counts_line counts b n)
+AreBlocks-more counts [] b k asked text block n are n_is here =
+    let same : n ≡ k = omega (arith, n_is) in (
+      block,
+      [],
+      ap (λ (t : List ℕ). (t ++ block) ++ counts_line counts b n) are ∙ ap (λ (m : ℕ). block ++ counts_line counts b m) same ∙ sym (append-nil (block ++ counts_line counts b k)),
+      subst (λ (m : ℕ). IsBlock asked.header b m (end_in b.shared m) block) same here,
+      refl,
+    )
+AreBlocks-more counts (first ∷ queries) b k asked text block n (piece, pieces, is, shown, more) n_is here =
+    let before = piece ++ counts_line counts b k in
+    let line = counts_line counts b n in (
+      piece,
+      (pieces ++ block) ++ line,
+      ap (λ (t : List ℕ). (t ++ block) ++ line) is ∙ ap (λ (t : List ℕ). t ++ line) (append_assoc before pieces block) ∙ append_assoc before (pieces ++ block) line,
+      shown,
+      AreBlocks-more counts queries b (suc k) asked pieces block n more (omega (arith, n_is)) here,
+    )
 
 -- ---- the status
 

@@ -1,7 +1,7 @@
 -- What a bench that has run queries to their ends holds, and what a report shows of it.
 use Rattle.std.proofs.Common.{◌≡◌, ◌⊎◌, ℕ, zero, suc, ◌+◌, ◌<◌, nat_le, Bool, true, false, List, [], ◌∷◌, ◌++◌, Option, Some, None, inl, inr, refl, sym, subst, length, ap, ◌∙◌, arith}
 use Rattle.std.specs.Prelude.{Contains, IfSome, IsSome, ◌==◌, ◌||◌, if◌then◌else◌, slice_get}
-use Rattle.std.specs.List.{AllByRecursion, AllZip, list_any}
+use Rattle.std.specs.List.{AllZip, list_any}
 use Rattle.std.specs.Option.{option_and_then}
 use Rattle.std.proofs.lemmas.Option.{none-some, same_Some}
 use Rattle.qw_types.specs.Contents.{Contents}
@@ -16,7 +16,7 @@ use Rattle.qw_meaning.specs.Select.{AreOfEntries, entries_of}
 use Rattle.qw_map.specs.Layout.{rows_at}
 use Rattle.qw_map.specs.Turns.{End, Done as EndedDone, Exception, Pages, Steps, Trap, Instance, IsWhole, Shared, end_at, end_of_refusal}
 use Rattle.qw_promise.specs.Compiled.{Answers, IsCompiled, bound, raised_for}
-use Rattle.qw_promise.specs.Queries.{page_bound, promise_of}
+use Rattle.qw_compile.specs.PlannedQueries.{page_bound, promise_of}
 use Rattle.qw_bench.specs.Bench.{AreServing, IsAt, Program, Serves, Task, end_in, rows_in_tables}
 use Rattle.qw_bench.specs.Standing.{Standing, AreTasksOf, rows_in}
 use Rattle.qw_bench.specs.declared.bench.Limits.{Limits}
@@ -24,10 +24,11 @@ use Rattle.qw_map.proofs.TurnFacts.{found-in as there}
 use Rattle.qw_bench.proofs.Serving.{turns-serving}
 use Rattle.qw_bench.proofs.Starting.{compiled-answers, start-serving}
 use Rattle.qw_sink.specs.Sink.{report_of_exception, report_of_pages, report_of_rows, report_of_steps}
-use Rattle.qw_top.specs.Delivered.{HasRun, IsProgramOf, ShowsEnd, ShowsEnds, ends_below, is_exception, is_pages, is_steps, status_of_ends}
+use Rattle.qw_top.specs.Delivered.{counts_line, HasRun, IsProgramOf, ShowsEnd, ShowsEnds, ends_below, is_exception, is_pages, is_steps, status_of_ends}
 use Rattle.qw_top.specs.Top.{Asked, IsPastSteps, same_limits}
 use Rattle.qw_top.specs.Inner.Reports.{AreBlocks, IsBlock}
 use Rattle.qw_top.specs.declared.status.Status.TheVariants.{Done, Raised, PageLimitMet, StepLimitMet}
+use Rattle.qw_top.proofs.EachLemmas.{all_at}
 
 -- ---- the task of a query
 
@@ -67,12 +68,6 @@ many_tasks limits (query ∷ queries) [] tasks compiled are = absurd compiled
 many_tasks limits (query ∷ queries) (program ∷ programs) [] compiled are = absurd are
 many_tasks limits (query ∷ queries) (program ∷ programs) (t ∷ tasks) compiled are = ap suc (many_tasks limits queries programs tasks compiled.1 are.3)
 
--- what holds of each query holds of the one of a number
-read_at : (P : Asked → Type 0) (queries : List Asked) (k : ℕ) (asked : Asked) → AllByRecursion P queries → slice_get queries k ≡ Some asked → P asked
-read_at P [] k asked all found = absurd (none-some asked found)
-read_at P (query ∷ queries) zero asked all found = subst P (same_Some query asked found) all.0
-read_at P (query ∷ queries) (suc k) asked all found = read_at P queries k asked all.1 found
-
 -- ---- the end of a query
 
 -- Query k of a bench was run to this end by its task's instance.
@@ -105,7 +100,7 @@ module _ (limits : Limits) (quantum : ℕ) (tables : List Contents) (queries : L
       let one = task_of limits queries run.programs b.tasks run.compiled run.tasks k asked found in
       let i = there b.shared.instances k (omega (arith, many_instances, within)) in
       let answers = compiled-answers tables b.tasks run.start run.given (promise_of asked.specification) run.began k one.t i.0 one.task
-      (subst (λ (s : Shared). slice_get s.instances k ≡ Some i.0) run.turned i.1) one.compiled (read_at (λ (other : Asked). AreOfEntries (entries_of other.specification.sources) (rows_in_tables tables)) queries k asked run.read found) in
+      (subst (λ (s : Shared). slice_get s.instances k ≡ Some i.0) run.turned i.1) one.compiled (all_at (λ (other : Asked). AreOfEntries (entries_of other.specification.sources) (rows_in_tables tables)) queries k asked run.read found) in
       record {
         t = one.t;
         task = one.task;
@@ -164,16 +159,16 @@ module _ (limits : Limits) (tables : List Contents) (asked : Asked) (b : Standin
       (shows_at one.i.end one.at.answers block (subst (λ (o : Option End). IsBlock asked.header b k o block) end is))
 
 -- the blocks of queries show their ends, where each shows its own
-shows_blocks : (tables : List Contents) (b : Standing) (queries : List Asked) (k : ℕ) (text : List ℕ) →
+shows_blocks : (counts : Bool) (tables : List Contents) (b : Standing) (queries : List Asked) (k : ℕ) (text : List ℕ) →
     ((n j : ℕ) (asked : Asked) (block : List ℕ) → n ≡ k + j → slice_get queries j ≡ Some asked → IsBlock asked.header b n (end_in b.shared n) block → ShowsEnd tables asked b n (end_in b.shared n) block) →
-    AreBlocks queries b k text → ShowsEnds tables queries b k text
-shows_blocks tables b [] k text each are = are
-shows_blocks tables b (asked ∷ queries) k text each (block, blocks, is, first, more) = (
+    AreBlocks counts queries b k text → ShowsEnds counts tables queries b k text
+shows_blocks counts tables b [] k text each are = are
+shows_blocks counts tables b (asked ∷ queries) k text each (block, blocks, is, first, more) = (
   block,
   blocks,
   is,
   each k zero asked block (omega arith) refl first,
-  shows_blocks tables b queries (suc k) blocks (λ n j other piece n_is found here. each n (suc j) other piece (omega (arith, n_is)) found here) more,
+  shows_blocks counts tables b queries (suc k) blocks (λ n j other piece n_is found here. each n (suc j) other piece (omega (arith, n_is)) found here) more,
 )
 
 within_of : {A : Type 0} (xs : List A) (k : ℕ) (x : A) → slice_get xs k ≡ Some x → k < length xs
@@ -187,10 +182,10 @@ contains_at (y ∷ xs) zero x found = (0, omega arith, same_Some y x found)
 contains_at (y ∷ xs) (suc k) x found =
     let h = contains_at xs k x found in (suc h.0, omega (arith, h.1), h.2)
 
-pub shows_run : (limits : Limits) (quantum : ℕ) (tables : List Contents) (queries : List Asked) (b : Standing) → HasRun limits quantum tables queries b → (text : List ℕ) →
-    AreBlocks queries b 0 text → ShowsEnds tables queries b 0 text
-shows_run limits quantum tables queries b run text are =
-    shows_blocks tables b queries 0 text
+pub shows_run : (counts : Bool) (limits : Limits) (quantum : ℕ) (tables : List Contents) (queries : List Asked) (b : Standing) → HasRun limits quantum tables queries b → (text : List ℕ) →
+    AreBlocks counts queries b 0 text → ShowsEnds counts tables queries b 0 text
+shows_run counts limits quantum tables queries b run text are =
+    shows_blocks counts tables b queries 0 text
     (λ n j asked block n_is found here.
     let same : j ≡ n = omega (arith, n_is) in
     let at : slice_get queries n ≡ Some asked = subst (λ (m : ℕ). slice_get queries m ≡ Some asked) same found in
@@ -216,18 +211,18 @@ module _ (limits : Limits) (tables : List Contents) (asked : Asked) (b : Standin
       let h = some_at one.i.end (subst (λ (o : Option End). IsSome o) end some) one.at.answers in
       (h.0, subst (λ (o : Option End). ShowsEnd tables asked b k o h.0) (sym end) h.1)
 
-some_blocks : (tables : List Contents) (b : Standing) (queries : List Asked) (k : ℕ) →
+some_blocks : (counts : Bool) (tables : List Contents) (b : Standing) (queries : List Asked) (k : ℕ) →
     ((n j : ℕ) (asked : Asked) → n ≡ k + j → slice_get queries j ≡ Some asked → (block : List ℕ) × ShowsEnd tables asked b n (end_in b.shared n) block) →
-    (report : List ℕ) × ShowsEnds tables queries b k report
-some_blocks tables b [] k each = ([], refl)
-some_blocks tables b (asked ∷ queries) k each =
+    (report : List ℕ) × ShowsEnds counts tables queries b k report
+some_blocks counts tables b [] k each = ([], refl)
+some_blocks counts tables b (asked ∷ queries) k each =
     let first = each k zero asked (omega arith) refl in
-    let more = some_blocks tables b queries (suc k) (λ n j other n_is found. each n (suc j) other (omega (arith, n_is)) found) in
-    (first.0 ++ more.0, (first.0, more.0, refl, first.1, more.1))
+    let more = some_blocks counts tables b queries (suc k) (λ n j other n_is found. each n (suc j) other (omega (arith, n_is)) found) in
+    (first.0 ++ counts_line counts b k ++ more.0, (first.0, more.0, refl, first.1, more.1))
 
-pub some_report : (limits : Limits) (quantum : ℕ) (tables : List Contents) (queries : List Asked) (b : Standing) → HasRun limits quantum tables queries b → (report : List ℕ) × ShowsEnds tables queries b 0 report
-some_report limits quantum tables queries b run =
-    some_blocks tables b queries 0
+pub some_report : (counts : Bool) (limits : Limits) (quantum : ℕ) (tables : List Contents) (queries : List Asked) (b : Standing) → HasRun limits quantum tables queries b → (report : List ℕ) × ShowsEnds counts tables queries b 0 report
+some_report counts limits quantum tables queries b run =
+    some_blocks counts tables b queries 0
     (λ n j asked n_is found.
     let same : j ≡ n = omega (arith, n_is) in
     let at : slice_get queries n ≡ Some asked = subst (λ (m : ℕ). slice_get queries m ≡ Some asked) same found in

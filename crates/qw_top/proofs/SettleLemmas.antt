@@ -1,23 +1,24 @@
 -- That words and told files settle one cause, and which ends they explain beside it.
-use Rattle.std.proofs.Common.{◌≡◌, ◌⊎◌, ℕ, zero, suc, ◌<◌, List, [], ◌∷◌, ◌++◌, Option, Some, inl, inr, refl, sym, subst, ap, ◌∙◌, arith}
-use Rattle.std.specs.Prelude.{◌≤◌, Contains, slice_get}
+use Rattle.std.proofs.Common.{◌≡◌, ◌⊎◌, ℕ, ◌<◌, List, ◌∷◌, ◌++◌, Option, Some, inl, inr, refl, sym, subst, ap, ◌∙◌, arith}
+use Rattle.std.specs.Prelude.{◌≤◌, slice_get}
 use Rattle.std.specs.List.{AllByRecursion}
 use Rattle.qw_types.specs.Contents.{Contents}
 use Rattle.qw_types.specs.declared.schema.Table.{Table}
 use Rattle.qw_linear.specs.Memory.{most_pages}
 use Rattle.qw_types.specs.declared.code.Code.{Code}
 use Rattle.qw_meaning.specs.Outcome.{Raises, outcome}
-use Rattle.qw_promise.specs.Queries.{page_bound}
+use Rattle.qw_compile.specs.PlannedQueries.{page_bound}
 use Rattle.qw_bench.specs.Bench.{rows_in_tables}
 use Rattle.qw_bench.specs.Standing.{Standing, total_pages as pages_in_all}
 use Rattle.std.proofs.lemmas.Option.{same_Some}
 use Rattle.qw_bench.specs.declared.bench.Limits.{Limits}
-use Rattle.qw_top.specs.Causes.{AreOne, Cause, words_refused, statement_out_of_range, schema_too_long, schema_refused, table_too_long, table_refused, queries_too_long, queries_refused, queries_mistyped, no_statement, module_too_long, module_refused, total_pages, status_of_cause}
+use Rattle.qw_top.specs.Causes.{AreOne, Cause, words_refused, number_out_of_range, schema_too_long, schema_refused, table_too_long, table_refused, queries_too_long, queries_refused, queries_mistyped, no_statement, module_too_long, module_refused, total_pages, status_of_cause}
 use Rattle.qw_top.specs.Top.{Asked, AsksOne, Files, FilesSettle, HasQueries, HasTables, HaveRoom, IsEnough, IsFault, IsNextTable, IsPastSteps, IsRefusal, IsReported, Names, RaisesNothing, RunExplains, same_limits}
 use Rattle.qw_top.specs.Inner.Inputs.{IsNoSchema, IsNoScript, IsNoTable}
 use Rattle.qw_top.specs.declared.status.Status.{Status}
 use Rattle.qw_top.specs.declared.status.Status.TheVariants.{Done, WordsRefused, SchemaRefused, TableFileRefused, QueriesRefused, ReadFailed, WriteFailed, Raised, PageLimitMet, StepLimitMet, TotalPages, NoMemory}
 use Rattle.qw_top.proofs.ContentLemmas.{HasQueries-unique, HasTables-unique, IsNoSchema-unique, IsNoScript-one, IsNoTable-unique, QueriesAre-refused, SchemaIs-refused, next_accepted, one_refused}
+use Rattle.qw_top.proofs.EachLemmas.{all_contains}
 
 -- ---- where the files settle a cause
 
@@ -138,7 +139,7 @@ one_status cause other (inr both) = rw (both.cause_is, both.other_is) refl
 
 pub cause_is_refusal : (cause : Cause) → IsRefusal (status_of_cause cause)
 cause_is_refusal words_refused = tt
-cause_is_refusal statement_out_of_range = tt
+cause_is_refusal (number_out_of_range number) = tt
 cause_is_refusal schema_too_long = tt
 cause_is_refusal (schema_refused fault) = tt
 cause_is_refusal (table_too_long table) = tt
@@ -262,12 +263,6 @@ module _ (limits : Limits) (files : Files) (names : Names) (kept : Option Standi
         | inr (inl fault) ↦ inr fault
         | inr (inr reported) ↦ inl reported
       ]
-
--- what holds of each holds of one among them
-pub all_contains : {A : Type 0} (P : A → Type 0) (xs : List A) (x : A) → AllByRecursion P xs → Contains xs x → P x
-all_contains P [] x all among = absurd (omega (arith, among.1))
-all_contains P (y ∷ xs) x all (zero, within, is) = subst P is all.0
-all_contains P (y ∷ xs) x all (suc k, within, is) = all_contains P xs x all.1 (k, omega (arith, within), is)
 
 module _ (limits : Limits) (told : List ℕ → Option (List ℕ)) (names : Names) (schema : List Table) (tables : List Contents) (queries : List Asked)
     (asks : HasQueries (Some told) names schema tables queries) where

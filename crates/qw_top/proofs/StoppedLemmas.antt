@@ -1,9 +1,11 @@
 -- What is noted and how a command ends where it stopped.
-use Rattle.std.proofs.Common.{◌≡◌, ◌⊎◌, ℕ, zero, List, [], Option, Some, None, inl, inr, refl, sym, subst, length, ap, ◌∙◌, arith}
-use Rattle.std.specs.Prelude.{IfSome}
+use Rattle.std.proofs.Common.{◌≡◌, ◌⊎◌, ℕ, zero, List, [], Option, Some, None, Result, Ok, Err, inl, inr, refl, sym, subst, length, ap, ◌∙◌, arith}
+use Rattle.std.specs.Prelude.{IfErr, IfSome, OnErr, OnOk}
 use Rattle.std.specs.String.{string_bytes}
 use Rattle.std.proofs.lemmas.List.{append-nil, take_all}
-use Rattle.qw_top.specs.Causes.{Cause, line_of_cause, status_of_cause, words_refused, statement_out_of_range, schema_too_long, schema_refused, table_too_long, table_refused, queries_too_long, queries_refused, queries_mistyped, no_statement, module_too_long, module_refused, total_pages}
+use Rattle.qw_io.specs.declared.fault.IoFault.{IoFault}
+use Rattle.qw_io.specs.declared.fault.IoFault.TheVariants.{Failed, NoMemory as NoMemoryToWrite}
+use Rattle.qw_top.specs.Causes.{Cause, line_of_cause, status_of_cause, words_refused, number_out_of_range, schema_too_long, schema_refused, table_too_long, table_refused, queries_too_long, queries_refused, queries_mistyped, no_statement, module_too_long, module_refused, total_pages}
 use Rattle.qw_top.specs.Delivered.{CommandNotes, IsLine}
 use Rattle.qw_top.specs.Notes.{read_fault_line, want_of_memory_line}
 use Rattle.qw_top.specs.Output.{TookFront, with_text}
@@ -14,6 +16,7 @@ use Rattle.qw_top.specs.declared.stop.Stop.{Stop}
 use Rattle.qw_top.specs.declared.stop.Stop.TheVariants.{Refused, Unread, NoMemory as NoMemoryLeft}
 use Rattle.qw_top.specs.Inner.Noted.{NotesLine, NotesStop}
 use Rattle.qw_top.specs.Inner.Shelves.{Counts, Told}
+use Rattle.qw_top.specs.Inner.Sinks.{write_fault_of}
 use Rattle.qw_top.specs.Inner.Stop.{StopsAs, StopsBy, StopsFor, failed_at, octets_of, refusal_status}
 
 -- ---- fronts of a text
@@ -28,6 +31,15 @@ with_nothing (Some bytes) = ap Some (sym (append-nil bytes))
 
 pub TookFront-none : (taken : Option (List ℕ)) (text : List ℕ) → TookFront taken taken text
 TookFront-none taken text = (zero, omega arith, with_nothing taken)
+
+-- ---- a line
+
+-- a line is noted as the writing of its text went
+pub line_noted : (line text : List ℕ) (r : Result (Unit {0}) IoFault) (status result : Status) (old new : Option (List ℕ)) → text ≡ line → OnOk r (new ≡ with_text old text) → OnErr r (TookFront old new text) →
+    OnOk r (result ≡ status) → IfErr r (λ fault. result ≡ write_fault_of fault) → NotesLine line status result old new
+line_noted line text (Ok x) status result old new is took front ends cut = inl (ends, took ∙ ap (λ t. with_text old t) is)
+line_noted line text (Err Failed) status result old new is took front ends cut = inr (inl cut, subst (TookFront old new) is front)
+line_noted line text (Err NoMemoryToWrite) status result old new is took front ends cut = inr (inr cut, subst (TookFront old new) is front)
 
 -- ---- how a command ends
 
@@ -69,7 +81,7 @@ module _ (settles : Cause → Type 0) (named : List ℕ → Type 0) where
   pub cause_noted : (fault_name : Option (List ℕ)) (cause : Cause) (old new : Option (List ℕ)) → settles cause →
       new ≡ with_text old (line_of_cause cause) → CommandNotes settles named fault_name (status_of_cause cause) old new
   cause_noted fault_name words_refused old new settled took = (words_refused, settled, refl, took)
-  cause_noted fault_name statement_out_of_range old new settled took = (statement_out_of_range, settled, refl, took)
+  cause_noted fault_name (number_out_of_range number) old new settled took = (number_out_of_range number, settled, refl, took)
   cause_noted fault_name schema_too_long old new settled took = (schema_too_long, settled, refl, took)
   cause_noted fault_name (schema_refused fault) old new settled took = (schema_refused fault, settled, refl, took)
   cause_noted fault_name (table_too_long table) old new settled took = (table_too_long table, settled, refl, took)

@@ -11,10 +11,10 @@ use Rattle.qw_check.specs.Check.{HasFault, SpellsValid}
 use Rattle.qw_check.specs.declared.check.CheckFault.TheVariants as check_faults
 use Rattle.qw_map.specs.Layout.{Layout}
 use Rattle.qw_promise.specs.Compiled.{IsCompiled}
-use Rattle.qw_promise.specs.Queries.{promise_of}
+use Rattle.qw_compile.specs.PlannedQueries.{promise_of}
 use Rattle.qw_bench.specs.Standing.{Standing}
-use Rattle.qw_command_line.specs.Words.{run, compile, check, Reading, RunOptions, command, no_command, no_number, TextNames, reading}
-use Rattle.qw_top.specs.Causes.{Cause, words_refused, statement_out_of_range, schema_too_long, schema_refused, queries_too_long, queries_refused, queries_mistyped, no_statement, module_too_long, module_refused, status_of_cause}
+use Rattle.qw_command_line.specs.Words.{run, compile, check, Reading, RunOptions, command, no_command, out_of_range, TextNames, reading}
+use Rattle.qw_top.specs.Causes.{Cause, words_refused, number_out_of_range, schema_too_long, schema_refused, queries_too_long, queries_refused, queries_mistyped, no_statement, module_too_long, module_refused, status_of_cause}
 use Rattle.qw_top.specs.Delivered.{CommandNotes, LeavesBench, LeavesNothing, RunLeaves}
 use Rattle.qw_top.specs.FileNames.{table_file_of}
 use Rattle.qw_top.specs.Limits.{limits_of, most_module_octets, most_table_octets, most_text_octets}
@@ -122,7 +122,7 @@ TookText old new = (text : List ℕ) × (new ≡ with_text old text)
 -- the words and the files settle the cause
 abbrev pub SettlesBy : Files → Reading → Cause → Type 0
 SettlesBy files no_command cause = cause ≡ words_refused
-SettlesBy files no_number cause = cause ≡ statement_out_of_range
+SettlesBy files (out_of_range number) cause = cause ≡ number_out_of_range number
 SettlesBy files (command (run names options)) cause = FilesSettle (limits_of options) files names cause
 SettlesBy files (command (compile names statement)) cause = CompileSettles files names statement cause
 SettlesBy files (command (check name)) cause = CheckSettles files name cause
@@ -133,7 +133,7 @@ Settles files words cause = SettlesBy files (reading words) cause
 -- they, and the bench that was kept, explain how the call ended
 abbrev pub ExplainsBy : Files → Reading → (kept : Option Standing) → Status → Type 0
 ExplainsBy files no_command kept status = IsEndOfWords status
-ExplainsBy files no_number kept status = IsEndOfWords status
+ExplainsBy files (out_of_range number) kept status = IsEndOfWords status
 ExplainsBy files (command (run names options)) kept status = RunExplains (limits_of options) files names kept status
 ExplainsBy files (command (compile names statement)) kept status =
     TextExplains ((one : Asked) × HasStatement files names statement one) (CompileSettles files names statement) status
@@ -144,7 +144,7 @@ Explains files words kept status = ExplainsBy files (reading words) kept status
 
 -- the bench that was kept, and what `out` had taken before and has taken now; a run alone keeps a bench
 abbrev pub LeavesBy : Files → Reading → Status → (kept : Option Standing) → (old new : Option (List ℕ)) → Type 0
-LeavesBy files (command (run names options)) status kept old new = RunLeaves (limits_of options) options.quantum files names status kept old new
+LeavesBy files (command (run names options)) status kept old new = RunLeaves options files names status kept old new
 LeavesBy files (command (compile names statement)) status kept old new = (kept ≡ None) × LeavesText (CompileWrites files names statement) status old new
 LeavesBy files (command (check name)) status kept old new = (kept ≡ None) × LeavesText (CheckWrites files name) status old new
 LeavesBy files _ status kept old new = LeavesNothing kept old new
@@ -155,7 +155,7 @@ Leaves files words status kept old new = LeavesBy files (reading words) status k
 -- what is left where `out` counted a fault: a run's bench with a front of its report, or a front of a command's text
 abbrev pub LeavesFrontBy : Files → Reading → (kept : Option Standing) → (old new : Option (List ℕ)) → Type 0
 LeavesFrontBy files (command (run names options)) kept old new =
-    LeavesBench (limits_of options) options.quantum files names kept (λ status report. TookFront old new report)
+    LeavesBench options files names kept (λ status report. TookFront old new report)
 LeavesFrontBy files (command (compile names statement)) kept old new = (kept ≡ None) × TookFrontOf (CompileWrites files names statement) old new
 LeavesFrontBy files (command (check name)) kept old new = (kept ≡ None) × TookFrontOf (CheckWrites files name) old new
 LeavesFrontBy files _ kept old new = ⊥

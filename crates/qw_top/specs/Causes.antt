@@ -15,13 +15,15 @@ use Rattle.qw_schema.specs.declared.parse.Count.TheVariants.{Tables, Columns}
 use Rattle.qw_schema.specs.declared.parse.SchemaFault.{SchemaFault}
 use Rattle.qw_schema.specs.declared.parse.SchemaFault.TheVariants as schema
 use Rattle.qw_parse.specs.declared.fault.Count.{Count as ScriptCount}
-use Rattle.qw_parse.specs.declared.fault.Count.TheVariants.{Statements, SelectItems, Nodes, LiteralOctets}
+use Rattle.qw_parse.specs.declared.fault.Count.TheVariants.{Statements, SelectItems, FromEntries, Nodes, LiteralOctets}
 use Rattle.qw_parse.specs.declared.fault.ParseFault.{ParseFault}
 use Rattle.qw_parse.specs.declared.fault.ParseFault.TheVariants as script
 use Rattle.qw_typer.specs.declared.fault.FaultKind.{FaultKind}
-use Rattle.qw_typer.specs.declared.fault.FaultKind.TheVariants.{UnknownTable, UnknownColumn, Clash, ScaleTooLarge, LiteralTooLong, BadDate}
+use Rattle.qw_typer.specs.declared.fault.FaultKind.TheVariants.{UnknownTable, UnknownColumn, Ambiguous, DuplicateAlias, Clash, ScaleTooLarge, LiteralTooLong, BadDate}
 use Rattle.qw_typer.specs.declared.fault.TypeFault.{TypeFault}
 use Rattle.qw_typer.specs.declared.fault.TypeFault.TheVariants as typing
+use Rattle.qw_command_line.specs.Words.{name_of}
+use Rattle.qw_command_line.specs.declared.command.Number.{Number}
 use Rattle.qw_octet_grammar.specs.declared.fault.What.{What}
 use Rattle.qw_octet_grammar.specs.declared.fault.What.TheVariants as what
 use Rattle.qw_valid.specs.declared.valid.Part.{Part}
@@ -31,12 +33,12 @@ use Rattle.qw_check.specs.declared.check.CheckFault.TheVariants as check
 use Rattle.qw_top.specs.declared.status.Status.{Status}
 use Rattle.qw_top.specs.declared.status.Status.TheVariants.{WordsRefused, SchemaRefused, TableFileRefused, QueriesRefused, TotalPages}
 
--- What the words and the files settle: no words of a command, or words whose number of a statement is out of range; a file that is
+-- What the words and the files settle: no words of a command, or words with a number that is out of its range; a file that is
 -- longer than its limit; a text that is no schema, a table file that stands for no rows, a text that is no script, a script with a
 -- query that means nothing over the schema, octets that are no valid module, each with its fault; a statement that isn't there; or more pages than a memory has.
 pub data Cause : Type 0 where
   words_refused : Cause
-  statement_out_of_range : Cause
+  number_out_of_range : Number → Cause
   schema_too_long : Cause
   schema_refused : SchemaFault → Cause
   table_too_long : Table → Cause
@@ -52,7 +54,7 @@ pub data Cause : Type 0 where
 -- the status of a run that ends for it
 abbrev pub status_of_cause : Cause → Status
 status_of_cause words_refused = WordsRefused
-status_of_cause statement_out_of_range = WordsRefused
+status_of_cause (number_out_of_range number) = WordsRefused
 status_of_cause schema_too_long = SchemaRefused
 status_of_cause (schema_refused fault) = SchemaRefused
 status_of_cause (table_too_long table) = TableFileRefused
@@ -91,6 +93,7 @@ counted Columns = codes "columns"
 abbrev pub counted_in_script : ScriptCount → List ℕ
 counted_in_script Statements = codes "statements"
 counted_in_script SelectItems = codes "select items"
+counted_in_script FromEntries = codes "from entries"
 counted_in_script Nodes = codes "nodes"
 counted_in_script LiteralOctets = codes "literal octets"
 
@@ -122,6 +125,8 @@ script_cause script.NoMemory = codes "want of memory"
 abbrev pub kind_words : FaultKind → List ℕ
 kind_words UnknownTable = codes "unknown table"
 kind_words UnknownColumn = codes "unknown column"
+kind_words Ambiguous = codes "ambiguous"
+kind_words DuplicateAlias = codes "duplicate alias"
 kind_words Clash = codes "clash"
 kind_words ScaleTooLarge = codes "scale too large"
 kind_words LiteralTooLong = codes "literal too long"
@@ -191,7 +196,7 @@ module_cause check.NoMemory = codes "want of memory"
 -- what is said of a cause; of words that are none what clap says, which isn't fixed
 abbrev pub words_of_cause : Cause → Option (List ℕ)
 words_of_cause words_refused = None
-words_of_cause statement_out_of_range = Some (codes "words: statement out of range")
+words_of_cause (number_out_of_range number) = Some (codes "words: " ++ name_of number ++ codes " out of range")
 words_of_cause schema_too_long = Some (codes "schema: " ++ too_long)
 words_of_cause (schema_refused fault) = Some (codes "schema: " ++ schema_cause fault)
 words_of_cause (table_too_long table) = Some (table.name ++ codes ": " ++ too_long)

@@ -10,12 +10,14 @@ use Rattle.qw_meaning.specs.Outcome.{Rows, Raises, outcome}
 use Rattle.qw_map.specs.Turns.{Act, End, Done as EndedDone, Exception, Pages, Steps, Trap, Shared, turns}
 use Rattle.qw_meaning.specs.Select.{AreOfEntries, entries_of}
 use Rattle.qw_promise.specs.Compiled.{IsCompiled, raised_for}
-use Rattle.qw_promise.specs.Queries.{promise_of}
-use Rattle.qw_bench.specs.Bench.{AreRounds, IsStart, Program, end_in, rows_in_tables}
+use Rattle.qw_compile.specs.PlannedQueries.{promise_of}
+use Rattle.qw_bench.specs.Bench.{AreRounds, IsStart, Program, end_in, held_in, ran_in, rows_in_tables}
 use Rattle.qw_bench.specs.Standing.{Standing, AreTasksOf, rows_in}
 use Rattle.qw_bench.specs.declared.bench.Limits.{Limits}
-use Rattle.qw_sink.specs.Sink.{report_of_rows, report_of_exception, report_of_pages, report_of_steps}
+use Rattle.qw_sink.specs.Sink.{report_of_counts, report_of_rows, report_of_exception, report_of_pages, report_of_steps}
+use Rattle.qw_command_line.specs.Words.{RunOptions}
 use Rattle.qw_top.specs.Causes.{Cause, line_of_cause, status_of_cause}
+use Rattle.qw_top.specs.Limits.{limits_of}
 use Rattle.qw_top.specs.Notes.{read_fault_line, want_of_memory_line}
 use Rattle.qw_top.specs.Output.{TookFront, with_text}
 use Rattle.qw_top.specs.Top.{Asked, Files, HasQueries, HaveRoom, Names, same_limits}
@@ -55,11 +57,15 @@ ShowsEnd tables asked b k (Some (Pages held asked_for limit)) block = block ≡ 
 ShowsEnd tables asked b k (Some (Steps limit)) block = block ≡ report_of_steps (suc k) limit
 ShowsEnd tables asked b k (Some Trap) block = ⊥
 
--- The blocks of queries from number k on, one behind another.
-abbrev pub ShowsEnds : List Contents → List Asked → Standing → (k : ℕ) → (report : List ℕ) → Type 0
-ShowsEnds tables [] b k report = report ≡ []
-ShowsEnds tables (asked ∷ queries) b k report = (block : List ℕ) × (blocks : List ℕ) × (report ≡ block ++ blocks)
-    × ShowsEnd tables asked b k (end_in b.shared k) block × ShowsEnds tables queries b (suc k) blocks
+-- the line on the counts of query k, where counts are asked for: the instructions that it ran, and the pages that it holds
+abbrev pub counts_line : (counts : Bool) → Standing → (k : ℕ) → List ℕ
+counts_line counts b k = if counts then report_of_counts (suc k) (ran_in b.shared k) (held_in b.shared k) else []
+
+-- The blocks of queries from number k on, one behind another, each before the line on its query's counts, where they are asked for.
+abbrev pub ShowsEnds : (counts : Bool) → List Contents → List Asked → Standing → (k : ℕ) → (report : List ℕ) → Type 0
+ShowsEnds counts tables [] b k report = report ≡ []
+ShowsEnds counts tables (asked ∷ queries) b k report = (block : List ℕ) × (blocks : List ℕ) × (report ≡ block ++ counts_line counts b k ++ blocks)
+    × ShowsEnd tables asked b k (end_in b.shared k) block × ShowsEnds counts tables queries b (suc k) blocks
 
 -- whether an end was at a limit of pages, at one of instructions, at an exception
 abbrev pub is_pages : Option End → Bool
@@ -85,15 +91,15 @@ abbrev pub status_of_ends : List (Option End) → Status
 status_of_ends ends =
     if list_any is_pages ends then PageLimitMet else (if list_any is_steps ends then StepLimitMet else (if list_any is_exception ends then Raised else Done))
 
--- The files of these names ask for queries, this bench has run them, the report shows their ends, and this is the status of a run
--- with those ends.
-pub record Reports (limits : Limits) (quantum : ℕ) (files : Files) (names : Names) (b : Standing) (report : List ℕ) (status : Status) : Type 0 where
+-- The files of these names ask for queries, this bench has run them by the options, the report shows their ends, with counts where these
+-- are asked for, and this is the status of a run with those ends.
+pub record Reports (options : RunOptions) (files : Files) (names : Names) (b : Standing) (report : List ℕ) (status : Status) : Type 0 where
   pub schema : List Table
   pub tables : List Contents
   pub queries : List Asked
   pub asks : HasQueries files names schema tables queries
-  pub run : HasRun limits quantum tables queries b
-  pub shows : ShowsEnds tables queries b 0 report
+  pub run : HasRun (limits_of options) options.quantum tables queries b
+  pub shows : ShowsEnds options.counts tables queries b 0 report
   pub status_is : status ≡ status_of_ends (ends_below b (length queries))
 
 -- there is no bench, and nothing was written
@@ -101,28 +107,28 @@ abbrev pub LeavesNothing : (kept : Option Standing) → (old new : Option (List 
 LeavesNothing kept old new = (kept ≡ None) × (new ≡ old)
 
 -- the bench is there, and its report, at this status, has the property
-abbrev pub LeavesBench : (limits : Limits) → (quantum : ℕ) → Files → Names → (kept : Option Standing) → (Status → List ℕ → Type 0) → Type 0
-LeavesBench limits quantum files names kept P =
-    (b : Standing) × (report : List ℕ) × (status : Status) × (kept ≡ Some b) × Reports limits quantum files names b report status × P status report
+abbrev pub LeavesBench : RunOptions → Files → Names → (kept : Option Standing) → (Status → List ℕ → Type 0) → Type 0
+LeavesBench options files names kept P =
+    (b : Standing) × (report : List ℕ) × (status : Status) × (kept ≡ Some b) × Reports options files names b report status × P status report
 
 -- the bench is there, and its report, of this status, was written whole
-abbrev pub LeavesReport : (limits : Limits) → (quantum : ℕ) → Files → Names → Status → (kept : Option Standing) → (old new : Option (List ℕ)) → Type 0
-LeavesReport limits quantum files names result kept old new =
-    LeavesBench limits quantum files names kept (λ status report. (status ≡ result) × (new ≡ with_text old report))
+abbrev pub LeavesReport : RunOptions → Files → Names → Status → (kept : Option Standing) → (old new : Option (List ℕ)) → Type 0
+LeavesReport options files names result kept old new =
+    LeavesBench options files names kept (λ status report. (status ≡ result) × (new ≡ with_text old report))
 
 -- What a run leaves, by its status: the bench that it kept, and what a sink had taken before of the report and has taken now.
 -- Memory may be wanted before there is a bench, or while the report is made and written; and a line on what went wrong may
 -- fail to be written.
-abbrev pub RunLeaves : (limits : Limits) → (quantum : ℕ) → Files → Names → Status → (kept : Option Standing) → (old new : Option (List ℕ)) → Type 0
-RunLeaves limits quantum files names Done kept old new = LeavesReport limits quantum files names Done kept old new
-RunLeaves limits quantum files names Raised kept old new = LeavesReport limits quantum files names Raised kept old new
-RunLeaves limits quantum files names PageLimitMet kept old new = LeavesReport limits quantum files names PageLimitMet kept old new
-RunLeaves limits quantum files names StepLimitMet kept old new = LeavesReport limits quantum files names StepLimitMet kept old new
-RunLeaves limits quantum files names WriteFailed kept old new =
-    LeavesNothing kept old new ⊎ LeavesBench limits quantum files names kept (λ status report. TookFront old new report)
-RunLeaves limits quantum files names NoMemory kept old new =
-    LeavesNothing kept old new ⊎ LeavesBench limits quantum files names kept (λ status report. TookFront old new report)
-RunLeaves limits quantum files names status kept old new = LeavesNothing kept old new
+abbrev pub RunLeaves : RunOptions → Files → Names → Status → (kept : Option Standing) → (old new : Option (List ℕ)) → Type 0
+RunLeaves options files names Done kept old new = LeavesReport options files names Done kept old new
+RunLeaves options files names Raised kept old new = LeavesReport options files names Raised kept old new
+RunLeaves options files names PageLimitMet kept old new = LeavesReport options files names PageLimitMet kept old new
+RunLeaves options files names StepLimitMet kept old new = LeavesReport options files names StepLimitMet kept old new
+RunLeaves options files names WriteFailed kept old new =
+    LeavesNothing kept old new ⊎ LeavesBench options files names kept (λ status report. TookFront old new report)
+RunLeaves options files names NoMemory kept old new =
+    LeavesNothing kept old new ⊎ LeavesBench options files names kept (λ status report. TookFront old new report)
+RunLeaves options files names status kept old new = LeavesNothing kept old new
 
 -- A command may settle causes, and may read files of names; these are given where what is noted is said of it.
 

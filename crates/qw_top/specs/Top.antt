@@ -18,7 +18,7 @@ use Rattle.qw_typer.specs.Typed.{HasFirstFault, Means}
 use Rattle.qw_typer.specs.declared.fault.TypeFault.{TypeFault}
 use Rattle.qw_module.specs.Validity.{IsShaped}
 use Rattle.qw_promise.specs.Compiled.{bound}
-use Rattle.qw_promise.specs.Queries.{page_bound, promise_of}
+use Rattle.qw_compile.specs.PlannedQueries.{page_bound, promise_of}
 use Rattle.qw_bench.specs.Bench.{Task, rows_in_tables}
 use Rattle.qw_bench.specs.Standing.{Standing, total_pages as pages_in_all}
 use Rattle.qw_bench.specs.declared.bench.Limits.{Limits}

@@ -189,6 +189,7 @@ fn counted_in_script(what: ScriptCount) -> &'static str
     match what {
         ScriptCount::Statements => "statements",
         ScriptCount::SelectItems => "select items",
+        ScriptCount::FromEntries => "from entries",
         ScriptCount::Nodes => "nodes",
         ScriptCount::LiteralOctets => "literal octets",
     }
@@ -214,6 +215,8 @@ fn kind_words(kind: FaultKind) -> &'static str
     match kind {
         FaultKind::UnknownTable => "unknown table",
         FaultKind::UnknownColumn => "unknown column",
+        FaultKind::Ambiguous => "ambiguous",
+        FaultKind::DuplicateAlias => "duplicate alias",
         FaultKind::Clash => "clash",
         FaultKind::ScaleTooLarge => "scale too large",
         FaultKind::LiteralTooLong => "literal too long",

@@ -8,7 +8,8 @@ ghost use Rattle.qw_types.specs.Contents.{Contents};
 ghost use Rattle.qw_types.specs.declared.schema.Table.{Table};
 ghost use Rattle.qw_bench.specs.Bench.{rows_in_tables};
 ghost use Rattle.qw_bench.specs.Standing.{Standing};
-ghost use Rattle.qw_command_line.specs.Words.{RunOptions, no_command, no_number, reading};
+ghost use Rattle.qw_command_line.specs.declared.command.Number.{Number};
+ghost use Rattle.qw_command_line.specs.Words.{RunOptions, no_command, out_of_range, reading};
 ghost use Rattle.qw_top.specs.Asking.{AsksWithin};
 ghost use Rattle.qw_top.specs.Call.{Asks, AsksToCheck, AsksToCompile, Explains, IsLimit, IsNamed, Leaves, LeavesFront, Notes, Settles};
 ghost use Rattle.qw_top.specs.Causes.{AreOne, Cause, status_of_cause};
@@ -115,11 +116,11 @@ pub fn one_cause()
     one_answer();
 }
 
-/// Words that are those of no command, or whose number of a statement is out of range, explain no other end but one that kept what
+/// Words that are those of no command, or of which a number is out of its range, explain no other end but one that kept what
 /// is noted of them from being written: no file is read.
 pub fn refused_words_come_first()
     ensures { (files : Files) (words : List (List ℕ)) (kept : Option Standing) (status : Status)
-        → (reading words ≡ no_command) ⊎ (reading words ≡ no_number) → Explains files words kept status
+        → (reading words ≡ no_command) ⊎ ((number : Number) × (reading words ≡ out_of_range number)) → Explains files words kept status
         → (status ≡ Status.WordsRefused) ⊎ (status ≡ Status.WriteFailed) ⊎ (status ≡ Status.NoMemory) }
 {}
 

@@ -1,25 +1,31 @@
 //! Cases with numbers of definitions that no function computes as they stand. No function here computes anything.
 
-ghost use Rattle.std.specs.Prelude.{◌≡◌, ◌^◌, [], ◌∷◌, Some, codes};
+ghost use Rattle.std.specs.Prelude.{◌≡◌, ◌^◌, pos, [], ◌∷◌, Some, codes};
 ghost use Rattle.qw_types.specs.declared.numeral.FieldFault.TheVariants.{NotDate, NotNumber, TooFine, TooLarge};
+ghost use Rattle.qw_types.specs.declared.value.Val.TheVariants.{Num};
 ghost use Rattle.qw_csv.specs.declared.cell.CellFault.TheVariants as cell;
 ghost use Rattle.qw_csv.specs.declared.loading.LoadFault.TheVariants as load;
+ghost use Rattle.qw_meaning.specs.Outcome.{Rows, outcome};
 ghost use Rattle.qw_map.specs.Turns.{Done, Exception, Pages, Steps};
 ghost use Rattle.qw_schema.specs.declared.parse.Count.TheVariants.{Columns};
 ghost use Rattle.qw_schema.specs.declared.parse.SchemaFault.TheVariants as schema;
-ghost use Rattle.qw_parse.specs.declared.fault.Count.TheVariants.{Statements, SelectItems, Nodes, LiteralOctets};
+ghost use Rattle.qw_parse.specs.declared.fault.Count.TheVariants.{Statements, SelectItems, FromEntries, Nodes, LiteralOctets};
 ghost use Rattle.qw_parse.specs.declared.fault.ParseFault.TheVariants as script;
-ghost use Rattle.qw_typer.specs.declared.fault.FaultKind.TheVariants.{BadDate, Clash, LiteralTooLong, ScaleTooLarge, UnknownColumn};
+ghost use Rattle.qw_typer.specs.declared.fault.FaultKind.TheVariants.{Ambiguous, BadDate, Clash, DuplicateAlias, LiteralTooLong, ScaleTooLarge, UnknownColumn, UnknownTable};
 ghost use Rattle.qw_typer.specs.declared.fault.TypeFault.TheVariants.{Fault};
 ghost use Rattle.qw_octet_grammar.specs.declared.fault.What.TheVariants.{DataSection};
 ghost use Rattle.qw_valid.specs.declared.valid.Part.TheVariants.{Exports};
 ghost use Rattle.qw_check.specs.declared.check.CheckFault.TheVariants as check;
+ghost use Rattle.qw_compile.specs.PlannedQueries.{page_bound};
+ghost use Rattle.qw_bench.specs.Bench.{rows_in_tables};
 ghost use Rattle.qw_top.specs.Asking.{AsksWithin, IsOne};
-ghost use Rattle.qw_top.specs.Causes.{line_of_cause, module_refused, module_too_long, no_statement, queries_mistyped, queries_refused, queries_too_long, schema_refused, schema_too_long, statement_out_of_range, table_refused, table_too_long, total_pages};
+ghost use Rattle.qw_top.specs.Causes.{line_of_cause, module_refused, module_too_long, no_statement, number_out_of_range, queries_mistyped, queries_refused, queries_too_long, schema_refused, schema_too_long, table_refused, table_too_long, total_pages};
 ghost use Rattle.qw_top.specs.Delivered.{status_of_ends};
 ghost use Rattle.qw_top.specs.Limits.{limits_of, most_module_octets, most_table_octets, most_text_octets};
-ghost use Rattle.qw_top.specs.Worked.{watched_file, worked_table};
+ghost use Rattle.qw_top.specs.Top.{IsHeader, RaisesNothing};
+ghost use Rattle.qw_top.specs.Worked.{joined, joined_tables, watched_file, worked_table};
 ghost use Rattle.qw_command_line.specs.Words.{default_options};
+ghost use Rattle.qw_command_line.specs.declared.command.Number.TheVariants as number;
 ghost use Rattle.qw_top.specs.declared.status.Status.{Status};
 
 /// A limit of pages comes before one of instructions, and that before an exception, whichever query met it.
@@ -29,6 +35,15 @@ pub fn worked_statuses()
     ensures steps { status_of_ends (Some (Exception 2) ∷ Some (Steps 9) ∷ Some Done ∷ []) ≡ Status.StepLimitMet }
     ensures pages { status_of_ends (Some (Exception 1) ∷ Some (Steps 9) ∷ Some (Pages 1 1 1) ∷ []) ≡ Status.PageLimitMet }
     ensures pages_first { status_of_ends (Some (Pages 1 1 1) ∷ Some (Steps 9) ∷ Some (Exception 1) ∷ []) ≡ Status.PageLimitMet }
+{}
+
+/// `SELECT T.A FROM T, U WHERE T.A = U.A` as a script asks for it, over T of 4, 1, 7 and U of 4: the header of its one column; the one row 4, with
+/// nothing raised; and its bound on pages.
+pub fn worked_join()
+    ensures header { IsHeader joined.specification (codes "A" ∷ []) joined.header }
+    ensures rows { outcome joined.specification (rows_in_tables joined_tables) ≡ Rows ((Num (pos 4) ∷ []) ∷ []) }
+    ensures plain { RaisesNothing (rows_in_tables joined_tables) joined }
+    ensures pages { page_bound joined.specification (rows_in_tables joined_tables) ≡ 4 }
 {}
 
 /// The lines on a schema file.
@@ -65,9 +80,13 @@ pub fn worked_query_lines()
     ensures not_grammar { line_of_cause (queries_refused (script.NotGrammar 2)) ≡ codes "queries: not grammar in statement 2\n" }
     ensures many_statements { line_of_cause (queries_refused (script.TooMany 1 Statements 64)) ≡ codes "queries: too many statements in statement 1, limit 64\n" }
     ensures many_items { line_of_cause (queries_refused (script.TooMany 1 SelectItems 64)) ≡ codes "queries: too many select items in statement 1, limit 64\n" }
+    ensures many_entries { line_of_cause (queries_refused (script.TooMany 4 FromEntries 8)) ≡ codes "queries: too many from entries in statement 4, limit 8\n" }
     ensures many_nodes { line_of_cause (queries_refused (script.TooMany 3 Nodes 1000)) ≡ codes "queries: too many nodes in statement 3, limit 1000\n" }
     ensures many_octets { line_of_cause (queries_refused (script.TooMany 2 LiteralOctets 16384)) ≡ codes "queries: too many literal octets in statement 2, limit 16384\n" }
+    ensures unknown_table { line_of_cause (queries_mistyped (Fault 2 UnknownTable (codes "U"))) ≡ codes "queries: unknown table U in statement 2\n" }
     ensures unknown_column { line_of_cause (queries_mistyped (Fault 1 UnknownColumn (codes "B"))) ≡ codes "queries: unknown column B in statement 1\n" }
+    ensures ambiguous { line_of_cause (queries_mistyped (Fault 1 Ambiguous (codes "A"))) ≡ codes "queries: ambiguous A in statement 1\n" }
+    ensures duplicate_alias { line_of_cause (queries_mistyped (Fault 3 DuplicateAlias (codes "T"))) ≡ codes "queries: duplicate alias T in statement 3\n" }
     ensures clash { line_of_cause (queries_mistyped (Fault 64 Clash (codes "'x'"))) ≡ codes "queries: clash 'x' in statement 64\n" }
     ensures scale { line_of_cause (queries_mistyped (Fault 1 ScaleTooLarge (codes "0.1"))) ≡ codes "queries: scale too large 0.1 in statement 1\n" }
     ensures literal { line_of_cause (queries_mistyped (Fault 1 LiteralTooLong (codes "1000000000000000000")))
@@ -76,7 +95,7 @@ pub fn worked_query_lines()
     ensures pages { line_of_cause (total_pages 65536) ≡ codes "total pages 65536\n" }
 {}
 
-/// The lines on a module's file, and on the number of a statement.
+/// The lines on a module's file, and on a statement that isn't there.
 pub fn worked_module_lines()
     ensures too_long { line_of_cause module_too_long ≡ codes "module: too long\n" }
     ensures no_module { line_of_cause (module_refused check.NotModule) ≡ codes "module: not a module\n" }
@@ -84,7 +103,14 @@ pub fn worked_module_lines()
     ensures part { line_of_cause (module_refused (check.Part Exports)) ≡ codes "module: invalid Exports\n" }
     ensures function { line_of_cause (module_refused (check.Body 0 3)) ≡ codes "module: invalid function 0 at 3\n" }
     ensures statement { line_of_cause (no_statement 2) ≡ codes "queries: no statement 2\n" }
-    ensures number { line_of_cause statement_out_of_range ≡ codes "words: statement out of range\n" }
+{}
+
+/// The lines on numbers of the words that are out of their ranges.
+pub fn worked_word_lines()
+    ensures quantum { line_of_cause (number_out_of_range number.Quantum) ≡ codes "words: quantum out of range\n" }
+    ensures pages { line_of_cause (number_out_of_range number.Pages) ≡ codes "words: pages out of range\n" }
+    ensures steps { line_of_cause (number_out_of_range number.Steps) ≡ codes "words: steps out of range\n" }
+    ensures statement { line_of_cause (number_out_of_range number.Statement) ≡ codes "words: statement out of range\n" }
 {}
 
 /// The limits of files: 1,048,576 octets of a schema file and of a queries file, 268,435,456 of a table file, 67,108,864 of a module's;

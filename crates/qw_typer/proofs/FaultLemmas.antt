@@ -1,13 +1,19 @@
 -- Checking construct by construct gives what is meant where there is no fault, and the first fault else.
-use Rattle.std.proofs.Common.{◌≡◌, ℕ, List, [], ◌∷◌, ◌++◌, map, Result, Ok, Err, refl, ap, ◌∙◌, arith}
+use Rattle.std.proofs.Common.{◌≡◌, ℕ, ◌+◌, List, [], ◌∷◌, ◌++◌, map, length, take, drop, Option, Some, None, Result, Ok, Err, refl, ap, ◌∙◌, arith}
 use Rattle.std.specs.Prelude.{Contains}
+use Rattle.std.specs.Option.{option_map_or}
+use Rattle.qw_types.specs.declared.schema.Table.{Table}
+use Rattle.qw_meaning.specs.Select as specified
+use Rattle.qw_meaning.specs.Select.{Specification}
+use Rattle.qw_ast.specs.Limits.{entries_in, entries_of}
+use Rattle.qw_ast.specs.Syntax as written
 use Rattle.qw_scalar.specs.declared.comparison.Comparison.TheVariants.{Equal}
 use Rattle.qw_scalar.specs.Expression as meaning
-use Rattle.qw_ast.specs.Syntax.{Expression, null, number, text, date, column, signed, arithmetic, extract, searched_case, simple_case, coalesce, null_if, Condition, comparison, between, among, is_null, both, either, negation_of, is, bracketed, condition, expression, Expressions, last, further, Branching, otherwise, when, SelectItem, Selected, all_columns, items}
+use Rattle.qw_ast.specs.Syntax.{Expression, null, number, text, date, column, signed, arithmetic, extract, searched_case, simple_case, coalesce, null_if, Condition, comparison, between, among, is_null, both, either, negation_of, is, bracketed, condition, expression, Expressions, last, further, Branching, otherwise, when, SelectItem, Selected, all_columns, items, Joined, Source, Select}
 use Rattle.qw_typer.specs.Faults.{Fault, all_faults, among_faults, arithmetic_faults, branch_faults, case_faults, choices_faults, comparison_faults, condition_faults, faults, field_faults, first_of_all, first_of_branches, first_token, item_faults, matches_faults, or_own, sign_faults}
-use Rattle.qw_typer.specs.Meant.{Scope, all_meant, choices, condition_meant, matches, meant, with_not, with_sign}
-use Rattle.qw_typer.specs.Typed.{conjuncts_of, items_meant, list_faults, selected_faults}
-use Rattle.qw_typer.specs.Inner.Typing.{◌>>=◌, outcome, typed, typed_all, typed_choices, typed_condition, typed_conjuncts, typed_item, typed_items, typed_list, typed_matches}
+use Rattle.qw_typer.specs.Meant.{Entry, Scope, all_meant, choices, condition_meant, matches, meant, with_not, with_sign}
+use Rattle.qw_typer.specs.Typed.{conjuncts, conjuncts_of, entry_meant, filter_faults, in_scope, items_meant, joins_faults, joins_meant, list_faults, over_faults, scope_from, scope_of, selected_faults, sources_faults, sources_meant}
+use Rattle.qw_typer.specs.Inner.Typing.{◌>>=◌, outcome, typed, typed_all, typed_choices, typed_condition, typed_conjuncts, typed_filter, typed_item, typed_items, typed_joined, typed_joins, typed_list, typed_matches, typed_over, typed_source, typed_sources}
 
 -- ---- one construct, over any operands
 
@@ -169,3 +175,82 @@ no_fault (f ∷ fs) a x h = absurd cc
 pub first_fault : {A : Type 0} (fs : List Fault) (a : A) (f : Fault) → outcome fs a ≡ Err f → Contains fs f
 first_fault [] a f h = absurd cc
 first_fault (g ∷ gs) a f h = let e : g ≡ f = cc in (0, omega arith, e)
+
+-- ---- FROM
+
+filter_is : (scope : Scope) (o : Option Condition) → typed_filter scope o ≡ outcome (option_map_or (condition_faults scope) o []) (map (condition_meant scope) (option_map_or conjuncts_of o []))
+filter_is scope None = refl
+filter_is scope (Some c) = conjuncts_is scope c
+
+abbrev joined_with : Entry → List meaning.Condition → specified.Joined
+joined_with e cs = record { entry = entry_meant e; on = cs }
+
+abbrev source_with : Entry → List specified.Joined → specified.Source
+source_with e joins = record { first = entry_meant e; joins = joins }
+
+joined_is : (reach : Scope) (e : Entry) (j : Joined) → typed_joined reach e j ≡ outcome (condition_faults reach j.on) (joined_with e (map (condition_meant reach) (conjuncts_of j.on)))
+joined_is reach e j = rw (conjuncts_is reach j.on) (plain (condition_faults reach j.on) (map (condition_meant reach) (conjuncts_of j.on)) (joined_with e))
+
+joins_is : (schema : List Table) (reached : Scope) (index : ℕ) (joins : List Joined)
+    → typed_joins reached (scope_from schema index (map (λ (j : Joined). j.entry) joins)) joins ≡ outcome (joins_faults schema reached index joins) (joins_meant schema reached index joins)
+joins_is schema reached index [] = refl
+joins_is schema reached index (j ∷ joins) =
+    let e = in_scope schema index j.entry in
+    let reach = reached ++ e ∷ [] in
+    let x = joined_with e (map (condition_meant reach) (conjuncts_of j.on)) in
+    let others = typed_joins reach (scope_from schema (index + 1) (map (λ (k : Joined). k.entry) joins)) joins in
+    ap (λ (r : Result specified.Joined Fault). r >>= (λ y. others >>= (λ ys. Ok (y ∷ ys)))) (joined_is reach e j)
+    ∙ ap (λ (r : Result (List specified.Joined) Fault). outcome (condition_faults reach j.on) x >>= (λ y. r >>= (λ ys. Ok (y ∷ ys)))) (joins_is schema reach (index + 1) joins)
+    ∙ plain_two (condition_faults reach j.on) (joins_faults schema reach (index + 1) joins) x (joins_meant schema reach (index + 1) joins) (λ y ys. y ∷ ys)
+
+abbrev source_faults : List Table → ℕ → Source → List Fault
+source_faults schema index source = joins_faults schema (in_scope schema index source.first ∷ []) (index + 1) source.joins
+
+abbrev source_meant : List Table → ℕ → Source → specified.Source
+source_meant schema index source = source_with (in_scope schema index source.first) (joins_meant schema (in_scope schema index source.first ∷ []) (index + 1) source.joins)
+
+source_is : (schema : List Table) (index : ℕ) (source : Source) → typed_source (scope_from schema index (entries_in source)) source ≡ outcome (source_faults schema index source) (source_meant schema index source)
+source_is schema index source =
+    let e = in_scope schema index source.first in
+    ap (λ (r : Result (List specified.Joined) Fault). r >>= (λ js. Ok (source_with e js))) (joins_is schema (e ∷ []) (index + 1) source.joins)
+    ∙ plain (source_faults schema index source) (joins_meant schema (e ∷ []) (index + 1) source.joins) (source_with e)
+
+pub take_scope : (schema : List Table) (index : ℕ) (xs ys : List written.Entry) → take (length xs) (scope_from schema index (xs ++ ys)) ≡ scope_from schema index xs
+take_scope schema index [] ys = refl
+take_scope schema index (x ∷ xs) ys = ap (λ (es : Scope). in_scope schema index x ∷ es) (take_scope schema (index + 1) xs ys)
+
+pub drop_scope : (schema : List Table) (index : ℕ) (xs ys : List written.Entry) → drop (length xs) (scope_from schema index (xs ++ ys)) ≡ scope_from schema (index + length xs) ys
+drop_scope schema index [] ys = let same : index ≡ index + 0 = omega arith in ap (λ (n : ℕ). scope_from schema n ys) same
+drop_scope schema index (x ∷ xs) ys =
+    let same : index + 1 + length xs ≡ index + length (x ∷ xs) = omega arith in
+    drop_scope schema (index + 1) xs ys ∙ ap (λ (n : ℕ). scope_from schema n ys) same
+
+sources_is : (schema : List Table) (index : ℕ) (sources : List Source) → typed_sources (scope_from schema index (entries_of sources)) sources ≡ outcome (sources_faults schema index sources) (sources_meant schema index sources)
+sources_is schema index [] = refl
+sources_is schema index (source ∷ sources) =
+    let own = entries_in source in
+    let next = index + length own in
+    let behind = drop (length own) (scope_from schema index (own ++ entries_of sources)) in
+    let x = source_meant schema index source in
+    ap (λ (r : Result specified.Source Fault). r >>= (λ y. typed_sources behind sources >>= (λ ys. Ok (y ∷ ys))))
+    (ap (λ (es : Scope). typed_source es source) (take_scope schema index own (entries_of sources)) ∙ source_is schema index source)
+    ∙ ap (λ (r : Result (List specified.Source) Fault). outcome (source_faults schema index source) x >>= (λ y. r >>= (λ ys. Ok (y ∷ ys))))
+    (ap (λ (es : Scope). typed_sources es sources) (drop_scope schema index own (entries_of sources)) ∙ sources_is schema next sources)
+    ∙ plain_two (source_faults schema index source) (sources_faults schema next sources) x (sources_meant schema next sources) (λ y ys. y ∷ ys)
+
+-- what a query without a fault means
+abbrev pub meaning_of : List Table → Select → Specification
+meaning_of schema s = record {
+  sources = sources_meant schema 0 s.sources;
+  conjuncts = map (condition_meant (scope_of schema s)) (conjuncts s);
+  items = items_meant (scope_of schema s) s.selected;
+}
+
+abbrev specified_with : List meaning.Expression → List specified.Source → List meaning.Condition → Specification
+specified_with is' sources cs = record { sources = sources; conjuncts = cs; items = is' }
+
+pub over_is : (schema : List Table) (s : Select) → typed_over (scope_of schema s) s ≡ outcome (over_faults schema s) (meaning_of schema s)
+over_is schema s =
+    let scope = scope_of schema s in
+    rw (list_is scope s.selected, sources_is schema 0 s.sources, filter_is scope s.filter)
+    (plain_three (selected_faults scope s.selected) (sources_faults schema 0 s.sources) (filter_faults scope s) (items_meant scope s.selected) (sources_meant schema 0 s.sources) (map (condition_meant scope) (conjuncts s)) specified_with)

@@ -1,10 +1,15 @@
 -- Trees of at most so many nodes and octets of text literals, put together; and the queries of a script.
-use Rattle.std.proofs.Common.{◌≡◌, ℕ, ◌+◌, ◌-◌, ◌≤◌, ◌<◌, List, [], ◌∷◌, ◌++◌, map, length, take, drop, sum_by, refl, ap, ◌∙◌, arith}
+use Rattle.std.proofs.Common.{◌≡◌, ℕ, ◌+◌, ◌-◌, ◌≤◌, ◌<◌, List, [], ◌∷◌, ◌++◌, suc, map, length, take, drop, sum_by, refl, ap, ◌∙◌, arith}
 use Rattle.std.specs.Prelude.{IfOk, Result}
-use Rattle.std.proofs.lemmas.List.Sums.{sum_by_push}
+use Rattle.std.proofs.lemmas.List.Sums.{sum_by-cons, sum_by_push}
 use Rattle.qw_types.specs.Octets.{single_quote}
 use Rattle.qw_token.specs.Token.{Lexeme}
+use Rattle.qw_types.specs.declared.schema.Column.{Column}
+use Rattle.qw_types.specs.declared.value.Ty.{Ty}
+use Rattle.qw_meaning.specs.Query.{QueryParts}
+use Rattle.qw_ast.proofs.StatementLemmas.{drop_next}
 use Rattle.qw_scalar.specs.declared.expression.Expr.{Expr}
+use Rattle.qw_scalar.specs.declared.expression.Expr.TheVariants as expr
 use Rattle.qw_scalar.specs.declared.expression.Cond.{Cond}
 use Rattle.qw_scalar.specs.declared.expression.Exprs.{Exprs}
 use Rattle.qw_scalar.specs.declared.expression.Branches.{Branches}
@@ -14,15 +19,18 @@ use Rattle.qw_ast.specs.SyntaxTree as syntax
 use Rattle.qw_ast.specs.declared.script.Item.{Item}
 use Rattle.qw_ast.specs.Syntax.{Select}
 use Rattle.qw_ast.specs.Limits as script
-use Rattle.qw_ast.specs.Limits.{IsAccepted, IsQuery, items_of, octets, octets_condition, over_filter, over_items}
-use Rattle.qw_typer.specs.declared.query.TypedSelect.{TypedSelect}
+use Rattle.qw_ast.specs.Limits.{IsAccepted, IsQuery, items_of, octets, octets_condition, over_filter, over_items, over_sources}
+use Rattle.qw_typer.specs.declared.scope.Entry.{Entry as CodeEntry}
+use Rattle.qw_typer.specs.declared.query.TypedQuery.{TypedQuery}
 use Rattle.qw_typer.specs.declared.refusal.Refusal.{Refusal}
 use Rattle.qw_typer.specs.declared.tree.Results.{Results}
 use Rattle.qw_typer.specs.declared.tree.Typed.{Typed}
 use Rattle.qw_typer.specs.declared.tree.Values.{Values}
 use Rattle.qw_typer.specs.Literal.{string_value, undoubled}
-use Rattle.qw_typer.specs.Sizes.{AreSmall, IsSmall, text_octets, text_octets_of}
-use Rattle.qw_typer.specs.Inner.Sizes.{Fits, FitsAll, FitsBranches, FitsCondition, FitsItems, FitsMatches, FitsQuery, FitsTests, nodes, nodes_condition, selected_nodes}
+use Rattle.qw_typer.specs.Sizes.{AreSmall, IsSmall, tests_on, text_octets, text_octets_of}
+use Rattle.qw_typer.specs.Meant.{Entry}
+use Rattle.qw_typer.specs.Inner.Typing.{as_entry, in_reach}
+use Rattle.qw_typer.specs.Inner.Sizes.{ColumnsPushed, Fits, FitsAll, FitsBranches, FitsCondition, FitsItems, FitsMatches, FitsQuery, FitsTests, column_count, nodes, nodes_condition, selected_nodes}
 use Rattle.qw_typer.proofs.ScriptSizes.{few_of_query}
 
 -- ---- the value of a character string is the script's
@@ -56,6 +64,11 @@ matches_fit_same r n k n' k' fits one two = rw (← one, ← two) fits
 
 -- ---- items, one after another
 
+-- with so many columns still to come
+pub record ColumnsLeft (before made : List Expr) (left all : ℕ) : Type 0 where
+  pub nodes_few : sum_by typed.nodes made + left ≤ sum_by typed.nodes before + all
+  pub octets_are : sum_by text_octets made ≡ sum_by text_octets before
+
 -- with so many nodes and octets still to come, the items stay within all of these
 pub record FitsWith (made : List Expr) (n k all_nodes all_octets : ℕ) : Type 0 where
   pub nodes_left : sum_by typed.nodes made + n ≤ all_nodes
@@ -76,6 +89,40 @@ fits_more made made' e n k m j all_nodes all_octets more one before =
 
 pub fits_last : (made : List Expr) (all_nodes all_octets : ℕ) → FitsWith made 0 0 all_nodes all_octets → FitsItems made all_nodes all_octets
 fits_last made all_nodes all_octets all = let n = all.nodes_left in let k = all.octets_left in record { nodes_fit = omega (arith, n); octets_fit = omega (arith, k) }
+
+-- columns of an entry
+pub columns_pushed : (columns : List Column) (i : ℕ) (d : Column) (made made' : List Expr) (k : ℕ) (ty : Ty) (before : List Expr) → i < length columns → made' ≡ made ++ expr.Column k ty ∷ []
+    → ColumnsLeft before made (length (drop i columns)) (length columns) → ColumnsLeft before made' (length (drop (i + 1) columns)) (length columns)
+columns_pushed columns i d made made' k ty before lt more left =
+    let nodes_more : sum_by typed.nodes made' ≡ sum_by typed.nodes made + 1 = ap (λ (es : List Expr). sum_by typed.nodes es) more ∙ sum_by_push typed.nodes made (expr.Column k ty) in
+    let octets_more : sum_by text_octets made' ≡ sum_by text_octets made + 0 = ap (λ (es : List Expr). sum_by text_octets es) more ∙ sum_by_push text_octets made (expr.Column k ty) in
+    let count : length (drop i columns) ≡ suc (length (drop (i + 1) columns)) = ap (λ (cs : List Column). length cs) (drop_next columns i d lt) in
+    let nodes_few = left.nodes_few in
+    let octets_are = left.octets_are in
+    record { nodes_few = omega (arith, nodes_more, count, nodes_few); octets_are = omega (arith, octets_more, octets_are) }
+
+pub columns_left_first : (made : List Expr) (n : ℕ) → ColumnsLeft made made n n
+columns_left_first made n = record { nodes_few = omega arith; octets_are = refl }
+
+pub columns_left_last : (before made : List Expr) (n m : ℕ) → ColumnsLeft before made m n → ColumnsPushed before made n
+columns_left_last before made n m left = let nodes_few = left.nodes_few in record { nodes_few = omega (arith, nodes_few); octets_are = left.octets_are }
+
+-- all columns of entries
+pub entry_fits : (made made' : List Expr) (rest rest' : List CodeEntry) (e : CodeEntry) (all : ℕ) → rest ≡ e ∷ rest' → ColumnsPushed made made' (length e.columns.now) → FitsWith made (column_count (in_reach rest)) 0 all 0 → FitsWith made' (column_count (in_reach rest')) 0 all 0
+entry_fits made made' rest rest' e all first pushed before =
+    let count : column_count (in_reach rest) ≡ length e.columns.now + column_count (in_reach rest') =
+    ap (λ (es : List CodeEntry). column_count (in_reach es)) first ∙ sum_by-cons (λ (f : Entry). length f.columns) (as_entry e) (in_reach rest') in
+    let nodes_left = before.nodes_left in
+    let octets_left = before.octets_left in
+    let nodes_few = pushed.nodes_few in
+    let octets_are = pushed.octets_are in
+    record { nodes_left = omega (arith, count, nodes_left, nodes_few); octets_left = omega (arith, octets_left, octets_are) }
+
+pub entries_fit : (made : List Expr) (rest : List CodeEntry) (all : ℕ) → FitsWith made (column_count (in_reach rest)) 0 all 0 → FitsItems made all 0
+entries_fit made rest all h = let n = h.nodes_left in let k = h.octets_left in record { nodes_fit = omega (arith, n); octets_fit = omega (arith, k) }
+
+pub items_widen : (made : List Expr) (n m k : ℕ) → n ≤ m → FitsItems made n k → FitsItems made m k
+items_widen made n m k le h = let n' = h.nodes_fit in record { nodes_fit = omega (arith, le, n'); octets_fit = h.octets_fit }
 
 -- items of a select list
 pub items_fit : (made made' : List Expr) (e : Expr) (rest rest' : List Item) (item : Item) (all_nodes all_octets : ℕ) → made' ≡ made ++ e ∷ [] → rest ≡ item ∷ rest'
@@ -107,17 +154,20 @@ test_fits made made' c n k none more one =
 
 -- ---- queries
 
-pub query_fits : (conjuncts : List Cond) (items : List Expr) (s : Select) → FitsItems items (selected_nodes s.selected) (over_items octets (items_of s.selected))
-    → FitsTests conjuncts (over_filter nodes_condition s.filter) (over_filter octets_condition s.filter) → FitsQuery conjuncts items s
-query_fits conjuncts items s listed tested =
+pub query_fits : (parts : QueryParts) (s : Select) → FitsItems parts.items (selected_nodes s.selected) (over_items octets (items_of s.selected))
+    → FitsTests (tests_on parts.sources) (over_sources nodes_condition s.sources) (over_sources octets_condition s.sources)
+    → FitsTests parts.conjuncts (over_filter nodes_condition s.filter) (over_filter octets_condition s.filter) → FitsQuery parts s
+query_fits parts s listed joined tested =
     let n = listed.nodes_fit in
     let k = listed.octets_fit in
+    let a = joined.nodes_fit in
+    let b = joined.octets_fit in
     let m = tested.nodes_fit in
     let j = tested.octets_fit in
-    record { nodes_fit = omega (arith, n, m); octets_fit = omega (arith, k, j) }
+    record { nodes_fit = omega (arith, n, a, m); octets_fit = omega (arith, k, b, j) }
 
 -- one that a script takes is typed small
-pub is_small : (s : Select) (t : TypedSelect) (tokens : List Lexeme) → FitsQuery t.select.conjuncts t.select.items s → IsAccepted tokens s → IsSmall t.select
+pub is_small : (s : Select) (t : TypedQuery) (tokens : List Lexeme) → FitsQuery t.query s → IsAccepted tokens s → IsSmall t.query
 is_small s t tokens fits accepted =
     let most = few_of_query tokens s accepted.query in
     let few_nodes = accepted.few_nodes in
@@ -128,9 +178,9 @@ is_small s t tokens fits accepted =
 
 -- ---- a script, query by query
 
-small_push : (made : List TypedSelect) (t : TypedSelect) → AreSmall made → IsSmall t.select → AreSmall (made ++ t ∷ [])
+small_push : (made : List TypedQuery) (t : TypedQuery) → AreSmall made → IsSmall t.query → AreSmall (made ++ t ∷ [])
 small_push [] t small one = (one, tt)
 small_push (u ∷ made) t small one = (small.0, small_push made t small.1 one)
 
-pub small_kept : (s : Select) (made made' : List TypedSelect) (t : TypedSelect) → made' ≡ made ++ t ∷ [] → IsQuery s → FitsQuery t.select.conjuncts t.select.items s → AreSmall made → AreSmall made'
+pub small_kept : (s : Select) (made made' : List TypedQuery) (t : TypedQuery) → made' ≡ made ++ t ∷ [] → IsQuery s → FitsQuery t.query s → AreSmall made → AreSmall made'
 small_kept s made made' t more query fits small = rw more (small_push made t small (is_small s t query.0 fits query.1))

@@ -1,11 +1,11 @@
--- A query of the grammar is typed with at most three and a half times its nodes, and 64 for `*`. A query with NULL elsewhere than
+-- A query of the grammar is typed with at most three and a half times its nodes, and 512 for `*`. A query with NULL elsewhere than
 -- as a result of a CASE has no such bound, so the proof goes along the rules of the grammar.
 use Rattle.std.proofs.Common.{◌≡◌, ℕ, zero, suc, ◌+◌, ◌*◌, ◌≤◌, Bool, true, false, List, [], ◌∷◌, ◌++◌, Option, arith}
 use Rattle.std.specs.List.{AllByRecursion}
 use Rattle.qw_token.specs.Token.{Lexeme}
 use Rattle.qw_scalar.specs.declared.expression.Operator.{Operator}
-use Rattle.qw_ast.specs.Syntax.{Expression, arithmetic, Condition, both, either, Clause, condition, expression, SelectItem, Selected, Select}
-use Rattle.qw_ast.specs.ScriptGrammar.{Series, first, more, IsNothing, nothing, appended, arguments, IsResult, null_result, result, Branch, is_condition, IsBranch, branch, IsElse, no_else, else_result, branching, IsPrimary, a_number, a_string, a_date, a_column, a_qualified_column, brackets, a_searched_case, a_simple_case, a_coalesce, a_null_if, an_extract, IsFactor, unsigned_factor, signed_factor, IsTerm, IsValueExpression, IsPredicate, a_comparison, a_between, an_in, a_null_test, IsBooleanPrimary, predicate, condition_brackets, IsBooleanTest, no_test, a_test, IsBooleanFactor, no_negation, a_negation, IsBooleanTerm, IsSearchCondition, IsClause, IsNested, IsItem, item, IsSelectList, asterisk, some_items, IsFilter, unfiltered, filtered, IsSelect, a_select, IsSelectOf}
+use Rattle.qw_ast.specs.Syntax.{Expression, arithmetic, Condition, both, either, Clause, condition, expression, SelectItem, Selected, Joined, Source, Select}
+use Rattle.qw_ast.specs.ScriptGrammar.{Series, first, more, IsNothing, nothing, appended, arguments, IsResult, null_result, result, Branch, is_condition, IsBranch, branch, IsElse, no_else, else_result, branching, IsPrimary, a_number, a_string, a_date, a_column, a_qualified_column, brackets, a_searched_case, a_simple_case, a_coalesce, a_null_if, an_extract, IsFactor, unsigned_factor, signed_factor, IsTerm, IsValueExpression, IsPredicate, a_comparison, a_between, an_in, a_null_test, IsBooleanPrimary, predicate, condition_brackets, IsBooleanTest, no_test, a_test, IsBooleanFactor, no_negation, a_negation, IsBooleanTerm, IsSearchCondition, IsClause, IsNested, IsItem, item, IsSelectList, asterisk, some_items, IsFilter, unfiltered, filtered, IsJoined, a_joined, IsSource, a_source, AreSources, some_sources, IsSelect, a_select, IsSelectOf}
 use Rattle.qw_ast.specs.Limits as script
 use Rattle.qw_typer.specs.Inner.Sizes.{nodes, nodes_condition, nodes_clause, nodes_all, nodes_branches, selected_nodes, query_nodes}
 
@@ -32,6 +32,9 @@ gain false = 0
 
 pub record FewInBranch (searched : Bool) (b : Branch) : Type 0 where
   pub few : 2 + 2 * nodes_clause b.test + 2 * nodes b.result + gain searched ≤ 7 * script.nodes_clause b.test + 7 * script.nodes b.result
+
+pub record FewInSource (s : Source) : Type 0 where
+  pub few : 2 * script.over_joins nodes_condition s.joins ≤ 7 * script.over_joins script.nodes_condition s.joins
 
 -- ---- lists
 
@@ -188,7 +191,7 @@ module _ (Inner : Clause → List Lexeme → List Lexeme → Type 0) (inner : (c
   few_item : (i : SelectItem) (ts rest : List Lexeme) → IsItem Inner i ts rest → FewNodes i.value
   few_item _ _ _ (item e name ts us rest h n) = inner (expression e) ts us h
 
-  few_selected : (selected : Selected) (ts rest : List Lexeme) → IsSelectList Inner selected ts rest → 2 * selected_nodes selected ≤ 7 * script.over_items script.nodes (script.items_of selected) + 128
+  few_selected : (selected : Selected) (ts rest : List Lexeme) → IsSelectList Inner selected ts rest → 2 * selected_nodes selected ≤ 7 * script.over_items script.nodes (script.items_of selected) + 1024
   few_selected _ _ _ (asterisk t rest star) = omega arith
   few_selected _ _ _ (some_items i others ts us rest h are) =
       let all = list_all (λ (j : SelectItem). FewNodes j.value) few_item others us rest are in
@@ -199,15 +202,34 @@ module _ (Inner : Clause → List Lexeme → List Lexeme → Type 0) (inner : (c
   few_filter _ _ _ (unfiltered rest) = omega arith
   few_filter _ _ _ (filtered c word ts rest w h) = let one = inner (condition c) ts rest h in let few = one.few in omega (arith, few)
 
-  few_select : (s : Select) (ts rest : List Lexeme) → IsSelect Inner s ts rest → 2 * query_nodes s ≤ 7 * script.query_nodes s + 128
-  few_select _ _ _ (a_select selected alias filter word from table ts us vs ws rest w all list w' regular naming where') =
-      let one = few_selected selected us (from ∷ table ∷ vs) list in
+  few_joined_condition : (j : Joined) (ts rest : List Lexeme) → IsJoined Inner j ts rest → FewNodesOf j.on
+  few_joined_condition _ _ _ (a_joined e c word ts us rest is_entry w h) = inner (condition c) us rest h
+
+  few_joins : (js : List Joined) → AllByRecursion (λ (j : Joined). FewNodesOf j.on) js → 2 * script.over_joins nodes_condition js ≤ 7 * script.over_joins script.nodes_condition js
+  few_joins [] all = omega arith
+  few_joins (j ∷ others) all = let few = all.0.few in let rest = few_joins others all.1 in omega (arith, few, rest)
+
+  few_source : (s : Source) (ts rest : List Lexeme) → IsSource Inner s ts rest → FewInSource s
+  few_source _ _ _ (a_source e js ts us rest is_entry are) =
+      record { few = few_joins js (list_all (λ (j : Joined). FewNodesOf j.on) few_joined_condition js us rest are) }
+
+  few_all_sources : (ss : List Source) → AllByRecursion FewInSource ss → 2 * script.over_sources nodes_condition ss ≤ 7 * script.over_sources script.nodes_condition ss
+  few_all_sources [] all = omega arith
+  few_all_sources (s ∷ others) all = let few = all.0.few in let rest = few_all_sources others all.1 in omega (arith, few, rest)
+
+  few_sources : (ss : List Source) (ts rest : List Lexeme) → AreSources Inner ss ts rest → 2 * script.over_sources nodes_condition ss ≤ 7 * script.over_sources script.nodes_condition ss
+  few_sources _ _ _ (some_sources s others ts us rest h are) = few_all_sources (s ∷ others) (few_source s ts us h, list_all FewInSource few_source others us rest are)
+
+  few_select : (s : Select) (ts rest : List Lexeme) → IsSelect Inner s ts rest → 2 * query_nodes s ≤ 7 * script.query_nodes s + 1024
+  few_select _ _ _ (a_select selected sources filter word from ts us vs ws rest w all list w' froms where') =
+      let one = few_selected selected us (from ∷ vs) list in
       let two = few_filter filter ws rest where' in
-      omega (arith, one, two)
+      let three = few_sources sources vs ws froms in
+      omega (arith, one, two, three)
 
 few_nested : (n : ℕ) (c : Clause) (ts rest : List Lexeme) → IsNested n c ts rest → IsFew c
 few_nested zero c ts rest h = absurd h
 few_nested (suc n) c ts rest h = few_clause (IsNested n) (few_nested n) c ts rest h
 
-pub few_of_query : (tokens : List Lexeme) (s : Select) → IsSelectOf tokens s → 2 * query_nodes s ≤ 7 * script.query_nodes s + 128
+pub few_of_query : (tokens : List Lexeme) (s : Select) → IsSelectOf tokens s → 2 * query_nodes s ≤ 7 * script.query_nodes s + 1024
 few_of_query tokens s h = few_select (IsNested 33) (few_nested 33) s tokens [] h

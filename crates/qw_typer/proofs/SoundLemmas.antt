@@ -1,5 +1,6 @@
--- What has no fault is typed over the table's columns.
-use Rattle.std.proofs.Common.{◌≡◌, ℕ, zero, suc, ◌≤◌, ◌^◌, ◌&&◌, Bool, true, false, not, nat_lt, nat_le, pos, List, [], ◌∷◌, ◌++◌, map, Option, Some, None, max, refl, ap, ◌∙◌, arith, inl, inr, slice_get, position, is_none, unwrap_or, option_map, subst}
+-- What has no fault is typed over the columns of the entries that it reaches.
+use Rattle.std.proofs.Common.{◌≡◌, ℕ, zero, suc, ◌+◌, ◌*◌, ◌≤◌, ◌^◌, ◌&&◌, Bool, true, false, not, nat_lt, nat_le, pos, List, [], ◌∷◌, ◌++◌, map, Option, Some, None, max, refl, ap, ◌∙◌, arith, inl, inr, slice_get, position, is_none, unwrap_or, option_map, subst}
+use Rattle.std.specs.Prelude.{◌⊎◌, if◌then◌else◌}
 use Rattle.std.specs.List.{AllByRecursion}
 use Rattle.std.specs.Option.{option_and_then}
 use Rattle.std.specs.Str.{bytes_eq}
@@ -25,14 +26,15 @@ use Rattle.qw_scalar.specs.Typing.{AreTyped, IsTyped, ScalesAllowed, agree, are_
 use Rattle.qw_ast.specs.declared.script.Sign.{Sign}
 use Rattle.qw_ast.specs.declared.script.Sign.TheVariants.{Plus, Minus}
 use Rattle.qw_typer.specs.declared.fault.FaultKind.{FaultKind}
-use Rattle.qw_typer.specs.declared.fault.FaultKind.TheVariants.{Clash, UnknownColumn, UnknownTable}
+use Rattle.qw_typer.specs.declared.fault.FaultKind.TheVariants.{Clash, UnknownTable}
 use Rattle.qw_ast.specs.Grammar.{name_of}
 use Rattle.qw_ast.specs.Syntax.{Days, Expression, null, number, text, date, column, signed, arithmetic, extract, searched_case, simple_case, coalesce, null_if, Condition, comparison, between, among, is_null, both, either, negation_of, is, bracketed, condition, expression, Expressions, last, further, Branching, otherwise, when}
 use Rattle.qw_typer.specs.Days.{Day}
 use Rattle.qw_typer.specs.Literal.{after_intervals, date_at, date_of, day_shown, digits_of, is_short, number_of, scale_of, string_value}
 use Rattle.qw_typer.proofs.DateLemmas.{at_most, date_typed}
-use Rattle.qw_typer.specs.Faults.{Fault, all_faults, among_faults, branch_faults, case_faults, choices_faults, comparison_faults, condition_faults, fault_where, faults, first_of_all, first_of_branches, first_token, is_allowed, is_known, matches_faults, or_own, qualifier_of, results_agree, results_kind}
-use Rattle.qw_typer.specs.Meant.{Scope, all_meant, choices, column_named, condition_meant, matches, meant, with_not, with_sign}
+use Rattle.qw_typer.specs.Faults.{Fault, all_faults, among_faults, branch_faults, case_faults, choices_faults, comparison_faults, condition_faults, counted_faults, fault_where, faults, first_of_all, first_of_branches, first_token, is_allowed, is_known, matches_faults, or_own, qualifier_of, results_agree, results_kind}
+use Rattle.qw_scalar.proofs.ColumnLemmas.{columns_more}
+use Rattle.qw_typer.specs.Meant.{Entry, Scope, all_meant, choices, column_named, condition_meant, first_of, is_qualified, listed, matches, meant, referred, with_not, with_sign}
 use Rattle.qw_typer.specs.Inner.Typing.{AreScaled, IsScaled, kind_scale}
 use Rattle.qw_typer.proofs.CaseLemmas.{agree_at, kind_cases, scaled_case, scaled_cases}
 
@@ -191,12 +193,31 @@ case_tested token cs none = (and_parts (results_agree cs) (has_kind (results_kin
 abbrev pub types_of : List Column → List Ty
 types_of columns = map (λ (c : Column). c.ty) columns
 
--- the column at a place is of this type
-abbrev pub IsAt : List Column → ℕ → Ty → Type 0
-IsAt columns i ty = slice_get (types_of columns) i ≡ Some ty
+-- the column of this number is the entry's, and of this type
+abbrev pub IsIn : Entry → ℕ → Ty → Type 0
+IsIn e i ty = (k : ℕ) × (i ≡ 64 * e.number + k) × (slice_get (types_of e.columns) k ≡ Some ty)
 
-abbrev pub AreSized : List Column → Type 0
-AreSized columns = AllByRecursion (λ (c : Column). IsSized c.ty) columns
+-- and one in scope
+abbrev pub IsAt : Scope → ℕ → Ty → Type 0
+IsAt [] i ty = ⊥
+IsAt (e ∷ es) i ty = IsIn e i ty ⊎ IsAt es i ty
+
+abbrev pub HasSized : List Column → Type 0
+HasSized columns = AllByRecursion (λ (c : Column). IsSized c.ty) columns
+
+abbrev pub AreSized : Scope → Type 0
+AreSized scope = AllByRecursion (λ (e : Entry). HasSized e.columns) scope
+
+pub all_more : {A : Type 0} (P Q : A → Type 0) → ((x : A) → P x → Q x) → (xs : List A) → AllByRecursion P xs → AllByRecursion Q xs
+all_more P Q more [] h = tt
+all_more P Q more (x ∷ xs) h = (more x h.0, all_more P Q more xs h.1)
+
+pub all_both : {A : Type 0} (P : A → Type 0) (xs ys : List A) → AllByRecursion P xs → AllByRecursion P ys → AllByRecursion P (xs ++ ys)
+all_both P [] ys h k = k
+all_both P (x ∷ xs) ys h k = (h.0, all_both P xs ys h.1 k)
+
+pub good_more : (Holds More : ℕ → Ty → Type 0) → ((i : ℕ) (ty : Ty) → Holds i ty → More i ty) → (m : meaning.Expression) → IsGood Holds m → IsGood More m
+good_more Holds More more m h = record { typed = h.typed; columns = columns_more Holds More more m h.columns; scaled = h.scaled; small = h.small }
 
 scale_small : (ty : Ty) → IsSized ty → type_scale ty ≤ 18
 scale_small type.Integer h = omega arith
@@ -210,25 +231,42 @@ type_scaled (type.Decimal p s) = refl
 type_scaled type.Date = refl
 type_scaled (type.Varchar n) = refl
 
-sized_at : (columns : List Column) (i : ℕ) (c : Column) → AreSized columns → slice_get columns i ≡ Some c → IsSized c.ty
+sized_at : (columns : List Column) (i : ℕ) (c : Column) → HasSized columns → slice_get columns i ≡ Some c → IsSized c.ty
 sized_at [] i c s e = absurd cc
 sized_at (d ∷ ds) zero c s e = let same : d ≡ c = cc in subst (λ (x : Column). IsSized x.ty) same s.0
 sized_at (d ∷ ds) (suc i) c s e = sized_at ds i c s.1 e
 
-pub column_good : (columns : List Column) (i : ℕ) (c : Column) → AreSized columns → slice_get columns i ≡ Some c → IsGood (IsAt columns) (meaning.column i c.ty)
-column_good columns i c s e =
-    let small = scale_small c.ty (sized_at columns i c s e) in
-    record { typed = small; columns = slice_get-map (λ (d : Column). d.ty) columns i ∙ ap (option_map (λ (d : Column). d.ty)) e; scaled = type_scaled c.ty; small = small }
+pub column_good : (entry : Entry) (k : ℕ) (c : Column) → HasSized entry.columns → slice_get entry.columns k ≡ Some c → IsGood (IsIn entry) (meaning.column (64 * entry.number + k) c.ty)
+column_good entry k c s e =
+    let small = scale_small c.ty (sized_at entry.columns k c s e) in
+    record { typed = small; columns = (k, refl, slice_get-map (λ (d : Column). d.ty) entry.columns k ∙ ap (option_map (λ (d : Column). d.ty)) e); scaled = type_scaled c.ty; small = small }
 
-placed_good : (columns : List Column) (i : ℕ) (o : Option Column) → AreSized columns → slice_get columns i ≡ o → is_none (option_map (λ (c : Column). meaning.column i c.ty) o) ≡ false
-    → IsGood (IsAt columns) (unwrap_or (option_map (λ (c : Column). meaning.column i c.ty) o) meaning.null)
-placed_good columns i None s e h = absurd cc
-placed_good columns i (Some c) s e h = column_good columns i c s e
+placed_good : (entry : Entry) (k : ℕ) (o : Option Column) → HasSized entry.columns → slice_get entry.columns k ≡ o → AllByRecursion (IsGood (IsIn entry)) (listed (option_map (λ (c : Column). meaning.column (64 * entry.number + k) c.ty) o))
+placed_good entry k None s e = tt
+placed_good entry k (Some c) s e = (column_good entry k c s e, tt)
 
-named_good : (columns : List Column) (o : Option ℕ) → AreSized columns → is_none (option_and_then (λ (i : ℕ). option_map (λ (c : Column). meaning.column i c.ty) (slice_get columns i)) o) ≡ false
-    → IsGood (IsAt columns) (unwrap_or (option_and_then (λ (i : ℕ). option_map (λ (c : Column). meaning.column i c.ty) (slice_get columns i)) o) meaning.null)
-named_good columns None s h = absurd cc
-named_good columns (Some i) s h = placed_good columns i (slice_get columns i) s refl h
+named_good : (entry : Entry) (o : Option ℕ) → HasSized entry.columns
+    → AllByRecursion (IsGood (IsIn entry)) (listed (option_and_then (λ (k : ℕ). option_map (λ (c : Column). meaning.column (64 * entry.number + k) c.ty) (slice_get entry.columns k)) o))
+named_good entry None s = tt
+named_good entry (Some k) s = placed_good entry k (slice_get entry.columns k) s refl
+
+if_good : (Holds : ℕ → Ty → Type 0) (b : Bool) (es : List meaning.Expression) → AllByRecursion (IsGood Holds) es → AllByRecursion (IsGood Holds) (if b then es else [])
+if_good Holds true es h = h
+if_good Holds false es h = tt
+
+referred_good : (scope : Scope) → AreSized scope → (qualifier : Option (List ℕ)) (name : List ℕ) → AllByRecursion (IsGood (IsAt scope)) (referred scope qualifier name)
+referred_good [] s qualifier name = tt
+referred_good (entry ∷ others) s qualifier name =
+    let here = if is_qualified qualifier entry then listed (column_named entry name) else [] in
+    let own = if_good (IsIn entry) (is_qualified qualifier entry) (listed (column_named entry name)) (named_good entry (position (λ (c : Column). bytes_eq name c.name) entry.columns) s.0) in
+    all_both (IsGood (IsAt (entry ∷ others))) here (referred others qualifier name)
+    (all_more (IsGood (IsIn entry)) (IsGood (IsAt (entry ∷ others))) (good_more (IsIn entry) (IsAt (entry ∷ others)) (λ i ty h. inl h)) here own)
+    (all_more (IsGood (IsAt others)) (IsGood (IsAt (entry ∷ others))) (good_more (IsAt others) (IsAt (entry ∷ others)) (λ i ty h. inr h)) (referred others qualifier name) (referred_good others s.1 qualifier name))
+
+only_good : (Holds : ℕ → Ty → Type 0) (name : List ℕ) (es : List meaning.Expression) → counted_faults name es ≡ [] → AllByRecursion (IsGood Holds) es → IsGood Holds (first_of es)
+only_good Holds name [] none all = absurd cc
+only_good Holds name (e ∷ []) none all = all.0
+only_good Holds name (e ∷ f ∷ es) none all = absurd cc
 
 number_good : (Holds : ℕ → Ty → Type 0) (octets : List ℕ) → is_none (number_of octets) ≡ false → IsGood Holds (unwrap_or (number_of octets) meaning.null)
 number_good Holds octets h = elim (cases_Bool (is_short octets)) [
@@ -257,62 +295,63 @@ date_good Holds string intervals o e h =
 -- ---- every construct
 
 mutual
-  pub good : (scope : Scope) → AreSized scope.columns → (e : Expression) → faults scope e ≡ [] → IsGood (IsAt scope.columns) (meant scope e)
-  good scope s null h = null_good (IsAt scope.columns)
-  good scope s (number octets) h = number_good (IsAt scope.columns) octets (not_where (is_none (number_of octets)) _ octets h)
-  good scope s (text octets) h = text_good (IsAt scope.columns) (string_value octets)
-  good scope s (date string intervals) h = date_good (IsAt scope.columns) string intervals (date_of string intervals) refl (not_where (is_none (date_of string intervals)) _ string h)
+  pub good : (scope : Scope) → AreSized scope → (e : Expression) → faults scope e ≡ [] → IsGood (IsAt scope) (meant scope e)
+  good scope s null h = null_good (IsAt scope)
+  good scope s (number octets) h = number_good (IsAt scope) octets (not_where (is_none (number_of octets)) _ octets h)
+  good scope s (text octets) h = text_good (IsAt scope) (string_value octets)
+  good scope s (date string intervals) h = date_good (IsAt scope) string intervals (date_of string intervals) refl (not_where (is_none (date_of string intervals)) _ string h)
   good scope s (column qualifier name) h =
-      let p = no_own (fault_where (not (is_known scope qualifier)) UnknownTable (qualifier_of qualifier)) (fault_where (is_none (column_named scope.columns (name_of name))) UnknownColumn (name_of name)) h in
-      named_good scope.columns (position (λ (c : Column). bytes_eq (name_of name) c.name) scope.columns) s (not_where (is_none (column_named scope.columns (name_of name))) UnknownColumn (name_of name) p.1)
+      let es = referred scope (option_map name_of qualifier) (name_of name) in
+      let p = no_own (fault_where (not (is_known scope (option_map name_of qualifier))) UnknownTable (qualifier_of qualifier)) (counted_faults (name_of name) es) h in
+      only_good (IsAt scope) (name_of name) es p.1 (referred_good scope s (option_map name_of qualifier) (name_of name))
   good scope s (signed sign a) h =
       let p = no_own (faults scope a) _ h in
-      sign_good (IsAt scope.columns) sign (meant scope a) (tested (is_number (kind_of (meant scope a))) _ _ p.1) (good scope s a p.0)
+      sign_good (IsAt scope) sign (meant scope a) (tested (is_number (kind_of (meant scope a))) _ _ p.1) (good scope s a p.0)
   good scope s (arithmetic operator a b) h =
       let p = no_own (faults scope a ++ faults scope b) _ h in
       let q = no_both (faults scope a) (faults scope b) p.0 in
       let t = no_own (fault_where (not (is_number (kind_of (meant scope a)) && is_number (kind_of (meant scope b)))) Clash (first_token a)) _ p.1 in
       let n = and_parts (is_number (kind_of (meant scope a))) (is_number (kind_of (meant scope b))) (tested (is_number (kind_of (meant scope a)) && is_number (kind_of (meant scope b))) _ _ t.0) in
-      arithmetic_good (IsAt scope.columns) operator (meant scope a) (meant scope b) n.0 n.1 (tested (is_allowed operator (meaning.scale_of (meant scope a)) (meaning.scale_of (meant scope b))) _ _ t.1) (good scope s a q.0) (good scope s b q.1)
+      arithmetic_good (IsAt scope) operator (meant scope a) (meant scope b) n.0 n.1 (tested (is_allowed operator (meaning.scale_of (meant scope a)) (meaning.scale_of (meant scope b))) _ _ t.1) (good scope s a q.0) (good scope s b q.1)
   good scope s (extract field a) h =
       let p = no_own (faults scope a) _ h in
-      extract_good (IsAt scope.columns) field (meant scope a) (tested (is_date (kind_of (meant scope a))) _ _ p.1) (good scope s a p.0)
+      extract_good (IsAt scope) field (meant scope a) (tested (is_date (kind_of (meant scope a))) _ _ p.1) (good scope s a p.0)
   good scope s (searched_case branches) h =
       let p = no_own (choices_faults scope branches) _ h in
-      case_good (IsAt scope.columns) (choices scope branches) (choices_good scope s branches p.0) (case_tested (first_of_branches branches) (choices scope branches) p.1)
+      case_good (IsAt scope) (choices scope branches) (choices_good scope s branches p.0) (case_tested (first_of_branches branches) (choices scope branches) p.1)
   good scope s (simple_case x branches) h =
       let p = no_own (faults scope x) _ h in
       let q = no_own (branch_faults (first_token x) branches ++ matches_faults scope (first_token x) (meant scope x) branches) _ p.1 in
       let t = no_both (branch_faults (first_token x) branches) (matches_faults scope (first_token x) (meant scope x) branches) q.0 in
-      case_good (IsAt scope.columns) (matches scope (meant scope x) branches) (matches_good scope s (first_token x) (meant scope x) (good scope s x p.0) branches t.1) (case_tested (first_token x) (matches scope (meant scope x) branches) q.1)
+      case_good (IsAt scope) (matches scope (meant scope x) branches) (matches_good scope s (first_token x) (meant scope x) (good scope s x p.0) branches t.1) (case_tested (first_token x) (matches scope (meant scope x) branches) q.1)
   good scope s (coalesce es) h =
       let p = no_own (all_faults scope es) _ h in
-      case_good (IsAt scope.columns) (meaning.coalesced (all_meant scope es)) (coalesced_good (IsAt scope.columns) (all_meant scope es) (all_good scope s es p.0)) (case_tested (first_of_all es) (meaning.coalesced (all_meant scope es)) p.1)
+      case_good (IsAt scope) (meaning.coalesced (all_meant scope es)) (coalesced_good (IsAt scope) (all_meant scope es) (all_good scope s es p.0)) (case_tested (first_of_all es) (meaning.coalesced (all_meant scope es)) p.1)
   good scope s (null_if a b) h =
       let p = no_own (faults scope a ++ faults scope b) _ h in
       let q = no_both (faults scope a) (faults scope b) p.0 in
-      null_if_good (IsAt scope.columns) (meant scope a) (meant scope b) (tested (are_comparable (kind_of (meant scope a)) (kind_of (meant scope b))) _ _ p.1) (good scope s a q.0) (good scope s b q.1)
+      null_if_good (IsAt scope) (meant scope a) (meant scope b) (tested (are_comparable (kind_of (meant scope a)) (kind_of (meant scope b))) _ _ p.1) (good scope s a q.0) (good scope s b q.1)
 
-  pub condition_good : (scope : Scope) → AreSized scope.columns → (c : Condition) → condition_faults scope c ≡ [] → IsGoodCondition (IsAt scope.columns) (condition_meant scope c)
+  pub condition_good : (scope : Scope) → AreSized scope → (c : Condition) → condition_faults scope c ≡ [] → IsGoodCondition (IsAt scope) (condition_meant scope c)
   condition_good scope s (comparison op a b) h =
       let p = no_own (faults scope a ++ faults scope b) _ h in
       let q = no_both (faults scope a) (faults scope b) p.0 in
-      comparison_good (IsAt scope.columns) op (meant scope a) (meant scope b) (tested (are_comparable (kind_of (meant scope a)) (kind_of (meant scope b))) _ _ p.1) (good scope s a q.0) (good scope s b q.1)
+      comparison_good (IsAt scope) op (meant scope a) (meant scope b) (tested (are_comparable (kind_of (meant scope a)) (kind_of (meant scope b))) _ _ p.1) (good scope s a q.0) (good scope s b q.1)
   condition_good scope s (between negated x a b) h =
       let p = no_own (faults scope x ++ (faults scope a ++ faults scope b)) _ h in
       let q = no_both (faults scope x) (faults scope a ++ faults scope b) p.0 in
       let r = no_both (faults scope a) (faults scope b) q.1 in
       let t = no_both (comparison_faults (first_token x) (meant scope x) (meant scope a)) (comparison_faults (first_token x) (meant scope x) (meant scope b)) p.1 in
-      not_good (IsAt scope.columns) negated _ (between_good (IsAt scope.columns) (meant scope x) (meant scope a) (meant scope b)
+      not_good (IsAt scope) negated _ (between_good (IsAt scope) (meant scope x) (meant scope a) (meant scope b)
       (tested (are_comparable (kind_of (meant scope x)) (kind_of (meant scope a))) _ _ t.0) (tested (are_comparable (kind_of (meant scope x)) (kind_of (meant scope b))) _ _ t.1)
       (good scope s x q.0) (good scope s a r.0) (good scope s b r.1))
   condition_good scope s (among negated x es) h =
       let p = no_own (faults scope x ++ all_faults scope es) _ h in
       let q = no_both (faults scope x) (all_faults scope es) p.0 in
-      not_good (IsAt scope.columns) negated _ (among_good (IsAt scope.columns) (first_token x) (meant scope x) (all_meant scope es) p.1 (good scope s x q.0) (all_good scope s es q.1))
+      not_good (IsAt scope) negated _ (among_good (IsAt scope) (first_token x) (meant scope x) (all_meant scope es) p.1 (good scope s x q.0) (all_good scope s es q.1))
   condition_good scope s (is_null negated a) h =
       let g = good scope s a h in
-      not_good (IsAt scope.columns) negated _ (record { typed = g.typed; columns = g.columns })
+      not_good (IsAt scope) negated _ (record { typed = g.typed; columns = g.columns })
   condition_good scope s (both c d) h =
       let q = no_both (condition_faults scope c) (condition_faults scope d) h in
       let x = condition_good scope s c q.0 in
@@ -324,14 +363,14 @@ mutual
       let y = condition_good scope s d q.1 in
       record { typed = (x.typed, y.typed); columns = (x.columns, y.columns) }
   condition_good scope s (negation_of c) h = let x = condition_good scope s c h in record { typed = x.typed; columns = x.columns }
-  condition_good scope s (is negated c t) h = let x = condition_good scope s c h in not_good (IsAt scope.columns) negated _ (record { typed = x.typed; columns = x.columns })
+  condition_good scope s (is negated c t) h = let x = condition_good scope s c h in not_good (IsAt scope) negated _ (record { typed = x.typed; columns = x.columns })
   condition_good scope s (bracketed c) h = condition_good scope s c h
 
-  pub all_good : (scope : Scope) → AreSized scope.columns → (es : Expressions) → all_faults scope es ≡ [] → AllGood (IsAt scope.columns) (all_meant scope es)
+  pub all_good : (scope : Scope) → AreSized scope → (es : Expressions) → all_faults scope es ≡ [] → AllGood (IsAt scope) (all_meant scope es)
   all_good scope s (last e) h = good scope s e h
   all_good scope s (further e es) h = let q = no_both (faults scope e) (all_faults scope es) h in (good scope s e q.0, all_good scope s es q.1)
 
-  pub choices_good : (scope : Scope) → AreSized scope.columns → (branches : Branching) → choices_faults scope branches ≡ [] → AreGood (IsAt scope.columns) (choices scope branches)
+  pub choices_good : (scope : Scope) → AreSized scope → (branches : Branching) → choices_faults scope branches ≡ [] → AreGood (IsAt scope) (choices scope branches)
   choices_good scope s (otherwise e) h = good scope s e h
   choices_good scope s (when (condition c) e rest) h =
       let q = no_both (condition_faults scope c) (faults scope e ++ choices_faults scope rest) h in
@@ -339,12 +378,12 @@ mutual
       (condition_good scope s c q.0, (good scope s e r.0, choices_good scope s rest r.1))
   choices_good scope s (when (expression v) e rest) h = absurd cc
 
-  pub matches_good : (scope : Scope) → AreSized scope.columns → (token : List ℕ) (x : meaning.Expression) → IsGood (IsAt scope.columns) x → (branches : Branching) → matches_faults scope token x branches ≡ []
-      → AreGood (IsAt scope.columns) (matches scope x branches)
+  pub matches_good : (scope : Scope) → AreSized scope → (token : List ℕ) (x : meaning.Expression) → IsGood (IsAt scope) x → (branches : Branching) → matches_faults scope token x branches ≡ []
+      → AreGood (IsAt scope) (matches scope x branches)
   matches_good scope s token x g (otherwise e) h = good scope s e h
   matches_good scope s token x g (when (condition c) e rest) h = absurd cc
   matches_good scope s token x g (when (expression v) e rest) h =
       let q = no_both (or_own (faults scope v) (comparison_faults token x (meant scope v))) (faults scope e ++ matches_faults scope token x rest) h in
       let p = no_own (faults scope v) _ q.0 in
       let r = no_both (faults scope e) (matches_faults scope token x rest) q.1 in
-      (comparison_good (IsAt scope.columns) Equal x (meant scope v) (tested (are_comparable (kind_of x) (kind_of (meant scope v))) _ _ p.1) g (good scope s v p.0), (good scope s e r.0, matches_good scope s token x g rest r.1))
+      (comparison_good (IsAt scope) Equal x (meant scope v) (tested (are_comparable (kind_of x) (kind_of (meant scope v))) _ _ p.1) g (good scope s v p.0), (good scope s e r.0, matches_good scope s token x g rest r.1))

@@ -1,31 +1,35 @@
 -- Lists that grow at their end while what is left of another falls.
-use Rattle.std.proofs.Common.{◌≡◌, ℕ, suc, ◌+◌, ◌-◌, ◌≤◌, ◌<◌, List, [], ◌∷◌, ◌++◌, map, length, get_or, take, drop, Result, Ok, Err, refl, sym, ap, ◌∙◌, arith, inl, inr}
-use Rattle.std.proofs.lemmas.List.{take_all}
+use Rattle.std.proofs.Common.{◌≡◌, ℕ, suc, ◌+◌, ◌*◌, ◌-◌, ◌≤◌, ◌<◌, List, [], ◌∷◌, ◌++◌, map, length, get_or, take, drop, Result, Ok, Err, refl, sym, ap, ◌∙◌, arith, inl, inr}
+use Rattle.std.proofs.Math.ListN.{drop_of_length-le}
+use Rattle.std.proofs.lemmas.List.{append-nil, append_assoc, take_all}
 use Rattle.std.specs.Prelude.{◌⊎◌}
 use Rattle.std.specs.List.{AllByRecursion}
 use Rattle.qw_types.specs.declared.schema.Column.{Column}
 use Rattle.qw_types.specs.declared.schema.Table.{Table}
 use Rattle.qw_scalar.specs.declared.expression.Expr.{Expr}
+use Rattle.qw_scalar.specs.declared.expression.Expr.TheVariants as expr
 use Rattle.qw_scalar.specs.Expression as meaning
-use Rattle.qw_meaning.specs.Select.{specification_of}
+use Rattle.qw_meaning.specs.Query.{query_of}
 use Rattle.qw_scalar.specs.Tree.{expression_of}
 use Rattle.qw_ast.specs.declared.script.Item.{Item}
 use Rattle.qw_ast.specs.declared.script.Statement.{Statement}
 use Rattle.qw_ast.specs.Limits.{IsQuery}
 use Rattle.qw_ast.specs.SyntaxTree as syntax
 use Rattle.qw_ast.specs.SyntaxTree.{select_of}
-use Rattle.qw_ast.specs.Syntax.{Select, SelectItem}
+use Rattle.qw_ast.specs.Syntax.{Select, SelectItem, all_columns}
+use Rattle.qw_ast.proofs.StatementLemmas.{drop_next}
 use Rattle.qw_typer.specs.declared.fault.TypeFault.{TypeFault}
 use Rattle.qw_typer.specs.declared.fault.TypeFault.TheVariants as type_fault
-use Rattle.qw_typer.specs.declared.query.TypedSelect.{TypedSelect}
+use Rattle.qw_typer.specs.declared.query.TypedQuery.{TypedQuery}
 use Rattle.qw_typer.specs.declared.refusal.Refusal.{Refusal}
 use Rattle.qw_typer.specs.declared.refusal.Refusal.TheVariants as refusal
 use Rattle.qw_typer.specs.Faults.{Fault}
 use Rattle.qw_typer.specs.Meanings.{AreMeant}
+use Rattle.qw_typer.specs.declared.scope.Entry.{Entry as CodeEntry}
 use Rattle.qw_typer.specs.Meant.{Scope}
 use Rattle.qw_typer.specs.Inner.Queries.{IsFaultOf, IsOneOf}
-use Rattle.qw_typer.specs.Typed.{HasFirstFault, Means, columns_from, item_name, item_names, query_faults}
-use Rattle.qw_typer.specs.Inner.Typing.{◌>>=◌, Refuses, spelled, typed_item, typed_items}
+use Rattle.qw_typer.specs.Typed.{HasFirstFault, Means, columns_from, item_name, item_names, items_meant, query_faults, result_names}
+use Rattle.qw_typer.specs.Inner.Typing.{◌>>=◌, Refuses, in_reach, spelled, typed_item, typed_items}
 use Rattle.qw_typer.proofs.OutcomeLemmas.{refuses_then}
 
 pub push_map : {A B : Type 0} (f : A → B) (xs : List A) (x : A) (ys : List B) → map f (xs ++ x ∷ []) ++ ys ≡ map f xs ++ f x ∷ ys
@@ -53,9 +57,62 @@ first_rest (y ∷ ys) x e h =
 
 -- ---- columns and names
 
-pub columns_step : (made : List Expr) (e : Expr) (c : Column) (cs : List Column) (all : List meaning.Expression) → expression_of e ≡ meaning.column (length made) c.ty
-    → map expression_of made ++ columns_from (length made) (c ∷ cs) ≡ all → map expression_of (made ++ e ∷ []) ++ columns_from (length (made ++ e ∷ [])) cs ≡ all
-columns_step made e c cs all same h = rw (push_length made e, push_map expression_of made e (columns_from (suc (length made)) cs), same) h
+-- one column of an entry more
+pub column_kept : (columns : List Column) (i : ℕ) (d : Column) (number first : ℕ) (made made' : List Expr) (all : List meaning.Expression) → i < length columns → first ≡ 64 * number
+    → made' ≡ made ++ expr.Column (first + i) (get_or columns i d).ty ∷ []
+    → map expression_of made ++ columns_from (64 * number + i) (drop i columns) ≡ all → map expression_of made' ++ columns_from (64 * number + (i + 1)) (drop (i + 1) columns) ≡ all
+column_kept columns i d number first made made' all lt at more before =
+    let c = get_or columns i d in
+    let others = columns_from (64 * number + (i + 1)) (drop (i + 1) columns) in
+    let next : suc (64 * number + i) ≡ 64 * number + (i + 1) = omega arith in
+    let from : map expression_of made ++ (meaning.column (64 * number + i) c.ty ∷ columns_from (suc (64 * number + i)) (drop (i + 1) columns)) ≡ all =
+    sym (ap (λ (cs : List Column). map expression_of made ++ columns_from (64 * number + i) cs) (drop_next columns i d lt)) ∙ before in
+    ap (λ (es : List Expr). map expression_of es ++ others) more ∙ push_map expression_of made (expr.Column (first + i) c.ty) others
+    ∙ ap (λ (k : ℕ). map expression_of made ++ meaning.column (k + i) c.ty ∷ others) at
+    ∙ sym (ap (λ (k : ℕ). map expression_of made ++ meaning.column (64 * number + i) c.ty ∷ columns_from k (drop (i + 1) columns)) next) ∙ from
+
+pub columns_first : (number : ℕ) (columns : List Column) (made : List Expr) → map expression_of made ++ columns_from (64 * number + 0) columns ≡ map expression_of made ++ columns_from (64 * number) columns
+columns_first number columns made = let none : 64 * number + 0 ≡ 64 * number = omega arith in ap (λ (k : ℕ). map expression_of made ++ columns_from k columns) none
+
+pub columns_end : (columns : List Column) (i number : ℕ) (made : List Expr) (all : List meaning.Expression) → length columns ≤ i → map expression_of made ++ columns_from (64 * number + i) (drop i columns) ≡ all → map expression_of made ≡ all
+columns_end columns i number made all le h =
+    sym (append-nil (map expression_of made)) ∙ sym (ap (λ (cs : List Column). map expression_of made ++ columns_from (64 * number + i) cs) (drop_of_length-le columns le)) ∙ h
+
+-- the columns of one entry more
+pub entry_columns : (made made' : List Expr) (rest rest' : List CodeEntry) (e : CodeEntry) (all : List meaning.Expression) → rest ≡ e ∷ rest' → map expression_of made' ≡ map expression_of made ++ columns_from (64 * e.number) e.columns.now
+    → map expression_of made ++ items_meant (in_reach rest) all_columns ≡ all → map expression_of made' ++ items_meant (in_reach rest') all_columns ≡ all
+entry_columns made made' rest rest' e all first more before =
+    let others = items_meant (in_reach rest') all_columns in
+    ap (λ es. es ++ others) more ∙ append_assoc (map expression_of made) (columns_from (64 * e.number) e.columns.now) others
+    ∙ sym (ap (λ (es : List CodeEntry). map expression_of made ++ items_meant (in_reach es) all_columns) first) ∙ before
+
+pub entries_columns : (made : List Expr) (rest : List CodeEntry) (all : List meaning.Expression) → length rest < 1 → map expression_of made ++ items_meant (in_reach rest) all_columns ≡ all → map expression_of made ≡ all
+entries_columns made [] all none h = sym (append-nil (map expression_of made)) ∙ h
+entries_columns made (e ∷ rest) all none h = absurd (omega (arith, none))
+
+-- one name more
+pub name_kept : (columns : List Column) (i : ℕ) (d : Column) (names names' : List (List ℕ)) (name : List ℕ) (all : List (List ℕ)) → i < length columns → name ≡ (get_or columns i d).name → names' ≡ names ++ name ∷ []
+    → names ++ map (λ (c : Column). c.name) (drop i columns) ≡ all → names' ++ map (λ (c : Column). c.name) (drop (i + 1) columns) ≡ all
+name_kept columns i d names names' name all lt is more before =
+    let others = map (λ (c : Column). c.name) (drop (i + 1) columns) in
+    ap (λ (ns : List (List ℕ)). ns ++ others) more ∙ push_more names name others ∙ ap (λ (n : List ℕ). names ++ n ∷ others) is
+    ∙ sym (ap (λ (cs : List Column). names ++ map (λ (c : Column). c.name) cs) (drop_next columns i d lt)) ∙ before
+
+pub names_end : (columns : List Column) (i : ℕ) (names all : List (List ℕ)) → length columns ≤ i → names ++ map (λ (c : Column). c.name) (drop i columns) ≡ all → names ≡ all
+names_end columns i names all le h =
+    sym (append-nil names) ∙ sym (ap (λ (cs : List Column). names ++ map (λ (c : Column). c.name) cs) (drop_of_length-le columns le)) ∙ h
+
+-- the names of one entry more
+pub entry_names : (names names' : List (List ℕ)) (rest rest' : List CodeEntry) (e : CodeEntry) (all : List (List ℕ)) → rest ≡ e ∷ rest' → names' ≡ names ++ map (λ (c : Column). c.name) e.columns.now
+    → names ++ result_names (in_reach rest) all_columns ≡ all → names' ++ result_names (in_reach rest') all_columns ≡ all
+entry_names names names' rest rest' e all first more before =
+    let others = result_names (in_reach rest') all_columns in
+    ap (λ ns. ns ++ others) more ∙ append_assoc names (map (λ (c : Column). c.name) e.columns.now) others
+    ∙ sym (ap (λ (es : List CodeEntry). names ++ result_names (in_reach es) all_columns) first) ∙ before
+
+pub entries_names : (names : List (List ℕ)) (rest : List CodeEntry) (all : List (List ℕ)) → length rest < 1 → names ++ result_names (in_reach rest) all_columns ≡ all → names ≡ all
+entries_names names [] all none h = sym (append-nil names) ∙ h
+entries_names names (e ∷ rest) all none h = absurd (omega (arith, none))
 
 pub names_step : (names : List (List ℕ)) (name : List ℕ) (i : SelectItem) (others : List SelectItem) (all : List (List ℕ)) → name ≡ item_name (length names + 1) i
     → names ++ item_names (length names + 1) (i ∷ others) ≡ all → (names ++ name ∷ []) ++ item_names (length (names ++ name ∷ []) + 1) others ≡ all
@@ -91,11 +148,11 @@ items_end scope made all h = h ∙ ap Ok (none_more (map expression_of made))
 
 -- ---- queries
 
-pub meant_step : (schema : List Table) (all : List Select) (s : Select) (others : List Select) (made : List TypedSelect) (t : TypedSelect) → Means schema s (specification_of t.select) t.names.items
-    → ((ts : List TypedSelect) → AreMeant schema (s ∷ others) ts → AreMeant schema all (made ++ ts)) → (ts : List TypedSelect) → AreMeant schema others ts → AreMeant schema all ((made ++ t ∷ []) ++ ts)
+pub meant_step : (schema : List Table) (all : List Select) (s : Select) (others : List Select) (made : List TypedQuery) (t : TypedQuery) → Means schema s (query_of t.query) t.names.items
+    → ((ts : List TypedQuery) → AreMeant schema (s ∷ others) ts → AreMeant schema all (made ++ ts)) → (ts : List TypedQuery) → AreMeant schema others ts → AreMeant schema all ((made ++ t ∷ []) ++ ts)
 meant_step schema all s others made t m h ts k = rw (push_more made t ts) (h (t ∷ ts) (m, k))
 
-pub faults_step : (schema : List Table) (all : List Select) (s : Select) (others : List Select) (made : List TypedSelect) (t : TypedSelect) → query_faults schema s ≡ []
+pub faults_step : (schema : List Table) (all : List Select) (s : Select) (others : List Select) (made : List TypedQuery) (t : TypedQuery) → query_faults schema s ≡ []
     → ((fault : TypeFault) → HasFirstFault schema (length made + 1) (s ∷ others) fault → HasFirstFault schema 1 all fault)
     → (fault : TypeFault) → HasFirstFault schema (length (made ++ t ∷ []) + 1) others fault → HasFirstFault schema 1 all fault
 faults_step schema all s others made t none h fault k = h fault (HasFirstFault.later (length made + 1) s others fault none (rw (← next) k))
@@ -108,18 +165,18 @@ faults_step schema all s others made t none h fault k = h fault (HasFirstFault.l
 pub queries_kept : (rest others : List Statement) (s : Statement) → rest ≡ s ∷ others → AllByRecursion IsQuery (map select_of rest) → IsQuery (select_of s) × AllByRecursion IsQuery (map select_of others)
 queries_kept rest others s first h = rw first at h
 
-pub meant_kept : (schema : List Table) (all : List Select) (rest others : List Statement) (s : Statement) (made made' : List TypedSelect) (t : TypedSelect) → rest ≡ s ∷ others → made' ≡ made ++ t ∷ []
-    → Means schema (select_of s) (specification_of t.select) t.names.items → ((ts : List TypedSelect) → AreMeant schema (map select_of rest) ts → AreMeant schema all (made ++ ts))
-    → (ts : List TypedSelect) → AreMeant schema (map select_of others) ts → AreMeant schema all (made' ++ ts)
+pub meant_kept : (schema : List Table) (all : List Select) (rest others : List Statement) (s : Statement) (made made' : List TypedQuery) (t : TypedQuery) → rest ≡ s ∷ others → made' ≡ made ++ t ∷ []
+    → Means schema (select_of s) (query_of t.query) t.names.items → ((ts : List TypedQuery) → AreMeant schema (map select_of rest) ts → AreMeant schema all (made ++ ts))
+    → (ts : List TypedQuery) → AreMeant schema (map select_of others) ts → AreMeant schema all (made' ++ ts)
 meant_kept schema all rest others s made made' t first more m h ts k = rw more (meant_step schema all (select_of s) (map select_of others) made t m (rw first at h) ts k)
 
-pub faults_kept : (schema : List Table) (all : List Select) (rest others : List Statement) (s : Statement) (made made' : List TypedSelect) (t : TypedSelect) → rest ≡ s ∷ others → made' ≡ made ++ t ∷ []
+pub faults_kept : (schema : List Table) (all : List Select) (rest others : List Statement) (s : Statement) (made made' : List TypedQuery) (t : TypedQuery) → rest ≡ s ∷ others → made' ≡ made ++ t ∷ []
     → query_faults schema (select_of s) ≡ [] → ((fault : TypeFault) → HasFirstFault schema (length made + 1) (map select_of rest) fault → HasFirstFault schema 1 all fault)
     → (fault : TypeFault) → HasFirstFault schema (length made' + 1) (map select_of others) fault → HasFirstFault schema 1 all fault
 faults_kept schema all rest others s made made' t first more none h fault k = faults_step schema all (select_of s) (map select_of others) made t none (rw first at h) fault (rw more at k)
 
-pub meant_end : (schema : List Table) (all : List Select) (rest : List Statement) (made : List TypedSelect) → length rest < 1
-    → ((ts : List TypedSelect) → AreMeant schema (map select_of rest) ts → AreMeant schema all (made ++ ts)) → AreMeant schema all made
+pub meant_end : (schema : List Table) (all : List Select) (rest : List Statement) (made : List TypedQuery) → length rest < 1
+    → ((ts : List TypedQuery) → AreMeant schema (map select_of rest) ts → AreMeant schema all (made ++ ts)) → AreMeant schema all made
 meant_end schema all [] made none h = rw (none_more made) at (h [] tt)
 meant_end schema all (s ∷ others) made none h = absurd (omega arith)
 

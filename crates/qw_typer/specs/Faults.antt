@@ -1,6 +1,8 @@
 -- The faults of a query's expressions and conditions (ISO/IEC 9075:1992, 4.1, 5.3, 6.4, 6.6, 6.9, 6.11, 6.12, 8.2, 9.3). Each fault is one of
 -- one construct, and names a token of it. A construct whose operands have faults has none of its own.
 use Rattle.std.specs.Prelude.{ℕ, ◌+◌, nat_le, Bool, true, false, not, ◌&&◌, List, [], ◌∷◌, ◌++◌, Option, Some, None, is_none}
+use Rattle.std.specs.List.{list_any}
+use Rattle.std.specs.Option.{option_map}
 use Rattle.std.specs.Str.{bytes_eq}
 use Rattle.qw_types.specs.declared.kind.Kind.{Kind}
 use Rattle.qw_scalar.specs.declared.expression.Operator.{Operator}
@@ -10,9 +12,9 @@ use Rattle.qw_scalar.specs.Typing.{agree, are_comparable, has_kind, is_date, is_
 use Rattle.qw_ast.specs.Grammar.{name_of}
 use Rattle.qw_ast.specs.Syntax.{Expression, null, number, text, date, column, signed, arithmetic, extract, searched_case, simple_case, coalesce, null_if, Condition, comparison, between, among, is_null, both, either, negation_of, is, bracketed, condition, expression, Expressions, last, further, Branching, otherwise, when}
 use Rattle.qw_typer.specs.declared.fault.FaultKind.{FaultKind}
-use Rattle.qw_typer.specs.declared.fault.FaultKind.TheVariants.{UnknownTable, UnknownColumn, Clash, ScaleTooLarge, LiteralTooLong, BadDate}
+use Rattle.qw_typer.specs.declared.fault.FaultKind.TheVariants.{Ambiguous, UnknownTable, UnknownColumn, Clash, ScaleTooLarge, LiteralTooLong, BadDate}
 use Rattle.qw_typer.specs.Literal.{date_of, number_of}
-use Rattle.qw_typer.specs.Meant.{Scope, all_meant, choices, column_named, matches, meant}
+use Rattle.qw_typer.specs.Meant.{Entry, Scope, all_meant, choices, matches, meant, referred}
 
 -- a fault, and the token that it names: of a name as it is kept, of a literal as it is written
 pub record Fault : Type 0 where
@@ -67,19 +69,25 @@ abbrev mutual
 
 -- ---- the faults of one construct, its operands having none
 
--- whether a qualifier, where there is one, is the name of the entry (6.4)
+-- whether a qualifier, where there is one, is the name of an entry in reach (6.4)
 abbrev pub is_known : Scope → Option (List ℕ) → Bool
 is_known scope None = true
-is_known scope (Some qualifier) = bytes_eq (name_of qualifier) scope.name
+is_known scope (Some qualifier) = list_any (λ (e : Entry). bytes_eq qualifier e.name) scope
 
 abbrev pub qualifier_of : Option (List ℕ) → List ℕ
 qualifier_of None = []
 qualifier_of (Some qualifier) = name_of qualifier
 
--- a qualifier that is no entry of FROM; a name that is no column of the entry (6.4)
+-- a column reference means one column; that none or several have its name is a fault (6.4)
+abbrev pub counted_faults : List ℕ → List meaning.Expression → List Fault
+counted_faults name [] = record { kind = UnknownColumn; name = name } ∷ []
+counted_faults name (e ∷ []) = []
+counted_faults name (e ∷ f ∷ es) = record { kind = Ambiguous; name = name } ∷ []
+
+-- a qualifier that names no entry in reach; a name that no entry, or more than one, has (6.4)
 abbrev pub column_faults : Scope → Option (List ℕ) → List ℕ → List Fault
 column_faults scope qualifier name =
-    or_own (fault_where (not (is_known scope qualifier)) UnknownTable (qualifier_of qualifier)) (fault_where (is_none (column_named scope.columns (name_of name))) UnknownColumn (name_of name))
+    or_own (fault_where (not (is_known scope (option_map name_of qualifier))) UnknownTable (qualifier_of qualifier)) (counted_faults (name_of name) (referred scope (option_map name_of qualifier) (name_of name)))
 
 -- an operand of an arithmetic operator that is no number (6.12)
 abbrev pub sign_faults : List ℕ → meaning.Expression → List Fault

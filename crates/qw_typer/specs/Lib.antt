@@ -6,3 +6,4 @@ pub mod Meanings
 pub mod Meant
 pub mod Sizes
 pub mod Typed
+pub mod Worked

@@ -2,13 +2,13 @@
 use Rattle.std.specs.Prelude.{List, [], ◌∷◌}
 use Rattle.qw_types.specs.declared.schema.Table.{Table}
 use Rattle.qw_ast.specs.Syntax.{Select}
-use Rattle.qw_meaning.specs.Select.{specification_of}
-use Rattle.qw_typer.specs.declared.query.TypedSelect.{TypedSelect}
+use Rattle.qw_meaning.specs.Query.{query_of}
+use Rattle.qw_typer.specs.declared.query.TypedQuery.{TypedQuery}
 use Rattle.qw_typer.specs.Typed.{Means}
 
 -- one for each query
-abbrev pub AreMeant : List Table → List Select → List TypedSelect → Type 0
+abbrev pub AreMeant : List Table → List Select → List TypedQuery → Type 0
 AreMeant schema [] [] = Unit {0}
 AreMeant schema [] (t ∷ ts) = ⊥
 AreMeant schema (s ∷ others) [] = ⊥
-AreMeant schema (s ∷ others) (t ∷ ts) = Means schema s (specification_of t.select) t.names.items × AreMeant schema others ts
+AreMeant schema (s ∷ others) (t ∷ ts) = Means schema s (query_of t.query) t.names.items × AreMeant schema others ts

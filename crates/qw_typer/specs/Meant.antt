@@ -1,6 +1,6 @@
--- What the expressions and conditions of a query mean over the columns of its table (ISO/IEC 9075:1992, 6.4, 6.9 to 6.12, 6.14, 8.2 to
--- 8.6, 8.12). What is said here of an expression that has a fault (Faults) means nothing, and only makes the meaning total.
-use Rattle.std.specs.Prelude.{ℕ, Bool, true, false, List, Option, position, slice_get, unwrap_or}
+-- What the expressions and conditions of a query mean over the columns of the entries of FROM that they reach (ISO/IEC 9075:1992, 6.3,
+-- 6.4, 6.9 to 6.12, 6.14, 8.2 to 8.6, 8.12). What is said here of an expression that has a fault (Faults) means nothing, and only makes the meaning total.
+use Rattle.std.specs.Prelude.{ℕ, ◌+◌, ◌*◌, Bool, true, false, if◌then◌else◌, List, [], ◌∷◌, ◌++◌, Option, Some, None, position, slice_get, unwrap_or}
 use Rattle.std.specs.Option.{option_and_then, option_map}
 use Rattle.std.specs.Str.{bytes_eq}
 use Rattle.qw_types.specs.declared.schema.Column.{Column}
@@ -12,14 +12,40 @@ use Rattle.qw_ast.specs.Grammar.{name_of}
 use Rattle.qw_ast.specs.Syntax.{Expression, null, number, text, date, column, signed, arithmetic, extract, searched_case, simple_case, coalesce, null_if, Condition, comparison, between, among, is_null, both, either, negation_of, is, bracketed, condition, expression, Expressions, last, further, Branching, otherwise, when}
 use Rattle.qw_typer.specs.Literal.{date_of, number_of, string_value}
 
--- the entry of FROM: its alias, or without one its table's name, and its columns in order (7.4)
-pub record Scope : Type 0 where
+-- an entry of FROM: its alias, or without one its table's name; its number among the entries of FROM and its table's place in the
+-- schema, both counted from 0; and the table's columns in order (6.3, 7.4)
+pub record Entry : Type 0 where
   pub name : List ℕ
+  pub number : ℕ
+  pub table : ℕ
   pub columns : List Column
 
--- the column of a name
-abbrev pub column_named : List Column → List ℕ → Option meaning.Expression
-column_named columns name = option_and_then (λ (place : ℕ). option_map (λ (c : Column). meaning.column place c.ty) (slice_get columns place)) (position (λ (c : Column). bytes_eq name c.name) columns)
+-- the entries that a column reference reaches, from left to right (6.4)
+abbrev pub Scope : Type 0
+Scope = List Entry
+
+-- the column of a name in an entry: column c of entry e is number 64 * e + c. No two columns of a table have one name (11.3).
+abbrev pub column_named : Entry → List ℕ → Option meaning.Expression
+column_named entry name =
+    option_and_then (λ (place : ℕ). option_map (λ (c : Column). meaning.column (64 * entry.number + place) c.ty) (slice_get entry.columns place)) (position (λ (c : Column). bytes_eq name c.name) entry.columns)
+
+-- whether a qualifier, where there is one, is the name of the entry (6.4)
+abbrev pub is_qualified : Option (List ℕ) → Entry → Bool
+is_qualified None entry = true
+is_qualified (Some qualifier) entry = bytes_eq qualifier entry.name
+
+abbrev pub listed : Option meaning.Expression → List meaning.Expression
+listed None = []
+listed (Some e) = e ∷ []
+
+-- the columns that a column reference may mean: those of its name, in the entries that its qualifier names (6.4)
+abbrev pub referred : Scope → Option (List ℕ) → List ℕ → List meaning.Expression
+referred [] qualifier name = []
+referred (entry ∷ others) qualifier name = (if is_qualified qualifier entry then listed (column_named entry name) else []) ++ referred others qualifier name
+
+abbrev pub first_of : List meaning.Expression → meaning.Expression
+first_of [] = meaning.null
+first_of (e ∷ es) = e
 
 -- an expression with a sign (6.11)
 abbrev pub with_sign : Sign → meaning.Expression → meaning.Expression
@@ -37,7 +63,7 @@ abbrev mutual
   meant scope (number octets) = unwrap_or (number_of octets) meaning.null
   meant scope (text octets) = meaning.text (string_value octets)
   meant scope (date string intervals) = unwrap_or (date_of string intervals) meaning.null
-  meant scope (column qualifier name) = unwrap_or (column_named scope.columns (name_of name)) meaning.null
+  meant scope (column qualifier name) = first_of (referred scope (option_map name_of qualifier) (name_of name))
   meant scope (signed sign a) = with_sign sign (meant scope a)
   meant scope (arithmetic operator a b) = meaning.arithmetic operator (meant scope a) (meant scope b)
   meant scope (extract field a) = meaning.extract field (meant scope a)

@@ -1,6 +1,6 @@
 -- How large the typed trees of a query are: their nodes (Nodes), and the octets of their text literals (ISO/IEC 9075:1992, 5.3).
 use Rattle.std.specs.Prelude.{ℕ, ◌+◌, ◌≤◌, List, length, sum_by}
-use Rattle.std.specs.List.{AllByRecursion}
+use Rattle.std.specs.List.{AllByRecursion, flat_map}
 use Rattle.qw_scalar.specs.declared.expression.Expr.{Expr}
 use Rattle.qw_scalar.specs.declared.expression.Cond.{Cond}
 use Rattle.qw_scalar.specs.declared.expression.Exprs.{Exprs}
@@ -12,8 +12,10 @@ use Rattle.qw_scalar.specs.declared.expression.Exprs.TheVariants as Exprs
 use Rattle.qw_scalar.specs.declared.expression.Branches.TheVariants as Branches
 use Rattle.qw_scalar.specs.declared.expression.Matches.TheVariants as Matches
 use Rattle.qw_scalar.specs.Nodes.{nodes, nodes_of}
-use Rattle.qw_meaning.specs.Select.{Parts}
-use Rattle.qw_typer.specs.declared.query.TypedSelect.{TypedSelect}
+use Rattle.qw_meaning.specs.Query.{QueryParts}
+use Rattle.qw_meaning.specs.declared.query.Joined.{Joined}
+use Rattle.qw_meaning.specs.declared.query.Source.{Source}
+use Rattle.qw_typer.specs.declared.query.TypedQuery.{TypedQuery}
 
 -- the octets of the text literals of a typed tree
 abbrev mutual
@@ -53,19 +55,27 @@ abbrev mutual
   text_octets_of_matches (Matches.Last' _ v _ e _ other) = text_octets v + (text_octets e + text_octets other)
   text_octets_of_matches (Matches.When' _ v _ e _ rest) = text_octets v + (text_octets e + text_octets_of_matches rest)
 
+-- the conjuncts of each ON
+abbrev pub tests_in : List Joined → List Cond
+tests_in joins = flat_map (λ (j : Joined). j.on.items) joins
+
+abbrev pub tests_on : List Source → List Cond
+tests_on sources = flat_map (λ (s : Source). tests_in s.joins.items) sources
+
 -- the nodes of a query's typed trees
-abbrev pub all_nodes : Parts → ℕ
-all_nodes parts = sum_by nodes_of parts.conjuncts + sum_by nodes parts.items
+abbrev pub all_nodes : QueryParts → ℕ
+all_nodes parts = sum_by nodes_of (tests_on parts.sources) + (sum_by nodes_of parts.conjuncts + sum_by nodes parts.items)
 
 -- and the octets of their text literals
-abbrev pub all_octets : Parts → ℕ
-all_octets parts = sum_by text_octets_of parts.conjuncts + sum_by text_octets parts.items
+abbrev pub all_octets : QueryParts → ℕ
+all_octets parts = sum_by text_octets_of (tests_on parts.sources) + (sum_by text_octets_of parts.conjuncts + sum_by text_octets parts.items)
 
--- a query that is typed small
-pub record IsSmall (parts : Parts) : Type 0 where
-  pub few_nodes : all_nodes parts ≤ 4000
+-- A query that is typed small: each of its nodes as it is written is three and a half at most, and `*` is at most 64 columns of each of
+-- 8 entries.
+pub record IsSmall (parts : QueryParts) : Type 0 where
+  pub few_nodes : all_nodes parts ≤ 4012
   pub few_octets : all_octets parts ≤ 16384
 
 -- each of these queries is
-abbrev pub AreSmall : List TypedSelect → Type 0
-AreSmall typed = AllByRecursion (λ (t : TypedSelect). IsSmall t.select) typed
+abbrev pub AreSmall : List TypedQuery → Type 0
+AreSmall typed = AllByRecursion (λ (t : TypedQuery). IsSmall t.query) typed

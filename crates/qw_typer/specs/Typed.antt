@@ -1,34 +1,56 @@
 -- The query specification that a query means over a schema's tables, with the names of its result columns; or its faults (ISO/IEC
 -- 9075:1992, 6.3, 6.4, 7.4, 7.6, 7.9).
-use Rattle.std.specs.Prelude.{◌≡◌, ◌≤◌, ℕ, suc, List, [], ◌∷◌, ◌++◌, length, map, Option, Some, position, slice_get, Contains, codes}
+use Rattle.std.specs.Prelude.{◌≡◌, ◌≤◌, ◌+◌, ◌*◌, ℕ, suc, List, [], ◌∷◌, ◌++◌, length, map, Option, position, slice_get, unwrap_or, is_none, Contains, codes}
 use Rattle.std.specs.Fmt.{decimal}
+use Rattle.std.specs.List.{flat_map, list_any}
 use Rattle.std.specs.Option.{option_and_then, option_map_or}
 use Rattle.std.specs.Str.{bytes_eq}
 use Rattle.qw_types.specs.Contents.{column_type}
 use Rattle.qw_types.specs.declared.schema.Column.{Column}
 use Rattle.qw_types.specs.declared.schema.Table.{Table}
 use Rattle.qw_scalar.specs.Expression as meaning
-use Rattle.qw_meaning.specs.Select.{Specification, alone}
+use Rattle.qw_meaning.specs.Select as specified
+use Rattle.qw_meaning.specs.Select.{Specification}
 use Rattle.qw_ast.specs.Grammar.{name_of}
-use Rattle.qw_ast.specs.Syntax.{Expression, null, number, text, date, column, signed, arithmetic, extract, searched_case, simple_case, coalesce, null_if, Condition, comparison, between, among, is_null, both, either, negation_of, is, bracketed, SelectItem, Selected, all_columns, items, Select}
-use Rattle.qw_typer.specs.declared.fault.FaultKind.TheVariants.{UnknownTable}
+use Rattle.qw_ast.specs.Limits.{entries_in, entries_of}
+use Rattle.qw_ast.specs.Syntax.{Expression, null, number, text, date, column, signed, arithmetic, extract, searched_case, simple_case, coalesce, null_if, Condition, comparison, between, among, is_null, both, either, negation_of, is, bracketed, SelectItem, Selected, all_columns, items, Entry, Joined, Source, Select}
+use Rattle.qw_typer.specs.declared.fault.FaultKind.TheVariants.{DuplicateAlias, UnknownTable}
 use Rattle.qw_typer.specs.declared.fault.TypeFault.{TypeFault}
 use Rattle.qw_typer.specs.declared.fault.TypeFault.TheVariants as type_fault
+use Rattle.qw_typer.specs.Meant as scoped
 use Rattle.qw_typer.specs.Meant.{Scope, condition_meant, meant}
-use Rattle.qw_typer.specs.Faults.{Fault, condition_faults, faults, first_token, item_faults, or_own}
+use Rattle.qw_typer.specs.Faults.{Fault, condition_faults, fault_where, faults, first_token, item_faults, or_own}
 
--- ---- FROM (6.3, 7.4)
+-- ---- FROM (6.3, 7.4, 7.5). What is said here of a name that is no table means nothing, and only makes the meaning total.
 
 -- the place of the table of a name among the tables, counted from 0
 abbrev pub place_of : List Table → List ℕ → Option ℕ
 place_of schema name = position (λ (t : Table). bytes_eq name t.name) schema
 
--- an alias hides the table's name
-abbrev pub entry_name : Select → List ℕ
-entry_name s = option_map_or name_of s.alias (name_of s.table)
+-- the columns of the table of a name
+abbrev pub columns_of : List Table → List ℕ → List Column
+columns_of schema name = option_map_or (λ (t : Table). t.columns) (option_and_then (slice_get schema) (place_of schema name)) []
 
-abbrev pub scope_of : Select → Table → Scope
-scope_of s table = record { name = entry_name s; columns = table.columns }
+-- an alias hides the table's name
+abbrev pub entry_name : Entry → List ℕ
+entry_name e = option_map_or name_of e.alias (name_of e.table)
+
+-- an entry, number `index` of FROM
+abbrev pub in_scope : List Table → (index : ℕ) → Entry → scoped.Entry
+in_scope schema index e = record { name = entry_name e; number = index; table = unwrap_or (place_of schema (name_of e.table)) 0; columns = columns_of schema (name_of e.table) }
+
+-- entries, of which the first is number `index`
+abbrev pub scope_from : List Table → (index : ℕ) → List Entry → Scope
+scope_from schema index [] = []
+scope_from schema index (e ∷ es) = in_scope schema index e ∷ scope_from schema (index + 1) es
+
+-- WHERE and the select list reach all entries
+abbrev pub scope_of : List Table → Select → Scope
+scope_of schema s = scope_from schema 0 (entries_of s.sources)
+
+-- an entry has the columns of its table, each with its type and NOT NULL (11.4)
+abbrev pub entry_meant : scoped.Entry → specified.Entry
+entry_meant e = record { table = e.table; columns = map column_type e.columns }
 
 -- ---- WHERE (7.6)
 
@@ -47,6 +69,24 @@ conjuncts_of (bracketed c) = bracketed c ∷ []
 abbrev pub conjuncts : Select → List Condition
 conjuncts s = option_map_or conjuncts_of s.filter []
 
+-- those of each ON (7.5)
+abbrev pub conjuncts_on : Select → List Condition
+conjuncts_on s = flat_map (λ (source : Source). flat_map (λ (j : Joined). conjuncts_of j.on) source.joins) s.sources
+
+-- An ON reaches the entries of its source up to its own, number `index`: those before it, `reached`, and its own (7.5).
+abbrev pub joins_meant : List Table → (reached : Scope) → (index : ℕ) → List Joined → List specified.Joined
+joins_meant schema reached index [] = []
+joins_meant schema reached index (j ∷ joins) =
+    record { entry = entry_meant (in_scope schema index j.entry); on = map (condition_meant (reached ++ in_scope schema index j.entry ∷ [])) (conjuncts_of j.on) }
+    ∷ joins_meant schema (reached ++ in_scope schema index j.entry ∷ []) (index + 1) joins
+
+-- sources, of which the first begins with entry number `index`
+abbrev pub sources_meant : List Table → (index : ℕ) → List Source → List specified.Source
+sources_meant schema index [] = []
+sources_meant schema index (source ∷ sources) =
+    record { first = entry_meant (in_scope schema index source.first); joins = joins_meant schema (in_scope schema index source.first ∷ []) (index + 1) source.joins }
+    ∷ sources_meant schema (index + length (entries_in source)) sources
+
 -- ---- the select list (7.9)
 
 -- the columns in order, from a place on
@@ -54,9 +94,9 @@ abbrev pub columns_from : ℕ → List Column → List meaning.Expression
 columns_from place [] = []
 columns_from place (c ∷ cs) = meaning.column place c.ty ∷ columns_from (suc place) cs
 
--- `*` is all columns
+-- `*` is all columns of all entries
 abbrev pub items_meant : Scope → Selected → List meaning.Expression
-items_meant scope all_columns = columns_from 0 scope.columns
+items_meant scope all_columns = flat_map (λ (e : scoped.Entry). columns_from (64 * e.number) e.columns) scope
 items_meant scope (items list) = map (λ (i : SelectItem). meant scope i.value) list
 
 -- an expression that is a column is named by it, any other by C and its position from 1
@@ -84,7 +124,7 @@ item_names position' (i ∷ others) = item_name position' i ∷ item_names (suc 
 
 -- the names of the result columns
 abbrev pub result_names : Scope → Selected → List (List ℕ)
-result_names scope all_columns = map (λ (c : Column). c.name) scope.columns
+result_names scope all_columns = flat_map (λ (e : scoped.Entry). map (λ (c : Column). c.name) e.columns) scope
 result_names scope (items list) = item_names 1 list
 
 -- ---- the faults of a query
@@ -100,26 +140,41 @@ selected_faults scope (items list) = list_faults scope list
 abbrev pub filter_faults : Scope → Select → List Fault
 filter_faults scope s = option_map_or (condition_faults scope) s.filter []
 
--- a table that the schema doesn't have; else the faults of the expressions over its columns
+-- of each ON over what it reaches
+abbrev pub joins_faults : List Table → (reached : Scope) → (index : ℕ) → List Joined → List Fault
+joins_faults schema reached index [] = []
+joins_faults schema reached index (j ∷ joins) =
+    condition_faults (reached ++ in_scope schema index j.entry ∷ []) j.on ++ joins_faults schema (reached ++ in_scope schema index j.entry ∷ []) (index + 1) joins
+
+abbrev pub sources_faults : List Table → (index : ℕ) → List Source → List Fault
+sources_faults schema index [] = []
+sources_faults schema index (source ∷ sources) =
+    joins_faults schema (in_scope schema index source.first ∷ []) (index + 1) source.joins ++ sources_faults schema (index + length (entries_in source)) sources
+
+-- of entries, `before` being the names of those before them: a name that is no table, and the name of an entry before (6.3)
+abbrev pub entries_faults : List Table → (before : List (List ℕ)) → List Entry → List Fault
+entries_faults schema before [] = []
+entries_faults schema before (e ∷ es) =
+    (fault_where (is_none (place_of schema (name_of e.table))) UnknownTable (name_of e.table) ++ fault_where (list_any (bytes_eq (entry_name e)) before) DuplicateAlias (entry_name e))
+    ++ entries_faults schema (before ++ entry_name e ∷ []) es
+
+-- over the entries of FROM
+abbrev pub over_faults : List Table → Select → List Fault
+over_faults schema s = selected_faults (scope_of schema s) s.selected ++ (sources_faults schema 0 s.sources ++ filter_faults (scope_of schema s) s)
+
+-- the faults of the entries of FROM; without one those of the expressions over their columns
 abbrev pub query_faults : List Table → Select → List Fault
-query_faults schema s =
-    option_map_or (λ (t : Table). selected_faults (scope_of s t) s.selected ++ filter_faults (scope_of s t) s)
-    (option_and_then (slice_get schema) (place_of schema (name_of s.table))) (record { kind = UnknownTable; name = name_of s.table } ∷ [])
+query_faults schema s = or_own (entries_faults schema [] (entries_of s.sources)) (over_faults schema s)
 
 -- ---- what a query means
 
 -- The query has no fault, and means this specification, whose result columns have these names.
 pub record Means (schema : List Table) (s : Select) (specification : Specification) (names : List (List ℕ)) : Type 0 where
   pub faultless : query_faults schema s ≡ []
-  pub place : ℕ
-  pub table : Table
-  pub place_is : place_of schema (name_of s.table) ≡ Some place
-  pub table_is : slice_get schema place ≡ Some table
-  -- FROM is one entry, which has the table's columns, each with its type and NOT NULL (11.4)
-  pub sources_are : specification.sources ≡ alone (record { table = place; columns = map column_type table.columns }) ∷ []
-  pub conjuncts_are : specification.conjuncts ≡ map (condition_meant (scope_of s table)) (conjuncts s)
-  pub items_are : specification.items ≡ items_meant (scope_of s table) s.selected
-  pub names_are : names ≡ result_names (scope_of s table) s.selected
+  pub sources_are : specification.sources ≡ sources_meant schema 0 s.sources
+  pub conjuncts_are : specification.conjuncts ≡ map (condition_meant (scope_of schema s)) (conjuncts s)
+  pub items_are : specification.items ≡ items_meant (scope_of schema s) s.selected
+  pub names_are : names ≡ result_names (scope_of schema s) s.selected
 
 -- ---- a script
 
@@ -135,5 +190,7 @@ HasFewItems (items list) = (1 ≤ length list) × (length list ≤ 64)
 
 -- the sizes of a query
 pub record IsWithin (s : Select) : Type 0 where
+  pub some_source : 1 ≤ length s.sources
+  pub few_entries : length (entries_of s.sources) ≤ 8
   pub items : HasFewItems s.selected
-  pub conjuncts : length (conjuncts s) ≤ 1000
+  pub conjuncts : length (conjuncts_on s) + length (conjuncts s) ≤ 1000

@@ -7,7 +7,7 @@ ghost use Rattle.qw_scalar.specs.Expression.{coalesced};
 ghost use Rattle.qw_scalar.specs.Tree.{condition_of, expression_of};
 ghost use Rattle.qw_ast.specs.Limits.{octets, octets_all, octets_branches, octets_condition};
 ghost use Rattle.qw_typer.specs.Inner.Sizes.{Fits, FitsAll, FitsBranches, FitsCondition, FitsMatches, nodes, nodes_all, nodes_branches, nodes_condition};
-ghost use Rattle.qw_typer.specs.Inner.Typing.{Gives, GivesArguments, GivesChoices, GivesCondition, GivesMatches, GivesValues, IsTold, entry, spelled, typed, typed_all, typed_choices, typed_branches, typed_condition};
+ghost use Rattle.qw_typer.specs.Inner.Typing.{Gives, GivesArguments, GivesChoices, GivesCondition, GivesMatches, GivesValues, IsTold, in_reach, spelled, typed, typed_all, typed_choices, typed_branches, typed_condition};
 
 use crate::branch::{
     argument, arguments_more, last_match, match_more, otherwise, value, values_more, when,
@@ -20,7 +20,7 @@ use crate::fault::FaultKind;
 use crate::kinds::are_comparable;
 use crate::leaf::{column, date, number, text};
 use crate::refusal::{Refusal, Token, first_token};
-use crate::scope::Scope;
+use crate::scope::Entry;
 use crate::tree::{Results, Typed, Values, boxed};
 use qw_ast::script::{Branches, Cond, Expr, Exprs, Phrase};
 use qw_scalar::expression as meaning;
@@ -31,10 +31,10 @@ use std::alloc::Global;
 #[tactic(auto, using(crate::proofs::OutcomeLemmas::gives_after, crate::proofs::OutcomeLemmas::refuses_after, crate::proofs::OutcomeLemmas::refuses_then, crate::proofs::OutcomeLemmas::refuses_memory, crate::proofs::OutcomeLemmas::refuses_fault))]
 pub(crate) fn expression<'a>(
     alloc: Global,
-    scope: &Scope<'_>,
+    scope: &[Entry<'_>],
     expr: &Expr<'a>,
 ) -> Result<Typed, Refusal<'a>>
-    ensures gives { Gives result (typed (entry scope.now) (syntax.expression_of expr.now)) }
+    ensures gives { Gives result (typed (in_reach scope.now) (syntax.expression_of expr.now)) }
     ensures fits { IfOk result (λ made. Fits made.tree (nodes (syntax.expression_of expr.now)) (octets (syntax.expression_of expr.now))) }
 {
     match expr {
@@ -85,10 +85,10 @@ pub(crate) fn expression<'a>(
 #[tactic(auto, using(crate::proofs::OutcomeLemmas::gives_condition_after, crate::proofs::OutcomeLemmas::refuses_after, crate::proofs::OutcomeLemmas::refuses_then, crate::proofs::OutcomeLemmas::refuses_memory, crate::proofs::OutcomeLemmas::refuses_fault))]
 pub(crate) fn condition<'a>(
     alloc: Global,
-    scope: &Scope<'_>,
+    scope: &[Entry<'_>],
     cond: &Cond<'a>,
 ) -> Result<meaning::Cond, Refusal<'a>>
-    ensures gives { GivesCondition result (typed_condition (entry scope.now) (syntax.condition_of cond.now)) }
+    ensures gives { GivesCondition result (typed_condition (in_reach scope.now) (syntax.condition_of cond.now)) }
     ensures fits { IfOk result (λ made. FitsCondition made (nodes_condition (syntax.condition_of cond.now)) (octets_condition (syntax.condition_of cond.now))) }
 {
     match cond {
@@ -141,10 +141,10 @@ pub(crate) fn condition<'a>(
 #[tactic(auto, using(crate::proofs::OutcomeLemmas::refuses_after, crate::proofs::OutcomeLemmas::refuses_then, crate::proofs::OutcomeLemmas::refuses_memory, crate::proofs::OutcomeLemmas::refuses_fault))]
 fn arguments<'a>(
     alloc: Global,
-    scope: &Scope<'_>,
+    scope: &[Entry<'_>],
     exprs: &Exprs<'a>,
 ) -> Result<Results<meaning::Exprs>, Refusal<'a>>
-    ensures gives { GivesArguments result (typed_all (entry scope.now) (syntax.expressions_of exprs.now)) }
+    ensures gives { GivesArguments result (typed_all (in_reach scope.now) (syntax.expressions_of exprs.now)) }
     ensures fits { IfOk result (λ made. FitsAll made.tree (nodes_all (syntax.expressions_of exprs.now)) (octets_all (syntax.expressions_of exprs.now))) }
 {
     match exprs {
@@ -165,12 +165,12 @@ fn arguments<'a>(
 #[tactic(auto, using(crate::proofs::OutcomeLemmas::refuses_after, crate::proofs::OutcomeLemmas::refuses_then, crate::proofs::OutcomeLemmas::refuses_memory, crate::proofs::OutcomeLemmas::refuses_fault))]
 fn values<'a>(
     alloc: Global,
-    scope: &Scope<'_>,
+    scope: &[Entry<'_>],
     operand: &Typed,
     exprs: &Exprs<'a>,
 ) -> Result<Values, Refusal<'a>>
     requires { IsTold operand.now }
-    ensures gives { GivesValues (expression_of operand.now.tree) result (typed_all (entry scope.now) (syntax.expressions_of exprs.now)) }
+    ensures gives { GivesValues (expression_of operand.now.tree) result (typed_all (in_reach scope.now) (syntax.expressions_of exprs.now)) }
     ensures fits { IfOk result (λ made. FitsAll made.tree (nodes_all (syntax.expressions_of exprs.now)) (octets_all (syntax.expressions_of exprs.now))) }
 {
     match exprs {
@@ -191,10 +191,10 @@ fn values<'a>(
 #[tactic(auto, using(crate::proofs::OutcomeLemmas::refuses_after, crate::proofs::OutcomeLemmas::refuses_then, crate::proofs::OutcomeLemmas::refuses_memory, crate::proofs::OutcomeLemmas::refuses_fault))]
 fn choices<'a>(
     alloc: Global,
-    scope: &Scope<'_>,
+    scope: &[Entry<'_>],
     branches: &Branches<'a>,
 ) -> Result<Results<meaning::Branches>, Refusal<'a>>
-    ensures gives { GivesChoices result (typed_choices (entry scope.now) (syntax.branching_of branches.now)) }
+    ensures gives { GivesChoices result (typed_choices (in_reach scope.now) (syntax.branching_of branches.now)) }
     ensures fits { IfOk result (λ made. FitsBranches made.tree (nodes_branches (syntax.branching_of branches.now)) (octets_branches (syntax.branching_of branches.now))) }
 {
     match branches {
@@ -221,13 +221,13 @@ fn choices<'a>(
 #[tactic(auto, using(crate::proofs::OutcomeLemmas::refuses_after, crate::proofs::OutcomeLemmas::refuses_then, crate::proofs::OutcomeLemmas::refuses_memory, crate::proofs::OutcomeLemmas::refuses_fault))]
 fn matches<'a>(
     alloc: Global,
-    scope: &Scope<'_>,
+    scope: &[Entry<'_>],
     operand: &Typed,
     token: Token<'a>,
     branches: &Branches<'a>,
 ) -> Result<Results<meaning::Matches>, Refusal<'a>>
     requires { IsTold operand.now }
-    ensures gives { GivesMatches (expression_of operand.now.tree) result (typed_branches (entry scope.now) (spelled token.entry) (expression_of operand.now.tree) (syntax.branching_of branches.now)) }
+    ensures gives { GivesMatches (expression_of operand.now.tree) result (typed_branches (in_reach scope.now) (spelled token.entry) (expression_of operand.now.tree) (syntax.branching_of branches.now)) }
     ensures fits { IfOk result (λ made. FitsMatches made.tree (nodes_branches (syntax.branching_of branches.now)) (octets_branches (syntax.branching_of branches.now))) }
 {
     match branches {

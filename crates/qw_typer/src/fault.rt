@@ -6,10 +6,14 @@ use thiserror::Error;
 /// What is wrong with a construct of a query.
 #[derive(Clone, Copy, Debug, PartialEq, Eq)]
 pub enum FaultKind {
-    /// A name in FROM that is no table of the schema, or a qualifier that is no entry of FROM (ISO/IEC 9075:1992, 6.3, 6.4).
+    /// A name in FROM that is no table of the schema, or a qualifier that is no entry in reach (ISO/IEC 9075:1992, 6.3, 6.4).
     UnknownTable,
-    /// A name that is no column of the table (6.4).
+    /// A name that is no column of the entries in reach (6.4).
     UnknownColumn,
+    /// A name without a qualifier that is a column of two entries in reach or more (6.4).
+    Ambiguous,
+    /// A name that two entries of FROM have (6.3).
+    DuplicateAlias,
     /// Operands or results of kinds that don't go together (6.6, 6.9, 6.12, 8.2).
     Clash,
     /// A product or a quotient whose operands have more than 18 digits behind their points, together (6.12).

@@ -1,15 +1,20 @@
 //! What holds of what queries mean. No function here computes anything.
 
-ghost use Rattle.std.specs.Prelude.{◌≡◌, ℕ, pos, List, [], ◌∷◌, Some, None, codes};
+ghost use Rattle.std.specs.Prelude.{◌≡◌, ℕ, pos, false, List, [], ◌∷◌, Some, None, codes};
 ghost use Rattle.std.specs.List.{AllByRecursion};
 ghost use Rattle.qw_types.specs.Schema.{AreColumns};
 ghost use Rattle.qw_types.specs.declared.schema.Table.{Table};
+ghost use Rattle.qw_types.specs.declared.value.Ty.TheVariants.{Integer};
+ghost use Rattle.qw_scalar.specs.declared.comparison.Comparison.TheVariants.{Equal};
 ghost use Rattle.qw_meaning.specs.Select.{IsSpecification, Specification};
 ghost use Rattle.qw_ast.specs.declared.script.Sign.TheVariants.{Plus, Minus};
 ghost use Rattle.qw_scalar.specs.Expression as meaning;
-ghost use Rattle.qw_ast.specs.Syntax.{Select, column, number, signed, text};
+ghost use Rattle.qw_ast.specs.Syntax.{Select, all_columns, column, number, signed, text};
+ghost use Rattle.qw_typer.specs.declared.fault.FaultKind.TheVariants.{Ambiguous, DuplicateAlias, UnknownColumn, UnknownTable};
 ghost use Rattle.qw_typer.specs.Literal.{date_of, number_of};
-ghost use Rattle.qw_typer.specs.Typed.{IsWithin, Means, item_names, own_name, query_faults};
+ghost use Rattle.qw_typer.specs.Meant.{meant};
+ghost use Rattle.qw_typer.specs.Typed.{IsWithin, Means, item_names, items_meant, own_name, query_faults, result_names, scope_of, sources_meant};
+ghost use Rattle.qw_typer.specs.Worked.{all_from, alone, item_from, join, of, table, table_as, two_tables};
 
 /// A query means a specification exactly where it has no fault, and then one alone, with one name for each result column.
 pub fn meaning_or_fault()
@@ -19,7 +24,7 @@ pub fn meaning_or_fault()
         → (specification ≡ other) × (names ≡ others) }
 {}
 
-/// What a query means is typed over its table's columns and keeps a specification's limits (ISO/IEC 9075:1992, 6.9 to 6.12, 8.2).
+/// What a query means is typed over the columns of its entries and keeps a specification's limits (ISO/IEC 9075:1992, 6.9 to 6.12, 8.2).
 pub fn meanings_are_typed()
     ensures { (schema : List Table) (s : Select) (specification : Specification) (names : List (List ℕ)) → AllByRecursion (λ (t : Table). AreColumns t.columns) schema → IsWithin s
         → Means schema s specification names → IsSpecification specification }
@@ -59,4 +64,46 @@ pub fn worked_names()
     ensures column { own_name 2 (column None (codes "a")) ≡ codes "A" }
     ensures list { item_names 1 (record { value = number (codes "5"); name = None } ∷ record { value = column None (codes "b"); name = None } ∷ record { value = number (codes "5"); name = Some (codes "c1") }
         ∷ record { value = number (codes "5"); name = None } ∷ []) ≡ codes "C1" ∷ codes "B" ∷ codes "C1" ∷ codes "C4" ∷ [] }
+{}
+
+/// Over A (K, X) and B (K, Y): `SELECT * FROM A, B` is columns 0, 1, 64 and 65, named K, X, K and Y.
+pub fn worked_product()
+    ensures faultless { query_faults two_tables (all_from (alone (table (codes "a")) ∷ alone (table (codes "b")) ∷ [])) ≡ [] }
+    ensures columns { items_meant (scope_of two_tables (all_from (alone (table (codes "a")) ∷ alone (table (codes "b")) ∷ []))) all_columns
+        ≡ meaning.column 0 Integer ∷ meaning.column 1 Integer ∷ meaning.column 64 Integer ∷ meaning.column 65 Integer ∷ [] }
+    ensures names { result_names (scope_of two_tables (all_from (alone (table (codes "a")) ∷ alone (table (codes "b")) ∷ []))) all_columns ≡ codes "K" ∷ codes "X" ∷ codes "K" ∷ codes "Y" ∷ [] }
+{}
+
+/// `FROM A AS P JOIN A AS Q ON P.K = Q.X` joins A with itself: column 0 with column 65 (ISO/IEC 9075:1992, 6.3, 7.5). `FROM A, A` and
+/// `FROM A AS P, B AS P` name two entries alike, and C is no table.
+pub fn worked_entries()
+    ensures self_join { query_faults two_tables (all_from (record { first = table_as (codes "a") (codes "p"); joins = join (table_as (codes "a") (codes "q")) (of (codes "p") (codes "k")) (of (codes "q") (codes "x")) ∷ [] } ∷ [])) ≡ [] }
+    ensures columns { sources_meant two_tables 0 (record { first = table_as (codes "a") (codes "p"); joins = join (table_as (codes "a") (codes "q")) (of (codes "p") (codes "k")) (of (codes "q") (codes "x")) ∷ [] } ∷ [])
+        ≡ record {
+          first = record { table = 0; columns = record { ty = Integer; not_null = false } ∷ record { ty = Integer; not_null = false } ∷ [] };
+          joins = record { entry = record { table = 0; columns = record { ty = Integer; not_null = false } ∷ record { ty = Integer; not_null = false } ∷ [] }; on = meaning.comparison Equal (meaning.column 0 Integer) (meaning.column 65 Integer) ∷ [] } ∷ [];
+        } ∷ [] }
+    ensures twice { query_faults two_tables (all_from (alone (table (codes "a")) ∷ alone (table (codes "A")) ∷ [])) ≡ record { kind = DuplicateAlias; name = codes "A" } ∷ [] }
+    ensures aliases { query_faults two_tables (all_from (alone (table_as (codes "a") (codes "p")) ∷ alone (table_as (codes "b") (codes "p")) ∷ [])) ≡ record { kind = DuplicateAlias; name = codes "P" } ∷ [] }
+    ensures no_table { query_faults two_tables (all_from (alone (table (codes "a")) ∷ alone (table (codes "c")) ∷ [])) ≡ record { kind = UnknownTable; name = codes "C" } ∷ [] }
+{}
+
+/// In `FROM A, B` K alone is ambiguous, B.K is column 64, Y is column 65; A.Y is no column, and P.K names no entry (6.4).
+pub fn worked_references()
+    ensures ambiguous { query_faults two_tables (item_from (column None (codes "k")) (alone (table (codes "a")) ∷ alone (table (codes "b")) ∷ [])) ≡ record { kind = Ambiguous; name = codes "K" } ∷ [] }
+    ensures qualified { query_faults two_tables (item_from (of (codes "b") (codes "k")) (alone (table (codes "a")) ∷ alone (table (codes "b")) ∷ [])) ≡ [] }
+    ensures qualified_is { meant (scope_of two_tables (all_from (alone (table (codes "a")) ∷ alone (table (codes "b")) ∷ []))) (of (codes "b") (codes "k")) ≡ meaning.column 64 Integer }
+    ensures only_one { meant (scope_of two_tables (all_from (alone (table (codes "a")) ∷ alone (table (codes "b")) ∷ []))) (column None (codes "y")) ≡ meaning.column 65 Integer }
+    ensures other_table { query_faults two_tables (item_from (of (codes "a") (codes "y")) (alone (table (codes "a")) ∷ alone (table (codes "b")) ∷ [])) ≡ record { kind = UnknownColumn; name = codes "Y" } ∷ [] }
+    ensures no_entry { query_faults two_tables (item_from (of (codes "p") (codes "k")) (alone (table (codes "a")) ∷ alone (table (codes "b")) ∷ [])) ≡ record { kind = UnknownTable; name = codes "P" } ∷ [] }
+{}
+
+/// An ON reaches the entries of its source up to its own (7.5): in `FROM A JOIN B ON A.K = Q.K JOIN A AS Q ON Q.K = B.K` the first ON names Q
+/// too early, the second reaches all three; and in `FROM A AS P, A JOIN B ON P.K = B.K` P is of another source.
+pub fn worked_reach()
+    ensures behind { query_faults two_tables (all_from (record { first = table (codes "a"); joins = join (table (codes "b")) (of (codes "a") (codes "k")) (of (codes "q") (codes "k")) ∷ join (table_as (codes "a") (codes "q")) (of (codes "q") (codes "k")) (of (codes "b") (codes "k")) ∷ [] } ∷ []))
+        ≡ record { kind = UnknownTable; name = codes "Q" } ∷ [] }
+    ensures up_to_its_own { query_faults two_tables (all_from (record { first = table (codes "a"); joins = join (table (codes "b")) (of (codes "a") (codes "k")) (of (codes "b") (codes "k")) ∷ join (table_as (codes "a") (codes "q")) (of (codes "q") (codes "k")) (of (codes "b") (codes "k")) ∷ [] } ∷ [])) ≡ [] }
+    ensures other_source { query_faults two_tables (all_from (alone (table_as (codes "a") (codes "p")) ∷ record { first = table (codes "a"); joins = join (table (codes "b")) (of (codes "p") (codes "k")) (of (codes "b") (codes "k")) ∷ [] } ∷ []))
+        ≡ record { kind = UnknownTable; name = codes "P" } ∷ [] }
 {}

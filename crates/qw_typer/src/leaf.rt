@@ -1,20 +1,23 @@
 //! Typed literals and columns, the leaves of an expression.
 #![tactic(auto, unfolding(crate::specs::Inner::Typing::Refuses))]
 
-ghost use Rattle.std.specs.Prelude.{◌≡◌, IfOk, length, map, None};
+ghost use Rattle.std.specs.Prelude.{◌≡◌, IfOk, List, length, map};
+ghost use Rattle.qw_ast.specs.Grammar.{name_of};
 ghost use Rattle.qw_ast.specs.Syntax.{column, date, number, text};
 ghost use Rattle.qw_ast.specs.SyntaxTree.{days_of, octets_of};
 ghost use Rattle.qw_typer.specs.Literal.{string_value};
 ghost use Rattle.qw_typer.specs.Inner.Sizes.{Fits};
-ghost use Rattle.qw_typer.specs.Inner.Typing.{Gives, entry, typed};
-ghost use Rattle.qw_typer.specs.Meant.{Scope as Entry};
+ghost use Rattle.qw_scalar.specs.Expression as meaning;
+ghost use Rattle.qw_typer.specs.Faults.{counted_faults};
+ghost use Rattle.qw_typer.specs.Inner.Typing.{Gives, IsFound, in_reach, outcome, typed};
+ghost use Rattle.qw_typer.specs.Meant.{Scope, first_of};
 
 use crate::date::date_of;
 use crate::fault::FaultKind;
-use crate::name::value_text;
+use crate::name::{name_text, value_text};
 use crate::number::number_of;
 use crate::refusal::{Refusal, Token};
-use crate::scope::{Scope, column_named, is_known};
+use crate::scope::{Entry, Found, is_known, referred};
 use crate::tree::Typed;
 use qw_ast::script::Interval;
 use qw_scalar::expression::Expr;
@@ -23,7 +26,7 @@ use std::alloc::Global;
 
 /// A number.
 pub(crate) fn number<'a>(alloc: Global, octets: &'a [u8]) -> Result<Typed, Refusal<'a>>
-    ensures gives { (scope : Entry) → Gives result (typed scope (number octets.now)) }
+    ensures gives { (scope : Scope) → Gives result (typed scope (number octets.now)) }
     ensures fits { IfOk result (λ made. Fits made.tree 1 0) }
 {
     let found = number_of(alloc, octets).map_err(|_| Refusal::NoMemory)?;
@@ -38,7 +41,7 @@ pub(crate) fn number<'a>(alloc: Global, octets: &'a [u8]) -> Result<Typed, Refus
 
 /// A character string.
 pub(crate) fn text<'a>(alloc: Global, octets: &'a [u8]) -> Result<Typed, Refusal<'a>>
-    ensures gives { (scope : Entry) → Gives result (typed scope (text octets.now)) }
+    ensures gives { (scope : Scope) → Gives result (typed scope (text octets.now)) }
     ensures fits { IfOk result (λ made. Fits made.tree 1 (length (string_value octets.now))) }
 {
     let value = value_text(alloc, octets).map_err(|_| Refusal::NoMemory)?;
@@ -51,35 +54,38 @@ pub(crate) fn text<'a>(alloc: Global, octets: &'a [u8]) -> Result<Typed, Refusal
 /// A column.
 pub(crate) fn column<'a>(
     alloc: Global,
-    scope: &Scope<'_>,
+    scope: &[Entry<'_>],
     qualifier: Option<&'a [u8]>,
     name: &'a [u8],
 ) -> Result<Typed, Refusal<'a>>
-    ensures gives { Gives result (typed (entry scope.now) (column (octets_of qualifier.entry) name.now)) }
+    ensures gives { Gives result (typed (in_reach scope.now) (column (octets_of qualifier.entry) name.now)) }
     ensures fits { IfOk result (λ made. Fits made.tree 1 0) }
 {
-    let known = is_known(alloc, scope, qualifier).map_err(|_| Refusal::NoMemory)?;
+    let kept = name_text(alloc, name).map_err(|_| Refusal::NoMemory)?;
     match qualifier {
-        Some(qualifier) if !known => Err(Refusal::Fault(
-            FaultKind::UnknownTable,
-            Token::Name(qualifier),
-        )),
-        _ => known_column(alloc, scope, name),
+        Some(qualifier) => {
+            let entry = name_text(alloc, qualifier).map_err(|_| Refusal::NoMemory)?;
+            if !is_known(scope, &entry) {
+                return Err(Refusal::Fault(FaultKind::UnknownTable, Token::Name(qualifier)));
+            }
+            only_column(referred(scope, Some(&entry), &kept), name)
+        }
+        None => only_column(referred(scope, None, &kept), name),
     }
 }
 
-/// A column behind no qualifier, or behind one that is known.
-fn known_column<'a>(alloc: Global, scope: &Scope<'_>, name: &'a [u8]) -> Result<Typed, Refusal<'a>>
-    ensures gives { Gives result (typed (entry scope.now) (column None name.now)) }
+/// The only column that a name may mean.
+fn only_column<'a>(found: Found, name: &'a [u8]) -> Result<Typed, Refusal<'a>>
+    ensures gives { (es : List meaning.Expression) → IsFound found es → Gives result (outcome (counted_faults (name_of name.now) es) (first_of es)) }
     ensures fits { IfOk result (λ made. Fits made.tree 1 0) }
 {
-    let found = column_named(alloc, scope.columns, name).map_err(|_| Refusal::NoMemory)?;
     match found {
-        Some(place) => Ok(Typed {
+        Found::One(place) => Ok(Typed {
             kind: Some(Kind::of_type(place.ty)),
             tree: Expr::Column(place.place, place.ty),
         }),
-        None => Err(Refusal::Fault(FaultKind::UnknownColumn, Token::Name(name))),
+        Found::Nothing => Err(Refusal::Fault(FaultKind::UnknownColumn, Token::Name(name))),
+        Found::Several => Err(Refusal::Fault(FaultKind::Ambiguous, Token::Name(name))),
     }
 }
 
@@ -89,7 +95,7 @@ pub(crate) fn date<'a>(
     string: &'a [u8],
     intervals: &[Interval<'a>],
 ) -> Result<Typed, Refusal<'a>>
-    ensures gives { (scope : Entry) → Gives result (typed scope (date string.now (map days_of intervals.now))) }
+    ensures gives { (scope : Scope) → Gives result (typed scope (date string.now (map days_of intervals.now))) }
     ensures fits { IfOk result (λ made. Fits made.tree 1 0) }
 {
     let found = date_of(alloc, string, intervals).map_err(|_| Refusal::NoMemory)?;

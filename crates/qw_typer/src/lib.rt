@@ -1,7 +1,7 @@
 //! The query specifications that a script means over a schema, and the faults of those that mean none.
 //!
 //! - [`script::type_script`]: the specifications of a script's queries with the names of their result columns, or the first fault.
-//! - [`query::TypedSelect`]: a specification and the names of its result columns.
+//! - [`query::TypedQuery`]: a specification and the names of its result columns.
 //! - [`fault::TypeFault`]: why a script means nothing.
 //! - [`laws`]: a query means a specification exactly where it has no fault; that is typed; worked cases.
 #![tactic(auto)]
@@ -9,6 +9,7 @@
 mod branch;
 mod construct;
 mod date;
+mod entries;
 mod expression;
 pub mod fault;
 mod kinds;
@@ -20,5 +21,6 @@ pub mod query;
 mod refusal;
 mod scope;
 pub mod script;
+mod sources;
 mod statement;
 mod tree;

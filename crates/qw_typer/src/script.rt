@@ -11,7 +11,7 @@ ghost use Rattle.qw_typer.specs.declared.fault.TypeFault.TheVariants as type_fau
 
 use crate::fault::TypeFault;
 use crate::name::{name_text, written_text};
-use crate::query::{TypedSelect, query};
+use crate::query::{TypedQuery, query};
 use crate::refusal::{Refusal, Token};
 use qw_ast::script::Script;
 use qw_types::{NoMemory, Schema, Text};
@@ -27,7 +27,7 @@ pub fn type_script(
     alloc: Global,
     schema: &Schema,
     script: &Script<'_>,
-) -> Result<Vec<TypedSelect>, TypeFault>
+) -> Result<Vec<TypedQuery>, TypeFault>
     ensures meanings { IfOk result (λ made. AreMeant schema.now (selects_of script.now) made.items) }
     ensures small { IfOk result (λ made. AreSmall made.items) }
     ensures first_fault { IfErr result (λ fault. (fault ≡ type_fault.NoMemory) ⊎ HasFirstFault schema.now 1 (selects_of script.now) fault) }

@@ -1,98 +1,81 @@
-//! A query over a schema's tables (ISO/IEC 9075:1992, 7.4, 7.6, 7.9).
+//! The clauses of a query over the entries of its FROM (ISO/IEC 9075:1992, 7.6, 7.9).
 
-ghost use Rattle.std.specs.Prelude.{◌≡◌, ◌≤◌, ◌+◌, ℕ, MatchResult, IfOk, Ok, length, map, option_map, position};
-ghost use Rattle.std.specs.Str.{bytes_eq};
-ghost use Rattle.qw_ast.specs.Grammar.{name_of};
+ghost use Rattle.std.specs.Prelude.{◌≡◌, ◌≤◌, ◌+◌, ◌*◌, ◌++◌, ℕ, MatchResult, IfOk, Ok, length, map, option_map};
 ghost use Rattle.qw_ast.specs.SyntaxTree as syntax;
-ghost use Rattle.qw_types.specs.Contents.{column_type};
 ghost use Rattle.qw_types.specs.declared.schema.Column.{Column};
-ghost use Rattle.qw_types.specs.declared.schema.Table.{Table};
 ghost use Rattle.qw_scalar.specs.Tree.{condition_of, expression_of};
 ghost use Rattle.qw_ast.specs.Limits.{items_of, octets, octets_condition, over_filter, over_items};
-ghost use Rattle.qw_typer.specs.Inner.Sizes.{Fits, FitsItems, FitsTests, nodes, nodes_condition, selected_nodes};
-ghost use Rattle.qw_typer.specs.Inner.Typing.{Refuses, entry, typed_conjuncts, typed_filter, typed_item, typed_items, typed_list};
-ghost use Rattle.qw_typer.specs.Typed.{columns_from, item_name, item_names, place_of, result_names};
+ghost use Rattle.qw_ast.specs.Syntax.{all_columns};
+ghost use Rattle.qw_typer.specs.Inner.Sizes.{ColumnsPushed, Fits, FitsItems, FitsTests, column_count, nodes, nodes_condition, selected_nodes};
+ghost use Rattle.qw_typer.specs.Inner.Typing.{Refuses, in_reach, typed_conjuncts, typed_filter, typed_item, typed_items, typed_list};
+ghost use Rattle.qw_typer.specs.Typed.{columns_from, item_name, item_names, items_meant, result_names};
 
 use crate::expression::{condition, expression};
 use crate::fault::FaultKind;
 use crate::name::name_text;
 use crate::refusal::{Refusal, first_token};
-use crate::scope::{Scope, is_name};
+use crate::scope::{Entry, first_column};
 use qw_ast::script::{Cond, Expr, Item, SelectList};
 use qw_scalar::expression as meaning;
-use qw_types::{Column, ColumnType, NoMemory, Table, Text};
+use qw_types::{Column, NoMemory, Text};
 use std::alloc::Global;
-
-/// The place of the table of a name, as it is kept.
-pub(crate) fn place_of(tables: &[Table], name: &Text) -> Option<usize>
-    ensures { result ≡ place_of tables.now name.now }
-{
-    tables.iter().position(|table| is_name(name, &table.name))
-}
-
-/// What columns are but for their names.
-pub(crate) fn column_types(alloc: Global, columns: &[Column]) -> Result<Vec<ColumnType>, NoMemory>
-    ensures { IfOk result (λ types. types.items ≡ map column_type columns.now) }
-{
-    Ok(
-        columns
-            .iter()
-            .map(|column| column_type(column))
-            .collect(alloc)?,
-    )
-}
-
-/// What a column is but for its name: its type, and its NOT NULL.
-fn column_type(column: &Column) -> ColumnType
-    ensures { result ≡ column_type column.now }
-{
-    ColumnType {
-        ty: column.ty,
-        not_null: column.not_null,
-    }
-}
 
 /// The expressions of a select list.
 #[tactic(auto, unfolding(crate::specs::Inner::Typing::Refuses))]
 pub(crate) fn list<'a>(
     alloc: Global,
-    scope: &Scope<'_>,
+    scope: &[Entry<'_>],
     list: &SelectList<'a>,
 ) -> Result<Vec<meaning::Expr>, Refusal<'a>>
-    ensures gives { MatchResult result (λ made. typed_list (entry scope.now) (syntax.selected_of list.now) ≡ Ok (map expression_of made.items))
-        (λ refusal. Refuses refusal (typed_list (entry scope.now) (syntax.selected_of list.now))) }
-    ensures fits { length scope.now.columns.now ≤ 64 → IfOk result (λ made. FitsItems made.items (selected_nodes (syntax.selected_of list.now)) (over_items octets (items_of (syntax.selected_of list.now)))) }
+    ensures gives { MatchResult result (λ made. typed_list (in_reach scope.now) (syntax.selected_of list.now) ≡ Ok (map expression_of made.items))
+        (λ refusal. Refuses refusal (typed_list (in_reach scope.now) (syntax.selected_of list.now))) }
+    ensures fits { column_count (in_reach scope.now) ≤ 512 → IfOk result (λ made. FitsItems made.items (selected_nodes (syntax.selected_of list.now)) (over_items octets (items_of (syntax.selected_of list.now)))) }
 {
     match list {
-        SelectList::All => Ok(all_columns(alloc, scope.columns).map_err(|_| Refusal::NoMemory)?),
+        SelectList::All => Ok(all_columns(alloc, scope).map_err(|_| Refusal::NoMemory)?),
         SelectList::Items(items) => items_of(alloc, scope, items.as_slice()),
     }
 }
 
-/// All columns in order.
-#[tactic(auto, using(crate::proofs::StepLemmas::columns_step), unfolding(crate::specs::Inner::Typing::Refuses))]
-fn all_columns(alloc: Global, columns: &[Column]) -> Result<Vec<meaning::Expr>, NoMemory>
-    ensures gives { IfOk result (λ made. map expression_of made.items ≡ columns_from 0 columns.now) }
-    ensures fits { IfOk result (λ made. FitsItems made.items (length columns.now) 0) }
+/// All columns of all entries in order.
+fn all_columns(alloc: Global, scope: &[Entry<'_>]) -> Result<Vec<meaning::Expr>, NoMemory>
+    ensures gives { IfOk result (λ made. map expression_of made.items ≡ items_meant (in_reach scope.now) all_columns) }
+    ensures fits { IfOk result (λ made. FitsItems made.items (column_count (in_reach scope.now)) 0) }
 {
     let mut made = Vec::new(alloc);
-    let mut rest = columns;
-    while let [column, behind @ ..] = rest {
-        made.push(meaning::Expr::Column(made.len(), column.ty))?;
+    let mut rest = scope;
+    while let [entry, behind @ ..] = rest {
+        push_columns(&mut made, entry.number, entry.columns)?;
         rest = behind;
     }
     Ok(made)
+}
+
+/// The columns of the entry of this number behind those before.
+fn push_columns(
+    made: &mut Vec<meaning::Expr>,
+    number: u8,
+    columns: &[Column],
+) -> Result<(), NoMemory>
+    ensures gives { IfOk result (λ _. map expression_of made.new.items ≡ map expression_of made.old.items ++ columns_from (64 * number) columns.now) }
+    ensures fits { IfOk result (λ _. ColumnsPushed made.old.items made.new.items (length columns.now)) }
+{
+    let first = first_column(number);
+    for (index, column) in columns.iter().enumerate() {
+        made.push(meaning::Expr::Column(first + index, column.ty))?;
+    }
+    Ok(())
 }
 
 /// The items of a select list.
 #[tactic(auto, using(crate::proofs::StepLemmas::items_step, crate::proofs::StepLemmas::items_refused, crate::proofs::StepLemmas::items_end, crate::proofs::OutcomeLemmas::refuses_memory), unfolding(crate::specs::Inner::Typing::Refuses))]
 fn items_of<'a>(
     alloc: Global,
-    scope: &Scope<'_>,
+    scope: &[Entry<'_>],
     items: &[Item<'a>],
 ) -> Result<Vec<meaning::Expr>, Refusal<'a>>
-    ensures gives { MatchResult result (λ made. typed_items (entry scope.now) (map syntax.item_of items.now) ≡ Ok (map expression_of made.items))
-        (λ refusal. Refuses refusal (typed_items (entry scope.now) (map syntax.item_of items.now))) }
+    ensures gives { MatchResult result (λ made. typed_items (in_reach scope.now) (map syntax.item_of items.now) ≡ Ok (map expression_of made.items))
+        (λ refusal. Refuses refusal (typed_items (in_reach scope.now) (map syntax.item_of items.now))) }
     ensures fits { IfOk result (λ made. FitsItems made.items (over_items nodes (map syntax.item_of items.now)) (over_items octets (map syntax.item_of items.now))) }
 {
     let mut made = Vec::new(alloc);
@@ -109,11 +92,11 @@ fn items_of<'a>(
 #[tactic(auto, using(crate::proofs::OutcomeLemmas::refuses_after, crate::proofs::OutcomeLemmas::refuses_then), unfolding(crate::specs::Inner::Typing::Refuses))]
 fn item_of<'a>(
     alloc: Global,
-    scope: &Scope<'_>,
+    scope: &[Entry<'_>],
     expr: &Expr<'a>,
 ) -> Result<meaning::Expr, Refusal<'a>>
-    ensures gives { MatchResult result (λ made. typed_item (entry scope.now) (syntax.expression_of expr.now) ≡ Ok (expression_of made))
-        (λ refusal. Refuses refusal (typed_item (entry scope.now) (syntax.expression_of expr.now))) }
+    ensures gives { MatchResult result (λ made. typed_item (in_reach scope.now) (syntax.expression_of expr.now) ≡ Ok (expression_of made))
+        (λ refusal. Refuses refusal (typed_item (in_reach scope.now) (syntax.expression_of expr.now))) }
     ensures fits { IfOk result (λ made. Fits made (nodes (syntax.expression_of expr.now)) (octets (syntax.expression_of expr.now))) }
 {
     let x = expression(alloc, scope, expr)?;
@@ -126,11 +109,11 @@ fn item_of<'a>(
 /// The conjuncts of WHERE, none without one.
 pub(crate) fn filter<'a>(
     alloc: Global,
-    scope: &Scope<'_>,
+    scope: &[Entry<'_>],
     filter: &Option<Cond<'a>>,
 ) -> Result<Vec<meaning::Cond>, Refusal<'a>>
-    ensures gives { MatchResult result (λ made. typed_filter (entry scope.now) (option_map syntax.condition_of filter.now) ≡ Ok (map condition_of made.items))
-        (λ refusal. Refuses refusal (typed_filter (entry scope.now) (option_map syntax.condition_of filter.now))) }
+    ensures gives { MatchResult result (λ made. typed_filter (in_reach scope.now) (option_map syntax.condition_of filter.now) ≡ Ok (map condition_of made.items))
+        (λ refusal. Refuses refusal (typed_filter (in_reach scope.now) (option_map syntax.condition_of filter.now))) }
     ensures fits { IfOk result (λ made. FitsTests made.items (over_filter nodes_condition (option_map syntax.condition_of filter.now)) (over_filter octets_condition (option_map syntax.condition_of filter.now))) }
 {
     match filter {
@@ -141,13 +124,13 @@ pub(crate) fn filter<'a>(
 
 /// The operands of the outermost AND chain.
 #[tactic(auto, using(crate::proofs::OutcomeLemmas::refuses_after, crate::proofs::OutcomeLemmas::refuses_then, crate::proofs::OutcomeLemmas::refuses_memory))]
-fn conjuncts<'a>(
+pub(crate) fn conjuncts<'a>(
     alloc: Global,
-    scope: &Scope<'_>,
+    scope: &[Entry<'_>],
     cond: &Cond<'a>,
 ) -> Result<Vec<meaning::Cond>, Refusal<'a>>
-    ensures gives { MatchResult result (λ made. typed_conjuncts (entry scope.now) (syntax.condition_of cond.now) ≡ Ok (map condition_of made.items))
-        (λ refusal. Refuses refusal (typed_conjuncts (entry scope.now) (syntax.condition_of cond.now))) }
+    ensures gives { MatchResult result (λ made. typed_conjuncts (in_reach scope.now) (syntax.condition_of cond.now) ≡ Ok (map condition_of made.items))
+        (λ refusal. Refuses refusal (typed_conjuncts (in_reach scope.now) (syntax.condition_of cond.now))) }
     ensures fits { IfOk result (λ made. FitsTests made.items (nodes_condition (syntax.condition_of cond.now)) (octets_condition (syntax.condition_of cond.now))) }
 {
     match cond {
@@ -169,29 +152,38 @@ fn conjuncts<'a>(
 /// The names of the result columns.
 pub(crate) fn names(
     alloc: Global,
-    scope: &Scope<'_>,
+    scope: &[Entry<'_>],
     list: &SelectList<'_>,
 ) -> Result<Vec<Text>, NoMemory>
-    ensures { IfOk result (λ names. names.items ≡ result_names (entry scope.now) (syntax.selected_of list.now)) }
+    ensures { IfOk result (λ names. names.items ≡ result_names (in_reach scope.now) (syntax.selected_of list.now)) }
 {
     match list {
-        SelectList::All => column_names(alloc, scope.columns),
+        SelectList::All => all_names(alloc, scope),
         SelectList::Items(items) => names_of(alloc, items.as_slice()),
     }
 }
 
-/// The names of all columns.
-#[tactic(auto, using(crate::proofs::StepLemmas::push_more), unfolding(crate::specs::Inner::Typing::Refuses))]
-fn column_names(alloc: Global, columns: &[Column]) -> Result<Vec<Text>, NoMemory>
-    ensures { IfOk result (λ names. names.items ≡ map (λ (c : Column). c.name) columns.now) }
+/// The names of all columns of all entries.
+fn all_names(alloc: Global, scope: &[Entry<'_>]) -> Result<Vec<Text>, NoMemory>
+    ensures { IfOk result (λ names. names.items ≡ result_names (in_reach scope.now) all_columns) }
 {
     let mut names = Vec::new(alloc);
-    let mut rest = columns;
-    while let [column, behind @ ..] = rest {
-        names.push(column.name.clone()?)?;
+    let mut rest = scope;
+    while let [entry, behind @ ..] = rest {
+        push_names(&mut names, entry.columns)?;
         rest = behind;
     }
     Ok(names)
+}
+
+/// The names of the columns behind those before.
+fn push_names(names: &mut Vec<Text>, columns: &[Column]) -> Result<(), NoMemory>
+    ensures { IfOk result (λ _. names.new.items ≡ names.old.items ++ map (λ (c : Column). c.name) columns.now) }
+{
+    for column in columns {
+        names.push(column.name.clone()?)?;
+    }
+    Ok(())
 }
 
 /// The names of items.

@@ -1,18 +1,32 @@
--- Mirrors `read::value`.
+-- Mirrors `read::value`, `read::number_of` and `read::options_of`: how what they return is read on.
 use Rattle.std.specs.Prelude.{◌≡◌, ℕ, List, Option, Some, None, Result, Ok, Err}
 use Rattle.std.specs.Borrow.{Bor}
+use Rattle.qw_command_line.specs.Read.{options_of}
+use Rattle.qw_command_line.specs.Words.{Reading, RunOptions, out_of_range}
+use Rattle.qw_command_line.specs.declared.command.Number.{Number}
+use Rattle.qw_command_line.specs.declared.command.RunOptions.{RunOptions as ReadOptions}
 use Rattle.qw_command_line.specs.declared.command.WordsFault.{WordsFault}
-use Rattle.qw_command_line.specs.declared.command.WordsFault.TheVariants.{Refused, StatementOutOfRange, NoMemory}
+use Rattle.qw_command_line.specs.declared.command.WordsFault.TheVariants.{Refused, OutOfRange, NoMemory}
 
 -- the value is what was found, or there is none; where memory is wanted nothing is said
 abbrev pub IsValue : Result (Bor (List ℕ)) WordsFault → (found : Option (List ℕ)) → Type 0
 IsValue (Ok value) found = found ≡ Some value.now
 IsValue (Err (Refused text)) found = found ≡ None
-IsValue (Err StatementOutOfRange) found = ⊥
+IsValue (Err (OutOfRange number)) found = ⊥
 IsValue (Err NoMemory) found = Unit {0}
 
 -- the words are refused, or memory is wanted
 abbrev pub IsRefusal : WordsFault → Type 0
 IsRefusal (Refused text) = Unit {0}
-IsRefusal StatementOutOfRange = ⊥
+IsRefusal (OutOfRange number) = ⊥
 IsRefusal NoMemory = Unit {0}
+
+-- what a number is read as, or the one that is out of its range
+abbrev pub number_read : Result ℕ Number → (ℕ → Reading) → Reading
+number_read (Ok value) read = read value
+number_read (Err number) read = out_of_range number
+
+-- what options are read as, or the number that is out of its range
+abbrev pub options_read : Result ReadOptions Number → (RunOptions → Reading) → Reading
+options_read (Ok options) read = read (options_of options)
+options_read (Err number) read = out_of_range number

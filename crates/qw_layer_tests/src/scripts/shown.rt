@@ -2,7 +2,7 @@
 //! condition that stands in brackets in the text.
 
 use qw_ast::script::{
-    Branches, Cond, Expr, Exprs, Interval, Item, Phrase, SelectList, Sign, Statement,
+    Branches, Cond, Entry, Expr, Exprs, Interval, Item, Phrase, SelectList, Sign, Source, Statement,
 };
 use qw_scalar::comparison::Comparison;
 use qw_scalar::expression::{Field, Operator};
@@ -266,17 +266,40 @@ fn put_items(out: &mut Line, items: &[Item<'_>]) {
     }
 }
 
+fn put_entry(out: &mut Line, entry: &Entry<'_>) {
+    put(out, entry.table);
+    if let Some(alias) = entry.alias {
+        put(out, b" AS ");
+        put(out, alias);
+    }
+}
+
+fn put_source(out: &mut Line, source: &Source<'_>) {
+    put_entry(out, &source.first);
+    for join in &source.joins {
+        put(out, b" JOIN ");
+        put_entry(out, &join.entry);
+        put(out, b" ON ");
+        put_condition(out, &join.on);
+    }
+}
+
+fn put_sources(out: &mut Line, sources: &[Source<'_>]) {
+    for (index, source) in sources.iter().enumerate() {
+        if 0 < index {
+            put(out, b"; ");
+        }
+        put_source(out, source);
+    }
+}
+
 fn put_statement(out: &mut Line, statement: &Statement<'_>) {
     match &statement.list {
         SelectList::All => put(out, b"*"),
         SelectList::Items(items) => put_items(out, items),
     }
     put(out, b" FROM ");
-    put(out, statement.table);
-    if let Some(alias) = statement.alias {
-        put(out, b" AS ");
-        put(out, alias);
-    }
+    put_sources(out, &statement.sources);
     if let Some(condition) = &statement.condition {
         put(out, b" WHERE ");
         put_condition(out, condition);

@@ -6,7 +6,7 @@ use Rattle.qw_scalar.specs.declared.expression.Operator.{Operator}
 use Rattle.qw_scalar.specs.declared.comparison.Comparison.{Comparison}
 use Rattle.qw_token.specs.Token.{Lexeme}
 use Rattle.qw_ast.specs.declared.script.Sign.{Sign}
-use Rattle.qw_ast.specs.Syntax.{Expression, null, number, text, date, column, signed, arithmetic, extract, searched_case, simple_case, coalesce, null_if, Condition, comparison, between, among, is_null, both, either, negation_of, is, bracketed, Clause, condition, expression, Branching, SelectItem, Selected, all_columns, items, Select}
+use Rattle.qw_ast.specs.Syntax.{Expression, null, number, text, date, column, signed, arithmetic, extract, searched_case, simple_case, coalesce, null_if, Condition, comparison, between, among, is_null, both, either, negation_of, is, bracketed, Clause, condition, expression, Branching, SelectItem, Selected, all_columns, items, Entry, Joined, Source, Select}
 use Rattle.qw_ast.specs.ScriptGrammar.{is_word, is_symbol, is_number, is_string, is_integer, is_regular, is_name, sign_of, addition_of, multiplication_of, comparison_of, field_of, truth_of, appended, is_comma, Dated, moved, arguments, Branch, is_condition, is_when, branching, is_and, is_or}
 
 abbrev pub Reader : Type 0 → Type 0
@@ -342,10 +342,33 @@ behind_all ts = option_map_or (λ rest. rest) (word_at (codes "ALL") ts) ts
 unfoldable pub filter_at : Reader Clause → Reader (Option Condition)
 filter_at inner ts = option_map_or (λ us. condition_at inner us >>= (λ c. Some (Some c.0, c.1))) (word_at (codes "WHERE") ts) (Some (None, ts))
 
+unfoldable pub entry_at : Reader Entry
+entry_at ts = token_at (octets_if is_regular) ts >>= (λ t. naming_at t.1 >>= (λ alias. Some (record { table = t.0; alias = alias.0 }, alias.1)))
+
+-- JOIN, behind INNER or not
+unfoldable pub join_at : Reader (Unit {0})
+join_at ts =
+    option_map_or (λ rest. Some (tt, rest)) (word_at (codes "JOIN") ts)
+    (word_at (codes "INNER") ts >>= (λ us. word_at (codes "JOIN") us >>= (λ rest. Some (tt, rest))))
+
+-- what stands behind JOIN
+unfoldable pub joined_at : Reader Clause → Reader Joined
+joined_at inner ts = entry_at ts >>= (λ e. word_at (codes "ON") e.1 >>= (λ us. condition_at inner us >>= (λ c. Some (record { entry = e.0; on = c.0 }, c.1))))
+
+unfoldable pub joins_at : Reader Clause → Reader (List Joined)
+joins_at inner ts = series_at (given []) join_at (joined_at inner) append ts
+
+unfoldable pub source_at : Reader Clause → Reader Source
+source_at inner ts = entry_at ts >>= (λ e. joins_at inner e.1 >>= (λ js. Some (record { first = e.0; joins = js.0 }, js.1)))
+
+-- what stands behind FROM
+unfoldable pub sources_at : Reader Clause → Reader (List Source)
+sources_at inner ts = source_at inner ts >>= (λ s. further_at (source_at inner) s.1 >>= (λ others. Some (s.0 ∷ others.0, others.1)))
+
 unfoldable pub select_at : Reader Clause → Reader Select
 select_at inner ts =
-    word_at (codes "SELECT") ts >>= (λ us. select_list_at inner (behind_all us) >>= (λ l. word_at (codes "FROM") l.1 >>= (λ vs. token_at (octets_if is_regular) vs >>= (λ t. naming_at t.1 >>= (λ alias. filter_at inner alias.1 >>= (λ f.
-    Some (record { selected = l.0; table = t.0; alias = alias.0; filter = f.0 }, f.1)))))))
+    word_at (codes "SELECT") ts >>= (λ us. select_list_at inner (behind_all us) >>= (λ l. word_at (codes "FROM") l.1 >>= (λ vs. sources_at inner vs >>= (λ ss. filter_at inner ss.1 >>= (λ f.
+    Some (record { selected = l.0; sources = ss.0; filter = f.0 }, f.1))))))
 
 -- the query that all tokens are
 abbrev pub whole : Option (Select × List Lexeme) → Option Select

@@ -3,7 +3,7 @@
 ghost use Rattle.std.specs.Prelude.{◌≡◌, option_map, if◌then◌else◌, Some, None, false, IfOk};
 ghost use Rattle.qw_token.specs.Token.{lexeme};
 ghost use Rattle.qw_ast.specs.ScriptGrammar.{addition_of, comparison_of, field_of, is_name, is_number, is_regular, is_string, multiplication_of, sign_of, truth_of};
-ghost use Rattle.qw_parse.specs.Inner.Readers.{interval_sign_at, not_at, octets_if, symbol_at, token_at, word_at};
+ghost use Rattle.qw_parse.specs.Inner.Readers.{interval_sign_at, join_at, not_at, octets_if, symbol_at, token_at, word_at};
 ghost use Rattle.qw_parse.specs.Inner.Parser.{Passes, Reads, behind, first_of, is_there, left};
 
 use super::terminal;
@@ -175,6 +175,30 @@ impl<'a> Parser<'a> {
         self.skip();
         self.skip();
         Some(sign)
+    }
+
+    /// Whether JOIN is next, behind INNER or not; it is read then.
+    #[tactic(auto, unfolding(crate::specs::Inner::Readers::join_at, crate::specs::Inner::Readers::one_at))]
+    pub(crate) fn join(&mut self) -> bool
+        ensures found { join_at (left self.old) ≡ (if result then Some (tt, left self.new) else None) }
+        ensures kept { result ≡ false → left self.new ≡ left self.old }
+    {
+        let Some(first) = self.first() else {
+            return false;
+        };
+        if terminal::is_word(&first, b"JOIN") {
+            self.skip();
+            return true;
+        }
+        let Some(second) = self.second() else {
+            return false;
+        };
+        if !terminal::is_word(&first, b"INNER") || !terminal::is_word(&second, b"JOIN") {
+            return false;
+        }
+        self.skip();
+        self.skip();
+        true
     }
 
     /// The `+` or `-` that is next, if there is one.

@@ -1,17 +1,17 @@
-//! Queries (ISO/IEC 9075:1992, 7.9, 7.3, 7.4, 7.6).
+//! Queries (ISO/IEC 9075:1992, 7.9, 7.3, 7.4, 7.5, 7.6).
 
 ghost use Rattle.std.specs.Prelude.{◌≡◌, ◌∷◌, option_map, map, IfOk};
 ghost use Rattle.qw_token.specs.Token.{lexemes};
-ghost use Rattle.qw_ast.specs.SyntaxTree.{condition_of, expression_of, item_of, octets_of, selected_of};
+ghost use Rattle.qw_ast.specs.SyntaxTree.{condition_of, entry_of, expression_of, item_of, joined_of, octets_of, selected_of, source_of};
 ghost use Rattle.qw_ast.specs.SyntaxTree as tree;
 ghost use Rattle.qw_parse.specs.Inner.Readers as readers;
-ghost use Rattle.qw_parse.specs.Inner.Readers.{condition_at, expression_at, filter_at, further_at, item_at, naming_at, nested_at, select_at, select_list_at};
+ghost use Rattle.qw_parse.specs.Inner.Readers.{condition_at, entry_at, expression_at, filter_at, further_at, item_at, joined_at, joins_at, naming_at, nested_at, select_at, select_list_at, source_at, sources_at};
 ghost use Rattle.qw_parse.specs.Inner.Parser.{Finds, Reads, left};
 
 use super::parser::{Parser, Stop};
 use super::rank::nested;
 use super::tree::{push, the_condition, the_expression};
-use qw_ast::script::{Cond, Expr, Item, SelectList, Statement};
+use qw_ast::script::{Cond, Entry, Expr, Item, Joined, SelectList, Source, Statement};
 use qw_token::token::Token;
 use std::alloc::{AllocError, Global};
 
@@ -106,6 +106,74 @@ impl<'a> Parser<'a> {
         Ok(Some(condition))
     }
 
+    /// Reads an entry of FROM: the name of a table, and an alias or none.
+    #[tactic(auto, unfolding(crate::specs::Inner::Readers::entry_at))]
+    fn entry(&mut self) -> Result<Entry<'a>, Stop>
+        ensures { Reads entry_of (entry_at (left self.old)) result (left self.new) }
+    {
+        let table = self.regular()?;
+        let alias = self.naming()?;
+        Ok(Entry { table, alias })
+    }
+
+    /// Reads what stands behind JOIN.
+    #[tactic(auto, unfolding(crate::specs::Inner::Readers::joined_at))]
+    fn joined(&mut self) -> Result<Joined<'a>, Stop>
+        ensures { Reads joined_of (joined_at (nested_at 33) (left self.old)) result (left self.new) }
+    {
+        let entry = self.entry()?;
+        self.expect_word(b"ON")?;
+        let on = self.condition()?;
+        Ok(Joined { entry, on })
+    }
+
+    /// Reads as many joins as there are.
+    #[tactic(auto, unfolding(crate::specs::Inner::Readers::joins_at))]
+    fn joins(&mut self) -> Result<Vec<Joined<'a>>, Stop>
+        ensures { Reads (λ js. map joined_of js.items) (joins_at (nested_at 33) (left self.old)) result (left self.new) }
+    {
+        let mut joins = Vec::new(self.alloc);
+        'joins: while self.join() {
+            let joined = self.joined()?;
+            push(&mut joins, joined)?;
+        }
+        Ok(joins)
+    }
+
+    /// Reads a source: an entry, and what is joined to it.
+    #[tactic(auto, unfolding(crate::specs::Inner::Readers::source_at))]
+    fn source(&mut self) -> Result<Source<'a>, Stop>
+        ensures { Reads source_of (source_at (nested_at 33) (left self.old)) result (left self.new) }
+    {
+        let first = self.entry()?;
+        let joins = self.joins()?;
+        Ok(Source { first, joins })
+    }
+
+    /// Reads as many sources as there are, each behind a comma.
+    #[tactic(auto, unfolding(crate::specs::Inner::Readers::further_at))]
+    fn further_sources(&mut self) -> Result<Vec<Source<'a>>, Stop>
+        ensures { Reads (λ ss. map source_of ss.items) (further_at (source_at (nested_at 33)) (left self.old)) result (left self.new) }
+    {
+        let mut sources = Vec::new(self.alloc);
+        'sources: while self.symbol(b",") {
+            let source = self.source()?;
+            push(&mut sources, source)?;
+        }
+        Ok(sources)
+    }
+
+    /// Reads what stands behind FROM.
+    #[tactic(auto, unfolding(crate::specs::Inner::Readers::sources_at))]
+    fn sources(&mut self) -> Result<Vec<Source<'a>>, Stop>
+        ensures { Reads (λ ss. map source_of ss.items) (sources_at (nested_at 33) (left self.old)) result (left self.new) }
+    {
+        let first = self.source()?;
+        let others = self.further_sources()?;
+        let sources = in_front(first, others)?;
+        Ok(sources)
+    }
+
     /// Reads a query.
     #[tactic(auto, unfolding(crate::specs::Inner::Readers::select_at, crate::specs::Inner::Readers::behind_all))]
     fn select(&mut self) -> Result<Statement<'a>, Stop>
@@ -115,13 +183,11 @@ impl<'a> Parser<'a> {
         self.word(b"ALL");
         let list = self.select_list()?;
         self.expect_word(b"FROM")?;
-        let table = self.regular()?;
-        let alias = self.naming()?;
+        let sources = self.sources()?;
         let condition = self.filter()?;
         Ok(Statement {
             list,
-            table,
-            alias,
+            sources,
             condition,
         })
     }

@@ -1,22 +1,25 @@
 //! Scripts over one table: what the program leaves of each query, compared with the plain program's answer.
 
-ghost use Rattle.std.specs.Prelude.{◌≡◌, ◌<◌, IfOk, IsTrue, length, map, pos};
+ghost use Rattle.std.specs.Prelude.{◌≡◌, ◌<◌, IsTrue, length, map, pos};
 ghost use Rattle.std.specs.List.{AllByRecursion};
 ghost use Rattle.qw_types.specs.Kind.{IsOfKind, IsRowOf, type_kind};
 ghost use Rattle.qw_types.specs.Contents.{rows_of};
 ghost use Rattle.qw_types.specs.Value.{IsDay, is_day as tells_day};
-ghost use Rattle.qw_meaning.specs.Select as row;
+ghost use Rattle.qw_meaning.specs.Query.{entry_of, joined_of, source_of};
+ghost use Rattle.qw_meaning.specs.Select.{entries_in, entries_of, types_of};
+ghost use Rattle.qw_meaning.specs.Select as specified;
+ghost use Rattle.qw_plain.specs.Rows.{HasRowsOf};
 
 use crate::tables::left;
 use qw_bench::bench::{Bench, Ended};
 use qw_csv::loading::load;
 use qw_csv::{Cell, Loaded};
-use qw_meaning::Select;
-use qw_plain::outcome::{Answer, plain_select_outcome};
+use qw_meaning::query::{Entry, Joined, Query, Source};
+use qw_plain::outcome::{Answer, plain_outcome};
 use qw_schema::parse::schema_of;
 use qw_sink::results::received;
 use qw_top::top::queries::queries_of;
-use qw_types::{Code, ColumnType, Kind, NoMemory, Row, Schema, Text, Ty, Val};
+use qw_types::{Code, ColumnType, Kind, NoMemory, Row, Schema, Text, Val};
 use std::alloc::Global;
 use std::process::Abort;
 use std::test::Fail;
@@ -119,7 +122,7 @@ fn first_difference(
         return Err("other queries".into());
     }
     for (k, query) in queries.iter().enumerate() {
-        let answer = plain_answer(alloc, &query.select, stored.tables.as_slice())?;
+        let answer = plain_answer(alloc, &query.query, stored.tables.as_slice())?;
         if !ends_so(alloc, &answer, &bench, k)? {
             return Ok(Some(k));
         }
@@ -201,20 +204,43 @@ fn is_same(value: &Val, other: &Val) -> bool {
 }
 
 // What the plain program answers over the tables. Their rows are tested for being of their kinds, as it asks.
-fn plain_answer(alloc: Global, select: &Select, tables: &[Vec<Row>]) -> Result<Answer, Fail> {
-    let types = types_of(alloc, select.columns())?;
-    if !are_rows_of(types.as_slice(), rows_at(tables, select.table())) {
+fn plain_answer(alloc: Global, query: &Query, tables: &[Vec<Row>]) -> Result<Answer, Fail> {
+    if !have_rows(query.sources(), tables) {
         return Err("rows of other kinds".into());
     }
-    Ok(plain_select_outcome(alloc, select, tables)?)
+    Ok(plain_outcome(alloc, query, tables)?)
 }
 
-// The data types of columns.
-fn types_of(alloc: Global, columns: &[ColumnType]) -> Result<Vec<Ty>, NoMemory>
-    ensures { IfOk result (λ types. types.items ≡ row.types_of columns.now) }
+// Whether the table of each entry of FROM has rows of the entry's columns.
+#[tactic(auto, using(crate::proofs::SourceLemmas::sources_more))]
+fn have_rows(sources: &[Source], tables: &[Vec<Row>]) -> bool
+    ensures { IsTrue result → AllByRecursion (HasRowsOf (map (λ t. t.items) tables.now)) (entries_of (map source_of sources.now)) }
 {
-    let types = columns.iter().map(|column| column.ty).collect(alloc)?;
-    Ok(types)
+    match sources {
+        [] => true,
+        [source, others @ ..] => source_has_rows(source, tables) && have_rows(others, tables),
+    }
+}
+
+fn source_has_rows(source: &Source, tables: &[Vec<Row>]) -> bool
+    ensures { IsTrue result → AllByRecursion (HasRowsOf (map (λ t. t.items) tables.now)) (entries_in (source_of source.now)) }
+{
+    has_rows(&source.first, tables) && joins_have_rows(source.joins.as_slice(), tables)
+}
+
+fn joins_have_rows(joins: &[Joined], tables: &[Vec<Row>]) -> bool
+    ensures { IsTrue result → AllByRecursion (HasRowsOf (map (λ t. t.items) tables.now)) (map (λ (j : specified.Joined). j.entry) (map joined_of joins.now)) }
+{
+    match joins {
+        [] => true,
+        [join, others @ ..] => has_rows(&join.entry, tables) && joins_have_rows(others, tables),
+    }
+}
+
+fn has_rows(entry: &Entry, tables: &[Vec<Row>]) -> bool
+    ensures { IsTrue result → HasRowsOf (map (λ t. t.items) tables.now) (entry_of entry.now) }
+{
+    are_rows_of(entry.columns.as_slice(), rows_at(tables, entry.table))
 }
 
 fn rows_at(tables: &[Vec<Row>], table: usize) -> &[Row]
@@ -226,22 +252,22 @@ fn rows_at(tables: &[Vec<Row>], table: usize) -> &[Row]
     }
 }
 
-fn are_rows_of(types: &[Ty], rows: &[Row]) -> bool
-    ensures { IsTrue result → AllByRecursion (IsRowOf (map type_kind types.now)) rows.now }
+fn are_rows_of(columns: &[ColumnType], rows: &[Row]) -> bool
+    ensures { IsTrue result → AllByRecursion (IsRowOf (map type_kind (types_of columns.now))) rows.now }
 {
     match rows {
         [] => true,
-        [row, others @ ..] => is_row_of(types, row.values()) && are_rows_of(types, others),
+        [row, others @ ..] => is_row_of(columns, row.values()) && are_rows_of(columns, others),
     }
 }
 
-fn is_row_of(types: &[Ty], values: &[Val]) -> bool
-    ensures { IsTrue result → IsRowOf (map type_kind types.now) values.now }
+fn is_row_of(columns: &[ColumnType], values: &[Val]) -> bool
+    ensures { IsTrue result → IsRowOf (map type_kind (types_of columns.now)) values.now }
 {
-    match (types, values) {
+    match (columns, values) {
         ([], []) => true,
-        ([ty, types @ ..], [value, values @ ..]) => {
-            is_of_kind(Kind::of_type(*ty), value) && is_row_of(types, values)
+        ([column, columns @ ..], [value, values @ ..]) => {
+            is_of_kind(Kind::of_type(column.ty), value) && is_row_of(columns, values)
         }
         _ => false,
     }

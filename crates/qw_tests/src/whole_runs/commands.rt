@@ -129,9 +129,9 @@ fn refused_calls(rt: HostRuntime) -> Result<(), Fail> {
 
 const COMPILE: [&str; 5] = ["compile", "s", "q", "--statement", "1"];
 
-// The module of the statement, if it is compiled and nothing is noted.
-fn compiled(alloc: Global) -> Result<MemorySink, Fail> {
-    let mut files = shelf(alloc, SCHEMA, TABLE, QUERY)?;
+// The module of a statement, if it is compiled and nothing is noted.
+fn compiled(alloc: Global, schema: &[u8], query: &[u8]) -> Result<MemorySink, Fail> {
+    let mut files = shelf(alloc, schema, TABLE, query)?;
     let mut module = sink(alloc, 4_096);
     let mut notes = sink(alloc, 1);
     let (status, _) = call(alloc, &mut files, &COMPILE, &mut module, &mut notes)?;
@@ -141,16 +141,28 @@ fn compiled(alloc: Global) -> Result<MemorySink, Fail> {
     Ok(module)
 }
 
+// A schema, and a query over one of its tables or over several.
+const STATEMENTS: [(&[u8], &[u8]); 2] = [
+    (SCHEMA, QUERY),
+    (
+        b"CREATE TABLE T (A INTEGER, N VARCHAR(9)); CREATE TABLE U (A INTEGER NOT NULL, N VARCHAR(9))",
+        b"SELECT T.A, U.N FROM T JOIN U ON T.N = U.N AND 1 / U.A > 0, T V WHERE V.A = U.A",
+    ),
+];
+
 #[test]
 fn a_compiled_statement_is_a_valid_module(rt: HostRuntime) -> Result<(), Fail> {
-    let module = compiled(rt.alloc())?;
-    let end = End {
-        status: Status::Done,
-        report: b"valid\n",
-        noted: b"",
-        keeps: false,
-    };
-    assert_checked(&rt, rt.alloc(), module.bytes(), &end)
+    for &(schema, query) in &STATEMENTS {
+        let module = compiled(rt.alloc(), schema, query)?;
+        let end = End {
+            status: Status::Done,
+            report: b"valid\n",
+            noted: b"",
+            keeps: false,
+        };
+        assert_checked(&rt, rt.alloc(), module.bytes(), &end)?;
+    }
+    Ok(())
 }
 
 const REFUSED_WORDS: [&[&str]; 4] = [

@@ -7,7 +7,7 @@ use Rattle.qw_top.specs.declared.stop.Stop.{Stop}
 use Rattle.qw_top.specs.declared.stop.Stop.TheVariants.{Refused, Unread, NoMemory as NoMemoryLeft}
 use Rattle.qw_command_line.specs.declared.command.WordsFault.{WordsFault}
 use Rattle.qw_command_line.specs.declared.command.WordsFault.TheVariants as words
-use Rattle.qw_top.specs.Causes.{line_of_cause, statement_out_of_range}
+use Rattle.qw_top.specs.Causes.{line_of_cause, number_out_of_range}
 use Rattle.qw_top.specs.Notes.{read_fault_line, want_of_memory_line}
 use Rattle.qw_top.specs.Output.{TookFront, with_text}
 use Rattle.qw_top.specs.Inner.Stop.{octets_of, refusal_status}
@@ -28,7 +28,7 @@ NotesStop NoMemoryLeft result old new = NotesLine want_of_memory_line NoMemory r
 -- what is noted of words that aren't read
 abbrev pub NotesWords : WordsFault → (result : Status) → (old new : Option (List ℕ)) → Type 0
 NotesWords (words.Refused text) result old new = NotesLine (string_bytes text) WordsRefused result old new
-NotesWords words.StatementOutOfRange result old new = NotesLine (line_of_cause statement_out_of_range) WordsRefused result old new
+NotesWords (words.OutOfRange number) result old new = NotesLine (line_of_cause (number_out_of_range number)) WordsRefused result old new
 NotesWords words.NoMemory result old new = NotesLine want_of_memory_line NoMemory result old new
 
 -- How the writing of a text ended that is all that a command writes: it was taken whole, and nothing was noted; or a front of it was

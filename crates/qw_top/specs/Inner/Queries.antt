@@ -1,19 +1,18 @@
 -- Mirrors `top::queries::queries_of`: the queries that it answers, and why there are none; and `top::header`.
 use Rattle.std.specs.Prelude.{◌≡◌, ◌⊎◌, ℕ, List, [], ◌∷◌, Some, map, slice_get, unwrap_or}
 use Rattle.std.specs.List.{AllByRecursion}
-use Rattle.std.specs.Option.{option_map_or}
 use Rattle.qw_types.specs.Contents.{Contents, column_type}
 use Rattle.qw_types.specs.declared.kind.Kind.TheVariants as kind
-use Rattle.qw_types.specs.declared.schema.Column.{Column}
 use Rattle.qw_types.specs.declared.schema.Table.{Table}
 use Rattle.qw_scalar.specs.Expression.{Expression}
-use Rattle.qw_meaning.specs.Select.{specification_of}
 use Rattle.qw_scalar.specs.Tree.{expression_of}
 use Rattle.qw_scalar.specs.Typing.{kind_of}
+use Rattle.qw_meaning.specs.Query.{query_of}
+use Rattle.qw_meaning.specs.Select.{Entry, entries_of}
 use Rattle.qw_parse.specs.Script.{IsScriptRefused}
 use Rattle.qw_parse.specs.declared.fault.ParseFault.TheVariants as parsing
 use Rattle.qw_typer.specs.declared.fault.TypeFault.TheVariants as typing
-use Rattle.qw_typer.specs.declared.query.TypedSelect.{TypedSelect}
+use Rattle.qw_typer.specs.declared.query.TypedQuery.{TypedQuery}
 use Rattle.qw_compile.specs.Limits.{IsShort}
 use Rattle.qw_bench.specs.Bench.{IsColumnIn, Program}
 use Rattle.qw_sink.specs.declared.sink.Head.{Head}
@@ -37,19 +36,19 @@ heads_of (name ∷ names) [] = []
 heads_of (name ∷ names) (item ∷ items) = head_of name item ∷ heads_of names items
 
 -- the query that it is
-abbrev pub asked_of : TypedSelect → Asked
-asked_of query = record { specification = specification_of query.select; header = heads_of query.names.items (map expression_of query.select.items) }
+abbrev pub asked_of : TypedQuery → Asked
+asked_of query = record { specification = query_of query.query; header = heads_of query.names.items (map expression_of query.query.items) }
 
--- the columns of a table of the schema, counted from 0
-abbrev pub columns_of : List Table → ℕ → List Column
-columns_of schema table = option_map_or (λ (t : Table). t.columns) (slice_get schema table) []
-
--- Its table is one of the schema's, whose columns are those that it says; and it isn't too long to be compiled.
-pub record IsOver (schema : List Table) (query : TypedSelect) : Type 0 where
+-- an entry of FROM is over a table of the schema, and its columns are that table's
+pub record IsEntryOver (schema : List Table) (entry : Entry) : Type 0 where
   pub table : Table
-  pub there : slice_get schema query.select.table ≡ Some table
-  pub columns_are : query.select.columns ≡ map column_type table.columns
-  pub short : IsShort query.select
+  pub there : slice_get schema entry.table ≡ Some table
+  pub columns_are : entry.columns ≡ map column_type table.columns
+
+-- Each entry of its FROM is; and it isn't too long to be compiled.
+pub record IsOver (schema : List Table) (query : TypedQuery) : Type 0 where
+  pub entries : AllByRecursion (IsEntryOver schema) (entries_of (query_of query.query).sources)
+  pub short : IsShort query.query
 
 -- a text is refused for a fault, or memory was wanted
 abbrev pub Refuses : List Table → (text : List ℕ) → QueriesFault → Type 0
@@ -62,6 +61,6 @@ StopsForFault (Script fault) stop = (fault ≡ parsing.NoMemory → stop ≡ NoM
 StopsForFault (Typing fault) stop = (fault ≡ typing.NoMemory → stop ≡ NoMemory) × ((fault ≡ typing.NoMemory → ⊥) → StopsFor (queries_mistyped fault) stop)
 
 -- A program is compiled for it, and reads columns that the schema's tables have.
-pub record IsJobOf (schema : List Table) (query : TypedSelect) (job : Program) : Type 0 where
+pub record IsJobOf (schema : List Table) (query : TypedQuery) (job : Program) : Type 0 where
   pub compiled : IsProgramOf (asked_of query) job
   pub columns : (tables : List Contents) → AreContentsOf schema tables → AllByRecursion (IsColumnIn tables) job.layout.columns

@@ -1,4 +1,4 @@
--- Mirrors `top::report::with_block`, `blocks_of` and `status_with`.
+-- Mirrors `top::report::with_block`, `with_query`, `blocks_of` and `status_with`.
 use Rattle.std.specs.Prelude.{◌≡◌, ℕ, suc, Bool, true, false, ◌||◌, List, [], ◌∷◌, ◌++◌, Option, Some, None, if◌then◌else◌}
 use Rattle.qw_types.specs.declared.code.Code.{Code}
 use Rattle.qw_types.specs.declared.value.Val.{Val}
@@ -8,7 +8,7 @@ use Rattle.qw_bench.specs.Bench.{end_in}
 use Rattle.qw_bench.specs.Standing.{Standing, rows_in}
 use Rattle.qw_sink.specs.Sink.{report_of_rows, report_of_exception, report_of_pages, report_of_steps}
 use Rattle.qw_sink.specs.declared.sink.Head.{Head}
-use Rattle.qw_top.specs.Delivered.{is_exception, is_pages, is_steps}
+use Rattle.qw_top.specs.Delivered.{counts_line, is_exception, is_pages, is_steps}
 use Rattle.qw_top.specs.Top.{Asked}
 use Rattle.qw_top.specs.declared.status.Status.{Status}
 use Rattle.qw_top.specs.declared.status.Status.TheVariants.{Raised, PageLimitMet, StepLimitMet}
@@ -22,11 +22,11 @@ IsBlock header b k (Some (Pages held asked limit)) block = block ≡ report_of_p
 IsBlock header b k (Some (Steps limit)) block = block ≡ report_of_steps (suc k) limit
 IsBlock header b k (Some Trap) block = ⊥
 
--- the blocks of queries from number k on, one behind another
-abbrev pub AreBlocks : List Asked → Standing → (k : ℕ) → (text : List ℕ) → Type 0
-AreBlocks [] b k text = text ≡ []
-AreBlocks (asked ∷ queries) b k text = (block : List ℕ) × (blocks : List ℕ) × (text ≡ block ++ blocks)
-    × IsBlock asked.header b k (end_in b.shared k) block × AreBlocks queries b (suc k) blocks
+-- the blocks of queries from number k on, each with the line on counts where they are asked for, one behind another
+abbrev pub AreBlocks : (counts : Bool) → List Asked → Standing → (k : ℕ) → (text : List ℕ) → Type 0
+AreBlocks counts [] b k text = text ≡ []
+AreBlocks counts (asked ∷ queries) b k text = (block : List ℕ) × (blocks : List ℕ) × (text ≡ block ++ counts_line counts b k ++ blocks)
+    × IsBlock asked.header b k (end_in b.shared k) block × AreBlocks counts queries b (suc k) blocks
 
 -- whether it is that of a limit of pages that was met, of one of instructions, of an exception
 abbrev pub is_page_limit : Status → Bool

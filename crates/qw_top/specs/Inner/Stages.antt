@@ -1,5 +1,5 @@
 -- Mirrors what the stages of a run hand on (`top::run::run`, `top::report::deliver`), and how they stop.
-use Rattle.std.specs.Prelude.{◌≡◌, ◌⊎◌, ◌<◌, ◌≤◌, ℕ, List, [], ◌∷◌, Option, map, length}
+use Rattle.std.specs.Prelude.{◌≡◌, ◌⊎◌, ◌<◌, ◌≤◌, ℕ, Bool, List, [], ◌∷◌, Option, map, length}
 use Rattle.std.specs.List.{AllByRecursion, AllZip}
 use Rattle.qw_types.specs.Contents.{Contents, IsOfColumnType, column_type}
 use Rattle.qw_types.specs.Limits.{most_rows}
@@ -56,9 +56,9 @@ pub record Ran (queries : List Asked) (b : Standing) : Type 0 where
   pub run : HasRun limits quantum tables queries b
 
 -- the report that shows the ends of queries, over whichever tables they ran, and the status of a run with those ends
-abbrev pub IsReport : (queries : List Asked) → Standing → (report : List ℕ) → Status → Type 0
-IsReport queries b report status = (ran : Ran queries b)
-    → ShowsEnds ran.tables queries b 0 report × (status ≡ status_of_ends (ends_below b (length queries)))
+abbrev pub IsReport : (counts : Bool) → (queries : List Asked) → Standing → (report : List ℕ) → Status → Type 0
+IsReport counts queries b report status = (ran : Ran queries b)
+    → ShowsEnds counts ran.tables queries b 0 report × (status ≡ status_of_ends (ends_below b (length queries)))
 
 -- How the writing of a report ended: it was taken whole, and the run ends with this status; or a front of it was taken.
 abbrev pub Writes : (status result : Status) → (old new : Option (List ℕ)) → (report : List ℕ) → Type 0

@@ -24,7 +24,7 @@ use qw_binary::encode::encode;
 use qw_command_line::command::CompileWords;
 use qw_io::{Shelf, Sink};
 use qw_octet_grammar::write::WriteFault;
-use qw_typer::query::TypedSelect;
+use qw_typer::query::TypedQuery;
 use qw_types::{NoMemory, Schema};
 use std::alloc::Global;
 
@@ -86,7 +86,7 @@ fn octets_of_statement<'a, F: Shelf>(
 }
 
 /// The query of this number, counted from 1.
-fn statement_of(queries: &[TypedSelect], statement: u64) -> Option<&TypedSelect>
+fn statement_of(queries: &[TypedQuery], statement: u64) -> Option<&TypedQuery>
     requires { 1 ≤ length queries.now }
     ensures there { IfSome result (λ query. slice_get queries.now (statement - 1) ≡ Some query.now) }
     ensures missing { result ≡ None → length queries.now < statement }
@@ -95,7 +95,7 @@ fn statement_of(queries: &[TypedSelect], statement: u64) -> Option<&TypedSelect>
 }
 
 /// The octets of the module of a query over a schema. A compiled module is always spelled.
-fn octets_of(alloc: Global, schema: &Schema, query: &TypedSelect) -> Result<Vec<u8>, NoMemory>
+fn octets_of(alloc: Global, schema: &Schema, query: &TypedQuery) -> Result<Vec<u8>, NoMemory>
     requires { IsOver schema.now query.now }
     ensures { IfOk result (λ octets. SpellsCompiled (asked_of query.now) octets.items) }
 {

@@ -1,24 +1,23 @@
 //! The header of the rows that a query gives.
 
-ghost use Rattle.std.specs.Prelude.{◌≡◌, ◌++◌, ◌∷◌, [], map, slice_get, IfOk, IfSome, IsSome};
+ghost use Rattle.std.specs.Prelude.{◌≡◌, ◌++◌, ◌∷◌, [], map, slice_get, IfOk, IfSome};
 ghost use Rattle.std.specs.Option.{option_map_or};
-ghost use Rattle.qw_types.specs.Schema.{AreColumns};
 ghost use Rattle.qw_scalar.specs.Tree.{expression_of};
 ghost use Rattle.qw_scalar.specs.Typing.{IsTyped};
-ghost use Rattle.qw_top.specs.Inner.Queries.{columns_of, head_of, heads_of};
+ghost use Rattle.qw_top.specs.Inner.Queries.{head_of, heads_of};
 
 use qw_scalar::expression::Expr;
 use qw_scalar::kind::of_expression;
 use qw_sink::sink::{Head, Header};
-use qw_typer::query::TypedSelect;
-use qw_types::{Column, Kind, NoMemory, Schema, Text};
+use qw_typer::query::TypedQuery;
+use qw_types::{Kind, NoMemory, Text};
 use std::alloc::Global;
 
 /// The header of the rows that a query gives.
-pub(super) fn header_of(alloc: Global, query: &TypedSelect) -> Result<Header, NoMemory>
-    ensures { IfOk result (λ header. header ≡ heads_of query.now.names.items (map expression_of query.now.select.items)) }
+pub(super) fn header_of(alloc: Global, query: &TypedQuery) -> Result<Header, NoMemory>
+    ensures { IfOk result (λ header. header ≡ heads_of query.now.names.items (map expression_of query.now.query.items)) }
 {
-    let items = query.select.items();
+    let items = query.query.items();
     let mut heads = Vec::new(alloc);
     for (index, name) in query.names.iter().enumerate() {
         heads = with_head(alloc, heads, name, items, index)?;
@@ -57,15 +56,4 @@ fn head_of(alloc: Global, name: &Text, item: &Expr) -> Result<Head, NoMemory>
         // Each item has a kind, since a specification takes no other.
         kind: of_expression(item).unwrap_or(Kind::Number(0)),
     })
-}
-
-/// The columns of a table of the schema, counted from 0; none where there is no such table.
-pub(super) fn columns_of(schema: &Schema, table: usize) -> &[Column]
-    ensures columns { result.now ≡ columns_of schema.now table }
-    ensures limits { IsSome (slice_get schema.now table) → AreColumns result.now }
-{
-    match schema.as_slice().get(table) {
-        Some(table) => table.columns.as_slice(),
-        None => &[],
-    }
 }

@@ -27,7 +27,7 @@ use qw_io::Shelf;
 use qw_parse::fault::ParseFault;
 use qw_schema::parse::{SchemaFault, schema_of};
 use qw_typer::fault::TypeFault;
-use qw_typer::query::TypedSelect;
+use qw_typer::query::TypedQuery;
 use qw_types::{Schema, Table};
 use std::alloc::Global;
 
@@ -39,7 +39,7 @@ pub struct Prepared {
     /// The rows of its tables, in order.
     pub tables: Vec<Loaded>,
     /// The queries over them, in order.
-    pub queries: Vec<TypedSelect>,
+    pub queries: Vec<TypedQuery>,
 }
 
 /// Reads the files that the words name: the schema file, the tables' files in the order of the schema, and the queries
@@ -162,7 +162,7 @@ pub(super) fn read_queries<'a, F: Shelf>(
     name: &'a str,
     schema: &Schema,
     files: &mut F,
-) -> Result<Vec<TypedSelect>, Stop<'a>>
+) -> Result<Vec<TypedQuery>, Stop<'a>>
     ensures accepted { IfOk result (λ queries. QueriesAre (F.files files.old) name.now schema.now (map asked_of queries.items)) }
     ensures over { IfOk result (λ queries. AllByRecursion (IsOver schema.now) queries.items) }
     ensures some { IfOk result (λ queries. 1 ≤ length queries.items) }

@@ -74,9 +74,9 @@ fn run_queries<F: Shelf, O: Sink, E: Sink>(
 ) -> Status
     requires { kept.old ≡ None }
     ensures explained { RunExplains (limits_of (options_of names.now.options)) (F.files files.old) (names_of names.now) kept.new result }
-    ensures left { RunLeaves (limits_of (options_of names.now.options)) names.now.options.quantum (F.files files.old) (names_of names.now) result kept.new (O.taken out.old) (O.taken out.new) }
+    ensures left { RunLeaves (options_of names.now.options) (F.files files.old) (names_of names.now) result kept.new (O.taken out.old) (O.taken out.new) }
     ensures kept_at_fault { O.faults out.new ≢ O.faults out.old
-        → LeavesBench (limits_of (options_of names.now.options)) names.now.options.quantum (F.files files.old) (names_of names.now) kept.new
+        → LeavesBench (options_of names.now.options) (F.files files.old) (names_of names.now) kept.new
         (λ status report. TookFront (O.taken out.old) (O.taken out.new) report) }
     ensures noted { CommandNotes (FilesSettle (limits_of (options_of names.now.options)) (F.files files.old) (names_of names.now)) (IsFileOf (F.files files.old) (names_of names.now))
         (F.fault_name files.new) result (E.taken notes.old) (E.taken notes.new) }
@@ -98,7 +98,7 @@ fn run_queries<F: Shelf, O: Sink, E: Sink>(
 {
     match run(alloc, names, files) {
         Ok(turned) => {
-            let status = deliver(alloc, &turned, out);
+            let status = deliver(alloc, &turned, names.options.counts, out);
             *kept = Some(turned.bench);
             match status {
                 Status::NoMemory => note_want_of_memory(notes),

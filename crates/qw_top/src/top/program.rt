@@ -3,39 +3,46 @@
 ghost use Rattle.std.specs.Prelude.{List, IfOk};
 ghost use Rattle.std.specs.List.{AllByRecursion};
 ghost use Rattle.qw_types.specs.Contents.{Contents};
+ghost use Rattle.qw_types.specs.Schema.{AreColumns};
+ghost use Rattle.qw_types.specs.declared.schema.Table.{Table};
 ghost use Rattle.qw_promise.specs.Compiled.{IsCompiled};
-ghost use Rattle.qw_promise.specs.Queries.{promise_of};
+ghost use Rattle.qw_compile.specs.PlannedQueries.{promise_of};
 ghost use Rattle.qw_bench.specs.Bench.{IsColumnIn};
 ghost use Rattle.qw_top.specs.Inner.Queries.{IsJobOf, IsOver, asked_of};
 ghost use Rattle.qw_top.specs.Inner.Stages.{AreContentsOf};
 
-use super::header::columns_of;
 use qw_bench::bench::Job;
 use qw_compile::compile::{CompileFault, Compiled, compile};
-use qw_fold::fold::fold;
-use qw_typer::query::TypedSelect;
+use qw_typer::query::TypedQuery;
 use qw_types::{NoMemory, Schema};
 use qw_valid::valid::{ValidFault, validate};
 use std::alloc::Global;
 
-/// The module of a query over a schema, with its layout, whose columns are those of the query's table. The query is folded first, and one
-/// that a script takes is never too long to be compiled.
+/// The module of a query over a schema, with its layout, whose columns are of the tables of the query's FROM. A query that a script takes
+/// is never too long to be compiled.
 ///
 /// # Errors
 ///
 /// [`NoMemory`] where memory does not suffice.
-pub fn compiled(alloc: Global, schema: &Schema, query: &TypedSelect) -> Result<Compiled, NoMemory>
+pub fn compiled(alloc: Global, schema: &Schema, query: &TypedQuery) -> Result<Compiled, NoMemory>
     requires { IsOver schema.now query.now }
     ensures compiled { IfOk result (λ made. IsCompiled (promise_of (asked_of query.now).specification) made.layout made.module) }
     ensures columns { IfOk result (λ made. (tables : List Contents) → AreContentsOf schema.now tables → AllByRecursion (IsColumnIn tables) made.layout.columns) }
 {
-    // For its clause: the columns of a table of the schema keep the limits that the compiler asks for.
-    columns_of(schema, query.select.table());
-    let folded = fold(alloc, &query.select)?;
-    match compile(alloc, &folded) {
+    limits_kept(schema);
+    match compile(alloc, &query.query) {
         Ok(compiled) => Ok(compiled),
         Err(CompileFault::NoMemory) => Err(NoMemory),
         Err(CompileFault::TooLong) => unreachable!(),
+    }
+}
+
+/// For its clause, which each table tells of its own columns: those of all tables keep the limits that the compiler asks for.
+fn limits_kept(schema: &Schema)
+    ensures { AllByRecursion (λ (table : Table). AreColumns table.columns) schema.now }
+{
+    for table in schema.as_slice() {
+        table.columns.as_slice();
     }
 }
 
@@ -44,7 +51,7 @@ pub fn compiled(alloc: Global, schema: &Schema, query: &TypedSelect) -> Result<C
 /// # Errors
 ///
 /// [`NoMemory`] where memory does not suffice.
-pub fn job_of(alloc: Global, schema: &Schema, query: &TypedSelect) -> Result<Job, NoMemory>
+pub fn job_of(alloc: Global, schema: &Schema, query: &TypedQuery) -> Result<Job, NoMemory>
     requires { IsOver schema.now query.now }
     ensures { IfOk result (λ job. IsJobOf schema.now query.now job) }
 {

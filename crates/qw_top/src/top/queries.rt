@@ -8,7 +8,7 @@ ghost use Rattle.qw_top.specs.Top.{AsksFor};
 use qw_parse::fault::ParseFault;
 use qw_parse::script::script_of;
 use qw_typer::fault::TypeFault;
-use qw_typer::query::TypedSelect;
+use qw_typer::query::TypedQuery;
 use qw_typer::script::type_script;
 use qw_types::Schema;
 use std::alloc::Global;
@@ -34,7 +34,7 @@ pub fn queries_of(
     alloc: Global,
     schema: &Schema,
     text: &[u8],
-) -> Result<Vec<TypedSelect>, QueriesFault>
+) -> Result<Vec<TypedQuery>, QueriesFault>
     ensures asks { IfOk result (λ queries. AsksFor schema.now text.now (map asked_of queries.items)) }
     ensures over { IfOk result (λ queries. AllByRecursion (IsOver schema.now) queries.items) }
     ensures some { IfOk result (λ queries. 1 ≤ length queries.items) }

@@ -4,7 +4,7 @@ ghost use Rattle.std.specs.Prelude.{◌≡◌, ◌≢◌, ◌<◌, ◌-◌, ◌^
 ghost use Rattle.qw_io.specs.Faults.{IsCounted};
 ghost use Rattle.qw_bench.specs.Standing.{end_of};
 ghost use Rattle.qw_bench.specs.Bench.{end_in};
-ghost use Rattle.qw_top.specs.Delivered.{ShowsEnds, ends_below, status_of_ends};
+ghost use Rattle.qw_top.specs.Delivered.{ShowsEnds, counts_line, ends_below, status_of_ends};
 ghost use Rattle.qw_top.specs.Inner.Queries.{asked_of};
 ghost use Rattle.qw_top.specs.Inner.Reports.{AreBlocks, IsBlock, status_with};
 ghost use Rattle.qw_top.specs.Inner.Stages.{IsReport, Ran, Writes};
@@ -16,21 +16,22 @@ use crate::status::Status;
 use qw_bench::bench::{Bench, Ended};
 use qw_io::Sink;
 use qw_sink::received::with_rows;
-use qw_sink::sink::{with_exception, with_pages, with_steps};
-use qw_typer::query::TypedSelect;
+use qw_sink::sink::{with_counts, with_exception, with_pages, with_steps};
+use qw_typer::query::TypedQuery;
 use qw_types::NoMemory;
 use std::alloc::Global;
 
-/// Writes the report of a bench that has run the queries of a run. At a fault a front of it was taken.
-pub fn deliver<O: Sink>(alloc: Global, run: &Turned, out: &mut O) -> Status
+/// Writes the report of a bench that has run the queries of a run, with counts where these are asked for. At a fault a front of it
+/// was taken.
+pub fn deliver<O: Sink>(alloc: Global, run: &Turned, counts: bool, out: &mut O) -> Status
     requires { Ran (map asked_of run.now.queries.items) run.now.bench }
     ensures writes { (ran : Ran (map asked_of run.now.queries.items) run.now.bench) → (report : List ℕ)
-        × ShowsEnds ran.tables (map asked_of run.now.queries.items) run.now.bench 0 report
+        × ShowsEnds counts ran.tables (map asked_of run.now.queries.items) run.now.bench 0 report
         × Writes (status_of_ends (ends_below run.now.bench (length (map asked_of run.now.queries.items)))) result (O.taken out.old) (O.taken out.new) report }
     ensures fault { result ≡ Status.WriteFailed → IsCounted (O.faults out.old) (O.faults out.new) }
     ensures no_fault { result ≢ Status.WriteFailed → O.faults out.new ≡ O.faults out.old }
 {
-    let Ok(report) = report_of(alloc, run) else {
+    let Ok(report) = report_of(alloc, run, counts) else {
         return Status::NoMemory;
     };
     end_of_write(write_whole(out, report.text.as_slice()), report.status)
@@ -44,11 +45,11 @@ struct Report {
 }
 
 /// The report of a bench that has run the queries of a run.
-fn report_of(alloc: Global, run: &Turned) -> Result<Report, NoMemory>
+fn report_of(alloc: Global, run: &Turned, counts: bool) -> Result<Report, NoMemory>
     requires { Ran (map asked_of run.now.queries.items) run.now.bench }
-    ensures { IfOk result (λ report. IsReport (map asked_of run.now.queries.items) run.now.bench report.text.items report.status) }
+    ensures { IfOk result (λ report. IsReport counts (map asked_of run.now.queries.items) run.now.bench report.text.items report.status) }
 {
-    let text = blocks_of(alloc, &run.bench, run.queries.as_slice())?;
+    let text = blocks_of(alloc, &run.bench, run.queries.as_slice(), counts)?;
     Ok(Report {
         text,
         status: status_of(&run.bench),
@@ -56,16 +57,44 @@ fn report_of(alloc: Global, run: &Turned) -> Result<Report, NoMemory>
 }
 
 /// The parts of the report, one for each query.
-fn blocks_of(alloc: Global, bench: &Bench, queries: &[TypedSelect]) -> Result<Vec<u8>, NoMemory>
+fn blocks_of(
+    alloc: Global,
+    bench: &Bench,
+    queries: &[TypedQuery],
+    counts: bool,
+) -> Result<Vec<u8>, NoMemory>
     requires many { length queries.now ≡ length bench.now.shared.instances }
     requires ended { (k : ℕ) → k < length queries.now → IsSome (end_in bench.now.shared k) }
-    ensures { IfOk result (λ text. AreBlocks (map asked_of queries.now) bench.now 0 text.items) }
+    ensures { IfOk result (λ text. AreBlocks counts (map asked_of queries.now) bench.now 0 text.items) }
 {
     let mut text = Vec::new(alloc);
     for (k, query) in queries.iter().enumerate() {
-        text = with_block(alloc, text, bench, k, query)?;
+        text = with_query(alloc, text, bench, k, query, counts)?;
     }
     Ok(text)
+}
+
+/// A report with the part of the query of the instance of this number, and the line on its counts where these are asked for.
+fn with_query(
+    alloc: Global,
+    report: Vec<u8>,
+    bench: &Bench,
+    k: usize,
+    query: &TypedQuery,
+    counts: bool,
+) -> Result<Vec<u8>, NoMemory>
+    requires there { k < length bench.now.shared.instances }
+    requires few { k < 2 ^ 64 - 1 }
+    requires ended { IsSome (end_in bench.now.shared k) }
+    ensures { IfOk result (λ text. (block : List ℕ) × (text.items ≡ (report.items ++ block) ++ counts_line counts bench.now k)
+        × IsBlock (asked_of query.now).header bench.now k (end_in bench.now.shared k) block) }
+{
+    let report = with_block(alloc, report, bench, k, query)?;
+    if counts {
+        with_counts(alloc, report, k + 1, bench, k)
+    } else {
+        Ok(report)
+    }
 }
 
 /// A report with the part of the query of the instance of this number.
@@ -74,7 +103,7 @@ fn with_block(
     report: Vec<u8>,
     bench: &Bench,
     k: usize,
-    query: &TypedSelect,
+    query: &TypedQuery,
 ) -> Result<Vec<u8>, NoMemory>
     requires there { k < length bench.now.shared.instances }
     requires few { k < 2 ^ 64 - 1 }

@@ -26,14 +26,14 @@ use qw_bench::bench::{Bench, BenchFault, Job, Limits};
 use qw_command_line::command::{RunOptions, RunWords};
 use qw_csv::Loaded;
 use qw_io::Shelf;
-use qw_typer::query::TypedSelect;
+use qw_typer::query::TypedQuery;
 use qw_types::{NoMemory, Schema};
 use std::alloc::Global;
 
 /// The queries that were run, and the bench that was turned to its end.
 #[derive(Drop)]
 pub struct Turned {
-    pub queries: Vec<TypedSelect>,
+    pub queries: Vec<TypedQuery>,
     pub bench: Bench,
 }
 
@@ -72,7 +72,7 @@ fn finished<'a>(
     alloc: Global,
     schema: &Schema,
     tables: &[Loaded],
-    queries: &[TypedSelect],
+    queries: &[TypedQuery],
     options: RunOptions,
 ) -> Result<Bench, Stop<'a>>
     requires few { length schema.now ≤ most_tables }
@@ -119,7 +119,7 @@ fn begun<'a>(
 }
 
 /// The programs of queries over a schema, in order.
-fn jobs_of(alloc: Global, schema: &Schema, queries: &[TypedSelect]) -> Result<Vec<Job>, NoMemory>
+fn jobs_of(alloc: Global, schema: &Schema, queries: &[TypedQuery]) -> Result<Vec<Job>, NoMemory>
     requires { AllByRecursion (IsOver schema.now) queries.now }
     ensures { IfOk result (λ jobs. AllZip (IsJobOf schema.now) queries.now jobs.items) }
 {

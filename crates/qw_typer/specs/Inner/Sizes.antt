@@ -1,5 +1,5 @@
 -- Mirrors src/expression.rt, construct.rt, branch.rt and statement.rt: how many nodes they make of a query's trees, at most.
-use Rattle.std.specs.Prelude.{ℕ, ◌+◌, ◌≤◌, List, sum_by}
+use Rattle.std.specs.Prelude.{◌≡◌, ℕ, ◌+◌, ◌≤◌, List, length, sum_by}
 use Rattle.qw_scalar.specs.declared.expression.Expr.{Expr}
 use Rattle.qw_scalar.specs.declared.expression.Cond.{Cond}
 use Rattle.qw_scalar.specs.declared.expression.Exprs.{Exprs}
@@ -7,8 +7,10 @@ use Rattle.qw_scalar.specs.declared.expression.Branches.{Branches}
 use Rattle.qw_scalar.specs.declared.expression.Matches.{Matches}
 use Rattle.qw_scalar.specs.Nodes as typed
 use Rattle.qw_ast.specs.Syntax.{Expression, null, number, text, date, column, signed, arithmetic, extract, searched_case, simple_case, coalesce, null_if, Condition, comparison, between, among, is_null, both, either, negation_of, is, bracketed, Clause, condition, expression, Expressions, last, further, Branching, otherwise, when, Selected, all_columns, items, Select}
-use Rattle.qw_ast.specs.Limits.{over_filter, over_items, query_octets}
-use Rattle.qw_typer.specs.Sizes.{text_octets, text_octets_of, text_octets_of_all, text_octets_of_branches, text_octets_of_matches}
+use Rattle.qw_meaning.specs.Query.{QueryParts}
+use Rattle.qw_ast.specs.Limits.{over_filter, over_items, over_sources, query_octets}
+use Rattle.qw_typer.specs.Meant.{Entry, Scope}
+use Rattle.qw_typer.specs.Sizes.{all_nodes, all_octets, text_octets, text_octets_of, text_octets_of_all, text_octets_of_branches, text_octets_of_matches}
 
 -- NULL is a node, and so is each argument of a list, each WHEN and ELSE, and a NOT in a predicate.
 abbrev mutual
@@ -49,13 +51,17 @@ abbrev mutual
   nodes_branches (otherwise e) = 1 + nodes e
   nodes_branches (when c e rest) = 1 + (nodes_clause c + (nodes e + nodes_branches rest))
 
--- `*` is at most 64 columns
+-- `*` is at most 64 columns of each of 8 entries
 abbrev pub selected_nodes : Selected → ℕ
-selected_nodes all_columns = 64
+selected_nodes all_columns = 512
 selected_nodes (items list) = over_items nodes list
 
 abbrev pub query_nodes : Select → ℕ
-query_nodes s = selected_nodes s.selected + over_filter nodes_condition s.filter
+query_nodes s = selected_nodes s.selected + (over_sources nodes_condition s.sources + over_filter nodes_condition s.filter)
+
+-- the columns of all entries
+abbrev pub column_count : Scope → ℕ
+column_count scope = sum_by (λ (e : Entry). length e.columns) scope
 
 -- ---- typed trees that have at most so many nodes, and so many octets in their text literals
 
@@ -87,7 +93,12 @@ pub record FitsItems (trees : List Expr) (n k : ℕ) : Type 0 where
   pub nodes_fit : sum_by typed.nodes trees ≤ n
   pub octets_fit : sum_by text_octets trees ≤ k
 
+-- items with so many columns more
+pub record ColumnsPushed (before after : List Expr) (count : ℕ) : Type 0 where
+  pub nodes_few : sum_by typed.nodes after ≤ sum_by typed.nodes before + count
+  pub octets_are : sum_by text_octets after ≡ sum_by text_octets before
+
 -- as many as the query has
-pub record FitsQuery (conjuncts : List Cond) (items : List Expr) (s : Select) : Type 0 where
-  pub nodes_fit : sum_by typed.nodes_of conjuncts + sum_by typed.nodes items ≤ query_nodes s
-  pub octets_fit : sum_by text_octets_of conjuncts + sum_by text_octets items ≤ query_octets s
+pub record FitsQuery (parts : QueryParts) (s : Select) : Type 0 where
+  pub nodes_fit : all_nodes parts ≤ query_nodes s
+  pub octets_fit : all_octets parts ≤ query_octets s

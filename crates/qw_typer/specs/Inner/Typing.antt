@@ -1,5 +1,5 @@
 -- Mirrors the functions of src/expression.rt, condition.rt and statement.rt: operands from left to right, and the first fault that is met.
-use Rattle.std.specs.Prelude.{◌≡◌, ℕ, Bool, List, [], ◌∷◌, ◌++◌, Option, Some, None, Result, Ok, Err, MatchResult, ◌&&◌, if◌then◌else◌}
+use Rattle.std.specs.Prelude.{◌≡◌, ◌≤◌, ℕ, Bool, List, [], ◌∷◌, ◌++◌, length, map, take, drop, Option, Some, None, Result, Ok, Err, MatchResult, ◌&&◌, if◌then◌else◌}
 use Rattle.qw_types.specs.declared.kind.Kind.{Kind}
 use Rattle.qw_types.specs.declared.kind.Kind.TheVariants as kind
 use Rattle.qw_scalar.specs.declared.comparison.Comparison.TheVariants.{Equal}
@@ -15,22 +15,36 @@ use Rattle.qw_scalar.specs.declared.expression.Branches.{Branches}
 use Rattle.qw_scalar.specs.declared.expression.Matches.{Matches}
 use Rattle.qw_typer.specs.declared.tree.Results.{Results}
 use Rattle.qw_typer.specs.declared.tree.Values.{Values}
+use Rattle.qw_meaning.specs.Select as specified
+use Rattle.qw_meaning.specs.Select.{Specification}
 use Rattle.qw_ast.specs.declared.script.Sign.{Sign}
 use Rattle.qw_ast.specs.Grammar.{name_of}
-use Rattle.qw_ast.specs.Syntax.{Expression, null, number, text, date, column, signed, arithmetic, extract, searched_case, simple_case, coalesce, null_if, Condition, comparison, between, among, is_null, both, either, negation_of, is, bracketed, condition, expression, Expressions, last, further, Branching, otherwise, when, SelectItem, Selected, all_columns, items}
+use Rattle.qw_ast.specs.Limits.{entries_in}
+use Rattle.qw_ast.specs.Syntax.{Expression, null, number, text, date, column, signed, arithmetic, extract, searched_case, simple_case, coalesce, null_if, Condition, comparison, between, among, is_null, both, either, negation_of, is, bracketed, condition, expression, Expressions, last, further, Branching, otherwise, when, SelectItem, Selected, all_columns, items, Joined, Source, Select}
 use Rattle.qw_typer.specs.declared.refusal.Token.{Token}
 use Rattle.qw_typer.specs.declared.refusal.Token.TheVariants.{Name, Literal}
 use Rattle.qw_typer.specs.declared.refusal.Refusal.{Refusal}
 use Rattle.qw_typer.specs.declared.refusal.Refusal.TheVariants as refusal
-use Rattle.qw_typer.specs.declared.scope.Scope.{Scope as CodeScope}
+use Rattle.qw_typer.specs.declared.scope.Entry.{Entry as CodeEntry}
+use Rattle.qw_typer.specs.declared.scope.Found.{Found}
+use Rattle.qw_typer.specs.declared.scope.Found.TheVariants as found
 use Rattle.qw_typer.specs.declared.tree.Typed.{Typed}
 use Rattle.qw_typer.specs.Faults.{Fault, among_faults, arithmetic_faults, branch_faults, case_faults, column_faults, comparison_faults, faults, field_faults, first_of_all, first_of_branches, first_token, is_allowed, item_faults, misplaced, results_agree, results_kind, sign_faults}
-use Rattle.qw_typer.specs.Meant.{Scope, meant, with_not, with_sign}
-use Rattle.qw_typer.specs.Typed.{columns_from}
+use Rattle.qw_typer.specs.Meant.{Entry, Scope, meant, with_not, with_sign}
+use Rattle.qw_typer.specs.Typed.{entry_meant, items_meant}
 
--- the entry of FROM that the code keeps
-abbrev pub entry : CodeScope → Scope
-entry s = record { name = s.name; columns = s.columns.now }
+-- the entries of FROM that the code keeps
+abbrev pub as_entry : CodeEntry → Entry
+as_entry e = record { name = e.name; number = e.number; table = e.table; columns = e.columns.now }
+
+abbrev pub in_reach : List CodeEntry → Scope
+in_reach entries = map as_entry entries
+
+-- what was found of the columns that a reference may mean
+abbrev pub IsFound : Found → List meaning.Expression → Type 0
+IsFound found.Nothing es = es ≡ []
+IsFound (found.One p) es = es ≡ meaning.column p.place p.ty ∷ []
+IsFound found.Several es = 2 ≤ length es
 
 -- what a token is in a fault
 abbrev pub spelled : Token → List ℕ
@@ -269,5 +283,43 @@ typed_items scope (i ∷ others) = do
   Ok (x ∷ xs)
 
 abbrev pub typed_list : Scope → Selected → Result (List meaning.Expression) Fault
-typed_list scope all_columns = Ok (columns_from 0 scope.columns)
+typed_list scope all_columns = Ok (items_meant scope all_columns)
 typed_list scope (items list) = typed_items scope list
+
+-- JOIN over what its ON reaches, and its own entry
+abbrev pub typed_joined : (reach : Scope) → Entry → Joined → Result specified.Joined Fault
+typed_joined reach e j = do
+  cs ← typed_conjuncts reach j.on
+  Ok (record { entry = entry_meant e; on = cs })
+
+-- what is joined to the entries `reached`; `behind` are the entries behind them
+abbrev pub typed_joins : (reached behind : Scope) → List Joined → Result (List specified.Joined) Fault
+typed_joins reached behind [] = Ok []
+typed_joins reached [] (j ∷ joins) = Ok []
+typed_joins reached (e ∷ behind) (j ∷ joins) = do
+  joined ← typed_joined (reached ++ e ∷ []) e j
+  others ← typed_joins (reached ++ e ∷ []) behind joins
+  Ok (joined ∷ others)
+
+-- a source over its own entries
+abbrev pub typed_source : Scope → Source → Result specified.Source Fault
+typed_source [] source = Ok (record { first = record { table = 0; columns = [] }; joins = [] })
+typed_source (e ∷ behind) source = do
+  joins ← typed_joins (e ∷ []) behind source.joins
+  Ok (record { first = entry_meant e; joins = joins })
+
+-- sources over the entries from the first one's on
+abbrev pub typed_sources : Scope → List Source → Result (List specified.Source) Fault
+typed_sources scope [] = Ok []
+typed_sources scope (source ∷ sources) = do
+  s ← typed_source (take (length (entries_in source)) scope) source
+  others ← typed_sources (drop (length (entries_in source)) scope) sources
+  Ok (s ∷ others)
+
+-- a query over the entries of its FROM
+abbrev pub typed_over : Scope → Select → Result Specification Fault
+typed_over scope s = do
+  is' ← typed_list scope s.selected
+  sources ← typed_sources scope s.sources
+  cs ← typed_filter scope s.filter
+  Ok (record { sources = sources; conjuncts = cs; items = is' })

@@ -1,9 +1,5 @@
-use Rattle.std.proofs.Common.{◌≡◌, ◌∙◌, ap, ap₂, rules}
+use Rattle.std.proofs.Common.{rules}
 use Rattle.std.proofs.lemmas.Result.{IfOk-weaker}
-use Rattle.clap.specs.Simple.{App, with_subcommand}
-use Rattle.clap.specs.Words.{app_of}
-use Rattle.clap.specs.Built.{AddsSubcommand}
-use Rattle.clap.specs.declared.builder.command.Command.{Command}
 use Rattle.qw_command_line.specs.Words.{bare_app}
 use Rattle.qw_command_line.specs.Inner.Programs.{IsApp}
 use Rattle.qw_command_line.proofs.ProgramLemmas.{subcommand_added}

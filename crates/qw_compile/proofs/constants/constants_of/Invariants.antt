@@ -1,5 +1,5 @@
 use Rattle.std.proofs.Common.{◌≡◌, ◌+◌, ◌++◌, drop}
-use Rattle.qw_compile.specs.Constants.{constants_from}
+use Rattle.qw_compile.specs.Literals.{constants_from}
 use Rattle.qw_compile.proofs.constants.constants_of.Given as goal
 
 abbrev pub invariant-loop-word : goal.invariant-loop-word

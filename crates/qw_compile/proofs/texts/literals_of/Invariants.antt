@@ -1,6 +1,6 @@
 use Rattle.std.proofs.Common.{◌≡◌, ◌+◌, ◌*◌, ◌++◌, drop, length}
 use Rattle.std.specs.List.{concat}
-use Rattle.qw_compile.specs.Texts.{literals_from}
+use Rattle.qw_compile.specs.Literals.{literals_from}
 use Rattle.qw_compile.proofs.texts.literals_of.Given as goal
 
 abbrev pub invariant-loop-text : goal.invariant-loop-text

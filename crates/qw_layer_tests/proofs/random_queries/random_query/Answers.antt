@@ -2,8 +2,8 @@ use Rattle.std.proofs.Common.{arith, map, subst, sym}
 use Rattle.std.specs.List.{AllByRecursion}
 use Rattle.qw_meaning.specs.Query.{query_of, source_of}
 use Rattle.qw_meaning.specs.Select.{entries_of}
-use Rattle.qw_layer_tests.specs.RandomQueries.{IsOfTwoColumns}
-use Rattle.qw_layer_tests.proofs.Specified.{query_specified, sources_two}
+use Rattle.qw_layer_tests.specs.RandomQueries.{IsRandomEntry}
+use Rattle.qw_layer_tests.proofs.Specified.{query_specified, sources_random}
 use Rattle.qw_layer_tests.proofs.random_queries.random_query.Goals as goal
 
 pub new-requires : goal.new-requires
@@ -12,4 +12,4 @@ new-requires c =
 
 pub returns : goal.returns
 returns c =
-    subst (λ q. AllByRecursion IsOfTwoColumns (entries_of (query_of q).sources)) (sym c.new.ensures) (sources_two 0 (map source_of c.in_ok-sources.sources.items) c.in_ok-sources.ensures.sources)
+    subst (λ q. AllByRecursion IsRandomEntry (entries_of (query_of q).sources)) (sym c.new.ensures) (sources_random 0 (map source_of c.in_ok-sources.sources.items) c.in_ok-sources.ensures.sources)

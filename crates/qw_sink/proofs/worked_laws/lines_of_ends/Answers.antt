@@ -4,4 +4,4 @@ use Rattle.qw_sink.proofs.worked_laws.lines_of_ends.Goals as goal
 
 pub returns : goal.returns
 unfolding digits
-returns c = record { rows = refl; zero = refl; range = refl; pages = refl; steps = refl }
+returns c = record { rows = refl; zero = refl; range = refl; pages = refl; steps = refl; counts = refl }

@@ -1,20 +1,61 @@
-use Rattle.std.proofs.Common.{rules, ◌≡◌, Some, None}
-use Rattle.qw_ast.specs.Grammar.{name_of}
+use Rattle.std.proofs.Common.{rules, ◌≡◌, List, map, ◌∙◌, ap, length}
+use Rattle.std.proofs.lemmas.Result.{err_from_is_err_and}
+use Rattle.qw_ast.specs.Limits.{entries_of}
+use Rattle.qw_ast.specs.SyntaxTree as syntax
 use Rattle.qw_ast.specs.SyntaxTree.{select_of}
-use Rattle.qw_typer.specs.declared.fault.FaultKind.TheVariants.{UnknownTable}
-use Rattle.qw_typer.specs.declared.refusal.Token.TheVariants.{Name}
-use Rattle.qw_typer.specs.Typed.{place_of, query_faults}
-use Rattle.qw_typer.proofs.QueryLemmas.{found_table, given_over, is_one, unknown_table}
+use Rattle.qw_typer.specs.declared.scope.Entry.{Entry as CodeEntry}
+use Rattle.qw_typer.specs.Inner.Queries.{parts_of}
+use Rattle.qw_typer.specs.Inner.Typing.{in_reach}
+use Rattle.qw_typer.proofs.QueryLemmas.{as_many, entries_refused, few_columns, over_refused, query_means, query_specified}
 use Rattle.qw_typer.proofs.query.query.Goals as goal
 
-pub returns-in-Some-clause-means : goal.returns-in-Some-clause-means
-returns-in-Some-clause-means c =
-    let there : place_of c.args.schema.now (name_of c.args.statement.now.table.now) ≡ Some c.in-Some.place = search rules in
-    let same : c.as_slice-tables.result.now ≡ c.args.schema.now = search rules in
-    let table = found_table c.args.schema.now c.as_slice-tables.result.now (name_of c.args.statement.now.table.now) c.in-Some.place c.index-tables-place.result same there c.index-tables-place.is in
-    given_over c.args.schema.now c.in-Some.place c.index-tables-place.result (select_of c.args.statement.now) c.over_table.result there table c.over_table.ensures.means
+pub returns-in_err-entries-clause-means : goal.returns-in_err-entries-clause-means
+returns-in_err-entries-clause-means c =
+    let s = select_of c.args.statement.now in
+    let named = map syntax.entry_of c.in_ok-named.named.items in
+    let same : map syntax.entry_of c.in_ok-named.named.items ≡ entries_of (select_of c.args.statement.now).sources = search rules in
+    let err = err_from_is_err_and c.from_residual-in_err-entries.result c.from_residual-in_err-entries.ensures.1 in
+    rw (err.1, err.2) (entries_refused c.args.schema.now s named c.in_err-entries.field-0.0 same (rw (c.as_slice.ensures.same, c.as_slice-2.ensures.value) at c.in_err-entries.ensures.known))
+
+pub over_entries-requires : goal.over_entries-requires
+over_entries-requires c =
+    let s = select_of c.args.statement.now in
+    let named = map syntax.entry_of c.in_ok-named.named.items in
+    let same : map syntax.entry_of c.in_ok-named.named.items ≡ entries_of (select_of c.args.statement.now).sources = search rules in
+    ap (λ (es : List CodeEntry). length es) c.as_slice-3.ensures.value
+    ∙ as_many c.args.schema.now s named c.in_ok-entries.entries.items same (rw (c.as_slice.ensures.same, c.as_slice-2.ensures.value) at c.in_ok-entries.ensures.known)
+
+pub returns-in_err-over-clause-means : goal.returns-in_err-over-clause-means
+returns-in_err-over-clause-means c =
+    let s = select_of c.args.statement.now in
+    let named = map syntax.entry_of c.in_ok-named.named.items in
+    let same : map syntax.entry_of c.in_ok-named.named.items ≡ entries_of (select_of c.args.statement.now).sources = search rules in
+    let err = err_from_is_err_and c.from_residual-in_err-over.result c.from_residual-in_err-over.ensures.1 in
+    rw (err.1, err.2)
+    (over_refused c.args.schema.now s named (in_reach c.in_ok-entries.entries.items) c.in_err-over.field-0.0 same (rw (c.as_slice.ensures.same, c.as_slice-2.ensures.value) at c.in_ok-entries.ensures.known)
+    (rw c.as_slice-3.ensures.value at c.in_err-over.ensures.gives))
+
+pub new-requires : goal.new-requires
+new-requires c =
+    let s = select_of c.args.statement.now in
+    let named = map syntax.entry_of c.in_ok-named.named.items in
+    let same : map syntax.entry_of c.in_ok-named.named.items ≡ entries_of (select_of c.args.statement.now).sources = search rules in
+    query_specified c.args.schema.now s named (in_reach c.in_ok-entries.entries.items) (parts_of c.in_ok-over.over) same (rw (c.as_slice.ensures.same, c.as_slice-2.ensures.value) at c.in_ok-entries.ensures.known)
+    c.in_ok-entries.ensures.tables c.requires (rw c.as_slice-3.ensures.value at c.in_ok-over.ensures.gives.0)
 
 pub returns-clause-means : goal.returns-clause-means
 returns-clause-means c =
-    let unknown : place_of c.args.schema.now (name_of c.args.statement.now.table.now) ≡ None = search rules in
-    is_one UnknownTable (Name c.args.statement.now.table) (query_faults c.args.schema.now (select_of c.args.statement.now)) (unknown_table c.args.schema.now (select_of c.args.statement.now) unknown)
+    let s = select_of c.args.statement.now in
+    let named = map syntax.entry_of c.in_ok-named.named.items in
+    let same : map syntax.entry_of c.in_ok-named.named.items ≡ entries_of (select_of c.args.statement.now).sources = search rules in
+    rw c.new.ensures
+    (query_means c.args.schema.now s named (in_reach c.in_ok-entries.entries.items) (parts_of c.in_ok-over.over) c.in_ok-over.over.names.items same (rw (c.as_slice.ensures.same, c.as_slice-2.ensures.value) at c.in_ok-entries.ensures.known)
+    (rw c.as_slice-3.ensures.value at c.in_ok-over.ensures.gives.0) (rw c.as_slice-3.ensures.value at c.in_ok-over.ensures.gives.1))
+
+pub returns-clause-fits : goal.returns-clause-fits
+returns-clause-fits c =
+    let s = select_of c.args.statement.now in
+    let named = map syntax.entry_of c.in_ok-named.named.items in
+    let same : map syntax.entry_of c.in_ok-named.named.items ≡ entries_of (select_of c.args.statement.now).sources = search rules in
+    let few = few_columns c.args.schema.now s named (in_reach c.in_ok-entries.entries.items) same (rw (c.as_slice.ensures.same, c.as_slice-2.ensures.value) at c.in_ok-entries.ensures.known) c.in_ok-entries.ensures.tables c.requires in
+    rw c.new.ensures (c.in_ok-over.ensures.fits (rw c.as_slice-3.ensures.value few))

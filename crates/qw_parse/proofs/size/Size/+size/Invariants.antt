@@ -1,4 +1,4 @@
-use Rattle.std.proofs.Common.{◌≡◌, ◌+◌, ◌≤◌}
+use Rattle.std.proofs.Common.{◌≤◌}
 use Rattle.qw_ast.specs.SyntaxTree.{expression_of, condition_of, expressions_of, branching_of}
 use Rattle.qw_ast.specs.declared.script.Branches.{size-Branches}
 use Rattle.qw_ast.specs.declared.script.Cond.{size-Cond}

@@ -6,8 +6,8 @@ use Rattle.std.proofs.lemmas.Result.{err_from_is_err_and}
 use Rattle.qw_command_line.specs.Read.{texts_of}
 use Rattle.qw_top.specs.Inner.Queries.{IsOver, asked_of}
 use Rattle.qw_top.proofs.AskingLemmas.{text_asked, texts_asked}
-use Rattle.qw_top.proofs.BenchLemmas.{all_at}
-use Rattle.qw_top.proofs.CommandLemmas.{compile_query_stops, no_statement_stops, statement_compiled}
+use Rattle.qw_top.proofs.CommandLemmas.{compile_stops, no_statement_stops, statement_compiled}
+use Rattle.qw_top.proofs.EachLemmas.{all_at}
 use Rattle.qw_top.proofs.top.compile.octets_of_statement.Goals as goal
 
 pub octets_of-requires : goal.octets_of-requires
@@ -22,7 +22,7 @@ pub returns-in_err-queries-clause-stops : goal.returns-in_err-queries-clause-sto
 returns-in_err-queries-clause-stops g c =
     let p = err_from_is_err_and c.from_residual-in_err-queries.result c.from_residual-in_err-queries.ensures.1 in
     rw (p.1, p.2)
-    (compile_query_stops (g.F.Shelf.files c.args.files.now) (texts_of c.args.names.now) c.args.names.now.statement (g.F.Shelf.files c.read_schema.new.files) c.in_ok-schema.schema _
+    (compile_stops (g.F.Shelf.files c.args.files.now) (texts_of c.args.names.now) c.args.names.now.statement (g.F.Shelf.files c.read_schema.new.files) c.in_ok-schema.schema _
     c.in_ok-schema.ensures.shelf.same_files c.in_ok-schema.ensures.accepted c.in_err-queries.ensures.stops)
 
 pub returns-in-Some-clause-written : goal.returns-in-Some-clause-written

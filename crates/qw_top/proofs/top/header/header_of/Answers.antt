@@ -9,7 +9,7 @@ use Rattle.qw_top.proofs.QueryLemmas.{heads-more, typed_at}
 use Rattle.qw_top.proofs.top.header.header_of.Goals as goal
 
 pub with_head-requires : goal.with_head-requires
-with_head-requires c = rw c.items-items.ensures.items (typed_at _ c.args.query.now.select.items c.loop-index.index c.items-items.ensures.kept.items)
+with_head-requires c = rw c.items-items.ensures.items (typed_at _ c.args.query.now.query.items c.loop-index.index c.items-items.ensures.kept.items)
 
 pub loop-index-preserved : goal.loop-index-preserved
 loop-index-preserved c =

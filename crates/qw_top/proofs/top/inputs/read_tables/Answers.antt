@@ -4,7 +4,7 @@ use Rattle.std.proofs.lemmas.Result.{err_from_is_err_and}
 use Rattle.qw_types.specs.declared.schema.Table.{Table}
 use Rattle.qw_top.specs.Call.{IsTableLimit}
 use Rattle.qw_top.specs.Top.{Files, TableIs}
-use Rattle.qw_top.proofs.AskingLemmas.{asks_none, asks_then, table_asked}
+use Rattle.qw_top.proofs.AskingLemmas.{asks_then, table_asked}
 use Rattle.qw_top.proofs.StopLemmas.{TablesAre-more, tables_stop_at}
 use Rattle.qw_top.proofs.WholeFileLemmas.{HasRead-then}
 use Rattle.qw_top.proofs.top.inputs.read_tables.Goals as goal

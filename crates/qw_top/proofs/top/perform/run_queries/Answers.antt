@@ -14,31 +14,31 @@ deliver-status-requires g c =
 
 pub returns-in-NoMemory-clause-left : goal.returns-in-NoMemory-clause-left
 returns-in-NoMemory-clause-left g c =
-    let d = delivered _ _ _ _ _ _ _ _ _ c.in-Ok.ensures.asked c.in-NoMemory.ensures.writes in
-    wanted_left _ _ _ _ _ _ _ _ _ _ d c.note_want_of_memory.ensures.noted
+    let d = delivered (options_of c.args.names.now.options) _ _ _ _ _ _ _ c.in-Ok.ensures.asked c.in-NoMemory.ensures.writes in
+    wanted_left _ _ _ _ _ _ _ _ _ d c.note_want_of_memory.ensures.noted
 
 pub returns-in-NoMemory-clause-kept_at_fault : goal.returns-in-NoMemory-clause-kept_at_fault
 returns-in-NoMemory-clause-kept_at_fault g c changed =
-    delivered_front _ _ _ _ _ NoMemory _ _ (delivered _ _ _ _ _ _ NoMemory _ _ c.in-Ok.ensures.asked c.in-NoMemory.ensures.writes)
+    delivered_front _ _ _ _ NoMemory _ _ (delivered (options_of c.args.names.now.options) _ _ _ _ NoMemory _ _ c.in-Ok.ensures.asked c.in-NoMemory.ensures.writes)
 
 pub returns-in-NoMemory-clause-noted : goal.returns-in-NoMemory-clause-noted
 returns-in-NoMemory-clause-noted g c = want_noted (FilesSettle (limits_of (options_of c.args.names.now.options)) (g.F.Shelf.files c.args.files.now) (names_of c.args.names.now)) (IsFileOf (g.F.Shelf.files c.args.files.now) (names_of c.args.names.now)) (g.F.Shelf.fault_name c.run.new.files) _ _ _ c.note_want_of_memory.ensures.noted
 
 pub returns-in-Ok-clause-left : goal.returns-in-Ok-clause-left
 returns-in-Ok-clause-left g c =
-    delivered_left _ _ _ _ _ _ _ _ (delivered _ _ _ _ _ _ _ _ _ c.in-Ok.ensures.asked c.deliver-status.ensures.writes)
+    delivered_left _ _ _ _ _ _ _ (delivered (options_of c.args.names.now.options) _ _ _ _ _ _ _ c.in-Ok.ensures.asked c.deliver-status.ensures.writes)
 
 pub returns-in-Ok-clause-kept_at_fault : goal.returns-in-Ok-clause-kept_at_fault
 returns-in-Ok-clause-kept_at_fault g c changed =
-    delivered_front _ _ _ _ _ _ _ _ (delivered _ _ _ _ _ _ _ _ _ c.in-Ok.ensures.asked c.deliver-status.ensures.writes)
+    delivered_front _ _ _ _ _ _ _ (delivered (options_of c.args.names.now.options) _ _ _ _ _ _ _ c.in-Ok.ensures.asked c.deliver-status.ensures.writes)
 
 pub returns-in-Ok-clause-noted : goal.returns-in-Ok-clause-noted
 returns-in-Ok-clause-noted g c =
-    delivered_noted _ _ _ _ _ _ _ _ (delivered _ _ _ _ _ _ _ _ _ c.in-Ok.ensures.asked c.deliver-status.ensures.writes) _ _
+    delivered_noted _ _ _ _ _ _ _ (delivered (options_of c.args.names.now.options) _ _ _ _ _ _ _ c.in-Ok.ensures.asked c.deliver-status.ensures.writes) _ _
 
 pub returns-in-Ok-clause-read_fault : goal.returns-in-Ok-clause-read_fault
 returns-in-Ok-clause-read_fault g c is =
-    absurd (delivered_reads _ _ _ _ _ _ _ _ (delivered _ _ _ _ _ _ _ _ _ c.in-Ok.ensures.asked c.deliver-status.ensures.writes) is)
+    absurd (delivered_reads _ _ _ _ _ _ _ (delivered (options_of c.args.names.now.options) _ _ _ _ _ _ _ c.in-Ok.ensures.asked c.deliver-status.ensures.writes) is)
 
 pub returns-clause-noted : goal.returns-clause-noted
 returns-clause-noted g c = stopped_noted (FilesSettle (limits_of (options_of c.args.names.now.options)) (g.F.Shelf.files c.args.files.now) (names_of c.args.names.now)) (IsFileOf (g.F.Shelf.files c.args.files.now) (names_of c.args.names.now)) _ _ c.in-Err.stop _ _ _ c.in-Err.ensures.stops c.in-Err.ensures.shelf.counts c.note_stop.ensures.noted
@@ -48,12 +48,12 @@ returns-clause-fault_name g c more = fault_named (FilesSettle (limits_of (option
 
 pub returns-in-NoMemory-clause-explained : goal.returns-in-NoMemory-clause-explained
 returns-in-NoMemory-clause-explained g c =
-    let d = delivered _ _ _ _ _ _ _ _ _ c.in-Ok.ensures.asked c.in-NoMemory.ensures.writes in
-    wanted_explained _ _ _ _ _ _ _ _ _ _ d c.note_want_of_memory.ensures.noted
+    let d = delivered (options_of c.args.names.now.options) _ _ _ _ _ _ _ c.in-Ok.ensures.asked c.in-NoMemory.ensures.writes in
+    wanted_explained _ _ _ _ _ _ _ _ _ d c.note_want_of_memory.ensures.noted
 
 pub returns-in-Ok-clause-explained : goal.returns-in-Ok-clause-explained
 returns-in-Ok-clause-explained g c =
-    delivered_explained _ _ _ _ _ _ _ _ (delivered _ _ _ _ _ _ _ _ _ c.in-Ok.ensures.asked c.deliver-status.ensures.writes)
+    delivered_explained _ _ _ _ _ _ _ (delivered (options_of c.args.names.now.options) _ _ _ _ _ _ _ c.in-Ok.ensures.asked c.deliver-status.ensures.writes)
 
 pub returns-clause-explained : goal.returns-clause-explained
 returns-clause-explained g c =

@@ -4,4 +4,4 @@ use Rattle.qw_top.specs.Inner.Reports.{AreBlocks}
 use Rattle.qw_top.proofs.top.report.blocks_of.Given as goal
 
 abbrev pub invariant-loop-k : goal.invariant-loop-k
-invariant-loop-k l = AreBlocks (map asked_of (take l.k l.queries)) l.bench 0 l.text.items
+invariant-loop-k l = AreBlocks l.counts (map asked_of (take l.k l.queries)) l.bench 0 l.text.items

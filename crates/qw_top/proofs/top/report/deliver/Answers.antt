@@ -7,7 +7,7 @@ use Rattle.qw_top.proofs.top.report.deliver.Goals as goal
 
 pub returns-in_default-clause-writes : goal.returns-in_default-clause-writes
 returns-in_default-clause-writes g c ran =
-    let shown = ran_report (map asked_of c.args.run.now.queries.items) c.args.run.now.bench ran in
+    let shown = ran_report (map asked_of c.args.run.now.queries.items) c.args.run.now.bench ran c.args.counts in
     (shown.0, shown.1, TookFront-none _ shown.0)
 
 pub returns-clause-writes : goal.returns-clause-writes

@@ -16,4 +16,4 @@ blocks_of-requires-clause-ended c =
 
 pub returns : goal.returns
 returns c =
-    is_report (map asked_of c.args.run.now.queries.items) c.args.run.now.bench c.in_ok-text.text.items c.status_of.result (rw c.as_slice.ensures.value at c.in_ok-text.ensures) c.status_of.ensures
+    is_report c.args.counts (map asked_of c.args.run.now.queries.items) c.args.run.now.bench c.in_ok-text.text.items c.status_of.result (rw c.as_slice.ensures.value at c.in_ok-text.ensures) c.status_of.ensures

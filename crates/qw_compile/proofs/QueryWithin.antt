@@ -1,0 +1,125 @@
+-- The pipelines of a query's code are within its bounds: each finds what it looks up, and what it raises is told by the query's outcome.
+use Rattle.std.proofs.Common.{◌≡◌, ◌∙◌, ◌≤◌, ◌<◌, ℕ, suc, ◌+◌, ◌*◌, ◌/◌, List, [], ◌∷◌, ◌++◌, length, map, refl, sym, ap, subst, arith}
+use Rattle.std.specs.List.{AllByRecursion, AllZip}
+use Rattle.qw_types.specs.declared.value.Val.{Val}
+use Rattle.qw_linear.specs.Memory.{page}
+use Rattle.qw_scalar.specs.Expression.{Expression}
+use Rattle.qw_meaning.specs.Outcome.{outcome}
+use Rattle.qw_meaning.specs.Select.{Entry, Specification, entries_of}
+use Rattle.qw_algebra.specs.Node.{Node}
+use Rattle.qw_pipe.specs.Pipes.{pipelines}
+use Rattle.qw_read.specs.Reading.{known_of}
+use Rattle.qw_read.specs.declared.constant.Word.{Word}
+use Rattle.qw_physical.specs.Courses.{AreBuilt, costs}
+use Rattle.qw_physical.specs.Held.{held, sink_octets, sink_size}
+use Rattle.qw_physical.specs.Physical.{Pipeline, Sink, select}
+use Rattle.qw_physical.specs.Sides.{IsPlanned, builds_of, last_of}
+use Rattle.qw_physical.specs.Spelled.{IsSamePipeline, all_spelled}
+use Rattle.qw_physical.specs.Typed.{IsTypedPhysical}
+use Rattle.qw_physical.specs.declared.pipeline.ReadColumn.{ReadColumn}
+use Rattle.qw_physical.proofs.Permuted.{built_in_order}
+use Rattle.qw_physical.proofs.QueryScans.{ScansOne}
+use Rattle.qw_operator.specs.Takes.{CanCarry}
+use Rattle.qw_operator.proofs.PairRows.{AreDistinct}
+use Rattle.qw_operator.proofs.Stood.{Stood, built_of}
+use Rattle.qw_emit.proofs.Answered.{IsTold}
+use Rattle.qw_compile.proofs.Budgets.{spent}
+use Rattle.qw_compile.proofs.LocalsPlaced.{literal_count, literals_known}
+use Rattle.qw_compile.proofs.PipelineRuns.{AreStood, entry_width, fed_over, readers_of}
+use Rattle.qw_compile.proofs.QueryBounded.{built_pays, last_pays}
+use Rattle.qw_compile.proofs.QueryCan.{HasEach}
+use Rattle.qw_compile.proofs.QueryCompiled.{IsBounded}
+use Rattle.qw_compile.proofs.QueryFinds.{build_finds, last_finds}
+use Rattle.qw_compile.proofs.QueryReach.{code_builds, scan_column, scan_table, stoods_long, table_of, width_is}
+use Rattle.qw_compile.proofs.QueryRuns.{Reach}
+use Rattle.qw_compile.proofs.QueryTold.{cost, cost_last, told, told_last}
+use Rattle.qw_compile.proofs.Spent.{spent_next}
+use Rattle.qw_compile.proofs.StoodBuilt.{stood_built}
+
+one_of : (P : Pipeline → Type 0) (front : List Pipeline) (p : Pipeline) (back : List Pipeline) → AllByRecursion P (front ++ p ∷ back) → P p
+one_of P [] p back h = h.0
+one_of P (x ∷ front) p back h = one_of P front p back h.1
+
+-- The entries of its tables keep some columns; those that are read may be others too.
+module _ (query : Specification) (tables : List (List (List Val))) (columns : List ReadColumn) (node : Node) (planned : IsPlanned query tables columns node) (building : List Pipeline) (last : Pipeline)
+    (same : AllZip IsSamePipeline (builds_of columns node) building) (same_last : IsSamePipeline (last_of columns node) last) (typed : AllByRecursion IsTypedPhysical building) (distinct : AreDistinct columns)
+    (scans : AllByRecursion (ScansOne (entries_of query.sources)) building) (last_scans : ScansOne (entries_of query.sources) last) (read : List ReadColumn) (each : HasEach read (length (entries_of query.sources)))
+    (T at : ℕ) (texts : List (List ℕ)) (words : List Word) (all_built : length building ≡ T) (items : List Expression) (last_is : last.sink ≡ select items) where
+  abbrev n : ℕ
+  n = literal_count texts words
+
+  abbrev entries : List Entry
+  entries = entries_of query.sources
+
+  abbrev IsTakenBy : Pipeline → Type 0
+  IsTakenBy p = CanCarry (literals_known T at texts words ++ map known_of (readers_of T n read p.entry)) p.operators p.sink
+
+  module _ (can : AllByRecursion IsTakenBy building) (can_last : IsTakenBy last) (units : ℕ)
+      (bounded : (front back : List Pipeline) (more : List (List (List Val))) → all_spelled columns 0 (pipelines node) ≡ front ++ back → AreBuilt tables [] front more → costs tables [] (front ++ back) more ≤ units) (u S : ℕ) (some : 0 < u) (u_low : u ≤ page)
+      (within : (front back : List Pipeline) (more : List (List (List Val))) → building ++ last ∷ [] ≡ front ++ back → AreBuilt tables [] front more → held tables [] (front ++ back) more ≤ S)
+      (fit : AllByRecursion (λ (p : Pipeline). sink_size p.sink + u ≤ page) building) (fit_last : sink_size last.sink + u ≤ page) where
+    abbrev most : ℕ
+    most = 2 + 2 * T + S / u
+
+    abbrev budget : ℕ → ℕ
+    budget i = spent u building (built_in_order tables [] building) i
+
+    parted_held : (front : List Pipeline) (p : Pipeline) (back : List Pipeline) (more : List (List (List Val))) → building ≡ front ++ p ∷ back → AreBuilt tables [] front more → held tables [] (front ++ p ∷ (back ++ last ∷ [])) more ≤ S
+    parted_held front p back more parts are = within front (p ∷ (back ++ last ∷ [])) more (ap (λ (l : List Pipeline). l ++ last ∷ []) parts ∙ regrouped front) are
+      where
+        regrouped : (l : List Pipeline) → (l ++ p ∷ back) ++ last ∷ [] ≡ l ++ p ∷ (back ++ last ∷ [])
+        regrouped [] = refl
+        regrouped (x ∷ l) = ap (λ (m : List Pipeline). x ∷ m) (regrouped l)
+
+    reach : (front : List Pipeline) (p : Pipeline) (back : List Pipeline) (stoods : List Stood) → building ≡ front ++ p ∷ back → AreStood tables [] front stoods
+        → Reach T n read (literals_known T at texts words) tables u most (1 + units) (table_of entries) stoods p (budget (length front)) (budget (suc (length front)))
+    reach front p back stoods parts are =
+        let b = code_builds columns node building same front p back parts in
+        let scan : ScansOne entries p = one_of (ScansOne entries) front p back (subst (AllByRecursion (ScansOne entries)) parts scans) in
+        let built = stood_built tables [] front stoods are in
+        let rows : ℕ = length (fed_over tables stoods p).rows in
+        let paid = cost query tables columns node planned building last same same_last units bounded front p back stoods parts are in
+        let size : entry_width b.made ≡ sink_size p.sink = width_is b.made ∙ ap sink_size (sym b.sink_is) in
+        let room = one_of (λ (q : Pipeline). sink_size q.sink + u ≤ page) front p back (subst (AllByRecursion (λ (q : Pipeline). sink_size q.sink + u ≤ page)) parts fit) in
+        let octets : sink_octets p.sink rows ≡ 4096 + rows * entry_width b.made = ap (λ (s : Sink). sink_octets s rows) b.sink_is ∙ ap (λ (k : ℕ). 4096 + rows * k) (sym (width_is b.made)) in
+        let next : budget (suc (length front)) ≡ budget (length front) + (u + sink_octets p.sink rows) =
+        subst (λ (l : List Pipeline). spent u l (built_in_order tables [] l) (suc (length front)) ≡ spent u l (built_in_order tables [] l) (length front) + (u + sink_octets p.sink rows)) (sym parts)
+        (spent_next u tables front p back [] [] (built_of stoods) tt built) in
+        record {
+          made = b.made;
+          sink_is = b.sink_is;
+          number_is = b.number_is ∙ stoods_long tables [] front stoods are;
+          table_is = scan_table entries p scan;
+          has_column = scan_column entries read each p scan;
+          finds = build_finds query tables columns node planned building last same same_last typed distinct read T n at texts words (1 + units) front p back stoods parts are
+              (one_of IsTakenBy front p back (subst (AllByRecursion IsTakenBy) parts can)) (omega (arith, paid));
+          fits = omega (arith, size, room);
+          grows = omega (arith, next, octets);
+          enough = subst (λ (l : List Pipeline). spent u l (built_in_order tables [] l) (suc (length front)) + 2 * u < (most + 1) * u) (sym parts)
+              (built_pays u S T some tables front p back (back ++ last ∷ []) (built_of stoods) built (parted_held front p back (built_of stoods) parts built) (ap (λ (l : List Pipeline). length l) (sym parts) ∙ all_built));
+        }
+
+    pub query_bounded : IsBounded T n read texts words at (table_of entries) building last items (IsTold (outcome query tables)) u most (1 + units) tables
+    query_bounded = record {
+      some = omega arith;
+      u_low = u_low;
+      budget = λ i. budget i;
+      reached = reach;
+      told = told query tables columns node planned building last same same_last;
+      last_reached = λ stoods are.
+          let built = stood_built tables [] building stoods are in
+          let rows : ℕ = length (fed_over tables stoods last).rows in
+          let paid = cost_last query tables columns node planned building last same same_last units bounded stoods are in
+          let size : sink_size last.sink ≡ 8 + 16 * length items = ap sink_size last_is in
+          let octets : sink_octets last.sink rows ≡ rows * (8 + 16 * length items) = ap (λ (s : Sink). sink_octets s rows) last_is in
+          let all : (budget (length building) + sink_octets last.sink rows) + 2 * u < (most + 1) * u = last_pays u S T some tables building last (built_of stoods) built (within building (last ∷ []) (built_of stoods) refl built) all_built in
+          let count : budget (length building) ≡ budget T = ap (λ (k : ℕ). budget k) all_built in
+          record {
+            table_is = scan_table entries last last_scans;
+            has_column = scan_column entries read each last last_scans;
+            finds = last_finds query tables columns node planned building last same same_last typed distinct read T n at texts words (1 + units) stoods are can_last (omega (arith, paid));
+            fits = omega (arith, size, fit_last);
+            enough = omega (arith, all, count, octets);
+          };
+      told_last = told_last query tables columns node planned building last same same_last;
+    }

@@ -1,6 +1,0 @@
-use Rattle.std.proofs.Common.{◌≡◌, ◌++◌}
-use Rattle.qw_compile.specs.Nesting.{closings}
-use Rattle.qw_compile.proofs.nesting.close_tests.Given as goal
-
-abbrev pub invariant-loop-test : goal.invariant-loop-test
-invariant-loop-test l = l.block.code.items ≡ l.fn.block.code.items ++ closings l._test

@@ -1,2 +1,0 @@
--- Blocks that don't end the run.
-pub use Rattle.qw_feed.proofs.Frames.{Never}

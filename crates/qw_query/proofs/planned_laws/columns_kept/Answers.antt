@@ -1,5 +1,0 @@
-use Rattle.qw_query.proofs.KeptColumns.{kept_within}
-use Rattle.qw_query.proofs.planned_laws.columns_kept.Goals as goal
-
-pub returns : goal.returns
-returns c = kept_within

@@ -1,0 +1,2 @@
+SELECT A.N FROM N A, N B, N C, N D WHERE A.N + B.N + C.N + D.N < 0;
+SELECT A.N FROM N A, N B, N C;
