@@ -39,7 +39,7 @@ const NUMBER = (scale) => ({ kind: "number", scale });
 // What a host has to know of a query: the tables of FROM, the columns that it reads, its text literals, and of each result column the name
 // and the kind. Columns and literals come in the order in which ON, WHERE and then the select list name them; behind these columns stand the
 // first ones of the tables of which none is named. Column c of entry e of FROM has the number 64 * e + c. Kinds are those that a reader of the
-// query would come to; conditions have none.
+// query would come to; conditions have none. A module leaves its rows in no order: the host sorts them by the keys of ORDER BY.
 class Query {
   constructor(tokens, schema) {
     this.tokens = tokens;
@@ -51,8 +51,10 @@ class Query {
     this.sources(schema);
     this.reached = this.entries;
     if (this.take("WHERE")) this.condition();
+    const order = this.take("ORDER") ? this.at : undefined;
     this.at = 0;
     this.results = this.list();
+    this.keys = order === undefined ? [] : this.order(order);
     const isNamed = (entry) => [...this.named].some((number) => number >> 6 === entry);
     this.entries.forEach((_, entry) => isNamed(entry) || this.named.add(64 * entry));
     this.columns = [...this.named].map((number) => ({ table: this.entries[number >> 6].table, column: number & 63 }));
@@ -75,7 +77,7 @@ class Query {
   entry(schema) {
     const table = schema.find(({ name }) => name === fold(this.tokens[this.at]));
     this.next();
-    const isAlias = this.take("AS") || (this.at < this.tokens.length && !this.is(",", "INNER", "JOIN", "ON", "WHERE"));
+    const isAlias = this.take("AS") || (this.at < this.tokens.length && !this.is(",", "INNER", "JOIN", "ON", "WHERE", "ORDER"));
     const entry = { number: this.entries.length, name: isAlias ? fold(this.next()) : table.name, table };
     this.entries.push(entry);
     this.reached.push(entry);
@@ -108,11 +110,26 @@ class Query {
       .map(({ column, ...kind }) => ({ name: column, ...kind }));
     const results = [];
     do {
-      const { kind, scale, column } = this.sum();
+      const { kind, scale, column, place } = this.sum();
       const named = this.take("AS") || !this.is(",", "FROM");
-      results.push({ name: named ? fold(this.next()) : column ?? `C${results.length + 1}`, kind, scale });
+      results.push({ name: named ? fold(this.next()) : column ?? `C${results.length + 1}`, kind, scale, place });
     } while (this.take(","));
     return results;
+  }
+
+  // The keys of ORDER BY, from the token behind ORDER on: of each the result column that it names, by its position from 1, by its name, or
+  // behind a qualifier as a column of FROM; and whether DESC stands behind it.
+  order(at) {
+    const keys = [];
+    this.at = at + 1;
+    do {
+      const token = this.next();
+      const place = this.take(".") ? this.column(this.next(), fold(token)).place : undefined;
+      const isKey = (result) => (place === undefined ? result.name === fold(token) : result.place === place);
+      const position = /^\d/.test(token) ? Number(token) - 1 : this.results.findIndex(isKey);
+      keys.push({ position, isDescending: this.take("ASC", "DESC") === "DESC" });
+    } while (this.take(","));
+    return keys;
   }
 
   // a condition, of which an expression may have been taken
@@ -194,7 +211,7 @@ class Query {
 
   columnAt({ number, table }, index) {
     this.named.add(64 * number + index);
-    return { column: table.columns[index].name, ...kindOf(table.columns[index]) };
+    return { column: table.columns[index].name, place: 64 * number + index, ...kindOf(table.columns[index]) };
   }
 
   arguments() {
@@ -324,10 +341,28 @@ function printed(view, at, { kind, scale }) {
   return (number < 0n ? "-" : "") + (scale ? `${digits.slice(0, -scale)}.${digits.slice(-scale)}` : digits);
 }
 
-function* rowsOf({ view, descriptor }, results) {
-  for (let row = view.getUint32(descriptor + 8, true); row !== 0; row = view.getUint32(row, true)) {
-    yield results.map((result, cell) => printed(view, row + 8 + 16 * cell, result));
-  }
+// where the cell of a position stands in a row
+const cellOf = (row, position) => row + 8 + 16 * position;
+
+// the addresses of the rows
+function* rowsOf({ view, descriptor }) {
+  for (let row = view.getUint32(descriptor + 8, true); row !== 0; row = view.getUint32(row, true)) yield row;
+}
+
+// How two cells compare: nulls below all values, texts by their octets.
+function compared(view, one, other, kind) {
+  const [isNull, isOtherNull] = [one, other].map((at) => view.getUint8(at + 8));
+  if (isNull || isOtherNull) return isOtherNull - isNull;
+  if (kind === "text") return Buffer.compare(...[one, other].map((at) => Buffer.from(view.buffer, view.getUint32(at, true), view.getUint32(at + 4, true))));
+  const [number, another] = [one, other].map((at) => view.getBigInt64(at, true));
+  return number < another ? -1 : number > another ? 1 : 0;
+}
+
+// Sorts rows by keys. Rows that are equal in all keys stay as they were.
+function sort(rows, view, { keys, results }) {
+  const by = ({ position, isDescending }, row, other) =>
+    (isDescending ? -1 : 1) * compared(view, cellOf(row, position), cellOf(other, position), results[position].kind);
+  return rows.sort((row, other) => keys.reduce((found, key) => found || by(key, row, other), 0));
 }
 
 // ---- the report
@@ -335,11 +370,12 @@ function* rowsOf({ view, descriptor }, results) {
 const quoted = (field) => (/[",\r\n]/.test(field) ? `"${field.replaceAll('"', '""')}"` : field);
 const line = (fields) => (fields.length === 1 && fields[0] === "" ? '""' : fields.map(quoted).join(","));
 
-function reported(number, end, { results }) {
+function reported(number, end, query) {
   const states = { 1: "SQLSTATE 22012", 2: "SQLSTATE 22003", 3: `PAGES ${end.held} 1 ${PAGE_LIMIT}` };
   if (end.code !== undefined) return [`QUERY ${number} ${states[end.code]}`];
-  const rows = [...rowsOf(end, results)];
-  return [`QUERY ${number} ROWS ${rows.length}`, ...[results.map(({ name }) => name), ...rows].map(line)];
+  const rows = sort([...rowsOf(end)], end.view, query)
+    .map((row) => query.results.map((result, position) => printed(end.view, cellOf(row, position), result)));
+  return [`QUERY ${number} ROWS ${rows.length}`, ...[query.results.map(({ name }) => name), ...rows].map(line)];
 }
 
 const [schemaFile, folder, queriesFile, ...modules] = process.argv.slice(2);

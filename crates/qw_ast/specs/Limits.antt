@@ -20,7 +20,7 @@ abbrev pub string_value : List ℕ → List ℕ
 string_value octets = undoubled (take (length octets - 2) (drop 1 octets))
 
 -- Nodes: each literal, column reference, operator, predicate, function and CASE. A date with its intervals is one literal; the word
--- NULL as a result is none, and brackets are none.
+-- NULL as a result is none, and brackets are none. The keys of ORDER BY are no nodes, and are counted by themselves.
 abbrev mutual
   pub nodes : Expression → ℕ
   nodes null = 0
@@ -133,6 +133,9 @@ query_items s = length (items_of s.selected)
 abbrev pub query_entries : Select → ℕ
 query_entries s = length (entries_of s.sources)
 
+abbrev pub query_keys : Select → ℕ
+query_keys s = length s.order
+
 abbrev pub query_nodes : Select → ℕ
 query_nodes s = over_items nodes (items_of s.selected) + (over_sources nodes_condition s.sources + over_filter nodes_condition s.filter)
 
@@ -141,11 +144,12 @@ query_octets s = over_items octets (items_of s.selected) + (over_sources octets_
 
 -- ---- limits
 
--- the sizes of a query that are taken: the items of its select list, the entries of its FROM, its nodes, the octets of its character
--- strings
-pub record AreTaken (items entries nodes octets : ℕ) : Type 0 where
+-- the sizes of a query that are taken: the items of its select list, the entries of its FROM, the keys of its ORDER BY, its nodes, the
+-- octets of its character strings
+pub record AreTaken (items entries keys nodes octets : ℕ) : Type 0 where
   pub few_items : items ≤ 64
   pub few_entries : entries ≤ 8
+  pub few_keys : keys ≤ 64
   pub few_nodes : nodes ≤ 1000
   pub few_octets : octets ≤ 16384
 
@@ -158,7 +162,7 @@ pub record IsScriptLength (statements : ℕ) : Type 0 where
 pub record IsAccepted (tokens : List Lexeme) (s : Select) : Type 0 where
   pub shallow : IsTooDeep tokens → ⊥
   pub query : IsSelectOf tokens s
-  pub sizes : AreTaken (query_items s) (query_entries s) (query_nodes s) (query_octets s)
+  pub sizes : AreTaken (query_items s) (query_entries s) (query_keys s) (query_nodes s) (query_octets s)
   pub open sizes use *
 
 -- Some tokens are this query, and it keeps each limit.

@@ -18,7 +18,7 @@ use Rattle.qw_token.specs.Token.{Lexeme}
 use Rattle.qw_ast.specs.declared.script.Sign.{Sign}
 use Rattle.qw_ast.specs.declared.script.Sign.TheVariants.{Plus, Minus}
 use Rattle.qw_ast.specs.Grammar.{folded, reserved}
-use Rattle.qw_ast.specs.Syntax.{Days, Expression, null, number, text, date, column, signed, arithmetic, extract, searched_case, simple_case, coalesce, null_if, Condition, comparison, between, among, is_null, both, either, negation_of, is, bracketed, Clause, condition, expression, Expressions, last, further, Branching, otherwise, when, SelectItem, Selected, all_columns, items, Entry, Joined, Source, Select}
+use Rattle.qw_ast.specs.Syntax.{Days, Expression, null, number, text, date, column, signed, arithmetic, extract, searched_case, simple_case, coalesce, null_if, Condition, comparison, between, among, is_null, both, either, negation_of, is, bracketed, Clause, condition, expression, Expressions, last, further, Branching, otherwise, when, SelectItem, Selected, all_columns, items, Entry, Joined, Source, Key, ordinal, result_column, SortSpecification, Select}
 
 -- ---- tokens (5.2, 5.4)
 
@@ -350,11 +350,33 @@ pub data IsSource (Inner : Clause → List Lexeme → List Lexeme → Type 0) : 
 pub data AreSources (Inner : Clause → List Lexeme → List Lexeme → Type 0) : List Source → List Lexeme → List Lexeme → Type 0 where
   some_sources : (s : Source) (others : List Source) (ts us rest : List Lexeme) → IsSource Inner s ts us → AreFurther (IsSource Inner) others us rest → AreSources Inner (s ∷ others) ts rest
 
--- a query specification (7.9, 7.3, 7.4)
+-- a sort key (13.1): a number without a point, or a column reference
+pub data IsKey : Key → List Lexeme → List Lexeme → Type 0 where
+  an_ordinal : (t : Lexeme) (rest : List Lexeme) → IsTrue (is_integer t) → IsKey (ordinal t.octets) (t ∷ rest) rest
+  a_key_column : (t : Lexeme) (rest : List Lexeme) → IsTrue (is_name t) → IsKey (result_column None t.octets) (t ∷ rest) rest
+  a_qualified_key : (q point t : Lexeme) (rest : List Lexeme) → IsTrue (is_name q) → IsTrue (is_symbol (codes ".") point) → IsTrue (is_name t) → IsKey (result_column (Some q.octets) t.octets) (q ∷ point ∷ t ∷ rest) rest
+
+-- an ordering specification (13.1): whether it is DESC; ASC and nothing are one
+pub data IsDirection : Bool → List Lexeme → List Lexeme → Type 0 where
+  no_direction : (rest : List Lexeme) → IsDirection false rest rest
+  ascending : (t : Lexeme) (rest : List Lexeme) → IsTrue (is_word (codes "ASC") t) → IsDirection false (t ∷ rest) rest
+  descending : (t : Lexeme) (rest : List Lexeme) → IsTrue (is_word (codes "DESC") t) → IsDirection true (t ∷ rest) rest
+
+-- a sort specification (13.1)
+pub data IsSort : SortSpecification → List Lexeme → List Lexeme → Type 0 where
+  a_sort : (key : Key) (is_descending : Bool) (ts us rest : List Lexeme) → IsKey key ts us → IsDirection is_descending us rest → IsSort (record { key = key; is_descending = is_descending }) ts rest
+
+-- an order by clause or nothing (13.1)
+pub data IsOrder : List SortSpecification → List Lexeme → List Lexeme → Type 0 where
+  unordered : (rest : List Lexeme) → IsOrder [] rest rest
+  ordered : (s : SortSpecification) (others : List SortSpecification) (word by : Lexeme) (ts us rest : List Lexeme) → IsTrue (is_word (codes "ORDER") word) → IsTrue (is_word (codes "BY") by)
+      → IsSort s ts us → AreFurther IsSort others us rest → IsOrder (s ∷ others) (word ∷ by ∷ ts) rest
+
+-- a query specification (7.9, 7.3, 7.4), and the order of its rows (13.1)
 pub data IsSelect (Inner : Clause → List Lexeme → List Lexeme → Type 0) : Select → List Lexeme → List Lexeme → Type 0 where
-  a_select : (selected : Selected) (sources : List Source) (filter : Option Condition) (word from : Lexeme) (ts us vs ws rest : List Lexeme) → IsTrue (is_word (codes "SELECT") word) → IsOptionalAll ts us
-      → IsSelectList Inner selected us (from ∷ vs) → IsTrue (is_word (codes "FROM") from) → AreSources Inner sources vs ws → IsFilter Inner filter ws rest
-      → IsSelect Inner (record { selected = selected; sources = sources; filter = filter }) (word ∷ ts) rest
+  a_select : (selected : Selected) (sources : List Source) (filter : Option Condition) (order : List SortSpecification) (word from : Lexeme) (ts us vs ws xs rest : List Lexeme) → IsTrue (is_word (codes "SELECT") word) → IsOptionalAll ts us
+      → IsSelectList Inner selected us (from ∷ vs) → IsTrue (is_word (codes "FROM") from) → AreSources Inner sources vs ws → IsFilter Inner filter ws xs → IsOrder order xs rest
+      → IsSelect Inner (record { selected = selected; sources = sources; filter = filter; order = order }) (word ∷ ts) rest
 
 -- The tokens are this query. A statement with more than 32 brackets and CASEs open is refused before, and so none is a query here.
 abbrev pub IsSelectOf : List Lexeme → Select → Type 0

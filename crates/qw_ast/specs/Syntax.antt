@@ -86,8 +86,19 @@ pub record Source : Type 0 where
   pub first : Entry
   pub joins : List Joined
 
--- SELECT .. FROM .. WHERE .. (7.9, 7.4, 7.6)
+-- a sort key: a result column by its position, or by its name, behind a qualifier or not (13.1)
+pub data Key : Type 0 where
+  ordinal : List ℕ → Key
+  result_column : Option (List ℕ) → List ℕ → Key
+
+-- a key, and whether DESC stands behind it (13.1)
+pub record SortSpecification : Type 0 where
+  pub key : Key
+  pub is_descending : Bool
+
+-- SELECT .. FROM .. WHERE .. ORDER BY .. (7.9, 7.4, 7.6, 13.1)
 pub record Select : Type 0 where
   pub selected : Selected
   pub sources : List Source
   pub filter : Option Condition
+  pub order : List SortSpecification

@@ -11,12 +11,16 @@ use Rattle.qw_ast.specs.declared.script.Entry as coded_entry
 use Rattle.qw_ast.specs.declared.script.Item.{Item}
 use Rattle.qw_ast.specs.declared.script.Joined as coded_join
 use Rattle.qw_ast.specs.declared.script.Source as coded_source
+use Rattle.qw_ast.specs.declared.script.Key as coded_key
+use Rattle.qw_ast.specs.declared.script.Key.TheVariants.{Ordinal}
+use Rattle.qw_ast.specs.declared.script.Key.TheVariants as coded_keys
+use Rattle.qw_ast.specs.declared.script.SortSpecification as coded_sort
 use Rattle.qw_ast.specs.declared.script.SelectList.{SelectList}
 use Rattle.qw_ast.specs.declared.script.SelectList.TheVariants.{All, Items}
 use Rattle.qw_ast.specs.declared.script.Statement.{Statement}
 use Rattle.qw_ast.specs.declared.script.Expr.TheVariants.{Null, Number, Text, Date, Column, Signed', Arithmetic', Extract', Case', Match', Coalesce', NullIf'}
 use Rattle.qw_ast.specs.declared.script.Cond.TheVariants.{Compare', Between', In', IsNull', And', Or', Not', Is', Bracketed'}
-use Rattle.qw_ast.specs.Syntax.{Days, Expression, null, number, text, date, column, signed, arithmetic, extract, searched_case, simple_case, coalesce, null_if, Condition, comparison, between, among, is_null, both, either, negation_of, is, bracketed, Clause, condition, expression, Expressions, last, further, Branching, otherwise, when, SelectItem, Selected, all_columns, items, Entry, Joined, Source, Select}
+use Rattle.qw_ast.specs.Syntax.{Days, Expression, null, number, text, date, column, signed, arithmetic, extract, searched_case, simple_case, coalesce, null_if, Condition, comparison, between, among, is_null, both, either, negation_of, is, bracketed, Clause, condition, expression, Expressions, last, further, Branching, otherwise, when, SelectItem, Selected, all_columns, items, Entry, Joined, Source, Key, ordinal, result_column, SortSpecification, Select}
 
 -- octets that may be there
 abbrev pub octets_of : Option (Bor (List ℕ)) → Option (List ℕ)
@@ -79,8 +83,15 @@ joined_of j = record { entry = entry_of j.entry; on = condition_of j.on }
 abbrev pub source_of : coded_source.Source → Source
 source_of s = record { first = entry_of s.first; joins = map joined_of s.joins.items }
 
+abbrev pub key_of : coded_key.Key → Key
+key_of (Ordinal digits) = ordinal digits.now
+key_of (coded_keys.Column qualifier name) = result_column (octets_of qualifier) name.now
+
+abbrev pub sort_of : coded_sort.SortSpecification → SortSpecification
+sort_of s = record { key = key_of s.key; is_descending = s.is_descending }
+
 abbrev pub select_of : Statement → Select
-select_of s = record { selected = selected_of s.list; sources = map source_of s.sources.items; filter = option_map condition_of s.condition }
+select_of s = record { selected = selected_of s.list; sources = map source_of s.sources.items; filter = option_map condition_of s.condition; order = map sort_of s.order.items }
 
 -- the queries that statements are, in order
 abbrev pub selects_of : List Statement → List Select

@@ -136,12 +136,30 @@ pub struct Source<'a> {
     pub joins: Vec<Joined<'a>>,
 }
 
-/// `SELECT list FROM sources [WHERE condition]` (7.9, 7.4, 7.6), with one source or more.
+/// What a sort specification sorts by: a result column (13.1 "sort key").
+#[derive(Clone, Copy, Debug)]
+pub enum Key<'a> {
+    /// Its position, an unsigned number without a point.
+    Ordinal(&'a [u8]),
+    /// `[qualifier.]name`.
+    Column(Option<&'a [u8]>, &'a [u8]),
+}
+
+/// `key [ASC | DESC]` (13.1 "sort specification").
+#[derive(Clone, Copy, Debug)]
+pub struct SortSpecification<'a> {
+    pub key: Key<'a>,
+    pub is_descending: bool,
+}
+
+/// `SELECT list FROM sources [WHERE condition] [ORDER BY order]` (7.9, 7.4, 7.6, 13.1), with one source or more; without an ORDER BY the
+/// order is empty.
 #[derive(Drop)]
 pub struct Statement<'a> {
     pub list: SelectList<'a>,
     pub sources: Vec<Source<'a>>,
     pub condition: Option<Cond<'a>>,
+    pub order: Vec<SortSpecification<'a>>,
 }
 
 /// The statements of a text, in order: as many as a script may have, each of which some tokens are, none larger than a query may be.

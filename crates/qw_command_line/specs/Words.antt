@@ -39,9 +39,9 @@ value_in_range number word =
 abbrev pub place : Text → Rule
 place name = record (new_rule name) { required = true }
 
--- the option `--NAME`, with a value
+-- the option `--NAME`, with a value, for which help has one name
 abbrev pub option : (name : Text) → Rule
-option name = record (new_rule name) { long = Some name }
+option name = record (new_rule name) { long = Some name; value_names = 1 }
 
 -- the option `--statement`, which has to be given
 abbrev pub statement_option : Rule
@@ -49,7 +49,7 @@ statement_option = record (option (name_of Statement)) { required = true }
 
 -- the option `--stats`, which has no value
 abbrev pub stats_option : Rule
-stats_option = record (option (codes "stats")) { action = Some SetTrue }
+stats_option = record (new_rule (codes "stats")) { long = Some (codes "stats"); action = Some SetTrue }
 
 -- `run SCHEMA DIR QUERIES`
 abbrev pub bare_run_app : App

@@ -18,8 +18,10 @@ pub(crate) fn program<'a>(alloc: Global) -> Result<Command<'a>, AllocError>
     ensures { IfOk result (λ program. IsApp program spec.program) }
 {
     let program = Command::new(alloc, "qwasm")
+        .about("Compiles SQL queries to WebAssembly and runs them over CSV tables")
         .no_binary_name(true)
-        .subcommand_required(true);
+        .subcommand_required(true)
+        .bin_name("qwasm")?;
     let program = program.subcommand(run(alloc)?)?;
     let program = program.subcommand(compile(alloc)?)?;
     program.subcommand(check(alloc)?)
@@ -29,9 +31,24 @@ pub(crate) fn program<'a>(alloc: Global) -> Result<Command<'a>, AllocError>
 fn run<'a>(alloc: Global) -> Result<Command<'a>, AllocError>
     ensures { IfOk result (λ run. IsApp run spec.run_app) }
 {
-    let run = with_option(alloc, bare_run(alloc)?, Number::Quantum.name())?;
-    let run = with_option(alloc, run, Number::Pages.name())?;
-    let run = with_option(alloc, run, Number::Steps.name())?;
+    let run = with_option(
+        alloc,
+        bare_run(alloc)?,
+        Number::Quantum.name(),
+        "Instructions of a query in one turn, 1 to 1000000000 [default: 10000]",
+    )?;
+    let run = with_option(
+        alloc,
+        run,
+        Number::Pages.name(),
+        "Pages of 65536 octets that a query may hold, 1 to 65535 [default: 128]",
+    )?;
+    let run = with_option(
+        alloc,
+        run,
+        Number::Steps.name(),
+        "Instructions that a query may run [default: 999999999999999999]",
+    )?;
     with_stats(alloc, run)
 }
 
@@ -39,20 +56,48 @@ fn run<'a>(alloc: Global) -> Result<Command<'a>, AllocError>
 fn bare_run<'a>(alloc: Global) -> Result<Command<'a>, AllocError>
     ensures { IfOk result (λ run. IsApp run spec.bare_run_app) }
 {
-    let run = with_place(alloc, Command::new(alloc, "run"), "SCHEMA")?;
-    let run = with_place(alloc, run, "DIR")?;
-    with_place(alloc, run, "QUERIES")
+    let run = Command::new(alloc, "run").about(
+        "Runs the queries of a script over table files, and reports their rows",
+    );
+    let run = with_place(alloc, run, "SCHEMA", "The file of CREATE TABLE statements")?;
+    let run = with_place(
+        alloc,
+        run,
+        "DIR",
+        "The folder of the table files: t.csv for each table T of the schema",
+    )?;
+    with_place(
+        alloc,
+        run,
+        "QUERIES",
+        "The file of the script, 1 to 64 queries",
+    )
 }
 
 /// `compile SCHEMA QUERIES --statement K`.
 fn compile<'a>(alloc: Global) -> Result<Command<'a>, AllocError>
     ensures { IfOk result (λ compile. IsApp compile spec.compile_app) }
 {
-    let compile = with_place(alloc, Command::new(alloc, "compile"), "SCHEMA")?;
-    let compile = with_place(alloc, compile, "QUERIES")?;
+    let compile = Command::new(alloc, "compile").about(
+        "Writes the WebAssembly module of a query to standard output",
+    );
+    let compile = with_place(
+        alloc,
+        compile,
+        "SCHEMA",
+        "The file of CREATE TABLE statements",
+    )?;
+    let compile = with_place(
+        alloc,
+        compile,
+        "QUERIES",
+        "The file of the script, 1 to 64 queries",
+    )?;
     let statement = Arg::new(alloc, "statement")
         .long("statement")
-        .required(true);
+        .value_name("K")
+        .required(true)
+        .help("The number of the query in the script, from 1");
     compile.arg(statement)
 }
 
@@ -60,29 +105,40 @@ fn compile<'a>(alloc: Global) -> Result<Command<'a>, AllocError>
 fn check<'a>(alloc: Global) -> Result<Command<'a>, AllocError>
     ensures { IfOk result (λ check. IsApp check spec.check_app) }
 {
-    with_place(alloc, Command::new(alloc, "check"), "MODULE")
+    let check = Command::new(alloc, "check").about(
+        "Says whether a file is a valid module of WebAssembly 1.0, or why it is none",
+    );
+    with_place(
+        alloc,
+        check,
+        "MODULE",
+        "The file of the module, in the binary format",
+    )
 }
 
-/// The command with one more place, which has to be filled.
+/// The command with one more place, which has to be filled, and a line of help on it.
 fn with_place<'a>(
     alloc: Global,
     command: Command<'a>,
     name: &'a str,
+    help: &'a str,
 ) -> Result<Command<'a>, AllocError>
     ensures { IfOk result (λ more. (app : App) → IsApp command.entry app → IsApp more (with_rule app (spec.place name.entry.now))) }
 {
-    command.arg(Arg::new(alloc, name).required(true))
+    command.arg(Arg::new(alloc, name).required(true).help(help))
 }
 
-/// The command with one more option, `--NAME` with a value, which may be left out.
+/// The command with one more option, `--NAME N`, which may be left out, and a line of help on it.
 fn with_option<'a>(
     alloc: Global,
     command: Command<'a>,
     name: &'a str,
+    help: &'a str,
 ) -> Result<Command<'a>, AllocError>
     ensures { IfOk result (λ more. (app : App) → IsApp command.entry app → IsApp more (with_rule app (spec.option name.entry.now))) }
 {
-    command.arg(Arg::new(alloc, name).long(name))
+    let option = Arg::new(alloc, name).long(name).value_name("N").help(help);
+    command.arg(option)
 }
 
 /// The command with the option `--stats`, which has no value.
@@ -91,6 +147,7 @@ fn with_stats<'a>(alloc: Global, command: Command<'a>) -> Result<Command<'a>, Al
 {
     let stats = Arg::new(alloc, "stats")
         .long("stats")
-        .action(ArgAction::SetTrue);
+        .action(ArgAction::SetTrue)
+        .help("Reports the instructions that each query ran and the pages that it holds");
     command.arg(stats)
 }

@@ -47,14 +47,6 @@ module _ (columns : List ReadColumn) (T : ℕ) where
       let one = length-append before (p ∷ []) in
       (steps_below before p.steps (omega (arith, few)) h.0, all_look (before ++ p ∷ []) ps (next + 1) (omega (arith, few, one)) h.1)
 
-  all_sink : (ps : List pipes.Pipeline) (next : ℕ) → next + length ps ≤ T → AllByRecursion (λ (p : Pipeline). SinksBelow T p.sink) (all_spelled columns next ps)
-  all_sink [] next few = tt
-  all_sink (p ∷ ps) next few = (one p.target (omega (arith, few)), all_sink ps (next + 1) (omega (arith, few)))
-    where
-      one : (t : pipes.Target) → next < T → SinksBelow T (spelled_sink columns next p.steps t)
-      one (to_table lookup) low = low
-      one to_result low = tt
-
   -- the last one makes the result
   ends_sink : (ps : List pipes.Pipeline) (last : pipes.Pipeline) (next : ℕ) → next + length ps ≤ T → last.target ≡ to_result → AllByRecursion (λ (p : Pipeline). SinksBelow T p.sink) (all_spelled columns next (ps ++ last ∷ []))
   ends_sink [] last next few is = (subst (λ (t : pipes.Target). SinksBelow T (spelled_sink columns next last.steps t)) (sym is) tt, tt)

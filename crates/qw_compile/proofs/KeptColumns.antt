@@ -12,9 +12,6 @@ use Rattle.qw_compile.specs.PlannedQueries.{columns_read, kept_by, reads}
 pub equal_is : (a b : ℕ) → nat_eq a b ≡ true → a ≡ b
 equal_is a b h = grind (arith, nat_tests)
 
-itself : (a : ℕ) → nat_eq a a ≡ true
-itself a = grind (arith, nat_tests)
-
 or_second : (a b : Bool) → b ≡ true → (a || b) ≡ true
 or_second true b h = refl
 or_second false b h = h

@@ -10,7 +10,6 @@ pub mod KeptBounds
 pub mod KeptColumns
 mod KeysFew
 pub mod Laid
-pub mod LeafLemmas
 pub mod LeavesFew
 pub mod LiteralLemmas
 pub mod LiteralSteps
@@ -47,3 +46,4 @@ pub mod TextsFew
 pub mod TextsWithin
 mod UsedSteps
 pub mod Within
+pub mod WordLemmas

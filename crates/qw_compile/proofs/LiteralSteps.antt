@@ -1,6 +1,6 @@
--- One more text, number, date or column in a loop: its octets, its literal, its binding, and the types of its locals.
-use Rattle.std.proofs.Common.{◌≡◌, ℕ, zero, suc, ◌+◌, ◌<◌, List, [], ◌∷◌, ◌++◌, length, map, take, drop, get_or, refl, sym, ap, ap₂, ◌∙◌, append_assoc, arith, ◌≤◌, None, length-append, drop-cons, append-nil}
-use Rattle.std.proofs.lemmas.List.{map_more, drop_all}
+-- One more text, number, date or column in a loop: its binding, and the types of its locals.
+use Rattle.std.proofs.Common.{◌≡◌, ℕ, zero, suc, ◌+◌, ◌<◌, List, [], ◌∷◌, ◌++◌, length, map, take, drop, get_or, refl, sym, ap, ap₂, ◌∙◌, append_assoc, arith, drop-cons}
+use Rattle.std.proofs.lemmas.List.{map_more}
 use Rattle.qw_module.specs.declared.instruction.ValType.{ValType}
 use Rattle.qw_module.specs.declared.instruction.ValType.TheVariants.{I32, I64}
 use Rattle.qw_expr.specs.declared.known.Binding.{Binding}
@@ -11,11 +11,9 @@ use Rattle.qw_scalar.specs.Expression.{Expression, text}
 use Rattle.qw_read.specs.Constants.{constant_operand, known_constant, literal_of}
 use Rattle.qw_read.specs.declared.constant.Constant.{Constant}
 use Rattle.qw_read.specs.Reading.{known_of, operand_of}
-use Rattle.std.specs.List.{concat}
 use Rattle.qw_read.specs.declared.literal.Literal.{Literal}
 use Rattle.qw_read.specs.Texts.{known_texts, text_operand}
 use Rattle.qw_compile.specs.QueryLocals.{text_types, word_types}
-use Rattle.qw_compile.specs.Literals.{literals_from}
 use Rattle.qw_expr.specs.declared.known.Leaf.TheVariants as leaf
 use Rattle.qw_expr.specs.Bindings as bindings
 
@@ -41,39 +39,6 @@ next_constant cs i c b made new old less leaf_is operand_is before added =
     ∙ (append_assoc old (map known_constant (take i cs)) (known_constant (get_or cs i c) ∷ [])
     ∙ ap (λ (ks : List Known). old ++ ks) (sym (map_more known_constant cs i c less)))))
 
--- what is left of texts in a loop over them
-left : (ts : List (List ℕ)) (i : ℕ) (t : List ℕ) → i < length ts → t ≡ get_or ts i t → drop i ts ≡ t ∷ drop (i + 1) ts
-left ts i t less same =
-    let one : i + 1 ≡ suc i = omega arith in
-    drop-cons ts i t less ∙ ap₂ (λ (x : List ℕ) (k : ℕ). x ∷ drop k ts) (sym same) (sym one)
-
--- ---- octets
-pub next_octets : (ts : List (List ℕ)) (i : ℕ) (t made new old : List ℕ) → i < length ts → t ≡ get_or ts i t → made ++ concat (drop i ts) ≡ old → new ≡ made ++ t → new ++ concat (drop (i + 1) ts) ≡ old
-next_octets ts i t made new old less same before added =
-    ap (λ (l : List ℕ). l ++ concat (drop (i + 1) ts)) added
-    ∙ (append_assoc made t (concat (drop (i + 1) ts))
-    ∙ (ap (λ (l : List (List ℕ)). made ++ concat l) (sym (left ts i t less same)) ∙ before))
-
-pub last_octets : (ts : List (List ℕ)) (i : ℕ) (made old : List ℕ) → length ts ≤ i → made ++ concat (drop i ts) ≡ old → made ≡ old
-last_octets ts i made old past before = sym (append-nil made) ∙ (ap (λ (l : List (List ℕ)). made ++ concat l) (sym (drop_all i ts past)) ∙ before)
-
--- ---- literals
-pub next_at : (ts : List (List ℕ)) (i : ℕ) (t : List ℕ) (at most : ℕ) → i < length ts → t ≡ get_or ts i t → at + length (concat (drop i ts)) ≡ most → at + length t + length (concat (drop (i + 1) ts)) ≡ most
-next_at ts i t at most less same before =
-    let long : length (concat (drop i ts)) ≡ length (t ++ concat (drop (i + 1) ts)) = ap (λ (l : List (List ℕ)). length (concat l)) (left ts i t less same) in
-    omega (arith, before, long, length-append t (concat (drop (i + 1) ts)))
-
-pub next_literal : (ts : List (List ℕ)) (i : ℕ) (t : List ℕ) (x at x' at' : ℕ) (made new old : List Literal) → i < length ts → t ≡ get_or ts i t → made ++ literals_from x at (drop i ts) ≡ old →
-    new ≡ made ++ record { at = at; count = length t; cell = record { value = x; length = x + 1; null = None } } ∷ [] → x' ≡ x + 2 → at' ≡ at + length t → new ++ literals_from x' at' (drop (i + 1) ts) ≡ old
-next_literal ts i t x at x' at' made new old less same before added local offset =
-    ap₂ (λ (k o : ℕ). new ++ literals_from k o (drop (i + 1) ts)) local offset
-    ∙ (ap (λ (l : List Literal). l ++ literals_from (x + 2) (at + length t) (drop (i + 1) ts)) added
-    ∙ (append_assoc made (record { at = at; count = length t; cell = record { value = x; length = x + 1; null = None } } ∷ []) (literals_from (x + 2) (at + length t) (drop (i + 1) ts))
-    ∙ (ap (λ (l : List (List ℕ)). made ++ literals_from x at l) (sym (left ts i t less same)) ∙ before)))
-
-pub last_literal : (ts : List (List ℕ)) (i x at : ℕ) (made old : List Literal) → length ts ≤ i → made ++ literals_from x at (drop i ts) ≡ old → made ≡ old
-last_literal ts i x at made old past before = sym (append-nil made) ∙ (ap (λ (l : List (List ℕ)). made ++ literals_from x at l) (sym (drop_all i ts past)) ∙ before)
-
 -- ---- bindings
 pub next_text : (ls : List Literal) (ts : List (List ℕ)) (i : ℕ) (l : Literal) (x t : List ℕ) (o : Operand) (made new : List Binding) (old : List Known) → length ls ≡ length ts → i < length ts → x ≡ get_or ts i x → t ≡ x → o ≡ text_operand (get_or ls i l) →
     bindings.known_of made ++ known_texts (drop i ls) (drop i ts) ≡ old → new ≡ made ++ record { leaf = leaf.Text t; operand = o } ∷ [] → bindings.known_of new ++ known_texts (drop (i + 1) ls) (drop (i + 1) ts) ≡ old
@@ -87,10 +52,6 @@ next_text ls ts i l x t o made new old many less there copied operand before add
     ∙ (append_assoc (bindings.known_of made) (record { expression = text t; operand = o } ∷ []) (known_texts (drop (i + 1) ls) (drop (i + 1) ts))
     ∙ (ap (λ (p : Operand). bindings.known_of made ++ record { expression = text t; operand = p } ∷ known_texts (drop (i + 1) ls) (drop (i + 1) ts)) operand
     ∙ (ap₂ (λ (a : List Literal) (b : List (List ℕ)). bindings.known_of made ++ known_texts a b) (sym first) (sym second) ∙ before))))
-
-pub last_text : (ls : List Literal) (ts : List (List ℕ)) (i : ℕ) (made old : List Known) → length ls ≡ length ts → length ts ≤ i → made ++ known_texts (drop i ls) (drop i ts) ≡ old → made ≡ old
-last_text ls ts i made old many past before =
-    sym (append-nil made) ∙ (ap₂ (λ (a : List Literal) (b : List (List ℕ)). made ++ known_texts a b) (sym (drop_all i ls (omega (arith, many, past)))) (sym (drop_all i ts past)) ∙ before)
 
 -- ---- locals
 text_behind : (n : ℕ) (rest : List ValType) → text_types n (I32 ∷ I32 ∷ rest) ≡ text_types (suc n) rest

@@ -1,5 +1,5 @@
 -- How locals of columns are declared, and which locals pipelines have of their own.
-use Rattle.std.proofs.Common.{◌≡◌, ℕ, zero, suc, ◌+◌, Bool, true, false, Option, Some, List, [], ◌∷◌, ◌++◌, length, slice_get, refl, ap, ◌∙◌, arith}
+use Rattle.std.proofs.Common.{◌≡◌, ℕ, suc, ◌+◌, Bool, true, false, Option, Some, List, [], ◌∷◌, ◌++◌, length, slice_get, refl, ap, ◌∙◌, arith}
 use Rattle.std.specs.List.{AllByRecursion}
 use Rattle.std.proofs.lemmas.Option.{same_Some}
 use Rattle.qw_types.specs.Kind.{type_kind}
@@ -11,6 +11,7 @@ use Rattle.qw_read.specs.declared.reader.Reader.{Reader}
 use Rattle.qw_read.specs.Reading.{operand_of, HasNullWord, DeclaresBases}
 use Rattle.qw_compile.specs.QueryLocals.{null_word, value_type}
 use Rattle.qw_types.specs.declared.value.Ty.TheVariants as ty
+use Rattle.qw_operator.proofs.Promised.{after_append, in_append}
 
 pub null_there : (b : Bool) (y x : ℕ) → null_word b y ≡ Some x → y ≡ x
 null_there true y x is = absurd cc
@@ -48,19 +49,6 @@ pub begins_declared : (types : List ValType) (readers : List Reader) → AllByRe
     AllByRecursion (λ (r : Reader). (slice_get types r.end ≡ Some I32) × DeclaresBases types r) readers
 begins_declared types [] rows bases = tt
 begins_declared types (r ∷ readers) rows bases = ((rows.0.1, bases.0), begins_declared types readers rows.1 bases.1)
-
-pub after_append : {A : Type 0} (xs ys : List A) (i : ℕ) → slice_get (xs ++ ys) (length xs + i) ≡ slice_get ys i
-after_append {A = A} [] ys i =
-    let place : length {A = A} [] + i ≡ i = omega arith in
-    ap (λ (n : ℕ). slice_get ys n) place
-after_append (x ∷ xs) ys i =
-    let place : length (x ∷ xs) + i ≡ suc (length xs + i) = omega arith in
-    ap (λ (n : ℕ). slice_get (x ∷ (xs ++ ys)) n) place ∙ after_append xs ys i
-
-pub in_append : {A : Type 0} (xs ys : List A) (i : ℕ) (x : A) → slice_get xs i ≡ Some x → slice_get (xs ++ ys) i ≡ Some x
-in_append [] ys i x is = absurd cc
-in_append (a ∷ xs) ys zero x is = is
-in_append (a ∷ xs) ys (suc i) x is = in_append xs ys i x is
 
 -- the locals from one on are of these types
 abbrev pub AreOwn : List ValType → (from : ℕ) → List ValType → Type 0

@@ -8,10 +8,6 @@ use Rattle.qw_module.specs.declared.instruction.ValType.TheVariants.{I32}
 use Rattle.qw_scalar.specs.Expression.{scale_of}
 use Rattle.qw_scalar.specs.Typing.{kind_of}
 use Rattle.qw_map.proofs.AreaLemmas.{all-append}
-use Rattle.qw_map.specs.Columns.{values_size}
-use Rattle.qw_map.specs.declared.layout.Used.{Used}
-use Rattle.qw_low.specs.State.{Number, LowState}
-use Rattle.qw_low.specs.Begin.{KnowsEntry}
 use Rattle.qw_feed.specs.Cells.{Uses, UsesNull}
 use Rattle.qw_feed.specs.Stages.{Among}
 use Rattle.qw_algebra.specs.Columns.{owner}
@@ -20,7 +16,7 @@ use Rattle.qw_expr.specs.Bindings.{IsServed}
 use Rattle.qw_expr.specs.Cells.{IsBelow, IsBelowNull, DeclaresValue}
 use Rattle.qw_expr.specs.Computes.{Known, AreBelow}
 use Rattle.qw_read.specs.declared.reader.Reader.{Reader}
-use Rattle.qw_read.specs.Reading.{known_of, operand_of, HasNullWord, HasOctets, AreBases, IsCellIn, HasBases, DeclaresBases, AreBasesIn, AreCellsIn, HasEntryOf}
+use Rattle.qw_read.specs.Reading.{known_of, operand_of, HasNullWord, AreBases, IsCellIn, DeclaresBases, AreBasesIn, AreCellsIn}
 use Rattle.qw_read.specs.Texts.{known_texts}
 use Rattle.qw_read.specs.Constants.{constant_operand, known_constant}
 use Rattle.qw_read.specs.declared.constant.Constant.{Constant}
@@ -106,10 +102,6 @@ pub null_words : (t b c k : ℕ) (columns : List ReadColumn) → AllByRecursion 
 null_words t b c k [] = tt
 null_words t b c k (u ∷ columns) = (null_one u.not_null (c + 2), null_words t (b + 3) (c + 3) (k + 1) columns)
 
-pub read_many : (t b c k : ℕ) (columns : List ReadColumn) → length (read_from t b c k columns) ≡ length columns
-read_many t b c k [] = refl
-read_many t b c k (u ∷ columns) = ap suc (read_many t (b + 3) (c + 3) (k + 1) columns)
-
 pub indices_low : (t b c k n : ℕ) (columns : List ReadColumn) → k + length columns ≤ n → AllByRecursion (λ (r : Reader). r.index ≤ n) (read_from t b c k columns)
 indices_low t b c k n [] low = tt
 indices_low t b c k n (u ∷ columns) low = (omega (arith, low), indices_low t (b + 3) (c + 3) (k + 1) n columns (omega (arith, low)))
@@ -119,9 +111,6 @@ read_sized t b c k [] sized = tt
 read_sized t b c k (u ∷ columns) sized = (sized.0, read_sized t (b + 3) (c + 3) (k + 1) columns sized.1)
 
 -- ---- what is known
-null_below : (b : Bool) (x n : ℕ) → x < n → (y : ℕ) → null_word b x ≡ Some y → y < n
-null_below b x n low y is = let same : x ≡ y = null_there b x y is in omega (arith, low, same)
-
 read_below : (t b c k n : ℕ) (columns : List ReadColumn) → c + 3 * length columns ≤ n → AllByRecursion (λ (q : Known). IsBelow n q.operand.cell) (map known_of (read_from t b c k columns))
 read_below t b c k n [] low = tt
 read_below t b c k n (u ∷ columns) low = ((omega (arith, low), omega (arith, low), null_is_below u.not_null), read_below t (b + 3) (c + 3) (k + 1) n columns (omega (arith, low)))
@@ -237,34 +226,6 @@ each_over entry t P Q one b c k (u ∷ columns) all =
     let rest = each_over entry t P Q one (b + 3) (c + 3) (k + 1) columns all.1 in
     one_or (AllByRecursion Q) (is_over entry (read_by t b c k u)) (read_by t b c k u) (readers_over entry (read_from t (b + 3) (c + 3) (k + 1) columns))
     (λ is. (one b c k u (all.0 (sym (eqb-true entry (owner u.number) is))), rest)) rest
-
--- a column's entry in the descriptor, of so many rows, of which each has a place among the values
-abbrev pub HasEntryFor : (rows : ℕ) → LowState → ℕ → ReadColumn → Type 0
-HasEntryFor rows s k u = (used : Used) × (used.ty ≡ u.ty) × (used.not_null ≡ u.not_null) × KnowsEntry s.cells k used rows × HasOctets s.columns (3 * k) (values_size u.ty rows)
-
-pub entries_over : (entry t n rows : ℕ) (s : LowState) → rows_end t < n → slice_get s.locals (rows_end t) ≡ Some (Number (4 * rows)) → (b c k : ℕ) (columns : List ReadColumn) → AtEachOver entry (HasEntryFor rows s) k columns →
-    AllByRecursion (HasEntryOf n rows s) (readers_over entry (read_from t b c k columns))
-entries_over entry t n rows s more end b c k columns all =
-    each_over entry t (HasEntryFor rows s) (HasEntryOf n rows s) (λ b' c' k' u h. record { used = h.0; type_is = h.1; null_is = h.2; entry = h.3; values = h.4; end = (more, end) }) b c k columns all
-
--- ---- the addresses of parts are still there
-pub bases_kept : (n rows : ℕ) (readers : List Reader) (from below : ℕ) (s t : LowState) → below ≤ n → ((i : ℕ) → from ≤ i → i < n → slice_get t.locals i ≡ slice_get s.locals i) → AreBasesIn from below readers → AllByRecursion (λ (r : Reader). HasBases rows r s) readers →
-    AllByRecursion (λ (r : Reader). HasBases rows r t) readers
-bases_kept n rows [] from below s t low same are has = tt
-bases_kept n rows (r ∷ readers) from below s t low same are has =
-    let next = are.0 in
-    let rest_low : next ≤ below = bases_next readers next below are.2 in (
-      record {
-        values = same r.values are.1.values.0 (omega (arith, are.1.values.1, rest_low, low)) ∙ has.0.values;
-        octets = λ is. same r.octets (are.1.octets is).0 (omega (arith, (are.1.octets is).1, rest_low, low)) ∙ has.0.octets is;
-        nulls = λ is. same r.nulls (are.1.nulls is).0 (omega (arith, (are.1.nulls is).1, rest_low, low)) ∙ has.0.nulls is;
-      },
-      bases_kept n rows readers next below s t low (λ i from' to. same i (omega (arith, from', are.1.values.0, are.1.values.1)) to) are.2 has.1,
-    )
-  where
-    bases_next : (rs : List Reader) (x y : ℕ) → AreBasesIn x y rs → x ≤ y
-    bases_next [] x y h = h
-    bases_next (q ∷ rs) x y h = let further = bases_next rs h.0 y h.2 in omega (arith, further, h.1.values.0, h.1.values.1)
 
 -- ---- and how a scan of an entry finds them
 pub bases_each : (t from below b c k : ℕ) (columns : List ReadColumn) → from ≤ b → b + 3 * length columns ≤ below → AllByRecursion (AreBases from below) (read_from t b c k columns)

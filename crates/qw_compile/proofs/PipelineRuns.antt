@@ -68,7 +68,7 @@ use Rattle.qw_emit.proofs.QueryEnds.{BehindWords}
 use Rattle.qw_compile.specs.QueryLocals.{base_start, cell_start, own_start, query_readers, readers_over, rows_end, rows_left}
 use Rattle.qw_compile.specs.Statements.{AreCourses, Course, IsCourse, build_block, builds_block, course_block}
 use Rattle.qw_compile.proofs.CourseBegins.{Opened, opened_then}
-use Rattle.qw_compile.proofs.LeafLemmas.{all_back, all_front}
+use Rattle.qw_leaves.proofs.LeafLists.{all_back, all_front}
 use Rattle.qw_compile.proofs.LocalsDeclared.{first_own_types, rest_own_types}
 use Rattle.qw_compile.proofs.TableBegins.{Begun, empty_table, table_begins}
 use Rattle.qw_compile.proofs.LocalsPlaced.{all_over, bases_each, bases_over, cells_over, counted_each, known_over_all, read_within}

@@ -9,13 +9,12 @@ use Rattle.qw_types.specs.declared.value.Ty.{Ty}
 use Rattle.qw_types.specs.declared.value.Val.{Val}
 use Rattle.qw_meaning.specs.Query.{QueryParts, query_of}
 use Rattle.qw_meaning.specs.Select.{AreOfEntries, Entry, IsOfEntry, Source, entries_of}
-use Rattle.qw_algebra.specs.Columns.{owner}
 use Rattle.qw_algebra.specs.Node.{Node}
 use Rattle.qw_algebra.proofs.Lists.{all_more, all_of_any}
 use Rattle.qw_pipe.specs.Pipes as pipes
-use Rattle.qw_pipe.specs.Pipes.{Lookup, pipelines, split, to_table}
+use Rattle.qw_pipe.specs.Pipes.{pipelines}
 use Rattle.qw_physical.specs.Coded.{pipeline_of}
-use Rattle.qw_physical.specs.Named.{IsDeclared, and_first, and_firsts, columns_of_entries, declared_at, named_by, numbers, typed_numbers}
+use Rattle.qw_physical.specs.Named.{IsDeclared, and_firsts, columns_of_entries, declared_at, numbers, typed_numbers}
 use Rattle.qw_physical.specs.Named as named
 use Rattle.qw_physical.specs.Physical.{Pipeline}
 use Rattle.qw_physical.specs.Sides.{IsOfEntries, IsPlanned, builds_of, column_in, last_of}
@@ -24,7 +23,7 @@ use Rattle.qw_physical.specs.declared.pipeline.Pipeline as coded
 use Rattle.qw_physical.specs.declared.pipeline.ReadColumn.{ReadColumn}
 use Rattle.qw_physical.proofs.QueryFew.{AreSizedColumns}
 use Rattle.qw_physical.proofs.QueryScans.{ScansOne}
-use Rattle.qw_physical.proofs.Reading.{any_front, same_number}
+use Rattle.qw_physical.proofs.Reading.{same_number}
 use Rattle.qw_physical.proofs.Results.{column_by_lists, in_order}
 use Rattle.qw_physical.proofs.Scaled.{query_scaled}
 use Rattle.qw_physical.proofs.Shown.{IsAmong, IsColumn, Within, at_either, behind, front_is, none_among}
@@ -36,6 +35,7 @@ use Rattle.qw_compile.specs.WrittenTexts.{texts_of_query}
 use Rattle.qw_compile.proofs.QueryCan.{query_scans, query_stands}
 use Rattle.qw_compile.proofs.ScansCounted.{pipelines_counted}
 use Rattle.qw_compile.proofs.TextsWithin.{texts_within}
+use Rattle.qw_physical.proofs.Firsts.{firsts_kept}
 
 -- ---- columns of entries
 
@@ -59,17 +59,6 @@ are_sized entries columns sized declared =
     (λ c h. entry_sized entries (c.number / 64) (c.number % 64) (record { ty = c.ty; not_null = c.not_null }) sized (declared_of entries c h)) declared
 
 -- ---- columns that are named are among those that are read
-
-first_kept : (f : ℕ → Bool) (xs : List ℕ) (entry : ℕ) → list_any f xs ≡ true → list_any f (and_first xs entry) ≡ true
-first_kept f xs entry h = one (list_any (λ (i : ℕ). owner i == entry) xs)
-  where
-    one : (b : Bool) → list_any f (if b then xs else xs ++ (64 * entry) ∷ []) ≡ true
-    one true = h
-    one false = any_front f xs ((64 * entry) ∷ []) h
-
-firsts_kept : (f : ℕ → Bool) (xs : List ℕ) (entry count : ℕ) → list_any f xs ≡ true → list_any f (and_firsts xs entry count) ≡ true
-firsts_kept f xs entry zero h = h
-firsts_kept f xs entry (suc count) h = firsts_kept f (and_first xs entry) (entry + 1) count (first_kept f xs entry h)
 
 -- a column of a number that is there is there with its type
 found : (all : List (List ColumnType)) (columns : List ReadColumn) (c : ReadColumn) → AllByRecursion (IsDeclared all) columns → IsDeclared all c → list_any (λ (j : ℕ). j == c.number) (numbers columns) ≡ true

@@ -34,7 +34,7 @@ use Rattle.qw_physical.specs.declared.pipeline.ReadColumn.{ReadColumn}
 use Rattle.qw_physical.proofs.Alikeness.{pipeline_fed_same}
 use Rattle.qw_physical.proofs.Begun.{costs_bounded, sink_last}
 use Rattle.qw_physical.proofs.Holding.{all_count, all_sizes, held_within}
-use Rattle.qw_physical.proofs.Naming.{all_back, all_front}
+use Rattle.qw_leaves.proofs.LeafLists.{all_back, all_front}
 use Rattle.qw_physical.proofs.QueryScans.{ScansOne}
 use Rattle.qw_physical.proofs.Typing.{zip_all}
 use Rattle.qw_operator.specs.Takes.{CanCarry}

@@ -9,7 +9,7 @@ use Rattle.qw_pipe.specs.Pipes.{pipelines}
 use Rattle.qw_types.specs.Value.{IsSized, type_scale}
 use Rattle.qw_types.specs.declared.value.Ty.{Ty}
 use Rattle.qw_types.specs.declared.value.Ty.TheVariants as types
-use Rattle.qw_scalar.specs.Expression.{Expression, Condition, null, number, date, text, column, arithmetic, negative, extract, brought, choice, comparison, is_null, both, either, negation_of, is}
+use Rattle.qw_scalar.specs.Expression.{Expression, Condition, number, date, text, column}
 use Rattle.qw_scalar.specs.Tree.{condition_of, expression_of}
 use Rattle.qw_scalar.specs.Typing.{AreTyped}
 use Rattle.qw_scalar.specs.declared.expression.Cond.{Cond}
@@ -18,8 +18,8 @@ use Rattle.qw_algebra.proofs.Lists.{all_append, all_map, all_more, all_of_any}
 use Rattle.qw_expr.specs.Bindings.{Knows, TakesKnown, TakeKnown}
 use Rattle.qw_expr.specs.Bindings as bindings
 use Rattle.qw_expr.specs.Computes.{Known}
-use Rattle.qw_expr.specs.declared.known.Leaf.{Leaf}
-use Rattle.qw_expr.specs.declared.known.Leaf.TheVariants as leaf
+use Rattle.qw_leaves.specs.declared.leaf.Leaf.{Leaf}
+use Rattle.qw_leaves.specs.declared.leaf.Leaf.TheVariants as leaf
 use Rattle.qw_map.specs.Layout.{entry_offset}
 use Rattle.qw_read.specs.Constants.{known_constant, literal_of}
 use Rattle.qw_read.specs.Reading.{known_of}
@@ -47,20 +47,18 @@ use Rattle.qw_physical.proofs.QuerySeen.{builds_seen, last_seen, seen_follows}
 use Rattle.qw_physical.proofs.Reading.{same_number}
 use Rattle.qw_physical.proofs.Results.{in_order}
 use Rattle.qw_physical.proofs.Typing.{zip_all}
-use Rattle.qw_physical.proofs.Naming.{all_back, all_both, all_front}
 use Rattle.qw_operator.specs.Takes.{AreSized, CanCarry, CanSink, IsTestOver, IsValueOver, anywhere}
-use Rattle.qw_compile.specs.Literals.{constants_from}
-use Rattle.qw_compile.specs.Leaves.{OfColumn, leaves_in, leaves_within}
+use Rattle.qw_compile.specs.Literals.{constants_from, literals_from}
+use Rattle.qw_leaves.specs.Leaves.{HasLeaves, HaveLeaves, OfColumn, leaves_in, leaves_within}
+use Rattle.qw_leaves.proofs.LeafLists.{all_back, all_front, all_joined, all_of_each, all_pairs, all_texts}
+use Rattle.qw_leaves.proofs.TreeLeaves.{has_leaves, have_leaves}
+use Rattle.qw_compile.proofs.WordLemmas.{all_words, of_all}
+use Rattle.qw_leaves.proofs.LeafLemmas.{column_leaves, condition_column_leaves, condition_leaves_joined, leaves_joined}
+use Rattle.qw_operator.proofs.KnownLeaves.{IsKnown, take_known, takes_known}
 use Rattle.qw_compile.specs.QueryLiterals.{operator_leaves, pipeline_leaves, query_texts, query_words, sink_leaves}
 use Rattle.qw_compile.specs.QueryLocals.{base_start, cell_start, read_by, read_from, readers_over, text_start, word_start}
 use Rattle.qw_compile.specs.QueryMade.{CanStand, literal_locals, literals_by, readers_by, texts_by, words_by}
-use Rattle.qw_compile.specs.Literals.{literals_from}
-use Rattle.qw_compile.proofs.LeafLemmas.{HasLeaves, HaveLeaves, all_of_each, all_texts, all_words, has_leaves, have_leaves, of_all}
 use Rattle.qw_physical.proofs.Shown.{IsAmong, IsColumn, IsSeen, Sees, Shows, ShowsIn, Within, among_owned, at_either, none_among, of_entry, owned_among}
-
-both_all : {A : Type 0} (P Q : A → Type 0) (xs : List A) → AllByRecursion P xs → AllByRecursion Q xs → AllByRecursion (λ x. P x × Q x) xs
-both_all P Q [] h g = tt
-both_all P Q (x ∷ xs) h g = ((h.0, g.0), both_all P Q xs h.1 g.1)
 
 -- ---- what is known
 
@@ -79,26 +77,18 @@ module _ (P : Leaf → Type 0) where
   Gives known = (l : Leaf) → P l → IsLiteralOf known l
 
   module _ (known : List Known) (seen : List ReadColumn) (gives : Gives known) (has : KnowsAll known seen) where
-    mutual
-      pub takes_seen : (e : Expression) → HasLeaves P e → Shows seen e → TakesKnown known e
-      takes_seen null h g = tt
-      takes_seen (number v s) h g = gives (leaf.Number v s) h
-      takes_seen (date d) h g = gives (leaf.Date d) h
-      takes_seen (text t) h g = gives (leaf.Text t) h
-      takes_seen (column i ty) h g = has i ty g
-      takes_seen (arithmetic operator a b) h g = (takes_seen a h.0 g.0, takes_seen b h.1 g.1)
-      takes_seen (negative a) h g = takes_seen a h g
-      takes_seen (extract field a) h g = takes_seen a h g
-      takes_seen (brought a s) h g = takes_seen a h g
-      takes_seen (choice c a b) h g = (take_seen c h.0 g.0, (takes_seen a h.1.0 g.1.0, takes_seen b h.1.1 g.1.1))
+    leaf_seen : (l : Leaf) → P l → OfColumn (IsAmong (typed_numbers seen)) l → IsKnown known l
+    leaf_seen (leaf.Number v s) h g = gives (leaf.Number v s) h
+    leaf_seen (leaf.Date d) h g = gives (leaf.Date d) h
+    leaf_seen (leaf.Text t) h g = gives (leaf.Text t) h
+    leaf_seen (leaf.Column i ty) h g = has i ty g
 
-      pub take_seen : (c : Condition) → HaveLeaves P c → ShowsIn seen c → TakeKnown known c
-      take_seen (comparison op a b) h g = (takes_seen a h.0 g.0, takes_seen b h.1 g.1)
-      take_seen (is_null a) h g = takes_seen a h g
-      take_seen (both c d) h g = (take_seen c h.0 g.0, take_seen d h.1 g.1)
-      take_seen (either c d) h g = (take_seen c h.0 g.0, take_seen d h.1 g.1)
-      take_seen (negation_of c) h g = take_seen c h g
-      take_seen (is c t) h g = take_seen c h g
+    pub takes_seen : (e : Expression) → HasLeaves P e → Shows seen e → TakesKnown known e
+    takes_seen e h g = takes_known known e (leaves_joined P (OfColumn (IsAmong (typed_numbers seen))) (IsKnown known) leaf_seen e h (column_leaves (IsAmong (typed_numbers seen)) e g))
+
+    pub take_seen : (c : Condition) → HaveLeaves P c → ShowsIn seen c → TakeKnown known c
+    take_seen c h g =
+        take_known known c (condition_leaves_joined P (OfColumn (IsAmong (typed_numbers seen))) (IsKnown known) leaf_seen c h (condition_column_leaves (IsAmong (typed_numbers seen)) c g))
 
     values_over : (es : List Expression) → AllByRecursion IsValued es → AllByRecursion (HasLeaves P) es → AllByRecursion (Shows seen) es → AllByRecursion (IsValueOver known) es
     values_over [] v h g = tt
@@ -165,7 +155,7 @@ module _ (P : Leaf → Type 0) (any : (i : ℕ) (ty : Ty) → P (leaf.Column i t
   sink_can : (known : List Known) (seen : List ReadColumn) → Gives P known → KnowsAll known seen → (sink : Sink) → IsTypedSink sink → SinkLeaves P sink → CanSink sink → AllByRecursion (Shows seen) (sink_values sink)
       → AllByRecursion (IsValueOver known) (sink_values sink)
   sink_can known seen gives has (build b) typed leaves can shows =
-      all_both (IsValueOver known) b.key (map column_of b.kept)
+      all_joined (IsValueOver known) b.key (map column_of b.kept)
       (values_over P known seen gives has b.key typed leaves (all_front (Shows seen) b.key (map column_of b.kept) shows))
       (values_over P known seen gives has (map column_of b.kept) (columns_valued b.kept can.2) (columns_leaves P any b.kept) (all_back (Shows seen) b.key (map column_of b.kept) shows))
   sink_can known seen gives has (select items) typed leaves can shows = values_over P known seen gives has items typed leaves shows
@@ -421,8 +411,8 @@ module _ (query : Specification) (kept columns : List ReadColumn) (node : Node) 
   spelled_fine =
       subst (AllByRecursion IsFine) (sym (in_order kept node))
       (all_append IsFine (builds_of kept node) (last_of kept node ∷ [])
-      (both_all (ScansOne entries) (λ p. IsFewCourse 1000 512 p × IsSeen kept p) (builds_of kept node) (query_builds_scan query [] kept node planned)
-      (both_all (IsFewCourse 1000 512) (IsSeen kept) (builds_of kept node) (query_builds_few query [] kept node planned many fit) (builds_seen query [] kept node planned on conjuncts items)))
+      (all_pairs (ScansOne entries) (λ p. IsFewCourse 1000 512 p × IsSeen kept p) (builds_of kept node) (query_builds_scan query [] kept node planned)
+      (all_pairs (IsFewCourse 1000 512) (IsSeen kept) (builds_of kept node) (query_builds_few query [] kept node planned many fit) (builds_seen query [] kept node planned on conjuncts items)))
       ((query_last_scans query [] kept node planned, (query_last_few query [] kept node planned many fit, last_seen query [] kept node planned on conjuncts items)), tt))
 
   -- so each of the code's can stand
@@ -433,7 +423,7 @@ module _ (query : Specification) (kept columns : List ReadColumn) (node : Node) 
       zip_all FollowsPipeline IsFine IsFine (λ p q z h. (scans_follow entries p q z h.0, (few_follows 1000 512 p q z h.1.0, seen_follows kept p q z h.1.1))) (all_spelled kept 0 (pipelines node)) (map pipeline_of ps) follow spelled_fine in
       all_stand count ts ps kept columns among within
       (all_more (λ p. IsFine p × IsTypedPhysical p) (IsReadyPipeline kept columns) (map pipeline_of ps) (λ p h. (scan_some entries columns each p h.0.0, (h.1, h.0.1)))
-      (both_all IsFine IsTypedPhysical (map pipeline_of ps) fine typed))
+      (all_pairs IsFine IsTypedPhysical (map pipeline_of ps) fine typed))
 
   -- and scans an entry
   pub query_scans : (qs : List Pipeline) → AllZip FollowsPipeline (all_spelled kept 0 (pipelines node)) qs → AllByRecursion (ScansOne entries) qs

@@ -57,7 +57,7 @@ row_at P [] i row h e = absurd cc
 row_at P (r ∷ rows) zero row h e = subst P (same_Some r row e) h.0
 row_at P (r ∷ rows) (suc i) row h e = row_at P rows i row h.1 e
 
-one_at : (P : Pipeline → Type 0) (before : List Pipeline) (q : Pipeline) (after : List Pipeline) → AllByRecursion P (before ++ q ∷ after) → P q
+pub one_at : (P : Pipeline → Type 0) (before : List Pipeline) (q : Pipeline) (after : List Pipeline) → AllByRecursion P (before ++ q ∷ after) → P q
 one_at P [] q after h = h.0
 one_at P (x ∷ before) q after h = one_at P before q after h.1
 

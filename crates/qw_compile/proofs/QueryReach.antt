@@ -17,9 +17,8 @@ use Rattle.qw_physical.specs.declared.pipeline.ReadColumn.{ReadColumn}
 use Rattle.qw_physical.proofs.QueryScans.{ScansOne}
 use Rattle.qw_physical.proofs.Reading.{same_number}
 use Rattle.qw_layout.specs.Row.{aggregate_offset}
-use Rattle.qw_scalar.specs.Expression.{Expression}
 use Rattle.qw_physical.specs.Held.{sink_size}
-use Rattle.qw_operator.proofs.SinkFeeds.{fields_of}
+use Rattle.qw_operator.proofs.SinkFeeds.{fields_many, fields_of}
 use Rattle.qw_operator.proofs.Stood.{Stood}
 use Rattle.qw_compile.proofs.PipelineRuns.{AreStood, entry_width}
 use Rattle.qw_compile.proofs.QueryCan.{HasEach}
@@ -114,10 +113,6 @@ pub scan_column : (entries : List Entry) (columns : List ReadColumn) → HasEach
 scan_column entries columns each p s = column_there p.entry columns (each p.entry (stands_within entries p.entry s.one s.stands))
 
 -- ---- how long an entry is
-fields_many : (es : List Expression) → length (fields_of es) ≡ length es
-fields_many [] = refl
-fields_many (e ∷ es) = ap suc (fields_many es)
-
 pub width_is : (b : Build) → entry_width b ≡ sink_size (build b)
 width_is b = ap (λ (k : ℕ). aggregate_offset k 0) (summed (length (fields_of (sink_values (build b)))) (length (sink_values (build b))) (length b.key) (length (map column_of b.kept)) (length b.kept)
     (fields_many (sink_values (build b))) (length-append b.key (map column_of b.kept)) (length-map b.kept column_of))

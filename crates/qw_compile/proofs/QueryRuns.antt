@@ -56,7 +56,8 @@ use Rattle.qw_read.proofs.TextPlaces.{lie_there_kept, lie_there_within, places_s
 use Rattle.qw_algebra.specs.Columns.{owner}
 use Rattle.qw_physical.specs.Physical.{Build, Pipeline, build, select}
 use Rattle.qw_physical.specs.declared.pipeline.ReadColumn.{ReadColumn}
-use Rattle.qw_operator.proofs.KnownLeaves.{AreFit, Fits, HasLeaves}
+use Rattle.qw_leaves.specs.Leaves.{HasLeaves}
+use Rattle.qw_operator.proofs.KnownLeaves.{AreFit, Fits}
 use Rattle.qw_operator.proofs.PipelineFeeds.{Between as Inside}
 use Rattle.qw_operator.proofs.Promised.{AreOwn}
 use Rattle.qw_operator.proofs.Seen.{LiesIn}

@@ -1,5 +1,5 @@
 -- The types of a query's locals, and of its statement.
-use Rattle.std.proofs.Common.{◌≡◌, ℕ, zero, suc, ◌+◌, ◌*◌, ◌<◌, ◌≤◌, Some, List, [], ◌∷◌, ◌++◌, length, map, slice_get, refl, ap, ◌∙◌, arith}
+use Rattle.std.proofs.Common.{◌≡◌, ℕ, suc, ◌+◌, ◌*◌, ◌<◌, ◌≤◌, Some, List, [], ◌∷◌, ◌++◌, length, map, slice_get, refl, ap, ◌∙◌, arith}
 use Rattle.std.specs.List.{AllByRecursion}
 use Rattle.qw_linear.specs.Memory.{page}
 use Rattle.qw_module.specs.declared.instruction.ValType.{ValType}
@@ -26,14 +26,13 @@ use Rattle.qw_operator.specs.Carries.{directory}
 use Rattle.qw_operator.specs.Takes.{CanSink}
 use Rattle.qw_operator.proofs.CarriedTyped.{AreLed, IsLed, IsReaderDeclared, row_typed}
 use Rattle.qw_operator.proofs.Promised.{AreOwn}
-use Rattle.qw_compile.specs.QueryLocals.{base_start, cell_start, held_types, own_start, part_types, query_locals, query_readers, readers_over, rows_end, rows_left, table_types, text_start, word_start}
-use Rattle.qw_compile.specs.QueryLocals.{text_types, word_types}
+use Rattle.qw_compile.specs.QueryLocals.{base_start, cell_start, held_types, own_start, part_types, query_locals, query_readers, readers_over, rows_end, rows_left, table_types, text_start, word_start, text_types, word_types}
 use Rattle.qw_compile.specs.Statements.{AreCourses, Course, IsCourse, builds_block, course_block, query_block}
-use Rattle.qw_compile.proofs.LeafLemmas.{all_back, all_front}
+use Rattle.qw_leaves.proofs.LeafLists.{all_back, all_front}
 use Rattle.qw_compile.proofs.LocalsPlaced.{all_over, behind_held, behind_parts, behind_tables, counts_declared, held_declared, known_over_all, literal_count, literals_known, parts_declared, table_declared, texts_placed, words_placed}
-use Rattle.qw_compile.proofs.LocalsDeclared.{first_own_types, rest_own_types}
-use Rattle.qw_compile.proofs.LocalsDeclared.{CountsDeclared, all_declared, begins_declared}
+use Rattle.qw_compile.proofs.LocalsDeclared.{first_own_types, rest_own_types, CountsDeclared, all_declared, begins_declared}
 use Rattle.qw_compile.proofs.LiteralLemmas.{behind_texts, behind_words, literals_declared, words_declared, words_small}
+use Rattle.qw_compile.proofs.StatementLengths.{held_long, parts_long, tables_long, texts_long, words_long}
 
 -- what a pipeline's tables and its sink want of the types of locals
 abbrev pub IsLeading : List ValType → Pipeline → Type 0
@@ -180,26 +179,6 @@ module _ (T at : ℕ) (columns : List ReadColumn) (texts : List (List ℕ)) (wor
   )
 
 -- ---- how many locals there are
-tables_long : (n : ℕ) (rest : List ValType) → length (table_types n rest) ≡ n + length rest
-tables_long zero rest = omega arith
-tables_long (suc n) rest = let more = tables_long n rest in omega (arith, more)
-
-texts_long : (n : ℕ) (rest : List ValType) → length (text_types n rest) ≡ 2 * n + length rest
-texts_long zero rest = omega arith
-texts_long (suc n) rest = let more = texts_long n rest in omega (arith, more)
-
-words_long : (n : ℕ) (rest : List ValType) → length (word_types n rest) ≡ n + length rest
-words_long zero rest = omega arith
-words_long (suc n) rest = let more = words_long n rest in omega (arith, more)
-
-parts_long : (columns : List ReadColumn) (rest : List ValType) → length (part_types columns rest) ≡ 3 * length columns + length rest
-parts_long [] rest = omega arith
-parts_long (u ∷ columns) rest = let more = parts_long columns rest in omega (arith, more)
-
-held_long : (columns : List ReadColumn) (rest : List ValType) → length (held_types columns rest) ≡ 3 * length columns + length rest
-held_long [] rest = omega arith
-held_long (u ∷ columns) rest = let more = held_long columns rest in omega (arith, more)
-
 pub query_locals_long : (T texts words : ℕ) (columns : List ReadColumn) (own : List ValType) → suc (length (query_locals T texts words columns own)) ≡ own_start T (2 * texts + words) (length columns) + length own
 query_locals_long T texts words columns own =
     let one = tables_long T (I32 ∷ I32 ∷ I32 ∷ text_types texts (word_types words (part_types columns (held_types columns own)))) in

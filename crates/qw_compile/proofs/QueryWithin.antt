@@ -29,16 +29,12 @@ use Rattle.qw_compile.proofs.PipelineRuns.{AreStood, entry_width, fed_over, read
 use Rattle.qw_compile.proofs.QueryBounded.{built_pays, last_pays}
 use Rattle.qw_compile.proofs.QueryCan.{HasEach}
 use Rattle.qw_compile.proofs.QueryCompiled.{IsBounded}
-use Rattle.qw_compile.proofs.QueryFinds.{build_finds, last_finds}
+use Rattle.qw_compile.proofs.QueryFinds.{build_finds, last_finds, one_at}
 use Rattle.qw_compile.proofs.QueryReach.{code_builds, scan_column, scan_table, stoods_long, table_of, width_is}
 use Rattle.qw_compile.proofs.QueryRuns.{Reach}
 use Rattle.qw_compile.proofs.QueryTold.{cost, cost_last, told, told_last}
 use Rattle.qw_compile.proofs.Spent.{spent_next}
 use Rattle.qw_compile.proofs.StoodBuilt.{stood_built}
-
-one_of : (P : Pipeline → Type 0) (front : List Pipeline) (p : Pipeline) (back : List Pipeline) → AllByRecursion P (front ++ p ∷ back) → P p
-one_of P [] p back h = h.0
-one_of P (x ∷ front) p back h = one_of P front p back h.1
 
 -- The entries of its tables keep some columns; those that are read may be others too.
 module _ (query : Specification) (tables : List (List (List Val))) (columns : List ReadColumn) (node : Node) (planned : IsPlanned query tables columns node) (building : List Pipeline) (last : Pipeline)
@@ -75,12 +71,12 @@ module _ (query : Specification) (tables : List (List (List Val))) (columns : Li
         → Reach T n read (literals_known T at texts words) tables u most (1 + units) (table_of entries) stoods p (budget (length front)) (budget (suc (length front)))
     reach front p back stoods parts are =
         let b = code_builds columns node building same front p back parts in
-        let scan : ScansOne entries p = one_of (ScansOne entries) front p back (subst (AllByRecursion (ScansOne entries)) parts scans) in
+        let scan : ScansOne entries p = one_at (ScansOne entries) front p back (subst (AllByRecursion (ScansOne entries)) parts scans) in
         let built = stood_built tables [] front stoods are in
         let rows : ℕ = length (fed_over tables stoods p).rows in
         let paid = cost query tables columns node planned building last same same_last units bounded front p back stoods parts are in
         let size : entry_width b.made ≡ sink_size p.sink = width_is b.made ∙ ap sink_size (sym b.sink_is) in
-        let room = one_of (λ (q : Pipeline). sink_size q.sink + u ≤ page) front p back (subst (AllByRecursion (λ (q : Pipeline). sink_size q.sink + u ≤ page)) parts fit) in
+        let room = one_at (λ (q : Pipeline). sink_size q.sink + u ≤ page) front p back (subst (AllByRecursion (λ (q : Pipeline). sink_size q.sink + u ≤ page)) parts fit) in
         let octets : sink_octets p.sink rows ≡ 4096 + rows * entry_width b.made = ap (λ (s : Sink). sink_octets s rows) b.sink_is ∙ ap (λ (k : ℕ). 4096 + rows * k) (sym (width_is b.made)) in
         let next : budget (suc (length front)) ≡ budget (length front) + (u + sink_octets p.sink rows) =
         subst (λ (l : List Pipeline). spent u l (built_in_order tables [] l) (suc (length front)) ≡ spent u l (built_in_order tables [] l) (length front) + (u + sink_octets p.sink rows)) (sym parts)
@@ -92,7 +88,7 @@ module _ (query : Specification) (tables : List (List (List Val))) (columns : Li
           table_is = scan_table entries p scan;
           has_column = scan_column entries read each p scan;
           finds = build_finds query tables columns node planned building last same same_last typed distinct read T n at texts words (1 + units) front p back stoods parts are
-              (one_of IsTakenBy front p back (subst (AllByRecursion IsTakenBy) parts can)) (omega (arith, paid));
+              (one_at IsTakenBy front p back (subst (AllByRecursion IsTakenBy) parts can)) (omega (arith, paid));
           fits = omega (arith, size, room);
           grows = omega (arith, next, octets);
           enough = subst (λ (l : List Pipeline). spent u l (built_in_order tables [] l) (suc (length front)) + 2 * u < (most + 1) * u) (sym parts)

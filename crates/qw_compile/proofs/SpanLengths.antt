@@ -17,7 +17,7 @@ use Rattle.qw_operator.specs.Takes.{CanCarry, CanSink}
 use Rattle.qw_compile.specs.CourseSpan.{course_span}
 use Rattle.qw_compile.specs.Limits.{AreShort, keys_built, keys_of_operator, keys_of_sink, keys_sought, lookups, one_lookup}
 use Rattle.qw_compile.specs.QueryLocals.{readers_over}
-use Rattle.qw_compile.proofs.LeavesFew.{many_nodes}
+use Rattle.qw_leaves.proofs.TreeLeaves.{many_nodes}
 
 -- ---- a pipeline
 few_sink : (s : Sink) → CanSink (sink_of s) → sink_span s ≤ 420 * sink_size nodes s + 185 * keys_of_sink s + 6756

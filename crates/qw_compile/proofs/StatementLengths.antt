@@ -47,23 +47,23 @@ few_steps descriptor texts words leads sets pipelines code own is leading settin
     omega (arith, all, one, two, three, steps_twice leads, steps_twice sets, leading, setting, short, few, few_words)
 
 -- ---- locals
-tables_long : (n : ℕ) (rest : List ValType) → length (table_types n rest) ≡ n + length rest
+pub tables_long : (n : ℕ) (rest : List ValType) → length (table_types n rest) ≡ n + length rest
 tables_long zero rest = omega arith
 tables_long (suc n) rest = let more = tables_long n rest in omega (arith, more)
 
-texts_long : (n : ℕ) (rest : List ValType) → length (text_types n rest) ≡ 2 * n + length rest
+pub texts_long : (n : ℕ) (rest : List ValType) → length (text_types n rest) ≡ 2 * n + length rest
 texts_long zero rest = omega arith
 texts_long (suc n) rest = let more = texts_long n rest in omega (arith, more)
 
-words_long : (n : ℕ) (rest : List ValType) → length (word_types n rest) ≡ n + length rest
+pub words_long : (n : ℕ) (rest : List ValType) → length (word_types n rest) ≡ n + length rest
 words_long zero rest = omega arith
 words_long (suc n) rest = let more = words_long n rest in omega (arith, more)
 
-parts_long : (columns : List ReadColumn) (rest : List ValType) → length (part_types columns rest) ≡ 3 * length columns + length rest
+pub parts_long : (columns : List ReadColumn) (rest : List ValType) → length (part_types columns rest) ≡ 3 * length columns + length rest
 parts_long [] rest = omega arith
 parts_long (column ∷ columns) rest = let more = parts_long columns rest in omega (arith, more)
 
-held_long : (columns : List ReadColumn) (rest : List ValType) → length (held_types columns rest) ≡ 3 * length columns + length rest
+pub held_long : (columns : List ReadColumn) (rest : List ValType) → length (held_types columns rest) ≡ 3 * length columns + length rest
 held_long [] rest = omega arith
 held_long (column ∷ columns) rest = let more = held_long columns rest in omega (arith, more)
 

@@ -8,27 +8,19 @@ use Rattle.qw_scalar.specs.declared.expression.Expr.{Expr}
 use Rattle.qw_meaning.specs.Query.{QueryParts}
 use Rattle.qw_fold.specs.Texts.{texts_in, texts_within}
 use Rattle.qw_algebra.specs.Sizes.{query_size, tests_on}
-use Rattle.qw_expr.specs.declared.known.Leaf.{Leaf}
-use Rattle.qw_expr.specs.declared.known.Leaf.TheVariants as leaf
-use Rattle.qw_compile.specs.Leaves.{leaves_in, leaves_within, texts_among}
+use Rattle.qw_leaves.specs.Leaves.{leaves_in, leaves_within}
+use Rattle.qw_leaves.proofs.LeafLists.{each_few, texts_few}
+use Rattle.qw_leaves.proofs.TreeLeaves.{condition_few, leaves_few}
 use Rattle.qw_compile.specs.Limits.{IsShort}
 use Rattle.qw_compile.specs.WrittenTexts.{texts_of_query}
-use Rattle.qw_compile.proofs.LeavesFew.{condition_few, each_few, leaves_few}
 use Rattle.qw_compile.proofs.TextsWithin.{query_weighs, texts_at, texts_there}
-
-texts_less : (ls : List Leaf) → length (texts_among ls) ≤ length ls
-texts_less [] = omega arith
-texts_less (leaf.Column i ty ∷ ls) = let rest = texts_less ls in omega (arith, rest)
-texts_less (leaf.Number v s ∷ ls) = let rest = texts_less ls in omega (arith, rest)
-texts_less (leaf.Date d ∷ ls) = let rest = texts_less ls in omega (arith, rest)
-texts_less (leaf.Text t ∷ ls) = let rest = texts_less ls in omega (arith, rest)
 
 -- each is a node of its tree
 in_expression : (e : Expr) → length (texts_in e) ≤ nodes e
-in_expression e = omega (arith, ap (λ (l : List (List ℕ)). length l) (texts_there e), texts_less (leaves_in e), leaves_few e)
+in_expression e = omega (arith, ap (λ (l : List (List ℕ)). length l) (texts_there e), texts_few (leaves_in e), leaves_few e)
 
 in_condition : (c : Cond) → length (texts_within c) ≤ nodes_of c
-in_condition c = omega (arith, ap (λ (l : List (List ℕ)). length l) (texts_at c), texts_less (leaves_within c), condition_few c)
+in_condition c = omega (arith, ap (λ (l : List (List ℕ)). length l) (texts_at c), texts_few (leaves_within c), condition_few c)
 
 in_query : (parts : QueryParts) → length (texts_of_query parts) ≤ query_size nodes nodes_of parts
 in_query parts =

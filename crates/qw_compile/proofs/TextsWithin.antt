@@ -17,8 +17,7 @@ use Rattle.qw_meaning.specs.Query.{QueryParts}
 use Rattle.qw_fold.specs.Texts.{texts_in, texts_of_all, texts_of_branches, texts_of_matches, texts_within as texts_of_condition}
 use Rattle.qw_algebra.specs.Sizes.{query_size, tests_on}
 use Rattle.qw_algebra.proofs.Lists.{all_append}
-use Rattle.qw_expr.specs.declared.known.Leaf.{Leaf}
-use Rattle.qw_expr.specs.declared.known.Leaf.TheVariants as leaf
+use Rattle.qw_leaves.specs.declared.leaf.Leaf.{Leaf}
 use Rattle.qw_physical.specs.Sizes.{operator_size, sink_size, size, weight_in, weight_within}
 use Rattle.qw_physical.specs.declared.pipeline.Operator.{Operator}
 use Rattle.qw_physical.specs.declared.pipeline.Operator.TheVariants as operators
@@ -26,28 +25,13 @@ use Rattle.qw_physical.specs.declared.pipeline.Pipeline.{Pipeline}
 use Rattle.qw_physical.specs.declared.pipeline.ReadColumn.{ReadColumn}
 use Rattle.qw_physical.specs.declared.pipeline.Sink.{Sink}
 use Rattle.qw_physical.specs.declared.pipeline.Sink.TheVariants as sinks
-use Rattle.qw_compile.specs.Leaves.{OfText, leaves_in, leaves_of_all, leaves_of_branches, leaves_of_matches, leaves_within, texts_among}
-use Rattle.qw_compile.proofs.LeafLemmas.{texts_all}
+use Rattle.qw_leaves.specs.Leaves.{OfText, leaves_in, leaves_of_all, leaves_of_branches, leaves_of_matches, leaves_within, texts_among}
+use Rattle.qw_leaves.proofs.LeafLists.{texts_all, texts_of_both, texts_of_each}
 use Rattle.qw_compile.specs.Inner.Passes.{ArePipelinesOf}
 use Rattle.qw_compile.specs.QueryLiterals.{operator_leaves, pipeline_leaves, query_texts, sink_leaves}
 use Rattle.qw_compile.specs.WrittenTexts.{texts_of_query}
 
 -- ---- the texts among the leaves of trees
-texts_joined : (xs ys : List Leaf) → texts_among (xs ++ ys) ≡ texts_among xs ++ texts_among ys
-texts_joined [] ys = refl
-texts_joined (leaf.Column i ty ∷ xs) ys = texts_joined xs ys
-texts_joined (leaf.Number v s ∷ xs) ys = texts_joined xs ys
-texts_joined (leaf.Date d ∷ xs) ys = texts_joined xs ys
-texts_joined (leaf.Text t ∷ xs) ys = ap (λ (ts : List (List ℕ)). t ∷ ts) (texts_joined xs ys)
-
--- where these are the texts of the one and of the other part
-texts_of_both : (xs ys : List Leaf) (ts us : List (List ℕ)) → texts_among xs ≡ ts → texts_among ys ≡ us → texts_among (xs ++ ys) ≡ ts ++ us
-texts_of_both xs ys ts us first second = texts_joined xs ys ∙ ap₂ (λ (a b : List (List ℕ)). a ++ b) first second
-
-texts_of_each : {X : Type 0} (f : X → List Leaf) (g : X → List (List ℕ)) (xs : List X) → ((x : X) → texts_among (f x) ≡ g x) → texts_among (flat_map f xs) ≡ flat_map g xs
-texts_of_each f g [] each = refl
-texts_of_each f g (x ∷ xs) each = texts_of_both (f x) (flat_map f xs) (g x) (flat_map g xs) (each x) (texts_of_each f g xs each)
-
 mutual
   pub texts_there : (e : Expr) → texts_among (leaves_in e) ≡ texts_in e
   texts_there Null = refl

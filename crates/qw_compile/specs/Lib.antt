@@ -1,6 +1,5 @@
 pub mod CourseSpan
 pub mod Inner
-pub mod Leaves
 pub mod Limits
 pub mod Literals
 pub mod Placed
@@ -11,5 +10,6 @@ pub mod QueryMade
 pub mod Statements
 pub mod UsedColumns
 pub mod WorkedJoins
+pub mod Words
 pub mod WorkedTexts
 pub mod WrittenTexts

@@ -1,14 +1,15 @@
 -- The literals of pipelines (ISO/IEC 9075:1992, 5.3), in the order in which they stand in their trees.
 use Rattle.std.specs.Prelude.{ℕ, List, ◌++◌}
 use Rattle.std.specs.List.{flat_map}
-use Rattle.qw_expr.specs.declared.known.Leaf.{Leaf}
+use Rattle.qw_leaves.specs.declared.leaf.Leaf.{Leaf}
 use Rattle.qw_read.specs.declared.constant.Word.{Word}
 use Rattle.qw_physical.specs.declared.pipeline.Operator.{Operator}
 use Rattle.qw_physical.specs.declared.pipeline.Operator.TheVariants as operator
 use Rattle.qw_physical.specs.declared.pipeline.Pipeline.{Pipeline}
 use Rattle.qw_physical.specs.declared.pipeline.Sink.{Sink}
 use Rattle.qw_physical.specs.declared.pipeline.Sink.TheVariants as sink
-use Rattle.qw_compile.specs.Leaves.{leaves_in, leaves_within, texts_among, words_among}
+use Rattle.qw_leaves.specs.Leaves.{leaves_in, leaves_within, texts_among}
+use Rattle.qw_compile.specs.Words.{words_among}
 
 -- the leaves of a pipeline's trees: of its operators, and then of its sink
 abbrev pub operator_leaves : Operator → List Leaf

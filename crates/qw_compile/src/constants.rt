@@ -3,9 +3,9 @@
 ghost use Rattle.std.specs.Prelude.{◌≡◌, ◌≤◌, ◌+◌, ◌++◌, IfOk, OnOk, length};
 ghost use Rattle.qw_read.specs.declared.constant.Word.{Word};
 ghost use Rattle.qw_compile.specs.Literals.{constants_from};
-ghost use Rattle.qw_compile.specs.Leaves.{words_among};
+ghost use Rattle.qw_compile.specs.Words.{words_among};
 
-use qw_expr::known::Leaf;
+use qw_leaves::leaf::Leaf;
 use qw_low::cell::Local;
 use qw_read::constant::{Constant, Word};
 use qw_types::NoMemory;

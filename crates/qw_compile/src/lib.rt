@@ -3,7 +3,7 @@
 //! - [`compile`]: all of them, in their order.
 //! - `passes`: from a query, by its plan, to its physical pipelines.
 //! - [`used`]: the columns of tables that it reads; [`written_texts`]: its text literals.
-//! - [`query_leaves`], [`leaves`]: the columns and the literals of pipelines, and of trees.
+//! - [`query_leaves`]: the columns and the literals of pipelines.
 //! - [`texts`], [`constants`]: the literals, and the locals for them; [`query_locals`]: all locals of a query.
 //! - [`bindings`]: what is known where expressions are evaluated.
 //! - [`courses`]: the blocks of pipelines, one pipeline after another.
@@ -15,7 +15,6 @@ pub mod bindings;
 pub mod compile;
 pub mod constants;
 pub mod courses;
-pub mod leaves;
 mod passes;
 pub mod planned_laws;
 pub mod query_leaves;

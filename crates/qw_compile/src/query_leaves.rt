@@ -2,11 +2,11 @@
 
 ghost use Rattle.std.specs.Prelude.{[], IfOk, OnOk};
 ghost use Rattle.std.specs.List.{flat_map};
-ghost use Rattle.qw_compile.specs.Leaves.{Gathers};
+ghost use Rattle.qw_leaves.specs.Leaves.{Gathers};
 ghost use Rattle.qw_compile.specs.QueryLiterals as gathered;
 
-use crate::leaves::{from_conjuncts, from_items};
-use qw_expr::known::Leaf;
+use qw_leaves::gather::{from_conjuncts, from_items};
+use qw_leaves::leaf::Leaf;
 use qw_physical::{Operator, Pipeline, Sink};
 use qw_types::NoMemory;
 use std::alloc::Global;

@@ -2,10 +2,10 @@
 
 ghost use Rattle.std.specs.Prelude.{◌≡◌, ◌≤◌, ◌+◌, ◌*◌, IsUtf8, IfOk, length};
 ghost use Rattle.std.specs.List.{concat};
-ghost use Rattle.qw_compile.specs.Leaves.{texts_among};
+ghost use Rattle.qw_leaves.specs.Leaves.{texts_among};
 ghost use Rattle.qw_compile.specs.Literals as gathered;
 
-use qw_expr::known::Leaf;
+use qw_leaves::leaf::Leaf;
 use qw_low::cell::{Cell, Local};
 use qw_read::literal::Literal;
 use qw_types::{NoMemory, Text};

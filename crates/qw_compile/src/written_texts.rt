@@ -3,12 +3,12 @@
 ghost use Rattle.std.specs.Prelude.{◌≡◌, IsUtf8, IfOk, OnOk};
 ghost use Rattle.std.specs.List.{AllByRecursion, flat_map};
 ghost use Rattle.qw_algebra.specs.Sizes.{tests_in, tests_on};
-ghost use Rattle.qw_compile.specs.Leaves.{Gathers, leaves_within};
+ghost use Rattle.qw_leaves.specs.Leaves.{Gathers, leaves_within};
 ghost use Rattle.qw_compile.specs.WrittenTexts.{texts_of_query};
 
-use crate::leaves::{from_conjuncts, from_items};
 use crate::texts::texts_of;
-use qw_expr::known::Leaf;
+use qw_leaves::gather::{from_conjuncts, from_items};
+use qw_leaves::leaf::Leaf;
 use qw_meaning::query::{Joined, Query, Source};
 use qw_types::{NoMemory, Text};
 use std::alloc::Global;

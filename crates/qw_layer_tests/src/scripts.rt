@@ -12,7 +12,7 @@ use std::process::Abort;
 use std::test::Fail;
 
 // Scripts of one statement, and what it says.
-const SELECTS: [(&str, &str); 71] = [
+const SELECTS: [(&str, &str); 76] = [
     ("SELECT * FROM t", "* FROM t"),
     ("select ALL * from T;", "* FROM T"),
     ("SELECT a FROM t", "a FROM t"),
@@ -52,6 +52,24 @@ const SELECTS: [(&str, &str); 71] = [
     (
         "SELECT a FROM t JOIN u ON a = 1 OR b = 2, v",
         "a FROM t JOIN u ON (a = 1 OR b = 2); v",
+    ),
+    // the order of the rows
+    ("SELECT a FROM t ORDER BY a", "a FROM t ORDER BY a"),
+    (
+        "SELECT * FROM t order by 2 desc, 1 asc",
+        "* FROM t ORDER BY 2 DESC; 1",
+    ),
+    (
+        "SELECT a FROM t u WHERE a = 1 ORDER BY u.a DESC, \"b\", \"U\".\"A\" ASC",
+        "a FROM t AS u WHERE a = 1 ORDER BY u.a DESC; \"b\"; \"U\".\"A\"",
+    ),
+    (
+        "SELECT a FROM t, u JOIN v ON a = b ORDER BY 007",
+        "a FROM t; u JOIN v ON a = b ORDER BY 007",
+    ),
+    (
+        "SELECT a FROM t AS u ORDER BY a;",
+        "a FROM t AS u ORDER BY a",
     ),
     // literals
     ("SELECT 1, 2.50, .5, 7. FROM t", "1; 2.50; .5; 7. FROM t"),
@@ -221,7 +239,7 @@ const SELECTS: [(&str, &str); 71] = [
 ];
 
 // Texts of one statement that is no query.
-const NO_SELECTS: [&str; 60] = [
+const NO_SELECTS: [&str; 68] = [
     "",
     ";",
     "SELECT",
@@ -246,7 +264,15 @@ const NO_SELECTS: [&str; 60] = [
     "SELECT a FROM t CROSS JOIN u",
     "SELECT a FROM (t JOIN u ON a = b)",
     "SELECT a FROM t WHERE a = 1, u",
-    "SELECT a FROM t ORDER BY a",
+    "SELECT a FROM t ORDER BY",
+    "SELECT a FROM t ORDER a",
+    "SELECT a FROM t BY a",
+    "SELECT a FROM t ORDER BY a,",
+    "SELECT a FROM t ORDER BY 1.0",
+    "SELECT a FROM t ORDER BY a + 1",
+    "SELECT a FROM t ORDER BY (a)",
+    "SELECT a FROM t ORDER BY a ASC DESC",
+    "SELECT a FROM t ORDER BY a WHERE a = 1",
     "SELECT a FROM t WHERE",
     "SELECT a FROM t WHERE a",
     "SELECT a FROM t WHERE (a)",
@@ -306,6 +332,12 @@ const TOO_MANY_ENTRIES: Option<ParseFault> = Some(ParseFault::TooMany {
     limit: 8,
 });
 
+const TOO_MANY_KEYS: Option<ParseFault> = Some(ParseFault::TooMany {
+    statement: 1,
+    what: Count::SortKeys,
+    limit: 64,
+});
+
 const TOO_MANY_NODES: Option<ParseFault> = Some(ParseFault::TooMany {
     statement: 1,
     what: Count::Nodes,
@@ -347,6 +379,17 @@ const ENTRIES: [Case; 4] = [
     (
         &[("SELECT a FROM t", 1), (" JOIN t ON a = b", 7), (", t", 1)],
         TOO_MANY_ENTRIES,
+    ),
+];
+
+const KEYS: [Case; 2] = [
+    (
+        &[("SELECT a FROM t ORDER BY ", 1), ("a, ", 63), ("1 DESC", 1)],
+        None,
+    ),
+    (
+        &[("SELECT a FROM t ORDER BY ", 1), ("a, ", 64), ("1 DESC", 1)],
+        TOO_MANY_KEYS,
     ),
 ];
 
@@ -529,7 +572,7 @@ const LEVELS: [Case; 4] = [
     ),
 ];
 
-const FIRST_FAULTS: [Case; 12] = [
+const FIRST_FAULTS: [Case; 14] = [
     // A fault of a later kind in an earlier statement comes first.
     (
         &[("SELECT '", 1), ("x", 16_385), ("' FROM t; ", 1), ("(", 33)],
@@ -565,7 +608,7 @@ const FIRST_FAULTS: [Case; 12] = [
         Some(ParseFault::NotToken { at: 42 }),
     ),
     (&[("(", 33), (";", 65)], TOO_MANY_STATEMENTS),
-    // In one statement: items, entries, nodes, octets.
+    // In one statement: items, entries, keys, nodes, octets.
     (
         &[("SELECT ", 1), ("a, ", 64), ("1 FROM t", 1), (", t", 8)],
         TOO_MANY_ITEMS,
@@ -573,6 +616,24 @@ const FIRST_FAULTS: [Case; 12] = [
     (
         &[("SELECT 1", 1), (" + 1", 500), (" FROM t", 1), (", t", 8)],
         TOO_MANY_ENTRIES,
+    ),
+    (
+        &[
+            ("SELECT a FROM t", 1),
+            (", t", 8),
+            (" ORDER BY a", 1),
+            (", a", 64),
+        ],
+        TOO_MANY_ENTRIES,
+    ),
+    (
+        &[
+            ("SELECT 1", 1),
+            (" + 1", 500),
+            (" FROM t ORDER BY a", 1),
+            (", a", 64),
+        ],
+        TOO_MANY_KEYS,
     ),
     (
         &[
@@ -668,6 +729,11 @@ fn numbers_of_items(rt: HostRuntime) -> Result<(), Fail> {
 #[test]
 fn numbers_of_entries(rt: HostRuntime) -> Result<(), Fail> {
     assert_faults(&rt, rt.alloc(), &ENTRIES)
+}
+
+#[test]
+fn numbers_of_keys(rt: HostRuntime) -> Result<(), Fail> {
+    assert_faults(&rt, rt.alloc(), &KEYS)
 }
 
 #[test]

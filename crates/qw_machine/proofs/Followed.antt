@@ -1,5 +1,5 @@
 -- Operators that follow one another: what they work on is held apart from the point.
-use Rattle.std.proofs.Common.{◌≡◌, ℕ, ◌+◌, ◌<◌, ◌≤◌, List, ◌++◌, length, take, drop, Some, slice_get, get_or, refl, sym, ap, subst}
+use Rattle.std.proofs.Common.{◌≡◌, ℕ, ◌+◌, ◌-◌, ◌<◌, ◌≤◌, List, ◌++◌, length, take, drop, Some, slice_get, get_or, refl, sym, ap, subst, ◌∙◌, arith}
 use Rattle.std.proofs.lemmas.List.{take-append-drop}
 use Rattle.std.proofs.lemmas.Option.{slice_get-get_or}
 use Rattle.qw_module.specs.declared.instruction.Instr.{Instr}
@@ -18,7 +18,7 @@ use Rattle.qw_machine.specs.Inner.Placed.{IsPoint, IsRunning}
 use Rattle.qw_machine.specs.Inner.Points.{Point, instructions_at, with_held}
 use Rattle.qw_machine.proofs.ListFacts.{take-front, drop-front}
 use Rattle.qw_machine.proofs.Operated.{operator-ready, executed-operator}
-use Rattle.qw_machine.proofs.Runs.{run-operator, run-within}
+use Rattle.qw_machine.proofs.Runs.{run-after, run-operator, run-within}
 
 module _ (m : Module) (rooms : Rooms) (p : Point) (first_in : p.first_local ≤ length p.locals) (index : ℕ) (operands globals locals : List ℕ)
     (is : IsPoint m rooms (with_held p index operands globals locals)) (operator : Op)
@@ -49,9 +49,12 @@ module _ (m : Module) (rooms : Rooms) (p : Point) (sequence : List Instr) (first
   pub followed-inside : index < length sequence
   followed-inside = subst (λ (xs : List Instr). index < length xs) start.instructions run.running.unfinished
 
+  pub followed-found : (default : Instr) → slice_get (instructions_at m p.function p.sequence) index ≡ Some (get_or sequence index default)
+  followed-found default = rw start.instructions (slice_get-get_or sequence index default followed-inside)
+
   module _ (operator : Op) (default : Instr) (read : get_or sequence index default ≡ i.Op operator) where
     found : slice_get (instructions_at m p.function p.sequence) index ≡ Some (i.Op operator)
-    found = rw (start.instructions, slice_get-get_or sequence index default followed-inside) (ap (λ (x : Instr). Some x) read)
+    found = followed-found default ∙ ap (λ (x : Instr). Some x) read
 
     pub followed-ready : CanOperate operator now.globals now.operands now.locals
     followed-ready = held-ready m rooms p start.first_in index now.operands now.globals now.locals run.running.point operator found spare
@@ -87,3 +90,27 @@ pub run-held : (m : Module) (rooms : Rooms) (p : Point) (globals locals : List �
 run-held m rooms p globals locals spare few most memory run q after globals_are locals_are fits is =
     let same : with_held p p.index p.operands globals locals ≡ p = rw (globals_are, locals_are) (held-own p) in
     run-within m rooms spare few most p q memory after run fits (subst (λ (x : Point). IsRun m rooms spare few x memory run q after) same is)
+
+-- where it runs later, what it holds then is held apart in the same way
+pub followed-on : (m : Module) (rooms : Rooms) (p : Point) (sequence : List Instr) (first index room now_room : ℕ) (operands globals locals : List ℕ) (now : Held) →
+    IsFollowed m rooms sequence p first room operands globals locals → now_room ≡ room → IsRunning m rooms (with_held p index now.operands now.globals now.locals) →
+    IsFollowed m rooms sequence p index now_room now.operands now.globals now.locals
+followed-on m rooms p sequence first index room now_room operands globals locals now start same running = record {
+  instructions = start.instructions;
+  first_in = start.first_in;
+  room_is = start.room_is ∙ sym same;
+  running = running;
+}
+
+-- steps from an index on after those from the first one
+pub followed-more : (m : Module) (rooms : Rooms) (p : Point) (first end index : ℕ) (operands globals locals : List ℕ) (spare : ℕ) (memory : List ℕ) (now after : Held) (more : Run) →
+    first ≤ index →
+    IsRun m rooms spare (end - first) (with_held p first operands globals locals) memory (record { steps = index - first; last = Ran }) (with_held p index now.operands now.globals now.locals) now.memory →
+    IsRun m rooms spare (end - index) (with_held p index now.operands now.globals now.locals) now.memory more
+    (with_held p (index + more.steps) after.operands after.globals after.locals) after.memory →
+    IsRun m rooms spare (end - first) (with_held p first operands globals locals) memory (record { steps = index + more.steps - first; last = more.last })
+    (with_held p (index + more.steps) after.operands after.globals after.locals) after.memory
+followed-more m rooms p first end index operands globals locals spare memory now after more later run next =
+    run-after m rooms spare (end - first) (with_held p first operands globals locals) memory (index - first) (end - index) (index + more.steps - first)
+    (with_held p index now.operands now.globals now.locals) (with_held p (index + more.steps) after.operands after.globals after.locals) now.memory after.memory more rooms refl
+    run next (omega (arith, later)) (omega (arith, later, run.few))

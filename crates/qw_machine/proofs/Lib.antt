@@ -16,8 +16,10 @@ mod Leaving
 mod ListFacts
 mod Numeric
 mod Operated
+mod Passed
 mod Points
 mod Reading
+mod Repeated
 mod Returns
 mod Rooms
 mod Runs

@@ -14,6 +14,7 @@ use qw_linear::linear::Linear;
 use qw_module::instruction::{Load, MemArg, Op, REFUSAL, Store, ValType};
 
 /// Where an access begins.
+#[inline(always)]
 fn address_of(address: u64, arg: MemArg) -> u64
     requires { address < 2 ^ 32 }
     ensures { result ≡ effective address arg }
@@ -22,6 +23,7 @@ fn address_of(address: u64, arg: MemArg) -> u64
 }
 
 /// The number of the octets that a load reads, or `None` outside the memory.
+#[inline(always)]
 fn octets(memory: &Linear, kind: Load, at: u64) -> Option<u64>
     ensures inside { IsSome result ↔ (at + load_width kind ≤ length memory.now.octets) }
     ensures value { IfSome result (λ n. n ≡ number_at memory.now.octets at (load_width kind)) }
@@ -36,6 +38,7 @@ fn octets(memory: &Linear, kind: Load, at: u64) -> Option<u64>
 }
 
 /// Writes what a store writes, or nothing outside the memory.
+#[inline(always)]
 fn write(memory: &mut Linear, kind: Store, at: u64, value: u64) -> Option<()>
     ensures inside { IsSome result ↔ (at + store_width kind ≤ length memory.old.octets) }
     ensures stored { OnSome result (memory.new.octets ≡ with_number memory.old.octets at (store_width kind) value) }
@@ -51,6 +54,7 @@ fn write(memory: &mut Linear, kind: Store, at: u64, value: u64) -> Option<()>
 }
 
 /// Reads what a load reads. Answers whether that lies in the memory.
+#[inline(always)]
 pub(crate) fn load(kind: &Load, arg: MemArg, operands: &mut Stack<u64>, memory: &Linear) -> bool
     requires ready { CanOperate (Op.Load kind.now arg) [] operands.old.values [] }
     requires room { length operands.old.values < operands.old.room }
@@ -68,6 +72,7 @@ pub(crate) fn load(kind: &Load, arg: MemArg, operands: &mut Stack<u64>, memory: 
 }
 
 /// Writes what a store writes. Answers whether that lies in the memory.
+#[inline(always)]
 pub(crate) fn store(
     kind: &Store,
     arg: MemArg,

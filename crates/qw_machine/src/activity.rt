@@ -15,12 +15,12 @@ ghost use Rattle.qw_machine.specs.Inner.Operated.{CanOperate};
 ghost use Rattle.qw_machine.specs.Inner.Placed.{IsExecuted, IsPoint, IsRunning};
 ghost use Rattle.qw_machine.specs.Inner.Activities.{CanJump, CanLeave, IsDoneAt, IsJump, IsLeft, IsReturn, IsRun, IsStepped};
 
-use crate::following::following;
 use crate::numbers::value_of;
 use crate::operators::{Operated, operate};
 use crate::room::Rooms;
 use crate::stack::Stack;
 use crate::stepped::{Run, Stepped, operated};
+use crate::turns::turns;
 use qw_base::NoMemory;
 use qw_linear::linear::Linear;
 use qw_module::instruction::{Instr, Op};
@@ -426,13 +426,21 @@ impl Activity {
         stepped
     }
 
-    /// Steps one after another, at most so many, as long as they are operators with a further instruction after them in their
-    /// sequence, so that they finish nothing.
-    fn operators(&mut self, sequence: &[Instr], memory: &mut Linear, spare: u32, most: u64) -> Run
-        requires point { (m : Module) × IsRunning m (rooms_of self.old) (point_of self.old) × (sequence.now ≡ instructions_at m self.old.function self.old.sequence) }
+    /// Steps one after another, at most so many, as long as they stay in the sequence: operators, instructions that only take
+    /// their operands, each with a further one after it, and branches that begin the sequence anew.
+    fn operators(
+        &mut self,
+        sequence: &[Instr],
+        program: &Module,
+        memory: &mut Linear,
+        spare: u32,
+        most: u64,
+    ) -> Run
+        requires executed { IsExecuted program.now }
+        requires sequence { sequence.now ≡ instructions_at program.now self.old.function self.old.sequence }
+        requires point { IsRunning program.now (rooms_of self.old) (point_of self.old) }
         requires pages { length memory.old.octets + spare * page ≤ memory.old.reserved * page }
-        ensures run { (m : Module) → IsRunning m (rooms_of self.old) (point_of self.old) → sequence.now ≡ instructions_at m self.old.function self.old.sequence
-            → IsRun m (rooms_of self.old) spare most (point_of self.old) memory.old.octets result (point_of self.new) memory.new.octets }
+        ensures run { IsRun program.now (rooms_of self.old) spare most (point_of self.old) memory.old.octets result (point_of self.new) memory.new.octets }
         ensures place { (self.new.function ≡ self.old.function) × (self.new.sequence ≡ self.old.sequence) }
         ensures rooms { rooms_of self.new ≡ rooms_of self.old }
         ensures reserved { memory.new.reserved ≡ memory.old.reserved }
@@ -441,19 +449,24 @@ impl Activity {
         if !matches!(sequence[first], Instr::Op(_)) {
             return Run::going(0);
         }
-        let end = last_of(sequence.len() - 1, first, most);
-        let run = following(
+        // A local variable of its own: as a field, its length would be read and written at each operator.
+        let mut operands = self.operands.take();
+        let reached = turns(
+            &program.functions[self.function].body,
+            self.sequence,
+            &self.awaiting,
             sequence,
             first,
-            end,
-            &mut self.operands,
+            most,
+            &mut operands,
             self.globals.as_mut_slice(),
             &mut self.locals[self.first_local..],
             memory,
             spare,
         );
-        self.index = first + run.steps as usize;
-        run
+        self.operands = operands;
+        self.index = reached.index;
+        reached.run
     }
 
     /// Steps one after another, at least one and at most so many: operators, and an instruction that may be any.
@@ -477,7 +490,7 @@ impl Activity {
         ensures rooms { rooms_of self.new ≡ rooms_of self.old }
         ensures reserved { memory.new.reserved ≡ memory.old.reserved }
     {
-        let run = self.operators(sequence, memory, spare, most - 1);
+        let run = self.operators(sequence, program, memory, spare, most - 1);
         if !matches!(run.last, Stepped::Ran) {
             return run;
         }
@@ -520,19 +533,6 @@ impl Activity {
             sequence = self.instructions(program);
         }
         Run::going(steps)
-    }
-}
-
-/// The index after at most so many steps from an index, and at most the last one.
-fn last_of(last: usize, index: usize, most: u64) -> usize
-    requires { index ≤ last }
-    ensures inside { result ≤ last }
-    ensures few { result ≤ index + most }
-{
-    if most < (last - index) as u64 {
-        index + most as usize
-    } else {
-        last
     }
 }
 

@@ -17,3 +17,4 @@ mod room;
 mod shape;
 mod stack;
 pub mod stepped;
+mod turns;

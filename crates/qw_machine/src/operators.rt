@@ -103,6 +103,8 @@ pub(crate) fn operate(
 }
 
 /// Of two operands, the first where the one above them isn't 0, else the second (4.4.2, `select`).
+// A call that borrows the operands would keep their number out of a register, here and in accesses.rt.
+#[inline(always)]
 fn select(operands: &mut Stack<u64>)
     requires ready { 2 < length operands.old.values }
     requires room { length operands.old.values < operands.old.room }

@@ -3,6 +3,7 @@ ghost use Rattle.std.specs.Prelude.{◌≡◌, ◌+◌, ◌-◌, ◌<◌, ◌≤
 use qw_base::NoMemory;
 use std::alloc::Global;
 use std::marker::Model;
+use std::mem;
 
 /// A stack with a room that is reserved once, so that a push takes no memory.
 #[derive(Drop)]
@@ -27,6 +28,17 @@ impl<T: Drop> Stack<T> {
         Ok(Stack {
             items: Vec::with_capacity(alloc, room)?,
         })
+    }
+
+    /// Takes the stack out of its place, where an empty one without room is left.
+    pub(crate) fn take(&mut self) -> Self
+        ensures taken { result ≡ self.old }
+        ensures left { self.new ≡ record { values = []; room = 0 } }
+    {
+        let empty = Stack {
+            items: Vec::new(*self.items.allocator()),
+        };
+        mem::replace(self, empty)
     }
 
     pub(crate) fn len(&self) -> usize

@@ -52,9 +52,14 @@ use Rattle.qw_operator.specs.Emitted.{AreComputed}
 use Rattle.qw_operator.specs.Takes.{AreSized, CanCarry, CanSink, IsTestOver, IsValueOver, anywhere}
 use Rattle.qw_operator.proofs.EntryReads.{cells_behind, entry_declared, entry_many, entry_told, entry_within, reads_end}
 use Rattle.qw_operator.proofs.Filters.{Runs, Here, base_high, conjuncts_feed, here_keeps, here_kept, old_low}
-use Rattle.qw_operator.proofs.KnownLeaves.{AreFit, Fits, HasLeaves, conditions_columns, leaves_columns, take_leaves, takes_leaves, value_at}
+use Rattle.qw_leaves.specs.Leaves.{HasLeaves}
+use Rattle.qw_leaves.proofs.Agreement.{value_at}
+use Rattle.qw_leaves.proofs.LeafLemmas.{conditions_columns, leaves_columns}
+use Rattle.qw_operator.proofs.KnownLeaves.{AreFit, Fits, take_leaves, takes_leaves}
 use Rattle.qw_operator.proofs.LookupFeeds.{lookup_feeds, spend_has}
-use Rattle.qw_operator.proofs.PairRows.{AreApart, AreAt, AreDistinct, AreNew, AreStored, IsNullAt, all_back, all_more, kept_fit, pair_at, pair_fits, pair_held, pair_null, same_told}
+use Rattle.qw_operator.proofs.PairRows.{AreApart, AreAt, AreDistinct, AreNew, AreStored, IsNullAt, kept_fit, pair_at, pair_fits, pair_held, pair_null, same_told}
+use Rattle.qw_operator.proofs.Fronts.{all_more}
+use Rattle.qw_leaves.proofs.LeafLists.{all_back}
 use Rattle.qw_operator.proofs.Promised.{AreHigh, AreOwn, IsItemAt, IsTestAt, blocks_moved, first_own_types, items_high, items_kinds, items_promised, items_use, kinds_moved, rest_own_types, values_come, values_in}
 use Rattle.qw_operator.proofs.Seen.{AreWithin, Longer, StandsIn, less_keeps, longer_back, longer_keeps, longer_kept, longer_same, stands_later, stands_more, within_wider}
 use Rattle.qw_operator.proofs.Served.{AreServed, Serves, slot_met, slot_spent, table_placed}

@@ -1,7 +1,6 @@
 -- The blocks of a pipeline's row are typed.
 use Rattle.std.proofs.Common.{◌≡◌, ℕ, zero, suc, ◌+◌, ◌*◌, ◌^◌, ◌<◌, Option, Some, None, List, [], ◌∷◌, ◌++◌, length, length-append, map, take, slice_get, refl, sym, ap, ◌∙◌, subst, arith}
 use Rattle.std.proofs.lemmas.List.{append-nil, length-map}
-use Rattle.std.proofs.lemmas.Option.{slice_get_within}
 use Rattle.std.specs.List.{AllByRecursion}
 use Rattle.qw_types.specs.Kind.{type_kind}
 use Rattle.qw_types.specs.declared.kind.Kind.{Kind}
@@ -37,11 +36,9 @@ use Rattle.qw_operator.specs.Emitted.{AreComputed, AreDecided, ReadsPart, known_
 use Rattle.qw_operator.specs.Takes.{CanSink}
 use Rattle.qw_operator.proofs.CarriedFeeds.{items_many, moved_many, sources_many}
 use Rattle.qw_operator.proofs.EntryReads.{cell_three, entry_declared, entry_many}
-use Rattle.qw_operator.proofs.PairRows.{all_back, all_front}
+use Rattle.qw_leaves.proofs.LeafLists.{all_back, all_front}
 use Rattle.qw_operator.proofs.Promised.{AreOwn, first_own_types, rest_own_types}
-use Rattle.qw_operator.proofs.ReadParts.{all_take}
-use Rattle.qw_operator.proofs.Served.{AreServed}
-use Rattle.qw_operator.proofs.Stood.{Stood}
+use Rattle.qw_operator.proofs.Fronts.{all_take}
 
 -- ---- premises
 -- how a reader's locals are declared
@@ -57,11 +54,6 @@ AreLed types (probe p ∷ operators) = (slice_get types (directory p.table) ≡ 
 abbrev pub IsLed : List ValType → Sink → Type 0
 IsLed types (build b) = slice_get types (directory b.table) ≡ Some I32
 IsLed types (select items) = (slice_get types 3 ≡ Some I32) × (slice_get types 4 ≡ Some I64)
-
-pub served_led : (types : List ValType) (stoods : List Stood) (operators : List Operator) → ((t : ℕ) → t < length stoods → slice_get types (directory t) ≡ Some I32) → AreServed stoods operators → AreLed types operators
-served_led types stoods [] led served = tt
-served_led types stoods (filter cs ∷ operators) led served = served_led types stoods operators led served
-served_led types stoods (probe p ∷ operators) led served = (led p.table (slice_get_within stoods p.table served.0.0 served.0.1), served_led types stoods operators led served.1)
 
 -- ---- sources
 abbrev IsSourceDeclared : List ValType → Source → Type 0

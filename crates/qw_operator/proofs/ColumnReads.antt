@@ -23,8 +23,8 @@ use Rattle.qw_feed.specs.Stages.{Among}
 use Rattle.qw_feed.proofs.Frames.{Never, Kept-less}
 use Rattle.qw_operator.specs.Emitted.{ReadsPart, known_after}
 use Rattle.qw_operator.proofs.Filters.{Runs, Here, here_kept}
-use Rattle.qw_operator.proofs.PairRows.{all_back, all_front, all_more}
-use Rattle.qw_operator.proofs.ReadParts.{all_take}
+use Rattle.qw_operator.proofs.Fronts.{all_more, all_take}
+use Rattle.qw_leaves.proofs.LeafLists.{all_back, all_front}
 use Rattle.qw_operator.proofs.Seen.{AreWithin, within_wider}
 use Rattle.qw_operator.proofs.Stood.{Stood}
 

@@ -1,5 +1,5 @@
 -- Where computed values are, and of which kinds; and columns, which are known and need no block.
-use Rattle.std.proofs.Common.{◌≡◌, ℕ, suc, ◌+◌, ◌*◌, ◌<◌, inl, inr, drop, get_or, take, IsTrue, Option, Some, None, List, [], ◌∷◌, ◌++◌, length, map, Result, Ok, refl, sym, ap, ap₂, ◌∙◌, subst, append_assoc, append-nil, length-append, arith}
+use Rattle.std.proofs.Common.{◌≡◌, ℕ, suc, ◌+◌, ◌*◌, ◌<◌, inl, inr, drop, get_or, take, IsTrue, Option, Some, None, List, [], ◌∷◌, ◌++◌, length, map, Result, Ok, refl, sym, ap, ap₂, ◌∙◌, subst, append_assoc, length-append, arith}
 use Rattle.std.specs.List.{AllByRecursion}
 use Rattle.std.proofs.lemmas.List.{length-map}
 use Rattle.qw_types.specs.declared.code.Code.{Code}
@@ -40,6 +40,7 @@ use Rattle.qw_operator.specs.Emitted.{AreComputed, EmitsItems, source_of, source
 use Rattle.qw_operator.specs.Inner.Found.{AreFound, AreThere}
 use Rattle.qw_operator.proofs.Fronts.{take_at}
 use Rattle.qw_operator.proofs.Listed.{free_later}
+use Rattle.qw_operator.proofs.Shortness.{fields_many}
 
 -- ---- where values are
 computed_below : (known : List Known) (next : ℕ) (es : List Expression) (gs : List Item) (own : List ValType) → AreComputed known next es gs own → AllByRecursion (λ (o : Source). IsBelow (next + length own) o.cell) (outs_of gs)
@@ -132,10 +133,6 @@ fields_below n (o ∷ os) (f ∷ fs) same low =
     cell_at : List Source → Cell
     cell_at [] = f.cell
     cell_at (x ∷ xs) = x.cell
-
-fields_many : (fs : List Field) → length (joins.sources_of fs) ≡ length fs
-fields_many [] = refl
-fields_many (f ∷ fs) = ap suc (fields_many fs)
 
 pub fields_long : (os : List Operand) (fs : List Field) → joins.sources_of fs ≡ map moved (sources_of os) → length fs ≡ length os
 fields_long os fs same = sym (fields_many fs) ∙ (ap (λ (l : List Source). length l) same ∙ (length-map (sources_of os) moved ∙ sources_many os))

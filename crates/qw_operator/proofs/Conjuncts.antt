@@ -7,10 +7,13 @@ use Rattle.qw_scalar.specs.Expression.{column, scale_of}
 use Rattle.qw_scalar.specs.Tree.{condition_of}
 use Rattle.qw_scalar.specs.Typing.{kind_of}
 use Rattle.qw_scalar.specs.declared.expression.Cond.{Cond}
+use Rattle.qw_leaves.specs.Leaves.{leaves_within, stands_for}
+use Rattle.qw_leaves.proofs.LeafLists.{all_back, all_front}
+use Rattle.qw_leaves.proofs.TreeLeaves.{have_leaves, leaves_within_have}
 use Rattle.qw_map.proofs.AreaLemmas.{all-append}
 use Rattle.qw_expr.specs.declared.known.Binding.{Binding}
-use Rattle.qw_expr.specs.declared.known.Leaf.{Leaf}
-use Rattle.qw_expr.specs.declared.known.Leaf.TheVariants as leaf
+use Rattle.qw_leaves.specs.declared.leaf.Leaf.{Leaf}
+use Rattle.qw_leaves.specs.declared.leaf.Leaf.TheVariants as leaf
 use Rattle.qw_expr.specs.Bindings as bindings
 use Rattle.qw_expr.specs.Bindings.{IsAmong, IsServed, Knows, TakeKnown}
 use Rattle.qw_expr.specs.Cells.{IsBelow}
@@ -18,9 +21,8 @@ use Rattle.qw_expr.specs.Computes.{Known}
 use Rattle.qw_read.specs.Reading.{known_of}
 use Rattle.qw_read.specs.declared.reader.Reader.{Reader}
 use Rattle.qw_operator.specs.Emitted.{AreOrdered, known_after}
-use Rattle.qw_operator.specs.Leaves.{leaves_within}
 use Rattle.qw_operator.specs.Needed.{IsWithin, names}
-use Rattle.qw_operator.proofs.LeafLemmas.{IsKnown, all_back, all_front, have_leaves, known_conditions, leaves_within_have, take_known}
+use Rattle.qw_operator.proofs.KnownLeaves.{IsKnown, known_conditions, take_known}
 use Rattle.qw_operator.proofs.Fronts.{all_map_take, all_of, take_behind, take_long, take_mapped}
 
 -- ---- among what is known
@@ -85,9 +87,9 @@ module _ (literals : List Known) (readers : List Reader) (n : ℕ) where
 
   leaf_after : (l : Leaf) → IsWithin readers n l → IsKnown full l → IsKnown (known_after literals readers n) l
   leaf_after (leaf.Column i t) within known = column_after i t within known
-  leaf_after (leaf.Number v s) within known = (known.0, in_front (record { expression = bindings.named (leaf.Number v s); operand = known.0 }) (λ i t same. cc) known.1)
-  leaf_after (leaf.Date d) within known = (known.0, in_front (record { expression = bindings.named (leaf.Date d); operand = known.0 }) (λ i t same. cc) known.1)
-  leaf_after (leaf.Text x) within known = (known.0, in_front (record { expression = bindings.named (leaf.Text x); operand = known.0 }) (λ i t same. cc) known.1)
+  leaf_after (leaf.Number v s) within known = (known.0, in_front (record { expression = stands_for (leaf.Number v s); operand = known.0 }) (λ i t same. cc) known.1)
+  leaf_after (leaf.Date d) within known = (known.0, in_front (record { expression = stands_for (leaf.Date d); operand = known.0 }) (λ i t same. cc) known.1)
+  leaf_after (leaf.Text x) within known = (known.0, in_front (record { expression = stands_for (leaf.Text x); operand = known.0 }) (λ i t same. cc) known.1)
 
   leaves_after : (ls : List Leaf) → AllByRecursion (IsWithin readers n) ls → AllByRecursion (IsKnown full) ls → AllByRecursion (IsKnown (known_after literals readers n)) ls
   leaves_after [] within known = tt

@@ -25,7 +25,7 @@ use Rattle.qw_low.proofs.LessKnown.{IsLess, seen}
 use Rattle.qw_low.proofs.Promises.{Ends-then, Ends-weaker}
 use Rattle.qw_low.proofs.Results.{Kept-same, Kept-then}
 use Rattle.qw_expr.specs.Cells as exprs
-use Rattle.qw_expr.specs.Cells.{Holds, IsWithin, DeclaresValue, DeclaresKind, DeclaresNull}
+use Rattle.qw_expr.specs.Cells.{IsWithin, DeclaresKind, DeclaresNull}
 use Rattle.qw_expr.specs.Computes.{Known, AreDeclared}
 use Rattle.qw_expr.specs.Computes as computes
 use Rattle.qw_read.specs.Reading.{most_of}
@@ -39,7 +39,7 @@ use Rattle.qw_operator.specs.Takes.{AreSized, anywhere}
 use Rattle.qw_operator.proofs.PairRows.{AreAt, AreStored}
 use Rattle.qw_operator.proofs.Promised.{AreOwn, first_own_types, rest_own_types}
 use Rattle.qw_operator.proofs.Seen.{AreWithin, StandsIn, held_later, less_kept, lies_later, longer_kept, stands_later, stands_more}
-use Rattle.qw_operator.proofs.Stood.{cells_map}
+use Rattle.qw_operator.proofs.Stood.{cell_map, cells_map}
 
 -- ---- values of columns
 integer_small : (z : ℤ) → negsuc 2147483647 ≤ℤ z → z ≤ℤ pos 2147483647 → unsigned_abs z ≤ 2 ^ 31
@@ -68,12 +68,6 @@ cells_behind Text c k at (suc n) [] h = tt
 cells_behind Text c k at (suc n) (v ∷ vs) h =
     let place : at + 16 + 16 * n ≡ at + 16 * suc n = omega arith in
     subst (λ (p : ℕ). HasCells Text c k p (drop n vs)) place (cells_behind Text c k (at + 16) n vs h.1)
-
-cell_map : (Text Text' : Part → ℕ → List ℕ → Type 0) (c : Cells) (k at : ℕ) (v : Val) → ((p : Part) (o : ℕ) (octets : List ℕ) → Text p o octets → Text' p o octets) → HasCell Text c k at v → HasCell Text' c k at v
-cell_map Text Text' c k at val.Null also h = h
-cell_map Text Text' c k at (val.Num z) also h = h
-cell_map Text Text' c k at (val.Date z) also h = h
-cell_map Text Text' c k at (val.Text t) also h = (h.0, h.1, h.2, h.3, also h.0 h.1 t h.4, h.5)
 
 -- ---- where what is known of an entry is
 null_among : (free last : ℕ) (b : Bool) → 5 ≤ free → free < last → UsesNull (Among last) (if b then Some free else None)

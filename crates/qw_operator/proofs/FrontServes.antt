@@ -21,13 +21,14 @@ use Rattle.qw_physical.specs.Spelled.{IsSameOperator}
 use Rattle.qw_physical.specs.declared.pipeline.ReadColumn.{ReadColumn}
 use Rattle.qw_physical.proofs.ServedBy.{AreServedBy, KeepParts}
 use Rattle.qw_operator.specs.Takes.{anywhere}
-use Rattle.qw_operator.proofs.BuiltServes.{serves_built}
-use Rattle.qw_operator.proofs.KnownLeaves.{value_at}
-use Rattle.qw_operator.proofs.PairRows.{AreApart, AreDistinct, AreNew, AreStored, IsNullAt, all_back, all_front, all_more}
+use Rattle.qw_operator.proofs.BuiltServes.{IsStoredEntry, serves_built}
+use Rattle.qw_leaves.proofs.Agreement.{value_at}
+use Rattle.qw_operator.proofs.PairRows.{AreApart, AreDistinct, AreNew, AreStored, IsNullAt}
+use Rattle.qw_operator.proofs.Fronts.{all_more}
+use Rattle.qw_leaves.proofs.LeafLists.{all_back, all_front}
 use Rattle.qw_operator.proofs.Served.{AreServed}
 use Rattle.qw_operator.proofs.SinkFeeds.{fields_of}
 use Rattle.qw_operator.proofs.Stood.{Stood, all_entries, all_entries_are, entries_from}
-use Rattle.qw_operator.proofs.StoredEntries.{IsStoredEntry}
 
 -- ---- tables that stand for pipelines
 -- a table that a pipeline built: it has its cells, and its entries have values of the columns that are kept

@@ -1,7 +1,6 @@
 -- The reads of the columns that an entry keeps, one after another.
 use Rattle.std.proofs.Common.{◌≡◌, ℕ, ◌+◌, ◌*◌, ◌≤◌, not, List, [], ◌∷◌, ◌++◌, length, refl, sym, ap, ◌∙◌, subst, append_assoc, append-nil, length-append, arith}
 use Rattle.qw_types.specs.Kind.{type_kind}
-use Rattle.qw_types.specs.declared.kind.Kind.{Kind}
 use Rattle.qw_types.specs.declared.kind.Kind.TheVariants as kind
 use Rattle.qw_module.specs.declared.instruction.ValType.{ValType}
 use Rattle.qw_low.specs.declared.step.LowStep.{LowStep}
@@ -16,6 +15,7 @@ use Rattle.qw_operator.specs.Carries.{ReadsEntry, entry_types, known_entry}
 use Rattle.qw_operator.specs.Inner.Kept.{ReadsKept}
 use Rattle.qw_operator.proofs.Listed.{free_later}
 use Rattle.qw_operator.proofs.Shortness.{steps_twice}
+use Rattle.qw_operator.proofs.EntryReads.{entry_many}
 
 -- ---- one column more
 module _ (entry : ℕ) (c : ReadColumn) (b : Statement) where
@@ -55,22 +55,9 @@ known_end free (k ∷ kept) c =
     after : (n : ℕ) (d : ReadColumn) (all some more : List Known) → all ≡ some ++ more → known_entry n (d ∷ []) ++ all ≡ (known_entry n (d ∷ []) ++ some) ++ more
     after n d all some more same = ap (λ (l : List Known). known_entry n (d ∷ []) ++ l) same ∙ sym (append_assoc (known_entry n (d ∷ [])) some more)
 
-cell_long : (k : Kind) → length (cell_types k) ≡ 3
-cell_long (kind.Number s) = refl
-cell_long kind.Date = refl
-cell_long kind.Text = refl
-
-types_long : (kept : List ReadColumn) → length (entry_types kept) ≡ 3 * length kept
-types_long [] = refl
-types_long (k ∷ kept) =
-    let all = length-append (cell_types (type_kind k.ty)) (entry_types kept) in
-    let one = cell_long (type_kind k.ty) in
-    let rest = types_long kept in
-    omega (arith, all, one, rest)
-
 module _ (at entry : ℕ) (kept : List ReadColumn) (old mid : Emitter) (known : List Known) (h : ReadsKept at entry kept old mid known) where
   pub kept_free : free_of mid ≡ free_of old + 3 * length kept
-  kept_free = let long = types_long kept in let later = free_later old mid (entry_types kept) h.first_is h.own_is in omega (arith, long, later)
+  kept_free = let long = entry_many kept in let later = free_later old mid (entry_types kept) h.first_is h.own_is in omega (arith, long, later)
 
   pub kept_more : (c : ReadColumn) (new : Emitter) (b : Statement) (place : ℕ) (all one : List Known) → new.first ≡ mid.first → new.own.items ≡ mid.own.items ++ cell_types (type_kind c.ty) → new.block.code.items ≡ mid.block.code.items ++ steps_of b →
       place ≡ at + 16 * length kept → ReadsCell (type_kind c.ty) (not c.not_null) place entry (free_of mid) b → all ≡ known ++ one → one ≡ known_entry (free_of mid) (c ∷ []) → ReadsKept at entry (kept ++ c ∷ []) old new all
@@ -101,5 +88,5 @@ kept_long at entry kept old new known h =
     let code = ap (λ (l : List LowStep). length l) h.code_is ∙ length-append old.block.code.items (steps_of h.reads) in
     let own = ap (λ (l : List ValType). length l) h.own_is ∙ length-append old.own.items (entry_types kept) in
     let few = entry_long at entry (free_of old) kept h.reads h.reading in
-    let long = types_long kept in
+    let long = entry_many kept in
     omega (arith, code, own, few, long)

@@ -16,9 +16,7 @@ pub mod SinkFeeds
 pub mod WholeFeeds
 pub mod TablePermuted
 pub mod CarriedTyped
-pub mod StoredEntries
 pub mod BuiltServes
-pub mod Begun
 pub mod Carried
 pub mod CellSteps
 pub mod Computed
@@ -26,7 +24,6 @@ pub mod Conjuncts
 pub mod Fronts
 pub mod KeptReads
 pub mod Knowing
-pub mod LeafLemmas
 pub mod Listed
 pub mod Lookups
 pub mod NestingSteps

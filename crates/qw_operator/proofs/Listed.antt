@@ -73,9 +73,6 @@ module _ (literals : List Known) (readers : List Reader) where
   pub tests_free : (cs : List Condition) (old new : Emitter) (done : ℕ) (h : EmitsTests literals readers cs old new done) → free_of new ≡ free_of old + length h.own
   tests_free cs old new done h = free_later old new h.own h.first_is h.own_is
 
-  pub conjunct_free : (done upto : ℕ) (c : Condition) (old new : Emitter) (h : EmitsConjunct literals readers done upto c old new) → free_of new ≡ free_of old + length h.own
-  conjunct_free done upto c old new h = free_later old new h.own h.first_is h.own_is
-
   pub tests_more : (cs : List Condition) (c : Condition) (old mid new : Emitter) (done upto : ℕ) → EmitsTests literals readers cs old mid done → EmitsConjunct literals readers done upto c mid new → EmitsTests literals readers (cs ++ c ∷ []) old new upto
   tests_more cs c old mid new done upto before one = record {
     first_is = one.first_is ∙ before.first_is;
@@ -151,9 +148,6 @@ computed_more known next (b ∷ es) (f ∷ gs) own e g out more are is computes 
       are.5,
       computed_more known (next + length are.1) es gs are.2 e g out more are.6 is (subst (λ (k : ℕ). Computes known e k out g.block more) there computes),
     )
-
-pub items_none : (known : List Known) (now : Emitter) → EmitsItems known [] now now []
-items_none known now = record { first_is = refl; items = []; own = []; code_is = sym (append-nil now.block.code.items); own_is = sym (append-nil now.own.items); computed = refl; outs_are = refl }
 
 pub items_free : (known : List Known) (es : List Expression) (old new : Emitter) (outs : List Operand) (h : EmitsItems known es old new outs) → free_of new ≡ free_of old + length h.own
 items_free known es old new outs h = free_later old new h.own h.first_is h.own_is

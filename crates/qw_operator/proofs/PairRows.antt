@@ -19,25 +19,12 @@ use Rattle.qw_physical.specs.Courses.{pair_of, row_of}
 use Rattle.qw_physical.specs.Physical.{Operator, Probe, filter, probe}
 use Rattle.qw_physical.specs.declared.pipeline.ReadColumn.{ReadColumn}
 use Rattle.qw_operator.specs.Takes.{AreSized, anywhere}
-use Rattle.qw_operator.proofs.KnownLeaves.{AreFit, IsUtf8Value, value_at, values_agree, fits_other}
+use Rattle.qw_leaves.proofs.Agreement.{value_at, values_agree}
+use Rattle.qw_operator.proofs.KnownLeaves.{AreFit, IsUtf8Value, fits_other}
+use Rattle.qw_leaves.proofs.LeafLists.{all_back, all_front, all_pairs}
+use Rattle.qw_operator.proofs.Fronts.{all_more}
 
 -- ---- lists
-pub all_front : {X : Type 0} (P : X → Type 0) (xs ys : List X) → AllByRecursion P (xs ++ ys) → AllByRecursion P xs
-all_front P [] ys all = tt
-all_front P (x ∷ xs) ys all = (all.0, all_front P xs ys all.1)
-
-pub all_back : {X : Type 0} (P : X → Type 0) (xs ys : List X) → AllByRecursion P (xs ++ ys) → AllByRecursion P ys
-all_back P [] ys all = all
-all_back P (x ∷ xs) ys all = all_back P xs ys all.1
-
-pub all_more : {X : Type 0} (P Q : X → Type 0) (xs : List X) → ((x : X) → P x → Q x) → AllByRecursion P xs → AllByRecursion Q xs
-all_more P Q [] more all = tt
-all_more P Q (x ∷ xs) more all = (more x all.0, all_more P Q xs more all.1)
-
-pub all_both : {X : Type 0} (P Q : X → Type 0) (xs : List X) → AllByRecursion P xs → AllByRecursion Q xs → AllByRecursion (λ x. P x × Q x) xs
-all_both P Q [] p q = tt
-all_both P Q (x ∷ xs) p q = ((p.0, q.0), all_both P Q xs p.1 q.1)
-
 -- of each of these with each of those
 turned : {X Y : Type 0} (R : X → Y → Type 0) (xs : List X) (ys : List Y) → AllByRecursion (λ x. AllByRecursion (R x) ys) xs → AllByRecursion (λ y. AllByRecursion (λ x. R x y) xs) ys
 turned {X} {Y} R xs [] all = tt
@@ -189,7 +176,7 @@ module _ (p : Probe) (row entry : List Val) where
   null_later (probe q ∷ operators) avoids nulls = (
     all_more (λ (d : ReadColumn). AllByRecursion (λ (c : ReadColumn). d.number ≢ c.number) p.kept × (value_at row d.number ≡ val.Null)) (λ (d : ReadColumn). value_at pair d.number ≡ val.Null) q.kept
         (λ d both. same_else d.number both.0 ∙ both.1)
-        (all_both (λ (d : ReadColumn). AllByRecursion (λ (c : ReadColumn). d.number ≢ c.number) p.kept) (λ (d : ReadColumn). value_at row d.number ≡ val.Null) q.kept avoids.0 nulls.0),
+        (all_pairs (λ (d : ReadColumn). AllByRecursion (λ (c : ReadColumn). d.number ≢ c.number) p.kept) (λ (d : ReadColumn). value_at row d.number ≡ val.Null) q.kept avoids.0 nulls.0),
     null_later operators avoids.1 nulls.1,
   )
 

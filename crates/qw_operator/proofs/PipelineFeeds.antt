@@ -33,8 +33,12 @@ use Rattle.qw_operator.specs.Carries.{IsRow, IsSunk}
 use Rattle.qw_operator.specs.Takes.{CanCarry, CanSink}
 use Rattle.qw_operator.proofs.ColumnReads.{cells_ahead}
 use Rattle.qw_operator.proofs.Filters.{Runs, Here, base_high}
-use Rattle.qw_operator.proofs.KnownLeaves.{AreFit, Fits, HasLeaves, IsUtf8Value, value_at}
-use Rattle.qw_operator.proofs.PairRows.{AreApart, IsNullAt, all_both, all_more, stored_utf8}
+use Rattle.qw_leaves.specs.Leaves.{HasLeaves}
+use Rattle.qw_leaves.proofs.Agreement.{value_at}
+use Rattle.qw_operator.proofs.KnownLeaves.{AreFit, Fits, IsUtf8Value}
+use Rattle.qw_operator.proofs.PairRows.{AreApart, IsNullAt, stored_utf8}
+use Rattle.qw_operator.proofs.Fronts.{all_more}
+use Rattle.qw_leaves.proofs.LeafLists.{all_pairs}
 use Rattle.qw_operator.proofs.Promised.{AreOwn, IsItemAt}
 use Rattle.qw_operator.proofs.RowFeeds.{row_feeds}
 use Rattle.qw_operator.proofs.Seen.{AreWithin, held_later, less_keeps, longer_keeps}
@@ -200,9 +204,9 @@ module _ (c : Cells) (stoods : List Stood) (base : ℕ) (sink : FlowSink) (runs 
       all_there : AllByRecursion (IsThere low (length rows) r q) readers
       all_there =
           all_more (λ x. ((x.left ≡ left) × (x.end ≡ end)) × (AreBases (end + 1) low x × (HasBases (length rows) x s0 × StandsRow s0.cells s0.columns i r x))) (IsThere low (length rows) r q) readers reader_there
-          (all_both (λ (x : Reader). (x.left ≡ left) × (x.end ≡ end)) (λ x. AreBases (end + 1) low x × (HasBases (length rows) x s0 × StandsRow s0.cells s0.columns i r x)) readers h.laid.counted
-          (all_both (AreBases (end + 1) low) (λ x. HasBases (length rows) x s0 × StandsRow s0.cells s0.columns i r x) readers h.laid.bases
-          (all_both (λ (x : Reader). HasBases (length rows) x s0) (StandsRow s0.cells s0.columns i r) readers h.stays.bases (h.stays.rows_stand i r there))))
+          (all_pairs (λ (x : Reader). (x.left ≡ left) × (x.end ≡ end)) (λ x. AreBases (end + 1) low x × (HasBases (length rows) x s0 × StandsRow s0.cells s0.columns i r x)) readers h.laid.counted
+          (all_pairs (AreBases (end + 1) low) (λ x. HasBases (length rows) x s0 × StandsRow s0.cells s0.columns i r x) readers h.laid.bases
+          (all_pairs (λ (x : Reader). HasBases (length rows) x s0) (StandsRow s0.cells s0.columns i r) readers h.stays.bases (h.stays.rows_stand i r there))))
 
     fit_now : AreFit r (literals ++ map known_of readers)
     fit_now = all-append (λ (k : Known). HasLeaves (Fits r) k.expression) literals (map known_of readers) (h.fit r) (read_fit s0.cells s0.columns i r readers (h.stays.rows_stand i r there))

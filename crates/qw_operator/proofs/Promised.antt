@@ -44,7 +44,8 @@ use Rattle.qw_feed.specs.Stages.{Test, Item, Among, items_block, outs_of, truth_
 use Rattle.qw_feed.proofs.Frames.{Never, Kept-less}
 use Rattle.qw_operator.specs.Carries.{used_length, moved, all_moved}
 use Rattle.qw_operator.specs.Emitted.{source_of, known_after, ReadsPart, IsDecided, AreDecided, AreComputed}
-use Rattle.qw_operator.proofs.KnownLeaves.{HasLeaves, Fits, IsUtf8Value}
+use Rattle.qw_leaves.specs.Leaves.{HasLeaves}
+use Rattle.qw_operator.proofs.KnownLeaves.{Fits, IsUtf8Value}
 use Rattle.qw_operator.proofs.ReadParts.{read_at}
 use Rattle.qw_operator.proofs.Seen.{AreWithin, Longer, StandsIn, held_more, lacks_there, lies_later, longer_back, same_word, says_there}
 

@@ -173,9 +173,6 @@ module _ (c : Cells) (P : ℕ → Type 0) (s t : LowState) (longer : Longer s t)
 pub held_keeps : (c : Cells) (n : ℕ) (Spared : ℕ → ℕ → Type 0) (s t : LowState) (known : List Known) (row : List Val) → AreWithin n known → Keeps (Below n) Spared s t → AreHeld known row (seen c s) → AreHeld known row (seen c t)
 held_keeps c n Spared s t known row within keeps held = held_later c (Among n) s t (longer_keeps (Below n) Spared s t keeps) (λ i among. keeps.locals i (inr among)) known row within held
 
-pub held_kept : (c : Cells) (n : ℕ) (s t : LowState) (known : List Known) (row : List Val) → AreWithin n known → Kept n s t → AreHeld known row (seen c s) → AreHeld known row (seen c t)
-held_kept c n s t known row within kept held = held_later c (Among n) s t (longer_kept n s t kept) (λ i among. kept.below i among.1) known row within held
-
 -- ---- truths and nulls
 pub same_word : (v : Truth) → exprs.truth_word v ≡ truth_word v
 same_word True = refl

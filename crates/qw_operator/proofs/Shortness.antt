@@ -6,8 +6,8 @@ use Rattle.qw_types.specs.declared.kind.Kind.{Kind}
 use Rattle.qw_types.specs.declared.kind.Kind.TheVariants as kind
 use Rattle.qw_scalar.specs.declared.expression.Expr.{Expr}
 use Rattle.qw_scalar.specs.declared.expression.Cond.{Cond}
-use Rattle.qw_scalar.specs.declared.expression.Cond.TheVariants.{Compare', Between', In', IsNull', And', Or', Not', Is'}
 use Rattle.qw_scalar.specs.Nodes.{nodes, nodes_of}
+use Rattle.qw_leaves.proofs.TreeLeaves.{some_nodes_of}
 use Rattle.qw_module.specs.declared.instruction.Op.TheVariants as o
 use Rattle.qw_module.specs.declared.instruction.ValType.TheVariants.{I32}
 use Rattle.qw_module.specs.declared.instruction.Binary.TheVariants.{Add, Sub}
@@ -88,16 +88,6 @@ steps_twice (raise code) = omega arith
 steps_twice exit = omega arith
 
 -- ---- nodes
-pub some_nodes_of : (c : Cond) → 1 ≤ nodes_of c
-some_nodes_of (Compare' op _ a _ b) = omega arith
-some_nodes_of (Between' _ x _ a _ b) = omega arith
-some_nodes_of (In' _ x _ values) = omega arith
-some_nodes_of (IsNull' _ a) = omega arith
-some_nodes_of (And' _ c _ d) = omega arith
-some_nodes_of (Or' _ c _ d) = omega arith
-some_nodes_of (Not' _ c) = omega arith
-some_nodes_of (Is' _ c t) = omega arith
-
 pub many_nodes_of : (conjuncts : List Cond) → length conjuncts ≤ sum_by nodes_of conjuncts
 many_nodes_of [] = omega arith
 many_nodes_of (c ∷ conjuncts) = let rest = many_nodes_of conjuncts in omega (arith, rest, some_nodes_of c, sum_by-cons nodes_of c conjuncts)
@@ -157,7 +147,7 @@ push_long w cells =
     omega (arith, one, two)
 
 -- ---- tables
-fields_many : (fs : List Field) → length (joins.sources_of fs) ≡ length fs
+pub fields_many : (fs : List Field) → length (joins.sources_of fs) ≡ length fs
 fields_many [] = refl
 fields_many (f ∷ fs) = ap suc (fields_many fs)
 

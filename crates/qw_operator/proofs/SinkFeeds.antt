@@ -110,7 +110,7 @@ pub fields_kinds : (es : List Expression) → AllByRecursion HasKind es → kind
 fields_kinds [] kinds = refl
 fields_kinds (e ∷ es) kinds = ap₂ (λ (k : Option Kind) (ks : List (Option Kind)). k ∷ ks) (some_kind (kind_of e) kinds.0) (fields_kinds es kinds.1)
 
-fields_many : (es : List Expression) → length (fields_of es) ≡ length es
+pub fields_many : (es : List Expression) → length (fields_of es) ≡ length es
 fields_many [] = refl
 fields_many (e ∷ es) = ap suc (fields_many es)
 

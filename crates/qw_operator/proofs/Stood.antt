@@ -3,7 +3,7 @@ use Rattle.std.proofs.Common.{◌≡◌, ℕ, zero, suc, ◌+◌, ◌≤◌, ◌
 use Rattle.std.proofs.lemmas.Bool.{eq-eqb, eqb-true}
 use Rattle.std.proofs.lemmas.List.{append-nil}
 use Rattle.std.proofs.lemmas.List.Elements.{filter-append}
-use Rattle.std.specs.List.{AllByRecursion, flat_map}
+use Rattle.std.specs.List.{AllByRecursion}
 use Rattle.qw_types.specs.declared.value.Val.{Val}
 use Rattle.qw_types.specs.declared.value.Val.TheVariants as val
 use Rattle.qw_layout.specs.Row.{entry_size}
@@ -43,7 +43,7 @@ abbrev pub AllStand : Cells → List Stood → LowState → Type 0
 AllStand c stoods s = (t : ℕ) (st : Stood) → slice_get stoods t ≡ Some st → StandsTable c t st s
 
 -- ---- entries whose texts stand where others do
-cell_map : (Text Text' : Part → ℕ → List ℕ → Type 0) (c : Cells) (k at : ℕ) (v : Val) → ((p : Part) (o : ℕ) (octets : List ℕ) → Text p o octets → Text' p o octets) → HasCell Text c k at v → HasCell Text' c k at v
+pub cell_map : (Text Text' : Part → ℕ → List ℕ → Type 0) (c : Cells) (k at : ℕ) (v : Val) → ((p : Part) (o : ℕ) (octets : List ℕ) → Text p o octets → Text' p o octets) → HasCell Text c k at v → HasCell Text' c k at v
 cell_map Text Text' c k at val.Null also h = h
 cell_map Text Text' c k at (val.Num z) also h = h
 cell_map Text Text' c k at (val.Date z) also h = h
@@ -101,11 +101,6 @@ has_later c s t cells fields k o d u before entries longer h = record {
       (λ j at vs. entry_later c s t cells fields t.cells j at vs longer) h.table;
   paid = h.paid;
 }
-
--- what has been built stands
-pub becomes_stood : (c : Cells) (cells : List Field) (fields k o t u before : ℕ) (entries : List (List Val)) (s : LowState) (h : HasTable (EntryOf c s cells fields) (keyed fields) (entry_size 0 (length cells) 0) k o (directory t) u before entries s) →
-    StandsTable c t (record { cells = cells; fields = fields; part = k; offset = o; front = pos h.part h.offset; chains = h.chains; entries = entries }) s
-becomes_stood c cells fields k o t u before entries s h = record { at = h.at; table = h.table }
 
 -- ---- all entries
 -- those of slots from one on, so many
@@ -189,10 +184,6 @@ module _ (slot : List Val → ℕ) (chains : ℕ → List Row) where
         one false is ws same = ap (λ (f : Flow (List Val)). both f (flow_over F vs)) (elsewhere v is) ∙ same
 
 -- ---- of a chain by its rows or their values
-flat_values : {A : Type 0} (g : List Val → List A) (es : List Row) → flat_map g (values_of es) ≡ flat_map (λ (e : Row). g e.values) es
-flat_values g [] = refl
-flat_values g (e ∷ es) = ap (λ (l : _). g e.values ++ l) (flat_values g es)
-
 pub flow_values : (F : List Val → Flow (List Val)) (es : List Row) → flow_over F (values_of es) ≡ flow_over (λ (e : Row). F e.values) es
 flow_values F [] = refl
 flow_values F (e ∷ es) = ap (both (F e.values)) (flow_values F es)

@@ -13,7 +13,7 @@ use Rattle.qw_physical.specs.Courses.{column_of}
 use Rattle.qw_physical.specs.declared.pipeline.ReadColumn.{ReadColumn}
 use Rattle.qw_operator.specs.Takes.{IsTestOver, IsValueOver}
 use Rattle.qw_operator.proofs.Fronts.{all_mapped, all_more}
-use Rattle.qw_operator.proofs.LeafLemmas.{all_back, all_front}
+use Rattle.qw_leaves.proofs.LeafLists.{all_back, all_front}
 
 module _ (known : List Known) where
   pub values_typed : (xs : List Expr) → AllByRecursion (IsValueOver known) (map expression_of xs) → All (λ (e : Expr). IsTyped (expression_of e)) xs

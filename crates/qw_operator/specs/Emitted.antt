@@ -1,5 +1,5 @@
 -- The blocks of conjuncts and of a select list, as they are emitted one after another.
-use Rattle.std.specs.Prelude.{◌≡◌, ◌≤◌, ℕ, ◌+◌, ◌*◌, List, [], ◌∷◌, ◌++◌, length, map, take}
+use Rattle.std.specs.Prelude.{◌≡◌, ◌≤◌, ℕ, ◌+◌, List, [], ◌∷◌, ◌++◌, length, map, take}
 use Rattle.qw_module.specs.declared.instruction.ValType.{ValType}
 use Rattle.qw_scalar.specs.Expression.{Condition, Expression}
 use Rattle.qw_low.specs.Steps.{steps_of}

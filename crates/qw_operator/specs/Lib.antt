@@ -1,7 +1,6 @@
 pub mod Carries
 pub mod Emitted
 pub mod Inner
-pub mod Leaves
 pub mod Needed
 pub mod Nesting
 pub mod Span

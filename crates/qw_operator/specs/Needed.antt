@@ -1,7 +1,7 @@
 -- Which columns are read where leaves are evaluated.
 use Rattle.std.specs.Prelude.{◌≡◌, ◌<◌, ℕ, ◌==◌, Bool, false, Some, List, slice_get}
-use Rattle.qw_expr.specs.declared.known.Leaf.{Leaf}
-use Rattle.qw_expr.specs.declared.known.Leaf.TheVariants as leaf
+use Rattle.qw_leaves.specs.declared.leaf.Leaf.{Leaf}
+use Rattle.qw_leaves.specs.declared.leaf.Leaf.TheVariants as leaf
 use Rattle.qw_read.specs.declared.reader.Reader.{Reader}
 
 abbrev pub names : (column : ℕ) → Leaf → Bool

@@ -7,7 +7,6 @@
 //! - [`lists`]: conjuncts and expressions, one after another.
 //! - [`needed`]: how many columns are read where an expression is evaluated.
 //! - [`nesting`]: what is done where a conjunct is true stands within its choice.
-//! - [`leaves`]: the columns and the literals of a condition.
 //!
 //! How a table is looked up and what is read of its entries stands in `lookup`, `entry` and `fields`, which locals are declared in `locals`.
 #![tactic(auto)]
@@ -15,7 +14,6 @@
 pub mod cells;
 mod entry;
 mod fields;
-pub mod leaves;
 pub mod lists;
 mod locals;
 mod lookup;

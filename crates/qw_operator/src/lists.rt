@@ -10,7 +10,6 @@ ghost use Rattle.qw_expr.specs.Emits.{extent, free_of};
 ghost use Rattle.qw_read.specs.Reading.{HasNullWord};
 ghost use Rattle.qw_operator.specs.Emitted.{AreOrdered, EmitsConjunct, EmitsTests, EmitsItems};
 
-use crate::leaves::leaves_within;
 use crate::needed::needed_for;
 use crate::nesting::open_test;
 use qw_expr::emitter::Emitter;
@@ -18,6 +17,7 @@ use qw_expr::known::Binding;
 use qw_expr::operand::Operand;
 use qw_expr::test::emit_test;
 use qw_expr::tree::emit_expr;
+use qw_leaves::gather::leaves_within;
 use qw_read::read::emit_reads;
 use qw_read::reader::Reader;
 use qw_scalar::expression::{Cond, Expr};

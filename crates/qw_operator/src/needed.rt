@@ -2,10 +2,10 @@
 
 ghost use Rattle.std.specs.Prelude.{◌≡◌, ◌≤◌, length, take};
 ghost use Rattle.std.specs.List.{AllByRecursion, list_any};
-ghost use Rattle.qw_expr.specs.declared.known.Leaf as leaves;
+ghost use Rattle.qw_leaves.specs.declared.leaf.Leaf as leaves;
 ghost use Rattle.qw_operator.specs.Needed.{IsWithin, names};
 
-use qw_expr::known::Leaf;
+use qw_leaves::leaf::Leaf;
 use qw_read::reader::Reader;
 
 /// Whether a leaf is this column.

@@ -2,6 +2,7 @@ mod AcceptLemmas
 mod ConditionLemmas
 mod ExactLemmas
 mod LoopLemmas
+mod OrderLemmas
 mod PrimaryLemmas
 mod PrimaryReadLemmas
 mod RankLemmas

@@ -5,14 +5,15 @@ use Rattle.std.proofs.lemmas.Bool.{cases_Bool, false≢true, or_left, or_right}
 use Rattle.qw_token.specs.Token.{Lexeme}
 use Rattle.qw_token.specs.declared.token.Kind.TheVariants.{Word}
 use Rattle.qw_ast.specs.Grammar.{folded}
-use Rattle.qw_ast.specs.Syntax.{Condition, Clause, condition, expression, SelectItem, Selected, all_columns, items, Entry, Joined, Source, Select}
-use Rattle.qw_ast.specs.ScriptGrammar.{is_word, is_symbol, is_name, is_regular, is_comma, is_delimited_kind, is_number, is_string, appended, first, more, IsNothing, nothing, IsOperator, operator, AreFurther, IsNested, IsNaming, unnamed, named, named_as, IsItem, item, IsSelectList, asterisk, some_items, IsOptionalAll, all_absent, all_there, IsFilter, unfiltered, filtered, IsEntry, an_entry, IsJoin, a_join, an_inner_join, IsJoined, a_joined, AreJoins, IsSource, a_source, AreSources, some_sources, IsSelect, a_select, IsSelectOf}
-use Rattle.qw_parse.specs.Inner.Readers.{token_at, word_at, symbol_at, octets_if, given, append, further_at, expression_at, condition_at, the_condition, nested_at, naming_at, item_at, select_list_at, behind_all, filter_at, entry_at, join_at, joined_at, joins_at, source_at, sources_at, select_at, whole, select_of}
+use Rattle.qw_ast.specs.Syntax.{Condition, Clause, condition, expression, SelectItem, Selected, all_columns, items, Entry, Joined, Source, SortSpecification, Select}
+use Rattle.qw_ast.specs.ScriptGrammar.{is_word, is_symbol, is_name, is_regular, is_comma, is_delimited_kind, is_number, is_string, appended, first, more, IsNothing, nothing, IsOperator, operator, AreFurther, IsNested, IsNaming, unnamed, named, named_as, IsItem, item, IsSelectList, asterisk, some_items, IsOptionalAll, all_absent, all_there, IsFilter, unfiltered, filtered, IsEntry, an_entry, IsJoin, a_join, an_inner_join, IsJoined, a_joined, AreJoins, IsSource, a_source, AreSources, some_sources, IsOrder, unordered, ordered, IsSelect, a_select, IsSelectOf}
+use Rattle.qw_parse.specs.Inner.Readers.{token_at, word_at, symbol_at, octets_if, given, append, further_at, expression_at, condition_at, the_condition, nested_at, naming_at, item_at, select_list_at, behind_all, filter_at, entry_at, join_at, joined_at, joins_at, source_at, sources_at, order_at, select_at, whole, select_of}
 use Rattle.qw_parse.proofs.LoopLemmas.{Shortens, bind_some, cases_option, series_holds, series_is, some_same}
 use Rattle.qw_parse.proofs.TokenLemmas.{word_is, symbol_is, Front, front, one_takes, one_is, one_not, one_none, Found, found, token_takes, token_is, token_not, token_none, octets_found, octets_are, strength, Stops, stops_at, stops_none}
 use Rattle.qw_parse.proofs.ExactLemmas.{starts, starts_at, Starts, starts_not, Exact, series_front, list_takes, list_is, other_word, no_word, word_stops, symbol_stops}
 use Rattle.qw_parse.proofs.PrimaryLemmas.{name_no_word, expression_takes, expression_is}
 use Rattle.qw_parse.proofs.ConditionLemmas.{nested_exact, the_condition_is}
+use Rattle.qw_parse.proofs.OrderLemmas.{order_takes, order_is}
 
 -- ---- what ends a name
 
@@ -179,6 +180,27 @@ comma_source o ts rest h = record { item = comma_ends o ts rest h; no_join = by_
           | inl e ↦ no_join_symbol (codes ",") t rest e
         ]
 
+-- what ends a where clause: nothing that goes on with a source, and no WHERE
+pub record EndsFilter (ts : List Lexeme) : Type 0 where
+  pub source : EndsSource ts
+  pub no_comma : token_at is_comma ts ≡ None
+  pub no_where : word_at (codes "WHERE") ts ≡ None
+
+order_next : (order : List SortSpecification) (ts rest : List Lexeme) → IsOrder order ts rest → rest ≡ [] → EndsFilter ts
+order_next _ _ _ (unordered rest) end =
+    subst EndsFilter (sym end)
+    (record { source = record { item = record { stops = stops_none 1; name = none_ends }; no_join = no_join_none }; no_comma = token_none is_comma; no_where = one_none (is_word (codes "WHERE")) })
+order_next _ _ _ (ordered s others w b ts us rest f g h are) end =
+    let i = word_is (codes "ORDER") w f in
+    record {
+      source = record {
+        item = record { stops = word_stops (codes "ORDER") 1 w (b ∷ ts) refl refl (omega arith) f; name = word_ends (codes "ORDER") w (b ∷ ts) refl refl refl f };
+        no_join = no_join_word (codes "ORDER") w (b ∷ ts) refl refl refl f;
+      };
+      no_comma = token_not is_comma w (b ∷ ts) (rw i.0 refl);
+      no_where = other_word (codes "ORDER") (codes "WHERE") w (b ∷ ts) refl refl f;
+    }
+
 starts_no_asterisk : (ts : List Lexeme) → Starts ts → symbol_at (codes "*") ts ≡ None
 unfolding Starts
 starts_no_asterisk [] h = absurd h
@@ -293,15 +315,14 @@ module _ (Inner : Clause → List Lexeme → List Lexeme → Type 0) (inner : Li
             subst (λ (y : Option Condition × List Lexeme). IsFilter Inner y.0 ts y.1) (some_same (Some c.0.0, c.0.1) x c.2) (filter_made c.0.0 ts us.0 c.0.1 (one_takes (is_word (codes "WHERE")) ts us.0 us.1) (inner_condition_takes us.0 c.0 c.1)))
       ]
 
-  filter_is : (f : Option Condition) (ts rest : List Lexeme) → IsFilter Inner f ts rest → rest ≡ [] → filter_at inner ts ≡ Some (f, rest)
+  filter_is : (f : Option Condition) (ts rest : List Lexeme) → IsFilter Inner f ts rest → EndsFilter rest → filter_at inner ts ≡ Some (f, rest)
   unfolding filter_at condition_at
-  filter_is _ _ _ (unfiltered rest) end = rw (ap (word_at (codes "WHERE")) end ∙ one_none (is_word (codes "WHERE"))) refl
-  filter_is _ _ _ (filtered c w ts rest f h) end = rw (one_is (is_word (codes "WHERE")) w ts f, reads.is (condition c) ts rest h (subst (Stops 1) (sym end) (stops_none 1))) refl
+  filter_is _ _ _ (unfiltered rest) ends = rw ends.no_where refl
+  filter_is _ _ _ (filtered c w ts rest f h) ends = rw (one_is (is_word (codes "WHERE")) w ts f, reads.is (condition c) ts rest h ends.source.item.stops) refl
 
-  filter_next : (f : Option Condition) (ts rest : List Lexeme) → IsFilter Inner f ts rest → rest ≡ [] → EndsSource ts × (token_at is_comma ts ≡ None)
-  filter_next _ _ _ (unfiltered rest) end =
-      (subst EndsSource (sym end) (record { item = record { stops = stops_none 1; name = none_ends }; no_join = no_join_none }), subst (λ (us : List Lexeme). token_at is_comma us ≡ None) (sym end) (token_none is_comma))
-  filter_next _ _ _ (filtered c w ts rest f h) end =
+  filter_next : (f : Option Condition) (ts rest : List Lexeme) → IsFilter Inner f ts rest → EndsFilter rest → EndsSource ts × (token_at is_comma ts ≡ None)
+  filter_next _ _ _ (unfiltered rest) ends = (ends.source, ends.no_comma)
+  filter_next _ _ _ (filtered c w ts rest f h) ends =
       let i = word_is (codes "WHERE") w f in (
         record {
           item = record { stops = word_stops (codes "WHERE") 1 w ts refl refl (omega arith) f; name = word_ends (codes "WHERE") w ts refl refl refl f };
@@ -425,9 +446,9 @@ module _ (Inner : Clause → List Lexeme → List Lexeme → Type 0) (inner : Li
 
   -- ---- a query
 
-  select_made : (l : Selected) (ss : List Source) (f : Option Condition) (ts us vs ws xs ys rest : List Lexeme) → Front (is_word (codes "SELECT")) ts us → IsOptionalAll us vs → IsSelectList Inner l vs ws → Front (is_word (codes "FROM")) ws xs
-      → AreSources Inner ss xs ys → IsFilter Inner f ys rest → IsSelect Inner (record { selected = l; sources = ss; filter = f }) ts rest
-  select_made l ss f _ us vs _ xs ys rest (front w _ a) all h (front v _ b) i j = a_select l ss f w v us vs xs ys rest a all h b i j
+  select_made : (l : Selected) (ss : List Source) (f : Option Condition) (order : List SortSpecification) (ts us vs ws xs ys zs rest : List Lexeme) → Front (is_word (codes "SELECT")) ts us → IsOptionalAll us vs → IsSelectList Inner l vs ws → Front (is_word (codes "FROM")) ws xs
+      → AreSources Inner ss xs ys → IsFilter Inner f ys zs → IsOrder order zs rest → IsSelect Inner (record { selected = l; sources = ss; filter = f; order = order }) ts rest
+  select_made l ss f order _ us vs _ xs ys zs rest (front w _ a) all h (front v _ b) i j k = a_select l ss f order w v us vs xs ys zs rest a all h b i j k
 
   pub select_takes : (ts : List Lexeme) (x : Select × List Lexeme) → select_at inner ts ≡ Some x → IsSelect Inner x.0 ts x.1
   unfolding select_at
@@ -437,24 +458,27 @@ module _ (Inner : Clause → List Lexeme → List Lexeme → Type 0) (inner : Li
       let vs = bind_some (word_at (codes "FROM") l.0.1) _ x l.2 in
       let ss = bind_some (sources_at inner vs.0) _ x vs.2 in
       let f = bind_some (filter_at inner ss.0.1) _ x ss.2 in
-      subst (λ (y : Select × List Lexeme). IsSelect Inner y.0 ts y.1) (some_same (record { selected = l.0.0; sources = ss.0.0; filter = f.0.0 }, f.0.1) x f.2)
-      (select_made l.0.0 ss.0.0 f.0.0 ts us.0 (behind_all us.0) l.0.1 vs.0 ss.0.1 f.0.1 (one_takes (is_word (codes "SELECT")) ts us.0 us.1) (all_takes us.0) (select_list_takes (behind_all us.0) l.0 l.1)
-      (one_takes (is_word (codes "FROM")) l.0.1 vs.0 vs.1) (sources_take vs.0 ss.0 ss.1) (filter_takes ss.0.1 f.0 f.1))
+      let o = bind_some (order_at f.0.1) _ x f.2 in
+      subst (λ (y : Select × List Lexeme). IsSelect Inner y.0 ts y.1) (some_same (record { selected = l.0.0; sources = ss.0.0; filter = f.0.0; order = o.0.0 }, o.0.1) x o.2)
+      (select_made l.0.0 ss.0.0 f.0.0 o.0.0 ts us.0 (behind_all us.0) l.0.1 vs.0 ss.0.1 f.0.1 o.0.1 (one_takes (is_word (codes "SELECT")) ts us.0 us.1) (all_takes us.0) (select_list_takes (behind_all us.0) l.0 l.1)
+      (one_takes (is_word (codes "FROM")) l.0.1 vs.0 vs.1) (sources_take vs.0 ss.0 ss.1) (filter_takes ss.0.1 f.0 f.1) (order_takes f.0.1 o.0 o.1))
 
   from_no_comma : (t : Lexeme) (rest : List Lexeme) → IsTrue (is_word (codes "FROM") t) → token_at is_comma (t ∷ rest) ≡ None
   from_no_comma t rest h = let i = word_is (codes "FROM") t h in token_not is_comma t rest (rw i.0 refl)
 
   pub select_is : (s : Select) (ts rest : List Lexeme) → IsSelect Inner s ts rest → rest ≡ [] → select_at inner ts ≡ Some (s, rest)
   unfolding select_at
-  select_is _ _ _ (a_select l ss f w v ts us vs ws rest a all h b i j) end =
-      let next = filter_next f ws rest j end in
+  select_is _ _ _ (a_select l ss f order w v ts us vs ws xs rest a all h b i j k) end =
+      let last = order_next order xs rest k end in
+      let next = filter_next f ws xs j last in
       rw (
         one_is (is_word (codes "SELECT")) w ts a,
         all_is ts us all (select_list_no_all l us (v ∷ vs) h),
         select_list_is l us (v ∷ vs) h (from_ends v vs b) (from_no_comma v vs b),
         one_is (is_word (codes "FROM")) v vs b,
         sources_are ss vs ws i next.0 next.1,
-        filter_is f ws rest j end,
+        filter_is f ws xs j last,
+        order_is order xs rest k end,
       ) refl
 
 -- ---- all tokens

@@ -1,17 +1,17 @@
 //! Laws of the grammar, and worked cases of it.
 
-ghost use Rattle.std.specs.Prelude.{◌≡◌, ℕ, List, [], ◌∷◌, Some, codes, false};
+ghost use Rattle.std.specs.Prelude.{◌≡◌, ℕ, List, [], ◌∷◌, Some, codes, false, true};
 ghost use Rattle.qw_scalar.specs.declared.expression.Operator.TheVariants.{Add, Multiply, Subtract};
 ghost use Rattle.qw_scalar.specs.declared.comparison.Comparison.TheVariants.{Equal, Greater};
 ghost use Rattle.qw_token.specs.Token.{Lexeme};
 ghost use Rattle.qw_ast.specs.declared.script.Sign.TheVariants.{Minus};
-ghost use Rattle.qw_ast.specs.Syntax.{Select, arithmetic, between, both, bracketed, comparison, condition, date, either, expression, negation_of, null, number, otherwise, searched_case, signed, text, when};
+ghost use Rattle.qw_ast.specs.Syntax.{Select, arithmetic, between, both, bracketed, comparison, condition, date, either, expression, negation_of, null, number, ordinal, otherwise, result_column, searched_case, signed, text, when};
 ghost use Rattle.qw_ast.specs.ScriptGrammar.{IsSelectOf};
 ghost use Rattle.qw_parse.specs.declared.fault.ParseFault.{ParseFault};
 ghost use Rattle.qw_ast.specs.Limits.{nodes, nodes_condition, octets};
-ghost use Rattle.qw_parse.specs.declared.fault.Count.TheVariants.{FromEntries, LiteralOctets, Nodes, SelectItems};
+ghost use Rattle.qw_parse.specs.declared.fault.Count.TheVariants.{FromEntries, LiteralOctets, Nodes, SelectItems, SortKeys};
 ghost use Rattle.qw_parse.specs.Script.{IsPassedFirst, IsScriptRefused, Limit, ReadsScript, limits};
-ghost use Rattle.qw_parse.specs.Worked.{Says, all_from, alone, equals, from, joined, n, s, the_column, the_table, w};
+ghost use Rattle.qw_parse.specs.Worked.{Says, all_from, all_in_order, alone, equals, from, joined, key_named, n, s, the_column, the_table, w};
 
 /// Tokens are one query at most.
 pub fn one_query_specification()
@@ -55,14 +55,15 @@ pub fn worked_sizes()
     ensures date { (nodes (date (codes "'2024-01-31'") []) ≡ 1) × (octets (date (codes "'2024-01-31'") []) ≡ 0) }
 {}
 
-/// Of several limits that are passed the first is told: items, then entries of FROM, then nodes, then octets of literals. Of 8 entries and
-/// 1,000 nodes there aren't too many, of 9 and 1,001 there are.
+/// Of several limits that are passed the first is told: items, then entries of FROM, then keys of ORDER BY, then nodes, then octets of
+/// literals. Of 8 entries, 64 keys and 1,000 nodes there aren't too many, of 9, 65 and 1,001 there are.
 pub fn worked_limits()
-    ensures items { IsPassedFirst (limits 65 9 1001 16385) (record { many = 65; what = SelectItems; most = 64 }) }
-    ensures entries { IsPassedFirst (limits 64 9 1001 16385) (record { many = 9; what = FromEntries; most = 8 }) }
-    ensures nodes { IsPassedFirst (limits 64 8 1001 16385) (record { many = 1001; what = Nodes; most = 1000 }) }
-    ensures octets { IsPassedFirst (limits 64 8 1000 16385) (record { many = 16385; what = LiteralOctets; most = 16384 }) }
-    ensures none { (limit : Limit) → IsPassedFirst (limits 64 8 1000 16384) limit → ⊥ }
+    ensures items { IsPassedFirst (limits 65 9 65 1001 16385) (record { many = 65; what = SelectItems; most = 64 }) }
+    ensures entries { IsPassedFirst (limits 64 9 65 1001 16385) (record { many = 9; what = FromEntries; most = 8 }) }
+    ensures keys { IsPassedFirst (limits 64 8 65 1001 16385) (record { many = 65; what = SortKeys; most = 64 }) }
+    ensures nodes { IsPassedFirst (limits 64 8 64 1001 16385) (record { many = 1001; what = Nodes; most = 1000 }) }
+    ensures octets { IsPassedFirst (limits 64 8 64 1000 16385) (record { many = 16385; what = LiteralOctets; most = 16384 }) }
+    ensures none { (limit : Limit) → IsPassedFirst (limits 64 8 64 1000 16384) limit → ⊥ }
 {}
 
 /// FROM is sources between commas, each an entry and its inner joins (ISO/IEC 9075:1992, 7.4, 7.5): INNER says nothing more than JOIN, and an
@@ -75,4 +76,18 @@ pub fn worked_sources()
         (all_from (record { first = the_table (codes "a"); joins = joined (the_table (codes "b")) (codes "k") (codes "1") ∷ [] } ∷ alone (the_table (codes "c")) ∷ [])) }
     ensures left_join { (query : Select) → IsSelectOf (from (w (codes "a") ∷ w (codes "LEFT") ∷ w (codes "JOIN") ∷ w (codes "b") ∷ w (codes "ON") ∷ w (codes "k") ∷ s (codes "=") ∷ n (codes "1") ∷ [])) query → ⊥ }
     ensures no_condition { (query : Select) → IsSelectOf (from (w (codes "a") ∷ w (codes "JOIN") ∷ w (codes "b") ∷ [])) query → ⊥ }
+{}
+
+/// A key of ORDER BY is a name, behind a qualifier or not, or a number without a point; without DESC it ascends (ISO/IEC 9075:1992, 13.1).
+/// No key is an expression, a number with a point or with a sign, and ORDER BY stands behind WHERE, with a key at least.
+pub fn worked_order()
+    ensures ascending { IsSelectOf (from (w (codes "a") ∷ w (codes "ORDER") ∷ w (codes "BY") ∷ w (codes "k") ∷ [])) (all_in_order (record { key = key_named (codes "k"); is_descending = false } ∷ [])) }
+    ensures keys { IsSelectOf (from (w (codes "a") ∷ w (codes "order") ∷ w (codes "by") ∷ n (codes "2") ∷ w (codes "desc") ∷ s (codes ",") ∷ w (codes "a") ∷ s (codes ".") ∷ w (codes "k") ∷ w (codes "ASC") ∷ s (codes ",") ∷ w (codes "x") ∷ []))
+        (all_in_order (record { key = ordinal (codes "2"); is_descending = true } ∷ record { key = result_column (Some (codes "a")) (codes "k"); is_descending = false } ∷ record { key = key_named (codes "x"); is_descending = false } ∷ [])) }
+    ensures expression { (query : Select) → IsSelectOf (from (w (codes "a") ∷ w (codes "ORDER") ∷ w (codes "BY") ∷ w (codes "k") ∷ s (codes "+") ∷ n (codes "1") ∷ [])) query → ⊥ }
+    ensures point { (query : Select) → IsSelectOf (from (w (codes "a") ∷ w (codes "ORDER") ∷ w (codes "BY") ∷ n (codes "1.") ∷ [])) query → ⊥ }
+    ensures sign { (query : Select) → IsSelectOf (from (w (codes "a") ∷ w (codes "ORDER") ∷ w (codes "BY") ∷ s (codes "-") ∷ n (codes "1") ∷ [])) query → ⊥ }
+    ensures both_directions { (query : Select) → IsSelectOf (from (w (codes "a") ∷ w (codes "ORDER") ∷ w (codes "BY") ∷ w (codes "k") ∷ w (codes "ASC") ∷ w (codes "DESC") ∷ [])) query → ⊥ }
+    ensures no_key { (query : Select) → IsSelectOf (from (w (codes "a") ∷ w (codes "ORDER") ∷ w (codes "BY") ∷ [])) query → ⊥ }
+    ensures before_where { (query : Select) → IsSelectOf (from (w (codes "a") ∷ w (codes "ORDER") ∷ w (codes "BY") ∷ w (codes "k") ∷ w (codes "WHERE") ∷ w (codes "k") ∷ s (codes "=") ∷ n (codes "1") ∷ [])) query → ⊥ }
 {}

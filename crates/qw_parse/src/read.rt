@@ -4,6 +4,7 @@ mod call;
 mod case;
 mod condition;
 mod date;
+mod order;
 mod parser;
 mod primary;
 mod rank;

@@ -1,5 +1,5 @@
 -- The keys of lookups compare operands of one kind, and each lookup is served by a pipeline before its own.
-use Rattle.std.proofs.Common.{◌≡◌, ℕ, ◌+◌, ◌&&◌, if◌then◌else◌, Bool, true, false, List, [], ◌∷◌, ◌++◌, length, length-append, append-nil, append_assoc, Some, slice_get, refl, sym, subst, subst₂}
+use Rattle.std.proofs.Common.{◌≡◌, ℕ, ◌+◌, ◌&&◌, if◌then◌else◌, Bool, true, false, List, [], ◌∷◌, ◌++◌, length, length-append, append-nil, append_assoc, slice_get, refl, sym, subst, subst₂}
 use Rattle.std.specs.List.{AllByRecursion, filter_map}
 use Rattle.qw_scalar.specs.Expression.{Condition}
 use Rattle.qw_meaning.specs.Select.{Specification}
@@ -14,6 +14,8 @@ use Rattle.qw_pipe.specs.Pipes.{AreOrdered, LooksUp, Pipeline, Step, make, pipel
 use Rattle.qw_physical.specs.Spelled.{all_spelled, spelled_steps}
 use Rattle.qw_physical.specs.declared.pipeline.ReadColumn.{ReadColumn}
 use Rattle.qw_physical.proofs.ServedBy.{AreServedBy, HaveAlike, IsAlike, eligible_alike, spelled_served}
+use Rattle.qw_physical.proofs.Plans.{at_seam}
+use Rattle.qw_leaves.proofs.LeafLists.{all_joined}
 
 -- ---- of a plan
 abbrev pub KeysAlike : Node → Type 0
@@ -21,10 +23,6 @@ KeysAlike (scan entry table) = Unit {0}
 KeysAlike (filter conjuncts below) = KeysAlike below
 KeysAlike (join left right on keys) = AllByRecursion IsAlike (filter_map (λ k. slice_get on k) keys) × KeysAlike left × KeysAlike right
 KeysAlike (project below items) = KeysAlike below
-
-at_seam : (front : List Condition) (c : Condition) (cs : List Condition) → slice_get (front ++ c ∷ cs) (length front) ≡ Some c
-at_seam [] c cs = refl
-at_seam (x ∷ front) c cs = at_seam front c cs
 
 alike_found : (l r : ℕ → Bool) (front cs : List Condition) → AllByRecursion IsAlike (filter_map (λ k. slice_get (front ++ cs) k) (keys_from l r (length front) cs))
 alike_found l r front [] = tt
@@ -58,10 +56,6 @@ alike_then (test conjuncts ∷ steps) s one last = alike_then steps s one last
 alike_then (probe table lookup ∷ steps) s one last = (one.0, alike_then steps s one.1 last)
 alike_then (make items ∷ steps) s one last = alike_then steps s one last
 
-all_append : {X : Type 0} (P : X → Type 0) (xs ys : List X) → AllByRecursion P xs → AllByRecursion P ys → AllByRecursion P (xs ++ ys)
-all_append P [] ys one two = two
-all_append P (x ∷ xs) ys one two = (one.0, all_append P xs ys one.1 two)
-
 abbrev pub HasAlike : Pipeline → Type 0
 HasAlike p = HaveAlike p.steps
 
@@ -72,13 +66,13 @@ split_alike next (join left right on keys) alike =
     let built = split_alike next right alike.2 in
     let m : ℕ = next + length (split next right).builds in
     let rest = split_alike (m + 1) left alike.1 in (
-      all_append HasAlike (split next right).builds _ built.0 (built.1, rest.0),
+      all_joined HasAlike (split next right).builds _ built.0 (built.1, rest.0),
       alike_then (split (m + 1) left).last.steps _ rest.1 (alike.0, tt),
     )
 split_alike next (project below items) alike = let rest = split_alike next below alike in (rest.0, alike_then (split next below).last.steps (make items) rest.1 tt)
 
 pub pipelines_alike : (node : Node) → KeysAlike node → AllByRecursion HasAlike (pipelines node)
-pipelines_alike node alike = let both = split_alike 0 node alike in all_append HasAlike (split 0 node).builds ((split 0 node).last ∷ []) both.0 (both.1, tt)
+pipelines_alike node alike = let both = split_alike 0 node alike in all_joined HasAlike (split 0 node).builds ((split 0 node).last ∷ []) both.0 (both.1, tt)
 
 -- of a well placed plan
 pub placed_alike : (query : Specification) (node : Node) → IsWellPlaced query node → AllByRecursion HasAlike (pipelines node)

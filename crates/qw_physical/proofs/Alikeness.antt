@@ -1,8 +1,7 @@
 -- Pipelines that mean the same, expression by expression, feed the same and take as many units.
-use Rattle.std.proofs.Common.{◌≡◌, ◌∙◌, ℕ, ◌+◌, Bool, true, false, if◌then◌else◌, List, [], ◌∷◌, ◌++◌, drop, get_or, length, map, take, Result, Ok, Err, refl, sym, ap, ap₂, subst, subst₂}
-use Rattle.std.specs.List.{AllByRecursion, AllZip}
+use Rattle.std.proofs.Common.{◌≡◌, ◌∙◌, ℕ, ◌+◌, Bool, if◌then◌else◌, List, [], ◌∷◌, ◌++◌, drop, get_or, length, map, take, Result, Ok, Err, refl, ap, ap₂, subst}
+use Rattle.std.specs.List.{AllZip}
 use Rattle.std.specs.List.Sorted.{IsPermutation}
-use Rattle.qw_types.specs.Arithmetic.{◌>>=◌}
 use Rattle.qw_types.specs.ValueOrder.{is_same_row}
 use Rattle.qw_types.specs.declared.code.Code.{Code}
 use Rattle.qw_types.specs.declared.value.Val.{Val}
@@ -19,9 +18,9 @@ use Rattle.qw_feed.specs.Feeds.{flow_by, flow_over, nothing, one_row, spend, whe
 use Rattle.qw_table.specs.Joins.{keyed, where_values}
 use Rattle.qw_table.specs.Keys.{text_octets}
 use Rattle.qw_table.specs.Tables.{in_slot}
-use Rattle.qw_physical.specs.Physical.{Build, Operator, Pipeline, Probe, Sink, build, filter, probe, select}
+use Rattle.qw_physical.specs.Physical.{Operator, Pipeline, Probe, Sink, build, filter, probe, select}
 use Rattle.qw_physical.specs.Courses.{AreBuilt, by_values, column_of, cost, costs, fed, met, met_cost, pair_of, pipeline_cost, pipeline_fed, placed, row_of, sink_key, sink_values, where_passed}
-use Rattle.qw_physical.specs.Spelled.{IsSameBuild, IsSameOperator, IsSamePipeline, IsSameProbe, IsSameSink}
+use Rattle.qw_physical.specs.Spelled.{IsSameOperator, IsSamePipeline, IsSameProbe, IsSameSink}
 use Rattle.qw_physical.specs.declared.pipeline.ReadColumn.{ReadColumn}
 use Rattle.qw_physical.proofs.Orders.{over_same}
 use Rattle.qw_physical.proofs.Through.{by_same}

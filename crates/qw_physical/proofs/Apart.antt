@@ -1,7 +1,6 @@
 -- A lookup keeps columns of entries that no row of its pipeline has before.
-use Rattle.std.proofs.Common.{◌≡◌, ◌∙◌, ℕ, ◌+◌, ◌/◌, nat_eq, Bool, true, false, ◌&&◌, ◌||◌, List, [], ◌∷◌, ◌++◌, length, refl, sym, ap, ap₂, subst, append_assoc, append-nil}
+use Rattle.std.proofs.Common.{◌≡◌, ◌∙◌, ℕ, ◌+◌, ◌/◌, nat_eq, Bool, true, false, ◌&&◌, ◌||◌, List, [], ◌∷◌, ◌++◌, length, refl, sym, ap, subst, append_assoc, append-nil}
 use Rattle.std.specs.List.{AllByRecursion}
-use Rattle.std.specs.List as list
 use Rattle.qw_types.specs.Contents.{rows_of}
 use Rattle.qw_types.specs.Value.{IsSized}
 use Rattle.qw_types.specs.declared.schema.ColumnType.{ColumnType}
@@ -11,14 +10,14 @@ use Rattle.qw_scalar.specs.Expression.{Condition}
 use Rattle.qw_meaning.specs.From.{at_places, entry_flow}
 use Rattle.qw_meaning.specs.Select.{Entry}
 use Rattle.qw_meaning.proofs.FromLemmas.{cell}
-use Rattle.qw_algebra.specs.Columns.{is_of, entries_below, owns}
+use Rattle.qw_algebra.specs.Columns.{entries_below, owns}
 use Rattle.qw_algebra.specs.Node.{Node, scan, filter, join, project}
 use Rattle.qw_algebra.proofs.Lists.{all_append, all_map, all_more}
 use Rattle.qw_rewrite.specs.Probed.{beside_keys}
 use Rattle.qw_rewrite.proofs.Sifting.{IsOver, other_side, owns_join}
 use Rattle.qw_pipe.specs.Pipes as pipes
 use Rattle.qw_pipe.specs.Pipes.{Lookup, split, test}
-use Rattle.qw_physical.specs.Physical.{Operator, Pipeline, filter as filter_by, probe}
+use Rattle.qw_physical.specs.Physical.{Operator, filter as filter_by, probe}
 use Rattle.qw_physical.specs.Reads.{is_read}
 use Rattle.qw_physical.specs.Sides.{IsApart, IsNullAtKept, KeepApart, ScansNulls}
 use Rattle.qw_physical.specs.Spelled.{all_spelled, kept_columns, keys_sought, spelled, spelled_steps}

@@ -1,5 +1,5 @@
 -- Of pipelines of which some at the beginning have run, the units of these and of the next one are within the plan's.
-use Rattle.std.proofs.Common.{◌≡◌, ◌∙◌, ℕ, zero, suc, ◌+◌, ◌≤◌, Bool, true, false, List, [], ◌∷◌, ◌++◌, length, sum_by, refl, sym, ap, ap₂, subst, arith, Result, Ok, Err, append-nil, append_assoc, length-append}
+use Rattle.std.proofs.Common.{◌≡◌, ◌∙◌, ℕ, ◌+◌, ◌≤◌, true, List, [], ◌∷◌, ◌++◌, length, sum_by, refl, sym, ap, ap₂, subst, arith, Result, Ok, Err, append-nil, append_assoc, length-append}
 use Rattle.std.specs.List.{AllByRecursion}
 use Rattle.std.specs.List.Sorted.{IsPermutation}
 use Rattle.std.specs.declared.cmp.Ordering.TheVariants as ordering
@@ -18,10 +18,10 @@ use Rattle.qw_algebra.specs.Node.{Node, scan, filter, join, project, node_flow}
 use Rattle.qw_algebra.specs.Written.{written}
 use Rattle.qw_pipe.specs.General.{general_hashing}
 use Rattle.qw_pipe.specs.Pipes as pipes
-use Rattle.qw_pipe.specs.Pipes.{make, pipelines, split, test, then_step, to_result}
-use Rattle.qw_pipe.specs.Units.{made_units, table_units, tested_units, units_of}
+use Rattle.qw_pipe.specs.Pipes.{make, pipelines, split, test, then_step}
+use Rattle.qw_pipe.specs.Units.{units_of}
 use Rattle.qw_pipe.proofs.Ordering.{in_order}
-use Rattle.qw_pipe.proofs.Splitting.{building, lookup}
+use Rattle.qw_pipe.proofs.Splitting.{building}
 use Rattle.qw_rewrite.specs.Placed.{IsSizedPlan}
 use Rattle.qw_rewrite.specs.Probe.{keyed}
 use Rattle.qw_rewrite.specs.Sift.{sifted}
@@ -30,11 +30,12 @@ use Rattle.qw_physical.specs.Physical.{Operator, Pipeline, Sink, select}
 use Rattle.qw_physical.specs.Reads.{AreRead, AreScaled, IsScaled, is_read}
 use Rattle.qw_physical.specs.Spelled.{all_spelled, items_made, spelled, spelled_sink, spelled_steps}
 use Rattle.qw_physical.specs.declared.pipeline.ReadColumn.{ReadColumn}
-use Rattle.qw_physical.proofs.Bounded.{bounds, build_cost, built_long, joined_builds, spelled_long, spelled_append, spelled_more}
+use Rattle.qw_physical.proofs.Bounded.{bounds, build_cost, built_long, joined_builds, spelled_more}
+use Rattle.qw_physical.proofs.Feeding.{spelled_count, pipelines_append}
 use Rattle.qw_physical.proofs.Charges.{charges, cost_respects, sink_cost}
 use Rattle.qw_physical.proofs.Grounded.{IsGround, clauses, query_grounded}
 use Rattle.qw_physical.proofs.JoinBound.{IsKnown, names_kept, table_bound}
-use Rattle.qw_physical.proofs.Totals.{sum_is, total, total_less, total_same}
+use Rattle.qw_physical.proofs.Totals.{sum_is, total, total_same}
 
 -- ---- pipelines that have begun
 
@@ -144,7 +145,7 @@ module _ (same_rows : (row other : List Val) → is_same_row row other ≡ true 
           let less = built_first front are in
           let after : length ((built ++ front) ++ entries ∷ []) ≡ (next + length (split next right).builds) + 1 =
           length-append (built ++ front) (entries ∷ [])
-          ∙ ap (λ k. k + 1) (length-append built front ∙ ap₂ (λ a b. a + b) long (built_long tables built (builds_of next right) front are ∙ spelled_long columns next (split next right).builds)) in
+          ∙ ap (λ k. k + 1) (length-append built front ∙ ap₂ (λ a b. a + b) long (built_long tables built (builds_of next right) front are ∙ spelled_count columns next (split next right).builds)) in
           let rest = second ((built ++ front) ++ entries ∷ []) back after begun in
           let table = table_bound same_rows same_value columns tables (next + length (split next right).builds) left right on keys g.0 in
           omega (arith, cost, less, rest, table)
@@ -182,7 +183,7 @@ module _ (same_rows : (row other : List Val) → is_same_row row other ≡ true 
       (one (begun_at tables [] (builds_of 0 node) (spelled columns (0 + length (split 0 node).builds) (then_step (split 0 node).last (make items))) [] more (subst (λ (ps : List Pipeline). AreBegun tables [] ps more) whole h)))
     where
       whole : all_spelled columns 0 (pipelines (project node items)) ≡ builds_of 0 node ++ (spelled columns (0 + length (split 0 node).builds) (then_step (split 0 node).last (make items))) ∷ []
-      whole = spelled_append columns 0 (split 0 node).builds (then_step (split 0 node).last (make items) ∷ [])
+      whole = pipelines_append columns 0 (split 0 node).builds (then_step (split 0 node).last (make items) ∷ [])
 
       sink_is : (spelled columns (0 + length (split 0 node).builds) (then_step (split 0 node).last (make items))).sink ≡ select items
       sink_is = sink_last node items (0 + length (split 0 node).builds)

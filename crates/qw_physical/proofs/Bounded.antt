@@ -1,46 +1,38 @@
 -- The units of a plan's pipelines, over tables of keys and kept columns in any order, are within the units of the plan.
-use Rattle.std.proofs.Common.{◌≡◌, ◌∙◌, ℕ, zero, suc, ◌+◌, ◌≤◌, Bool, true, false, List, [], ◌∷◌, ◌++◌, get_or, length, map, refl, sym, ap, ap₂, subst, arith, append-nil, append_assoc, length-append}
-use Rattle.std.specs.List.{AllByRecursion, flat_map}
+use Rattle.std.proofs.Common.{◌≡◌, ◌∙◌, ℕ, suc, ◌+◌, ◌≤◌, Bool, true, false, List, [], ◌∷◌, ◌++◌, get_or, length, map, refl, sym, ap, ap₂, subst, arith, append-nil, append_assoc, length-append}
+use Rattle.std.specs.List.{flat_map}
 use Rattle.std.specs.List.Sorted.{IsPermutation}
 use Rattle.std.specs.declared.cmp.Ordering.TheVariants as ordering
 use Rattle.std.proofs.lemmas.List.{length-map}
 use Rattle.qw_types.specs.Contents.{rows_of}
 use Rattle.qw_types.specs.ValueOrder.{is_same_row, value_order}
-use Rattle.qw_types.specs.declared.code.Code.{Code}
 use Rattle.qw_types.specs.declared.value.Val.{Val}
 use Rattle.qw_scalar.specs.Conjuncts.{passes}
 use Rattle.qw_scalar.specs.Evaluation.{at_row}
-use Rattle.qw_scalar.specs.Expression.{Condition, Expression}
-use Rattle.qw_scalar.specs.Units.{units_of_all, units_of_items}
-use Rattle.qw_meaning.specs.Flow.{Flow, kept, rows_given, values_of}
+use Rattle.qw_scalar.specs.Expression.{Condition}
+use Rattle.qw_scalar.specs.Units.{units_of_all}
+use Rattle.qw_meaning.specs.Flow.{kept, rows_given}
 use Rattle.qw_meaning.specs.From.{at_places, entry_flow}
-use Rattle.qw_meaning.specs.Select.{AreOfEntries, IsSpecification, Specification, conjuncts_on, entries_of}
-use Rattle.qw_algebra.specs.Columns.{condition_names_only, names_only}
+use Rattle.qw_algebra.specs.Columns.{condition_names_only}
 use Rattle.qw_algebra.specs.Node.{Node, scan, filter, join, project, node_flow}
-use Rattle.qw_algebra.specs.Written.{written}
-use Rattle.qw_algebra.proofs.Lists.{all_append, all_more}
+use Rattle.qw_algebra.proofs.Lists.{all_more}
 use Rattle.qw_pipe.specs.General.{general_hashing}
 use Rattle.qw_pipe.specs.Pipes as pipes
-use Rattle.qw_pipe.specs.Pipes.{make, pipelines, probe, split, test, to_table}
-use Rattle.qw_pipe.specs.Units.{made_units, table_units, tested_units, units_of}
+use Rattle.qw_pipe.specs.Pipes.{make, probe, split, test}
+use Rattle.qw_pipe.specs.Units.{table_units, tested_units, units_of}
 use Rattle.qw_pipe.proofs.Splitting.{building, lookup, table_built}
-use Rattle.qw_rewrite.specs.Placed.{IsSizedPlan}
-use Rattle.qw_rewrite.specs.Probe.{keyed}
 use Rattle.qw_rewrite.specs.Probed.{beside_keys}
-use Rattle.qw_rewrite.specs.Sift.{sifted}
-use Rattle.qw_rewrite.proofs.Rows.{NamesOnly}
-use Rattle.qw_feed.specs.Feeds.{flow_over, spend}
-use Rattle.qw_physical.specs.Courses.{AreBuilt, cost, costs, fed, pipeline_cost, pipeline_fed, sink_values, where_passed}
+use Rattle.qw_physical.specs.Courses.{AreBuilt, cost, costs, fed, pipeline_cost, pipeline_fed, where_passed}
 use Rattle.qw_physical.specs.Physical as physical
-use Rattle.qw_physical.specs.Physical.{Operator, Pipeline, Sink, select}
-use Rattle.qw_physical.specs.Reads.{AreRead, AreScaled, is_read}
-use Rattle.qw_physical.specs.Spelled.{all_spelled, items_made, kept_columns, keys_sought, spelled, spelled_steps}
+use Rattle.qw_physical.specs.Physical.{Operator, Pipeline}
+use Rattle.qw_physical.specs.Reads.{is_read}
+use Rattle.qw_physical.specs.Spelled.{all_spelled, kept_columns, keys_sought, spelled, spelled_steps}
 use Rattle.qw_physical.specs.declared.pipeline.ReadColumn.{ReadColumn}
-use Rattle.qw_physical.proofs.Charges.{NamesItems, Respects, charge, charges, charges_more, cost_less, cost_respects, count, fed_less, fed_respects, filter_charge, filter_respects, probe_charge, probe_respects, sink_cost, sink_fed}
-use Rattle.qw_physical.proofs.Grounded.{IsGround, IsKeyedJoin, clauses, query_grounded}
-use Rattle.qw_physical.proofs.JoinBound.{AreLeft, IsKnown, count_plus, kept_total, names_beside, names_kept, names_sought, probes_bound, probing, sought_units, table_bound, total_count}
-use Rattle.qw_physical.proofs.JoinBound as bound
-use Rattle.qw_physical.proofs.Totals.{spend_is, sum_is, total, total_flat, total_less, total_map, total_ones, total_permuted, total_plus, total_same}
+use Rattle.qw_physical.proofs.Charges.{Respects, charge, charges, charges_more, cost_less, cost_respects, count, fed_less, fed_respects, filter_charge, filter_respects, probe_charge, probe_respects, sink_cost, sink_fed}
+use Rattle.qw_physical.proofs.Grounded.{IsGround, IsKeyedJoin}
+use Rattle.qw_physical.proofs.JoinBound.{AreLeft, IsKnown, kept_total, names_beside, names_kept, names_sought, probes_bound, probing, sought_units, table_bound, total_count}
+use Rattle.qw_physical.proofs.Totals.{spend_is, sum_is, total, total_flat, total_less, total_ones, total_permuted, total_plus, total_same}
+use Rattle.qw_physical.proofs.Feeding.{pipelines_append, spelled_count}
 
 -- ---- pipelines one behind another
 
@@ -50,16 +42,6 @@ spelled_more columns (test conjuncts ∷ steps) s = ap (λ (os : List Operator).
 spelled_more columns (probe table look ∷ steps) s =
     ap (λ (os : List Operator). physical.probe (record { table = table; key = keys_sought look; kept = kept_columns columns look; on = beside_keys look.keys 0 look.on }) ∷ os) (spelled_more columns steps s)
 spelled_more columns (make items ∷ steps) s = spelled_more columns steps s
-
-pub spelled_append : (columns : List ReadColumn) (next : ℕ) (xs ys : List pipes.Pipeline) → all_spelled columns next (xs ++ ys) ≡ all_spelled columns next xs ++ all_spelled columns (next + length xs) ys
-spelled_append columns next [] ys = ap (λ (n : ℕ). all_spelled columns n ys) (let e : next ≡ next + 0 = omega arith in e)
-spelled_append columns next (x ∷ xs) ys =
-    let e : (next + 1) + length xs ≡ next + suc (length xs) = omega arith in
-    ap (λ (ps : List Pipeline). spelled columns next x ∷ ps) (spelled_append columns (next + 1) xs ys ∙ ap (λ (n : ℕ). all_spelled columns (next + 1) xs ++ all_spelled columns n ys) e)
-
-pub spelled_long : (columns : List ReadColumn) (next : ℕ) (xs : List pipes.Pipeline) → length (all_spelled columns next xs) ≡ length xs
-spelled_long columns next [] = refl
-spelled_long columns next (x ∷ xs) = ap suc (spelled_long columns (next + 1) xs)
 
 module _ (tables : List (List (List Val))) where
   pub built_long : (built : List (List (List Val))) (ps : List Pipeline) (more : List (List (List Val))) → AreBuilt tables built ps more → length more ≡ length ps
@@ -225,7 +207,7 @@ module _ (same_rows : (row other : List Val) → is_same_row row other ≡ true 
       before_long : length before ≡ m
       before_long =
           length-append built h.front
-          ∙ ap₂ (λ a b. a + b) long (built_long tables built (builds_of next right) h.front h.front_built ∙ spelled_long columns next (split next right).builds)
+          ∙ ap₂ (λ a b. a + b) long (built_long tables built (builds_of next right) h.front h.front_built ∙ spelled_count columns next (split next right).builds)
 
       after_long : length after_it ≡ m + 1
       after_long = length-append before (h.entries ∷ []) ∙ ap (λ n. n + 1) before_long
@@ -279,7 +261,7 @@ module _ (same_rows : (row other : List Val) → is_same_row row other ≡ true 
   pub joined_builds : (next : ℕ) (left right : Node) (on : List Condition) (keys : List ℕ)
       → builds_of next (join left right on keys)
       ≡ builds_of next right ++ spelled columns (next + length (split next right).builds) (building tables next right on keys) ∷ builds_of (next + length (split next right).builds + 1) left
-  joined_builds next left right on keys = spelled_append columns next (split next right).builds (building tables next right on keys ∷ (split (next + length (split next right).builds + 1) left).builds)
+  joined_builds next left right on keys = pipelines_append columns next (split next right).builds (building tables next right on keys ∷ (split (next + length (split next right).builds + 1) left).builds)
 
   pub bounds : (node : Node) (counted : Bool) (next : ℕ) (built more full tail : List (List (List Val))) (after : List Val → ℕ) → IsGround tables (IsKnown columns) node → length built ≡ next
       → full ≡ (built ++ more) ++ tail → Respects read after → AreBuilt tables built (builds_of next node) more → Bound counted node next built more full after

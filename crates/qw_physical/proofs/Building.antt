@@ -1,12 +1,11 @@
 -- Each pipeline that builds a table feeds entries of the rows of its side.
-use Rattle.std.proofs.Common.{◌≡◌, ◌∙◌, ◌≤◌, ℕ, zero, suc, ◌+◌, Bool, true, false, ◌&&◌, ◌||◌, if◌then◌else◌, List, [], ◌∷◌, ◌++◌, drop, length, map, take, Option, Some, slice_get, refl, sym, ap, subst, append-nil, append_assoc, length-append, arith}
+use Rattle.std.proofs.Common.{◌≡◌, ◌∙◌, ◌≤◌, ℕ, zero, suc, ◌+◌, Bool, true, false, if◌then◌else◌, List, [], ◌∷◌, ◌++◌, length, map, take, Some, slice_get, refl, sym, ap, subst, append-nil, append_assoc, length-append, arith}
 use Rattle.std.specs.List.{AllByRecursion, AllZip, Contains, flat_map}
 use Rattle.std.specs.List as list
 use Rattle.std.specs.List.Sorted.{IsPermutation}
 use Rattle.std.proofs.ByRecursion.{all_shuffled}
 use Rattle.std.proofs.lemmas.List.Elements.{Contains-append_left, Contains-append_right}
 use Rattle.std.proofs.lemmas.List.Sorted.{Contains-permutation, IsPermutation-sym, length_permutation}
-use Rattle.qw_types.specs.Contents.{IsOfColumnType}
 use Rattle.qw_types.specs.Value.{IsOfTypeOrNull, IsSized}
 use Rattle.qw_types.specs.declared.code.Code.{Code}
 use Rattle.qw_types.specs.declared.schema.ColumnType.{ColumnType}
@@ -15,27 +14,26 @@ use Rattle.qw_scalar.specs.Expression.{Condition, Expression}
 use Rattle.qw_scalar.specs.Typing.{IsValueOf, kind_of}
 use Rattle.qw_meaning.specs.Flow.{Flow, codes_given, kept, selected, spread}
 use Rattle.qw_meaning.specs.Select.{Entry}
-use Rattle.qw_meaning.proofs.FromLemmas.{cell}
 use Rattle.qw_algebra.specs.Columns.{owns}
 use Rattle.qw_algebra.specs.Node.{Node, scan, filter, join, project, node_flow}
 use Rattle.qw_algebra.proofs.Lists.{all_append, all_flat_map, all_more, flat_map_none}
 use Rattle.qw_rewrite.specs.Probed.{at_keys}
 use Rattle.qw_rewrite.proofs.Sifting.{IsOver}
-use Rattle.qw_pipe.specs.Pipes as pipes
 use Rattle.qw_pipe.specs.Pipes.{split}
 use Rattle.qw_pipe.specs.Units.{operand_of}
 use Rattle.qw_feed.specs.Feeds.{nothing, one_row}
-use Rattle.qw_table.specs.Joins.{have_values, where_values}
-use Rattle.qw_physical.specs.Physical.{Build, Pipeline, Sink, build}
+use Rattle.qw_table.specs.Joins.{have_values}
+use Rattle.qw_physical.specs.Physical.{Build, Pipeline, build}
 use Rattle.qw_physical.specs.Courses.{AreBuilt, fed, pipeline_fed}
-use Rattle.qw_physical.specs.Sides.{FeedsSide, IsEntryOf, IsMadeFor, IsOfEntries, column_in, sides}
-use Rattle.qw_physical.specs.Spelled.{all_spelled, kept_columns, keys_kept, spelled}
+use Rattle.qw_physical.specs.Sides.{FeedsSide, IsEntryOf, IsMadeFor, IsOfEntries, sides}
+use Rattle.qw_physical.specs.Spelled.{all_spelled, kept_columns, spelled}
 use Rattle.qw_physical.specs.declared.pipeline.ReadColumn.{ReadColumn}
 use Rattle.qw_physical.proofs.Declared.{AllScans, IsDeclared, ScanDeclared, rows_declared}
 use Rattle.qw_physical.proofs.Entries.{front_dropped, front_taken, kept_values}
 use Rattle.qw_physical.proofs.Feeding.{Feeds, built_count, building, feeds, lookup, side_fed, spelled_count, spelled_join}
 use Rattle.qw_physical.proofs.Joining.{entry_is, entry_key, filtered_all, kept_are, kept_count, the_build}
-use Rattle.qw_physical.proofs.Placed.{F, IsReady, ReadyJoin, both_all}
+use Rattle.qw_physical.proofs.Placed.{F, IsReady, ReadyJoin}
+use Rattle.qw_leaves.proofs.LeafLists.{all_pairs}
 
 -- ---- pipelines in order
 
@@ -83,10 +81,6 @@ module _ (tables : List (List (List Val))) where
       }
 
 -- ---- one entry
-
-one_at_most : {A : Type 0} (b : Bool) (x : A) → length (if b then x ∷ [] else []) ≤ 1
-one_at_most true x = omega arith
-one_at_most false x = omega arith
 
 few_made : {A B : Type 0} (f : A → List B) (xs : List A) → AllByRecursion (λ x. length (f x) ≤ 1) xs → length (flat_map f xs) ≤ length xs
 few_made f [] h = omega arith
@@ -189,7 +183,7 @@ module _ (entries : List Entry) (tables : List (List (List Val))) (columns : Lis
         entries = all_shuffled (IsMadeFor p.sink) (spread work (node_flow tables right)).rows (pipeline_fed tables built p).rows (IsPermutation-sym (pipeline_fed tables built p).rows (spread work (node_flow tables right)).rows a.0)
             (all_flat_map (IsMadeFor p.sink) (λ row. (work row).rows) R
             (all_more (λ row. over row × IsDeclared entries (owns right) row) (λ row. AllByRecursion (IsMadeFor p.sink) (work row).rows) R (λ row o. entry_made left right on keys m ready.0 built row o.0 o.1)
-            (both_all over (IsDeclared entries (owns right)) R ready.0.over_right (rows_declared entries tables columns sized right ready.1.1 scans))));
+            (all_pairs over (IsDeclared entries (owns right)) R ready.0.over_right (rows_declared entries tables columns sized right ready.1.1 scans))));
       }
 
   pub feed_sides : (node : Node) (next : ℕ) (start : List (List (List Val))) → length start ≡ next → IsReady entries tables columns sized node → AllScans (ScanDeclared entries tables) node

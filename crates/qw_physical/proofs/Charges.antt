@@ -7,7 +7,7 @@ use Rattle.qw_types.specs.declared.code.Code.{Code}
 use Rattle.qw_types.specs.declared.value.Val.{Val}
 use Rattle.qw_layout.specs.Hash.{slot}
 use Rattle.qw_scalar.specs.Conjuncts.{passes}
-use Rattle.qw_scalar.specs.Evaluation.{at_row, value_of}
+use Rattle.qw_scalar.specs.Evaluation.{at_row}
 use Rattle.qw_scalar.specs.Expression.{Condition, Expression}
 use Rattle.qw_scalar.specs.Units.{units_of_all, units_of_items}
 use Rattle.qw_meaning.specs.Flow.{Flow, values_of}
@@ -85,9 +85,6 @@ plus_less a b c h = omega (arith, h)
 if_less : (b : Bool) (x y : ℕ) → x ≤ y → (if b then x else 0) ≤ (if b then y else 0)
 if_less true x y h = h
 if_less false x y h = omega arith
-
-zero_plus : (n : ℕ) → n ≤ 0 + n
-zero_plus n = omega arith
 
 -- ---- the cost of a row
 

@@ -1,5 +1,5 @@
 -- Rows of a plan have at the columns of its entries values as they are declared.
-use Rattle.std.proofs.Common.{◌≡◌, ◌∙◌, ◌⊎◌, ◌≤◌, ◌<◌, ℕ, zero, suc, ◌+◌, ◌*◌, ◌/◌, ◌%◌, nat_eq, Bool, true, false, ◌&&◌, ◌||◌, List, [], ◌∷◌, ◌++◌, map, length, Option, Some, slice_get, inl, inr, refl, sym, ap, ap₂, subst, arith}
+use Rattle.std.proofs.Common.{◌≡◌, ◌∙◌, ◌⊎◌, ◌≤◌, ℕ, zero, suc, ◌+◌, ◌*◌, ◌/◌, ◌%◌, nat_eq, Bool, true, false, ◌&&◌, ◌||◌, List, [], ◌∷◌, ◌++◌, map, length, Option, Some, slice_get, inl, inr, refl, sym, ap, subst, arith}
 use Rattle.std.specs.List.{AllByRecursion, AllZip}
 use Rattle.qw_types.specs.Contents.{IsOfColumnType, rows_of}
 use Rattle.qw_types.specs.Value.{IsSized}
@@ -11,7 +11,7 @@ use Rattle.qw_meaning.specs.Select.{AreOfEntries, Entry, IsOfEntry, Joined, Sour
 use Rattle.qw_meaning.proofs.FromLemmas.{cell, cell_behind, first_of_null, merged_cell}
 use Rattle.qw_algebra.specs.Columns.{owns}
 use Rattle.qw_algebra.specs.Node.{Node, scan, filter, join, project, node_flow}
-use Rattle.qw_algebra.specs.Written.{from_written, source_written, with_joins, with_sources, written}
+use Rattle.qw_algebra.specs.Written.{from_written, source_written, with_joins, with_sources}
 use Rattle.qw_algebra.proofs.Lists.{all_map, all_more}
 use Rattle.qw_rewrite.specs.Probe.{keyed}
 use Rattle.qw_rewrite.specs.Sift.{beyond, is_clean_on, is_quiet, moved, sifted, within}
@@ -21,7 +21,8 @@ use Rattle.qw_rewrite.proofs.Stages.{kept_all}
 use Rattle.qw_physical.specs.Sides.{column_in}
 use Rattle.qw_physical.specs.declared.pipeline.ReadColumn.{ReadColumn}
 use Rattle.qw_physical.proofs.Entries.{nat_is}
-use Rattle.qw_physical.proofs.Placed.{F, IsReady, both_all}
+use Rattle.qw_physical.proofs.Placed.{F, IsReady}
+use Rattle.qw_leaves.proofs.LeafLists.{all_pairs as both_all}
 
 -- ---- scans of a plan
 

@@ -1,6 +1,5 @@
 -- The row of an entry has the values of the columns that are kept, and nulls elsewhere.
-use Rattle.std.proofs.Common.{◌≡◌, ◌∙◌, ◌<◌, ◌+◌, ◌-◌, ◌⊎◌, ℕ, zero, suc, nat_eq, Bool, true, false, ◌&&◌, ◌||◌, if◌then◌else◌, List, [], ◌∷◌, ◌++◌, map, length, replicate, drop, take, Result, Ok, Err, inl, inr, refl, sym, ap, ap₂, arith}
-use Rattle.std.specs.List.{AllByRecursion, list_any}
+use Rattle.std.proofs.Common.{◌≡◌, ◌∙◌, ◌<◌, ◌+◌, ◌-◌, ◌⊎◌, ℕ, zero, suc, nat_eq, Bool, true, false, ◌&&◌, ◌||◌, if◌then◌else◌, List, [], ◌∷◌, ◌++◌, map, length, replicate, drop, take, Result, Ok, Err, inl, inr, refl, ap, arith}
 use Rattle.std.specs.List as list
 use Rattle.std.proofs.lemmas.Bool.Decides.{nat_tests}
 use Rattle.std.proofs.lemmas.Map.Views.{any-filter_same}
@@ -11,7 +10,7 @@ use Rattle.qw_types.specs.declared.value.Val.TheVariants.{Null, Num, Date, Text}
 use Rattle.qw_scalar.specs.Evaluation.{at_row, Environment, value_of}
 use Rattle.qw_scalar.specs.Expression.{Expression}
 use Rattle.qw_meaning.specs.Flow.{values_of}
-use Rattle.qw_meaning.specs.From.{first_of, merged}
+use Rattle.qw_meaning.specs.From.{first_of}
 use Rattle.qw_meaning.proofs.FromLemmas.{cell, cell_before, cell_behind, cell_past, first_of_null, merged_cell}
 use Rattle.qw_physical.specs.Courses.{column_of, row_of}
 use Rattle.qw_physical.specs.Reads.{is_read}

@@ -1,9 +1,8 @@
 -- The entry that a row leaves in a table: its key, and the columns that are kept, from which a row is made again that has the same values at the columns
 -- that are read.
-use Rattle.std.proofs.Common.{◌≡◌, ◌∙◌, ◌⊎◌, ℕ, zero, suc, ◌+◌, ◌-◌, ◌≤◌, ◌<◌, nat_eq, Bool, true, false, ◌||◌, if◌then◌else◌, List, [], ◌∷◌, ◌++◌, drop, length, map, replicate, take, Result, Ok, Err, inl, inr, refl, sym, ap, ap₂, subst, arith}
-use Rattle.std.specs.List.{AllByRecursion, filter as filter_list, list_any}
+use Rattle.std.proofs.Common.{◌≡◌, ◌∙◌, ◌⊎◌, ℕ, zero, suc, ◌+◌, ◌-◌, ◌≤◌, ◌<◌, nat_eq, Bool, true, false, ◌||◌, if◌then◌else◌, List, [], ◌∷◌, ◌++◌, drop, length, map, replicate, take, Result, Ok, inl, inr, refl, ap, ap₂, subst, arith}
+use Rattle.std.specs.List.{AllByRecursion, filter as filter_list}
 use Rattle.std.proofs.lemmas.Bool.Decides.{nat_tests}
-use Rattle.std.proofs.lemmas.List.{length-replicate}
 use Rattle.qw_types.specs.Arithmetic.{◌>>=◌}
 use Rattle.qw_types.specs.declared.code.Code.{Code}
 use Rattle.qw_types.specs.declared.value.Val.{Val}
@@ -12,7 +11,7 @@ use Rattle.qw_scalar.specs.Evaluation.{Environment, at_row, value_of}
 use Rattle.qw_scalar.specs.Expression.{Expression, column}
 use Rattle.qw_scalar.specs.Units.{units_of_items}
 use Rattle.qw_meaning.specs.Flow.{values_of}
-use Rattle.qw_meaning.specs.From.{first_of, merged}
+use Rattle.qw_meaning.specs.From.{first_of}
 use Rattle.qw_meaning.proofs.FromLemmas.{cell, cell_before, cell_behind, cell_past, first_of_null, merged_cell}
 use Rattle.qw_physical.specs.Courses.{column_of, row_of}
 use Rattle.qw_physical.specs.Reads.{is_read}

@@ -1,5 +1,5 @@
 -- Where the keys of a row and of an entry meet: they have no null and are the same.
-use Rattle.std.proofs.Common.{◌≡◌, ◌∙◌, ◌≤◌, ◌<ℤ◌, ◌*ℤ◌, neg_ℤ, negsuc, mul-pos, zero-lt-suc, le_antisymm, le_of_eq, le_of_mul-le-mul_right, ◌*◌, ◌^◌, unsigned_abs, ℕ, zero, suc, ℤ, pos, Bool, true, false, not, ◌&&◌, ◌||◌, if◌then◌else◌, List, [], ◌∷◌, map, length, Result, Ok, Err, refl, sym, ap, ap₂, arith}
+use Rattle.std.proofs.Common.{◌≡◌, ◌∙◌, ◌≤◌, ◌<ℤ◌, ◌*ℤ◌, neg_ℤ, negsuc, mul-pos, zero-lt-suc, le_antisymm, le_of_eq, le_of_mul-le-mul_right, ◌*◌, ◌^◌, unsigned_abs, ℕ, zero, suc, ℤ, pos, Bool, true, false, not, ◌&&◌, ◌||◌, if◌then◌else◌, List, [], ◌∷◌, map, length, Option, Some, None, Result, Ok, Err, refl, sym, ap, ap₂, arith}
 use Rattle.std.specs.List.{AllByRecursion, AllZip}
 use Rattle.std.proofs.lemmas.Cmp.{int_cmp_total}
 use Rattle.std.proofs.lemmas.Int.{unsigned_abs-mul}
@@ -15,16 +15,19 @@ use Rattle.qw_types.specs.ValueOrder.{is_same_row, row_order, value_order}
 use Rattle.qw_types.specs.declared.code.Code.{Code}
 use Rattle.qw_types.specs.declared.value.Val.{Val}
 use Rattle.qw_types.specs.declared.value.Val.TheVariants.{Null, Num, Date, Text}
+use Rattle.qw_scalar.specs.declared.comparison.Comparison.{Comparison}
 use Rattle.qw_scalar.specs.declared.comparison.Comparison.TheVariants.{Equal, NotEqual, Less, LessOrEqual, Greater, GreaterOrEqual}
 use Rattle.qw_scalar.specs.Evaluation.{Environment, at_row, compared, truth_if, value_of}
-use Rattle.qw_scalar.specs.Expression.{Expression, Condition, null, number, date, text, column, arithmetic, negative, extract, brought, choice, comparison, is_null, both, either, negation_of, is, scale_of}
+use Rattle.qw_scalar.specs.Expression.{Expression, Condition, null, comparison, scale_of}
 use Rattle.qw_scalar.specs.Typing.{IsValueOf, kind_of}
+use Rattle.qw_leaves.specs.Compared.{Compared, OfCompared, compared_in}
+use Rattle.qw_leaves.proofs.ComparedLemmas.{by_compared}
 use Rattle.qw_meaning.specs.Flow.{values_of}
-use Rattle.qw_algebra.specs.Columns.{condition_names_only, is_of, names_column, names_only}
-use Rattle.qw_rewrite.specs.Probe.{are_alike, face, is_eligible, is_of_side}
+use Rattle.qw_algebra.specs.Columns.{is_of, names_column, names_only}
+use Rattle.qw_rewrite.specs.Probe.{are_alike, are_eligible, face, is_eligible, is_of_side}
 use Rattle.qw_rewrite.specs.Probed.{all_meet, is_true, key_meets, meet}
-use Rattle.qw_rewrite.proofs.Rows.{and_left, and_right}
-use Rattle.qw_pipe.specs.Units.{operand_of}
+use Rattle.qw_rewrite.proofs.Names.{and_left, and_right, names_both}
+use Rattle.qw_pipe.specs.Units.{operand_among, operand_of}
 use Rattle.qw_table.specs.Joins.{have_values}
 
 -- ---- two values
@@ -148,48 +151,6 @@ compares_turned v w s = compares w v s ∙ ap₂ (λ a b. a && b) (and_turned (h
 
 -- ---- which columns an expression names
 
-both_true : (a b : Bool) → a ≡ true → b ≡ true → (a && b) ≡ true
-both_true true b h g = g
-both_true false b h g = h
-
-module _ (t u w : ℕ → Bool) (more : (i : ℕ) → t i ≡ true → u i ≡ true → w i ≡ true) where
-  mutual
-    pub names_both : (e : Expression) → names_only t e ≡ true → names_only u e ≡ true → names_only w e ≡ true
-    names_both null h g = refl
-    names_both (number v s) h g = refl
-    names_both (date d) h g = refl
-    names_both (text x) h g = refl
-    names_both (column i ty) h g = more i h g
-    names_both (arithmetic operator a b) h g =
-        both_true (names_only w a) (names_only w b) (names_both a (and_left (names_only t a) (names_only t b) h) (and_left (names_only u a) (names_only u b) g))
-        (names_both b (and_right (names_only t a) (names_only t b) h) (and_right (names_only u a) (names_only u b) g))
-    names_both (negative a) h g = names_both a h g
-    names_both (extract field a) h g = names_both a h g
-    names_both (brought a s) h g = names_both a h g
-    names_both (choice c a b) h g =
-        let ht : (names_only t a && names_only t b) ≡ true = and_right (condition_names_only t c) (names_only t a && names_only t b) h in
-        let hu : (names_only u a && names_only u b) ≡ true = and_right (condition_names_only u c) (names_only u a && names_only u b) g in
-        both_true (condition_names_only w c) (names_only w a && names_only w b)
-        (condition_names_both c (and_left (condition_names_only t c) (names_only t a && names_only t b) h) (and_left (condition_names_only u c) (names_only u a && names_only u b) g))
-        (both_true (names_only w a) (names_only w b) (names_both a (and_left (names_only t a) (names_only t b) ht) (and_left (names_only u a) (names_only u b) hu))
-        (names_both b (and_right (names_only t a) (names_only t b) ht) (and_right (names_only u a) (names_only u b) hu)))
-
-    pub condition_names_both : (c : Condition) → condition_names_only t c ≡ true → condition_names_only u c ≡ true → condition_names_only w c ≡ true
-    condition_names_both (comparison op a b) h g =
-        both_true (names_only w a) (names_only w b) (names_both a (and_left (names_only t a) (names_only t b) h) (and_left (names_only u a) (names_only u b) g))
-        (names_both b (and_right (names_only t a) (names_only t b) h) (and_right (names_only u a) (names_only u b) g))
-    condition_names_both (is_null a) h g = names_both a h g
-    condition_names_both (both c d) h g =
-        both_true (condition_names_only w c) (condition_names_only w d)
-        (condition_names_both c (and_left (condition_names_only t c) (condition_names_only t d) h) (and_left (condition_names_only u c) (condition_names_only u d) g))
-        (condition_names_both d (and_right (condition_names_only t c) (condition_names_only t d) h) (and_right (condition_names_only u c) (condition_names_only u d) g))
-    condition_names_both (either c d) h g =
-        both_true (condition_names_only w c) (condition_names_only w d)
-        (condition_names_both c (and_left (condition_names_only t c) (condition_names_only t d) h) (and_left (condition_names_only u c) (condition_names_only u d) g))
-        (condition_names_both d (and_right (condition_names_only t c) (condition_names_only t d) h) (and_right (condition_names_only u c) (condition_names_only u d) g))
-    condition_names_both (negation_of c) h g = condition_names_both c h g
-    condition_names_both (is c x) h g = condition_names_both c h g
-
 -- what names columns of one side, at least one, doesn't name those of the other alone
 pub apart_names : (t u : ℕ → Bool) → ((i : ℕ) → t i ≡ true → u i ≡ false) → (e : Expression) → names_only t e ≡ true → names_column e ≡ true → names_only u e ≡ false
 apart_names t u apart e h g = one (names_only u e) refl
@@ -205,12 +166,7 @@ apart_names t u apart e h g = one (names_only u e) refl
 
 -- numbers on both sides have one scale
 abbrev pub HasOneScale : Condition → Type 0
-HasOneScale (comparison op a b) = scale_of a ≡ scale_of b
-HasOneScale (is_null a) = Unit {0}
-HasOneScale (both c d) = Unit {0}
-HasOneScale (either c d) = Unit {0}
-HasOneScale (negation_of c) = Unit {0}
-HasOneScale (is c t) = Unit {0}
+HasOneScale c = OfCompared (λ op a b. scale_of a ≡ scale_of b) (compared_in c)
 
 abbrev pub sought : (tr : ℕ → Bool) → Condition → Expression
 sought tr c = operand_of (λ i. not (tr i)) c
@@ -222,7 +178,7 @@ pub record IsDivided (tl tr : ℕ → Bool) (c : Condition) : Type 0 where
   pub meets : (l r : List Val) (v w : Val) → value_of (sought tr c) (at_row l) ≡ Ok v → value_of (operand_of tr c) (at_row r) ≡ Ok w
       → key_meets tl tr c l r ≡ ((has_value v && has_value w) && is_eq (value_order v w))
 
-or_second : (a b : Bool) → a ≡ false → (a || b) ≡ true → b ≡ true
+pub or_second : (a b : Bool) → a ≡ false → (a || b) ≡ true → b ≡ true
 or_second true b e h = absurd cc
 or_second false b e h = h
 
@@ -274,18 +230,16 @@ module _ (tl tr : ℕ → Bool) (apart : (i : ℕ) → tl i ≡ true → tr i �
                 ∙ ap (λ (s : ℕ). is_true (compared Equal w (scale_of x) v s)) (sym scale) ∙ compares_turned v w (scale_of x);
           }
 
+  comparison_divided : (op : Comparison) (x y : Expression) → is_eligible tl tr (comparison op x y) ≡ true → HasOneScale (comparison op x y) → IsDivided tl tr (comparison op x y)
+  comparison_divided Equal x y h scale = equality_divided x y (and_left (face tl tr x y) (are_alike (kind_of x) (kind_of y)) h) scale
+  comparison_divided NotEqual x y h scale = absurd cc
+  comparison_divided Less x y h scale = absurd cc
+  comparison_divided LessOrEqual x y h scale = absurd cc
+  comparison_divided Greater x y h scale = absurd cc
+  comparison_divided GreaterOrEqual x y h scale = absurd cc
+
   pub divided : (c : Condition) → is_eligible tl tr c ≡ true → HasOneScale c → IsDivided tl tr c
-  divided (comparison Equal x y) h scale = equality_divided x y (and_left (face tl tr x y) (are_alike (kind_of x) (kind_of y)) h) scale
-  divided (comparison NotEqual x y) h scale = absurd cc
-  divided (comparison Less x y) h scale = absurd cc
-  divided (comparison LessOrEqual x y) h scale = absurd cc
-  divided (comparison Greater x y) h scale = absurd cc
-  divided (comparison GreaterOrEqual x y) h scale = absurd cc
-  divided (is_null a) h scale = absurd cc
-  divided (both c d) h scale = absurd cc
-  divided (either c d) h scale = absurd cc
-  divided (negation_of c) h scale = absurd cc
-  divided (is c t) h scale = absurd cc
+  divided = by_compared (λ c o. are_eligible tl tr o ≡ true → OfCompared (λ op a b. scale_of a ≡ scale_of b) o → IsDivided tl tr c) comparison_divided (λ c h scale. absurd cc)
 
 -- ---- lists of values
 
@@ -360,22 +314,20 @@ all_told row (e ∷ es) h =
     record { values = h.0.value ∷ rest.values; is = rw (h.0.is, rest.is) refl; kinds = (h.0.kind, rest.kinds); count = ap suc rest.count }
 
 -- an operand of a condition has what both have
-abbrev pub AllOperands : (Expression → Type 0) → Condition → Type 0
-AllOperands P (comparison op a b) = P a × P b
-AllOperands P (is_null a) = P null
-AllOperands P (both c d) = P null
-AllOperands P (either c d) = P null
-AllOperands P (negation_of c) = P null
-AllOperands P (is c t) = P null
+abbrev pub BothOperands : (Expression → Type 0) → Option Compared → Type 0
+BothOperands P None = P null
+BothOperands P (Some k) = P k.left × P k.right
 
-pub operand_has : (P : Expression → Type 0) (test : ℕ → Bool) (c : Condition) → AllOperands P c → P (operand_of test c)
-operand_has P test (comparison op a b) h = one (names_only test a)
+abbrev pub AllOperands : (Expression → Type 0) → Condition → Type 0
+AllOperands P c = BothOperands P (compared_in c)
+
+both_operands : (P : Expression → Type 0) (test : ℕ → Bool) (o : Option Compared) → BothOperands P o → P (operand_among test o)
+both_operands P test None h = h
+both_operands P test (Some k) h = one (names_only test k.left)
   where
-    one : (q : Bool) → P (if q then a else b)
+    one : (q : Bool) → P (if q then k.left else k.right)
     one true = h.0
     one false = h.1
-operand_has P test (is_null a) h = h
-operand_has P test (both c d) h = h
-operand_has P test (either c d) h = h
-operand_has P test (negation_of c) h = h
-operand_has P test (is c t) h = h
+
+pub operand_has : (P : Expression → Type 0) (test : ℕ → Bool) (c : Condition) → AllOperands P c → P (operand_of test c)
+operand_has P test c h = both_operands P test (compared_in c) h

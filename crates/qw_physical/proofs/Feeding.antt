@@ -1,11 +1,10 @@
 -- The pipelines of a well placed plan feed what its flow makes, over tables whose entries stand in any order.
-use Rattle.std.proofs.Common.{◌≡◌, ◌∙◌, ℕ, zero, suc, ◌+◌, Bool, true, false, List, [], ◌∷◌, ◌++◌, get_or, length, Result, refl, sym, ap, subst, append-nil, append_assoc, length-append, arith}
+use Rattle.std.proofs.Common.{◌≡◌, ◌∙◌, ℕ, suc, ◌+◌, true, List, [], ◌∷◌, ◌++◌, get_or, length, refl, sym, ap, subst, append-nil, append_assoc, length-append, arith}
 use Rattle.std.specs.List.{AllByRecursion, flat_map}
 use Rattle.std.specs.List.Sorted.{IsPermutation}
 use Rattle.std.proofs.lemmas.List.{get_or_at}
 use Rattle.std.proofs.lemmas.List.Sorted.{IsPermutation-sym, IsPermutation-trans, length_permutation}
 use Rattle.qw_types.specs.Value.{IsSized}
-use Rattle.qw_types.specs.declared.code.Code.{Code}
 use Rattle.qw_types.specs.declared.schema.ColumnType.{ColumnType}
 use Rattle.qw_types.specs.declared.value.Val.{Val}
 use Rattle.qw_scalar.specs.Conjuncts.{passes}
@@ -26,8 +25,8 @@ use Rattle.qw_physical.specs.Courses.{AreBuilt, fed, pipeline_fed}
 use Rattle.qw_physical.specs.Reads.{is_read}
 use Rattle.qw_physical.specs.Spelled.{all_spelled, kept_columns, keys_kept, keys_sought, spelled, spelled_steps}
 use Rattle.qw_physical.specs.declared.pipeline.ReadColumn.{ReadColumn}
-use Rattle.qw_physical.proofs.Joining.{build_sees, joined, passed_on, probe_sees, the_build, the_probe}
-use Rattle.qw_physical.proofs.Orders.{Alike, alike_is, alike_refl, alike_trans, over_same, spread_twice}
+use Rattle.qw_physical.proofs.Joining.{build_sees, joined, passed_on, probe_sees}
+use Rattle.qw_physical.proofs.Orders.{Alike, alike_refl, alike_trans, over_same, spread_twice}
 use Rattle.qw_physical.proofs.Placed.{IsReady}
 use Rattle.qw_physical.proofs.Sight.{Sees, operator_sees}
 use Rattle.qw_physical.proofs.Through.{at_operator, fed_through, through, through_last}

@@ -13,14 +13,14 @@ use Rattle.qw_physical.specs.Named.{IsDeclared, and_first, and_firsts, column_in
 use Rattle.qw_physical.proofs.Reading.{IsThere, ReadsAll, all_named, any_front, any_numbers, named_distinct, push_distinct, reads_there, same_number}
 
 -- ---- what was there stays
-first_kept : (f : ℕ → Bool) (xs : List ℕ) (entry : ℕ) → list_any f xs ≡ true → list_any f (and_first xs entry) ≡ true
+pub first_kept : (f : ℕ → Bool) (xs : List ℕ) (entry : ℕ) → list_any f xs ≡ true → list_any f (and_first xs entry) ≡ true
 first_kept f xs entry h = by_test (list_any (λ (i : ℕ). owner i == entry) xs)
   where
     by_test : (b : Bool) → list_any f (if b then xs else xs ++ (64 * entry) ∷ []) ≡ true
     by_test true = h
     by_test false = any_front f xs ((64 * entry) ∷ []) h
 
-firsts_kept : (f : ℕ → Bool) (xs : List ℕ) (entry count : ℕ) → list_any f xs ≡ true → list_any f (and_firsts xs entry count) ≡ true
+pub firsts_kept : (f : ℕ → Bool) (xs : List ℕ) (entry count : ℕ) → list_any f xs ≡ true → list_any f (and_firsts xs entry count) ≡ true
 firsts_kept f xs entry zero h = h
 firsts_kept f xs entry (suc count) h = firsts_kept f (and_first xs entry) (entry + 1) count (first_kept f xs entry h)
 

@@ -1,6 +1,6 @@
 -- What is known of each join of a well placed plan: the entries of its sides are apart, the rows of a side are null at the other's columns, and its
 -- keys are eligible equalities, by which it comes to its pairs.
-use Rattle.std.proofs.Common.{◌≡◌, ◌∙◌, ℕ, zero, suc, ◌+◌, Bool, true, false, not, ◌&&◌, if◌then◌else◌, List, [], ◌∷◌, ◌++◌, length, Some, slice_get, refl, sym, ap, subst, subst₂, arith, append_assoc, length-append}
+use Rattle.std.proofs.Common.{◌≡◌, ◌∙◌, ℕ, ◌+◌, Bool, true, false, not, ◌&&◌, if◌then◌else◌, List, [], ◌∷◌, ◌++◌, length, slice_get, refl, sym, ap, subst, subst₂, append_assoc, length-append}
 use Rattle.std.specs.List.{AllByRecursion, filter_map}
 use Rattle.std.specs.List as list
 use Rattle.qw_types.specs.declared.value.Val.{Val}
@@ -26,13 +26,10 @@ use Rattle.qw_rewrite.proofs.Moved.{moved_all, stayed_all}
 use Rattle.qw_rewrite.proofs.Probes.{placed_probes}
 use Rattle.qw_rewrite.proofs.Sifting.{IsHonest, IsOver, IsSound, rows_over}
 use Rattle.qw_rewrite.proofs.Stages.{all_filtered}
-use Rattle.qw_physical.proofs.Throughout.{Throughout, clauses_through, keyed_through, sifted_through}
+use Rattle.qw_physical.proofs.Throughout.{Throughout, clauses_through, sifted_through}
+use Rattle.qw_physical.proofs.Plans.{at_seam}
 
 -- ---- the equalities at the keys
-
-at_seam : (front : List Condition) (c : Condition) (cs : List Condition) → slice_get (front ++ c ∷ cs) (length front) ≡ Some c
-at_seam [] c cs = refl
-at_seam (x ∷ front) c cs = at_seam front c cs
 
 eligible_found : (tl tr : ℕ → Bool) (front cs : List Condition)
     → filter_map (λ k. slice_get (front ++ cs) k) (keys_from tl tr (length front) cs) ≡ list.filter (is_eligible tl tr) (quiet_front cs)

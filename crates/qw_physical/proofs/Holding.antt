@@ -1,8 +1,7 @@
 -- What a query's pipelines put into memory is within what its plan is said to hold.
-use Rattle.std.proofs.Common.{◌≡◌, ◌∙◌, ℕ, zero, suc, ◌+◌, ◌*◌, ◌≤◌, max, take, Bool, true, false, if◌then◌else◌, List, [], ◌∷◌, ◌++◌, length, map, Option, Some, None, Result, Ok, Err, refl, sym, ap, ap₂, subst, arith, append-nil, append_assoc, length-append}
+use Rattle.std.proofs.Common.{◌≡◌, ◌∙◌, ℕ, suc, ◌+◌, ◌*◌, ◌≤◌, max, take, Bool, true, false, if◌then◌else◌, List, [], ◌∷◌, ◌++◌, length, map, Option, Some, None, Result, Ok, Err, refl, sym, ap, ap₂, subst, arith, append-nil, append_assoc, length-append}
 use Rattle.std.specs.Prelude.{slice_get}
 use Rattle.std.specs.List.{AllByRecursion, filter as filter_list, filter_map, flat_map}
-use Rattle.std.specs.List.Sorted.{IsPermutation}
 use Rattle.std.specs.declared.cmp.Ordering.TheVariants as ordering
 use Rattle.std.proofs.lemmas.List.{length-map}
 use Rattle.std.proofs.lemmas.List.Sorted.{length_permutation}
@@ -10,10 +9,9 @@ use Rattle.qw_types.specs.Arithmetic.{◌>>=◌}
 use Rattle.qw_types.specs.ValueOrder.{is_same_row, value_order}
 use Rattle.qw_types.specs.declared.code.Code.{Code}
 use Rattle.qw_types.specs.declared.value.Val.{Val}
-use Rattle.qw_layout.specs.Row.{entry_size}
 use Rattle.qw_scalar.specs.Evaluation.{at_row}
 use Rattle.qw_scalar.specs.Expression.{Condition, Expression}
-use Rattle.qw_meaning.specs.Flow.{each, rows_given, selected, values_of}
+use Rattle.qw_meaning.specs.Flow.{rows_given, selected, values_of}
 use Rattle.qw_meaning.specs.From.{entry_flow}
 use Rattle.qw_meaning.specs.Select.{AreOfEntries, IsSpecification, Specification, conjuncts_on, entries_of}
 use Rattle.qw_algebra.specs.Columns.{entries_below, is_of, names_only}
@@ -21,23 +19,23 @@ use Rattle.qw_algebra.specs.Node.{Node, scan, filter, join, project, node_flow}
 use Rattle.qw_algebra.specs.Written.{written}
 use Rattle.qw_algebra.proofs.Lists.{all_append, all_more}
 use Rattle.qw_pipe.specs.Octets.{entry_octets, greatest_entry, table_count, table_octets}
-use Rattle.qw_pipe.specs.Pipes as pipes
-use Rattle.qw_pipe.specs.Pipes.{Lookup, make, pipelines, split, then_step}
+use Rattle.qw_pipe.specs.Pipes.{make, pipelines, split, then_step}
 use Rattle.qw_pipe.specs.Units.{equalities, operand_of}
 use Rattle.qw_pipe.proofs.Splitting.{building, lookup}
 use Rattle.qw_rewrite.specs.Placed.{IsSizedPlan}
 use Rattle.qw_rewrite.specs.Probe.{keyed}
 use Rattle.qw_rewrite.specs.Sift.{sifted}
 use Rattle.qw_feed.specs.Feeds.{flow_by, nothing, one_row}
-use Rattle.qw_table.specs.Joins.{have_values, where_values}
+use Rattle.qw_table.specs.Joins.{have_values}
 use Rattle.qw_physical.specs.Courses.{AreBuilt, pipeline_fed, placed, sink_values}
 use Rattle.qw_physical.specs.Held.{held, kept_of, sink_octets, sink_size}
 use Rattle.qw_physical.specs.Physical.{Operator, Pipeline, Sink, build, select}
 use Rattle.qw_physical.specs.Reads.{AreRead, AreScaled, is_read}
-use Rattle.qw_physical.specs.Spelled.{all_spelled, kept_columns, keys_kept, spelled, spelled_steps}
+use Rattle.qw_physical.specs.Spelled.{all_spelled, keys_kept, spelled, spelled_steps}
 use Rattle.qw_physical.specs.declared.pipeline.ReadColumn.{ReadColumn}
 use Rattle.qw_physical.proofs.Begun.{AreBegun, are_begun, known_all, sink_last, steps_last}
-use Rattle.qw_physical.proofs.Bounded.{bounds, build_fed, built_long, joined_builds, spelled_append, spelled_long}
+use Rattle.qw_physical.proofs.Bounded.{bounds, build_fed, built_long, joined_builds}
+use Rattle.qw_physical.proofs.Feeding.{spelled_count, pipelines_append}
 use Rattle.qw_physical.proofs.Charges.{Respects, charges, fed_respects, sink_fed}
 use Rattle.qw_physical.proofs.Grounded.{IsGround, clauses, query_grounded}
 use Rattle.qw_physical.proofs.JoinBound.{IsKnown, names_kept}
@@ -52,9 +50,6 @@ keys_few on (k ∷ keys) = one (slice_get on k) refl (keys_few on keys)
     one : (o : Option Condition) → slice_get on k ≡ o → length (filter_map (λ j. slice_get on j) keys) ≤ length keys → length (filter_map (λ j. slice_get on j) (k ∷ keys)) ≤ suc (length keys)
     one None e h = rw e (let n : length (filter_map (λ j. slice_get on j) keys) ≤ suc (length keys) = omega (arith, h) in n)
     one (Some c) e h = rw e (let n : suc (length (filter_map (λ j. slice_get on j) keys)) ≤ suc (length keys) = omega (arith, h) in n)
-
-size_less : (a b c : ℕ) → a ≤ b → entry_size a c 0 ≤ entry_size b c 0
-size_less a b c h = omega (arith, h)
 
 product_less : (n m s t : ℕ) → n ≤ m → s ≤ t → n * s ≤ m * t
 product_less n m s t h g = grind (arith, h, g)
@@ -225,7 +220,7 @@ module _ (same_rows : (row other : List Val) → is_same_row row other ≡ true 
           let less = first front begun in
           let after : length ((built ++ front) ++ entries ∷ []) ≡ (next + length (split next right).builds) + 1 =
           length-append (built ++ front) (entries ∷ [])
-          ∙ ap (λ k. k + 1) (length-append built front ∙ ap₂ (λ a b. a + b) long (built_long tables built (builds_of next right) front are ∙ spelled_long columns next (split next right).builds)) in
+          ∙ ap (λ k. k + 1) (length-append built front ∙ ap₂ (λ a b. a + b) long (built_long tables built (builds_of next right) front are ∙ spelled_count columns next (split next right).builds)) in
           let fed : length entries ≤ length (node_flow tables right).rows = (let n = few front are in omega (arith, many, n)) in
           let own = it_octets left right on keys next (length entries) fed in
           let others = second ((built ++ front) ++ entries ∷ []) back after rest in
@@ -265,7 +260,7 @@ module _ (same_rows : (row other : List Val) → is_same_row row other ≡ true 
   -- ---- a whole query
 
   whole_builds : (node : Node) (items : List Expression) → all_spelled columns 0 (pipelines (project node items)) ≡ builds_of 0 node ++ (spelled columns (0 + length (split 0 node).builds) (then_step (split 0 node).last (make items))) ∷ []
-  whole_builds node items = spelled_append columns 0 (split 0 node).builds (then_step (split 0 node).last (make items) ∷ [])
+  whole_builds node items = pipelines_append columns 0 (split 0 node).builds (then_step (split 0 node).last (make items) ∷ [])
 
   abbrev rows_octets : Node → List Expression → ℕ
   rows_octets node items = length (node_flow tables (project node items)).rows * (8 + 16 * length items)
@@ -328,7 +323,7 @@ module _ (same_rows : (row other : List Val) → is_same_row row other ≡ true 
 
   pub all_count : (node : Node) (items : List Expression) → length (all_spelled columns 0 (pipelines (project node items))) ≡ table_count (project node items) + 1
   all_count node items =
-      let long = spelled_long columns 0 (pipelines (project node items)) in
+      let long = spelled_count columns 0 (pipelines (project node items)) in
       let both = length-append (split 0 node).builds (then_step (split 0 node).last (make items) ∷ []) in
       let count = builds_count node 0 in
       omega (arith, long, both, count)

@@ -1,10 +1,8 @@
 -- What the rows of a join's left side cost where they look up the entries that the rows of its right side left in a table, in whatever order; and that
 -- this is within the units of the table.
-use Rattle.std.proofs.Common.{◌≡◌, ◌∙◌, ℕ, ◌+◌, ◌≤◌, ◌==◌, nat_eq, max, Bool, true, false, not, ◌&&◌, ◌||◌, if◌then◌else◌, List, [], ◌∷◌, ◌++◌, drop, length, map, sum_by, take, Result, Ok, Err, refl, sym, ap, ap₂, subst, arith, length-append}
-use Rattle.std.specs.List.{AllByRecursion, filter as filter_list, filter_map, flat_map}
-use Rattle.std.specs.Prelude.{slice_get}
+use Rattle.std.proofs.Common.{◌≡◌, ◌∙◌, ℕ, ◌+◌, ◌≤◌, ◌==◌, nat_eq, max, Bool, true, false, not, ◌&&◌, ◌||◌, if◌then◌else◌, List, [], ◌∷◌, drop, length, map, sum_by, take, Result, Ok, Err, refl, sym, ap, ap₂, subst, arith, length-append}
+use Rattle.std.specs.List.{AllByRecursion, filter as filter_list, flat_map}
 use Rattle.std.specs.declared.cmp.Ordering.TheVariants as ordering
-use Rattle.std.proofs.lemmas.Bool.Decides.{nat_tests}
 use Rattle.std.proofs.lemmas.List.{length-map}
 use Rattle.qw_types.specs.Arithmetic.{◌>>=◌}
 use Rattle.qw_types.specs.Value as value
@@ -15,23 +13,24 @@ use Rattle.qw_types.specs.declared.value.Val.TheVariants.{Null, Num, Date, Text}
 use Rattle.qw_layout.specs.Hash.{slot, value_octets}
 use Rattle.qw_scalar.specs.Conjuncts.{passes}
 use Rattle.qw_scalar.specs.Evaluation.{Environment, at_row, value_of}
-use Rattle.qw_scalar.specs.Expression.{Condition, Expression, comparison, is_null, both, either, negation_of, is}
+use Rattle.qw_scalar.specs.Expression.{Condition, Expression}
 use Rattle.qw_scalar.specs.Units.{units_of, units_of_all, units_of_items}
+use Rattle.qw_leaves.proofs.ComparedLemmas.{by_compared}
 use Rattle.qw_meaning.specs.Flow.{Flow, kept, rows_given, values_of}
 use Rattle.qw_meaning.specs.From.{merged}
 use Rattle.qw_meaning.proofs.FromLemmas.{cell}
 use Rattle.qw_algebra.specs.Columns.{condition_names_only, entries_below, is_of, names_only, owns}
 use Rattle.qw_algebra.specs.Node.{Node, join, node_flow}
-use Rattle.qw_algebra.proofs.Lists.{all_append, all_map, all_more}
+use Rattle.qw_algebra.proofs.Lists.{all_append, all_more}
 use Rattle.qw_pipe.specs.General.{general_hashing}
 use Rattle.qw_pipe.specs.Pipes.{Lookup}
-use Rattle.qw_pipe.specs.Units.{equalities, is_passed, key_kept, key_sought, meets, operand_of, table_units, value_or_null}
+use Rattle.qw_pipe.specs.Units.{equalities, is_passed, key_kept, key_sought, meets, operand_among, operand_of, table_units, value_or_null}
 use Rattle.qw_rewrite.specs.Probe.{is_eligible}
 use Rattle.qw_rewrite.specs.Probed.{all_meet, at_keys, beside_keys, found, is_key}
-use Rattle.qw_rewrite.proofs.Rows.{NamesOnly, and_left, and_right, passes_agrees}
+use Rattle.qw_rewrite.proofs.Names.{and_left, and_right}
+use Rattle.qw_rewrite.proofs.Rows.{NamesOnly, passes_agrees}
 use Rattle.qw_feed.specs.Feeds.{flow_by, nothing, one_row}
 use Rattle.qw_table.specs.Joins.{have_values, keyed}
-use Rattle.qw_table.specs.Keys as octets
 use Rattle.qw_table.specs.Keys.{text_octets}
 use Rattle.qw_table.specs.Tables.{in_slot}
 use Rattle.qw_physical.specs.Courses.{by_values, column_of, pair_of, placed, row_of, sink_key, sink_values, where_passed}
@@ -45,6 +44,7 @@ use Rattle.qw_physical.proofs.Grounded.{IsKeyedJoin, IsNullBeside}
 use Rattle.qw_physical.proofs.Meeting.{keys_pair, parted}
 use Rattle.qw_physical.proofs.SeenUnits.{conjuncts_agree}
 use Rattle.qw_physical.proofs.Totals.{sum_is, total, total_filter, total_flat, total_less, total_less_all, total_map, total_plus, total_same}
+use Rattle.qw_physical.proofs.Entries.{nat_is}
 
 -- what is known of each conjunct
 abbrev pub IsKnown : List ReadColumn → Condition → Type 0
@@ -80,16 +80,11 @@ beside_less keys k (c ∷ cs) env = one (is_key keys k) (beside_less keys (k + 1
 -- ---- keys
 
 operand_names : (test side : ℕ → Bool) (c : Condition) → condition_names_only test c ≡ true → names_only test (operand_of side c) ≡ true
-operand_names test side (comparison op x y) h = one (names_only side x)
+operand_names test side = by_compared (λ c o. condition_names_only test c ≡ true → names_only test (operand_among side o) ≡ true) (λ op x y h. one x y h (names_only side x)) (λ c h. refl)
   where
-    one : (b : Bool) → names_only test (if b then x else y) ≡ true
-    one true = and_left (names_only test x) (names_only test y) h
-    one false = and_right (names_only test x) (names_only test y) h
-operand_names test side (is_null a) h = refl
-operand_names test side (both c d) h = refl
-operand_names test side (either c d) h = refl
-operand_names test side (negation_of c) h = refl
-operand_names test side (is c t) h = refl
+    one : (x y : Expression) → (names_only test x && names_only test y) ≡ true → (b : Bool) → names_only test (if b then x else y) ≡ true
+    one x y h true = and_left (names_only test x) (names_only test y) h
+    one x y h false = and_right (names_only test x) (names_only test y) h
 
 operands_name : (test side : ℕ → Bool) (cs : List Condition) → NamesOnly test cs → NamesItems test (map (operand_of side) cs)
 operands_name test side [] h = tt
@@ -113,9 +108,6 @@ texts_same (Text t ∷ values) = ap (λ n. length t + n) (texts_same values)
 abbrev folded : List Val → ℕ
 folded key = length (flat_map value_octets key)
 
-folded_more : (v : Val) (values : List Val) (n : ℕ) → length (value_octets v ++ flat_map value_octets values) ≡ n → n ≡ length (value_octets v) + folded values
-folded_more v values n e = sym e ∙ length-append (value_octets v) (flat_map value_octets values)
-
 -- a hash folds all octets of texts
 folded_texts : (values : List Val) → text_octets values ≤ folded values
 folded_texts [] = omega arith
@@ -125,9 +117,6 @@ folded_texts (Date d ∷ values) = let rest = folded_texts values in let all = l
 folded_texts (Text t ∷ values) = let rest = folded_texts values in let all = length-append (value_octets (Text t)) (flat_map value_octets values) in omega (arith, rest, all)
 
 -- ---- columns that are kept
-
-same_numbers : (a b : ℕ) → nat_eq a b ≡ true → a ≡ b
-same_numbers a b h = grind (arith, nat_tests)
 
 or_cases : (a b c : Bool) → (a || b) ≡ true → (b ≡ true → c ≡ true) → (a || c) ≡ true
 or_cases true b c h f = refl
@@ -139,7 +128,7 @@ read_kept entries (c ∷ cs) i h o = one (is_of entries c.number) refl (λ g. re
   where
     missed : is_of entries c.number ≡ false → (b : Bool) → nat_eq c.number i ≡ b → (b || is_read cs i) ≡ true → is_read cs i ≡ true
     missed e true same g =
-        let wrong : is_of entries c.number ≡ true = ap (is_of entries) (same_numbers c.number i same) ∙ o in
+        let wrong : is_of entries c.number ≡ true = ap (is_of entries) (nat_is c.number i same) ∙ o in
         absurd (let no : true ≡ false = sym wrong ∙ e in cc)
     missed e false same g = g
 
@@ -175,10 +164,10 @@ ok_case : (counted : Bool) (u t s m f q w : ℕ) → t ≤ f → s ≤ q → m �
 ok_case true u t s m f q w ht hs hm = omega (arith, ht, hs, hm)
 ok_case false u t s m f q w ht hs hm = omega (arith, ht, hs, hm)
 
-less_trans : (a b c : ℕ) → a ≤ b → b ≤ c → a ≤ c
+pub less_trans : (a b c : ℕ) → a ≤ b → b ≤ c → a ≤ c
 less_trans a b c h g = omega (arith, h, g)
 
-is_less : (a b c : ℕ) → a ≡ b → b ≤ c → a ≤ c
+pub is_less : (a b c : ℕ) → a ≡ b → b ≤ c → a ≤ c
 is_less a b c h g = omega (arith, h, g)
 
 pub kept_total : (after : List Val → ℕ) (cs : List Condition) (row : List Val) → total after (rows_given (kept cs row)) ≡ where_passed (passes cs (at_row row)) (after row)

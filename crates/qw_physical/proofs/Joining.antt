@@ -1,9 +1,8 @@
 -- A row that looks up a table goes on with the pairs that the join makes of it, in some order.
-use Rattle.std.proofs.Common.{◌≡◌, ◌∙◌, ℕ, nat_eq, Bool, true, false, not, ◌&&◌, ◌||◌, if◌then◌else◌, List, [], ◌∷◌, ◌++◌, drop, get_or, length, map, take, Result, Ok, Err, Some, slice_get, refl, sym, ap, ap₂, subst, append-nil, arith}
+use Rattle.std.proofs.Common.{◌≡◌, ◌∙◌, ℕ, nat_eq, Bool, true, false, not, ◌&&◌, ◌||◌, if◌then◌else◌, List, [], ◌∷◌, ◌++◌, get_or, length, map, Result, Ok, Err, refl, sym, ap, ap₂, subst, append-nil, arith}
 use Rattle.std.specs.List.{AllByRecursion, flat_map}
 use Rattle.std.specs.List as list
 use Rattle.std.specs.List.Sorted.{IsPermutation}
-use Rattle.std.proofs.lemmas.List.Sorted.{IsPermutation-refl}
 use Rattle.std.proofs.lemmas.Bool.Decides.{nat_tests}
 use Rattle.qw_types.specs.Arithmetic.{◌>>=◌}
 use Rattle.qw_types.specs.Value.{IsSized}
@@ -20,7 +19,7 @@ use Rattle.qw_meaning.specs.From.{merged}
 use Rattle.qw_meaning.specs.Select.{Entry}
 use Rattle.qw_meaning.proofs.FlowLemmas.{flat_map_twice}
 use Rattle.qw_meaning.proofs.FromLemmas.{cell}
-use Rattle.qw_algebra.specs.Columns.{entries_below, is_of, names_only, owns}
+use Rattle.qw_algebra.specs.Columns.{entries_below, names_only, owns}
 use Rattle.qw_algebra.specs.Node.{Node, join, node_flow}
 use Rattle.qw_algebra.proofs.Flows.{same_flow}
 use Rattle.qw_algebra.proofs.Lists.{all_append, all_map, all_more, all_of_any, flat_map_none}
@@ -32,7 +31,7 @@ use Rattle.qw_pipe.specs.Units.{operand_of}
 use Rattle.qw_feed.specs.Feeds.{flow_by, flow_over, nothing, one_row, where_true}
 use Rattle.qw_table.specs.Joins.{have_values, where_values}
 use Rattle.qw_physical.specs.Physical.{Build, Probe, build, probe}
-use Rattle.qw_physical.specs.Courses.{column_of, fed, met, pair_of, placed, row_of, sink_values}
+use Rattle.qw_physical.specs.Courses.{column_of, fed, met, placed, row_of, sink_values}
 use Rattle.qw_physical.specs.Reads.{is_read}
 use Rattle.qw_physical.specs.Spelled.{kept_columns, keys_kept, keys_sought}
 use Rattle.qw_physical.specs.declared.pipeline.ReadColumn.{ReadColumn}

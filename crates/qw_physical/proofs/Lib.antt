@@ -3,8 +3,7 @@ pub mod Firsts
 pub mod Folds
 pub mod Followed
 pub mod NamedRead
-pub mod Naming
-pub mod Operands
+mod Naming
 pub mod Orders
 pub mod Permuted
 pub mod Plans

@@ -11,23 +11,28 @@ use Rattle.qw_types.specs.declared.truth.Truth.{Truth}
 use Rattle.qw_types.specs.declared.truth.Truth.TheVariants.{True}
 use Rattle.qw_types.specs.declared.value.Val.{Val}
 use Rattle.qw_types.specs.declared.value.Val.TheVariants.{Null, Num, Date, Text}
+use Rattle.qw_scalar.specs.declared.comparison.Comparison.{Comparison}
 use Rattle.qw_scalar.specs.declared.comparison.Comparison.TheVariants.{Equal, NotEqual, Less, LessOrEqual, Greater, GreaterOrEqual}
 use Rattle.qw_scalar.specs.Conjuncts.{passes}
 use Rattle.qw_scalar.specs.Evaluation.{at_row, chosen, compared, truth_if, truth_of, value_of}
-use Rattle.qw_scalar.specs.Expression.{Expression, Condition, null, number, date, text, column, arithmetic, negative, extract, brought, choice, comparison, is_null, both, either, negation_of, is, scale_of}
+use Rattle.qw_scalar.specs.Expression.{Expression, Condition, comparison, scale_of}
 use Rattle.qw_scalar.specs.Typing.{kind_of}
+use Rattle.qw_leaves.specs.Compared.{OfCompared}
+use Rattle.qw_leaves.proofs.ComparedLemmas.{by_compared}
 use Rattle.qw_meaning.specs.Flow.{values_of}
 use Rattle.qw_meaning.specs.From.{merged}
 use Rattle.qw_meaning.proofs.FromLemmas.{cell, first_of_null, merged_cell}
-use Rattle.qw_algebra.specs.Columns.{condition_names_only, is_of, names_column, names_only}
-use Rattle.qw_pipe.specs.Units.{operand_of}
-use Rattle.qw_rewrite.specs.Probe.{are_alike, face, is_eligible, is_of_side}
+use Rattle.qw_algebra.specs.Columns.{is_of, names_column, names_only}
+use Rattle.qw_pipe.specs.Units.{operand_among, operand_of}
+use Rattle.qw_rewrite.specs.Probe.{are_alike, are_eligible, face, is_eligible, is_of_side}
 use Rattle.qw_rewrite.specs.Probed.{all_meet, is_true, key_meets, meet}
-use Rattle.qw_rewrite.proofs.Rows.{and_left, and_right, value_agrees}
+use Rattle.qw_rewrite.proofs.Names.{and_both, and_left, and_right, names_both}
+use Rattle.qw_rewrite.proofs.Rows.{value_agrees}
 use Rattle.qw_rewrite.proofs.Sifting.{other_side}
 use Rattle.qw_table.specs.Joins.{have_values}
 use Rattle.qw_physical.specs.Reads.{IsScaled}
 use Rattle.qw_physical.proofs.Grounded.{IsNullBeside}
+use Rattle.qw_physical.proofs.EqualKeys.{or_second}
 
 -- ---- results of several values
 
@@ -45,51 +50,6 @@ parted (Ok v) (Ok vs) values e =
 parted (Ok v) (Err code) values e = absurd cc
 parted (Err code) rest values e = absurd cc
 
--- ---- columns that are named
-
-and_both : (a b : Bool) → a ≡ true → b ≡ true → (a && b) ≡ true
-and_both true b h g = g
-and_both false b h g = h
-
-mutual
-  -- what names columns of two tests alone names those of both
-  names_both : (s t u : ℕ → Bool) → ((i : ℕ) → s i ≡ true → t i ≡ true → u i ≡ true) → (e : Expression) → names_only s e ≡ true → names_only t e ≡ true → names_only u e ≡ true
-  names_both s t u more null h g = refl
-  names_both s t u more (number v k) h g = refl
-  names_both s t u more (date d) h g = refl
-  names_both s t u more (text x) h g = refl
-  names_both s t u more (column i ty) h g = more i h g
-  names_both s t u more (arithmetic operator a b) h g =
-      and_both (names_only u a) (names_only u b) (names_both s t u more a (and_left (names_only s a) (names_only s b) h) (and_left (names_only t a) (names_only t b) g))
-      (names_both s t u more b (and_right (names_only s a) (names_only s b) h) (and_right (names_only t a) (names_only t b) g))
-  names_both s t u more (negative a) h g = names_both s t u more a h g
-  names_both s t u more (extract field a) h g = names_both s t u more a h g
-  names_both s t u more (brought a k) h g = names_both s t u more a h g
-  names_both s t u more (choice c a b) h g =
-      let hs : (names_only s a && names_only s b) ≡ true = and_right (condition_names_only s c) (names_only s a && names_only s b) h in
-      let gs : (names_only t a && names_only t b) ≡ true = and_right (condition_names_only t c) (names_only t a && names_only t b) g in
-      and_both (condition_names_only u c) (names_only u a && names_only u b)
-      (condition_names_both s t u more c (and_left (condition_names_only s c) (names_only s a && names_only s b) h) (and_left (condition_names_only t c) (names_only t a && names_only t b) g))
-      (and_both (names_only u a) (names_only u b) (names_both s t u more a (and_left (names_only s a) (names_only s b) hs) (and_left (names_only t a) (names_only t b) gs))
-      (names_both s t u more b (and_right (names_only s a) (names_only s b) hs) (and_right (names_only t a) (names_only t b) gs)))
-
-  condition_names_both : (s t u : ℕ → Bool) → ((i : ℕ) → s i ≡ true → t i ≡ true → u i ≡ true) → (c : Condition)
-      → condition_names_only s c ≡ true → condition_names_only t c ≡ true → condition_names_only u c ≡ true
-  condition_names_both s t u more (comparison op a b) h g =
-      and_both (names_only u a) (names_only u b) (names_both s t u more a (and_left (names_only s a) (names_only s b) h) (and_left (names_only t a) (names_only t b) g))
-      (names_both s t u more b (and_right (names_only s a) (names_only s b) h) (and_right (names_only t a) (names_only t b) g))
-  condition_names_both s t u more (is_null a) h g = names_both s t u more a h g
-  condition_names_both s t u more (both c d) h g =
-      and_both (condition_names_only u c) (condition_names_only u d)
-      (condition_names_both s t u more c (and_left (condition_names_only s c) (condition_names_only s d) h) (and_left (condition_names_only t c) (condition_names_only t d) g))
-      (condition_names_both s t u more d (and_right (condition_names_only s c) (condition_names_only s d) h) (and_right (condition_names_only t c) (condition_names_only t d) g))
-  condition_names_both s t u more (either c d) h g =
-      and_both (condition_names_only u c) (condition_names_only u d)
-      (condition_names_both s t u more c (and_left (condition_names_only s c) (condition_names_only s d) h) (and_left (condition_names_only t c) (condition_names_only t d) g))
-      (condition_names_both s t u more d (and_right (condition_names_only s c) (condition_names_only s d) h) (and_right (condition_names_only t c) (condition_names_only t d) g))
-  condition_names_both s t u more (negation_of c) h g = condition_names_both s t u more c h g
-  condition_names_both s t u more (is c k) h g = condition_names_both s t u more c h g
-
 -- what names a column, and columns of one test alone, names not only those of another that is apart from it
 foreign : (s t : ℕ → Bool) → ((i : ℕ) → s i ≡ true → t i ≡ false) → (e : Expression) → is_of_side s e ≡ true → names_only t e ≡ false
 foreign s t apart e h = one (names_only t e) refl
@@ -101,10 +61,6 @@ foreign s t apart e h = one (names_only t e) refl
         names_both s t (is_of []) (λ i hs ht. absurd (let no : t i ≡ false = apart i hs in cc)) e (and_left (names_only s e) (names_column e) h) g in
         let some : names_column e ≡ true = and_right (names_only s e) (names_column e) h in
         absurd cc
-
-or_second : (a b : Bool) → a ≡ false → (a || b) ≡ true → b ≡ true
-or_second true b e h = absurd cc
-or_second false b e h = h
 
 not_false : (b : Bool) → b ≡ false → not b ≡ true
 not_false true h = absurd cc
@@ -134,9 +90,6 @@ module _ (same_value : (a : Val) → value_order a a ≡ ordering.Equal) where
 
     of_right : (e : Expression) → is_of_side tr e ≡ true → value_of e (at_row (merged l r)) ≡ value_of e (at_row r)
     of_right e h = value_agrees tr (merged l r) r (λ i t. merged_cell l r i ∙ (rw (lefts i (other_side (tl i) (tr i) (apart i) t)) refl)) e (and_left (names_only tr e) (names_column e) h)
-
-    beside : ℕ → Bool
-    beside i = not (tr i)
 
     -- an operand of the left side, and one of the right
     sought_left : (x y : Expression) → is_of_side tl x ≡ true → (if names_only (λ i. not (tr i)) x then x else y) ≡ x
@@ -192,20 +145,21 @@ module _ (same_value : (a : Val) → value_order a a ≡ ordering.Equal) where
               truth (of_right x hx ∙ vx) (of_left y hy ∙ vy),
             )
 
+    comparison_pair : (op : Comparison) (x y : Expression) (v : Val) (more : List Val) → is_eligible tl tr (comparison op x y) ≡ true → IsScaled (comparison op x y)
+        → value_of (operand_of (λ i. not (tr i)) (comparison op x y)) (at_row l) ≡ Ok v → value_of (operand_of tr (comparison op x y)) (at_row r) ≡ Ok v → have_values (v ∷ more) ≡ true → Met (comparison op x y)
+    comparison_pair Equal x y v more h scaled el er has =
+        equal_pair x y v more (and_left (face tl tr x y) (are_alike (kind_of x) (kind_of y)) h) (scaled (and_right (face tl tr x y) (are_alike (kind_of x) (kind_of y)) h)) el er has
+    comparison_pair NotEqual x y v more h scaled el er has = absurd cc
+    comparison_pair Less x y v more h scaled el er has = absurd cc
+    comparison_pair LessOrEqual x y v more h scaled el er has = absurd cc
+    comparison_pair Greater x y v more h scaled el er has = absurd cc
+    comparison_pair GreaterOrEqual x y v more h scaled el er has = absurd cc
+
     key_pair : (c : Condition) (v : Val) (more : List Val) → is_eligible tl tr c ≡ true → IsScaled c → value_of (operand_of (λ i. not (tr i)) c) (at_row l) ≡ Ok v
         → value_of (operand_of tr c) (at_row r) ≡ Ok v → have_values (v ∷ more) ≡ true → Met c
-    key_pair (comparison Equal x y) v more h scaled el er has =
-        equal_pair x y v more (and_left (face tl tr x y) (are_alike (kind_of x) (kind_of y)) h) (scaled (and_right (face tl tr x y) (are_alike (kind_of x) (kind_of y)) h)) el er has
-    key_pair (comparison NotEqual x y) v more h scaled el er has = absurd cc
-    key_pair (comparison Less x y) v more h scaled el er has = absurd cc
-    key_pair (comparison LessOrEqual x y) v more h scaled el er has = absurd cc
-    key_pair (comparison Greater x y) v more h scaled el er has = absurd cc
-    key_pair (comparison GreaterOrEqual x y) v more h scaled el er has = absurd cc
-    key_pair (is_null a) v more h scaled el er has = absurd cc
-    key_pair (both c d) v more h scaled el er has = absurd cc
-    key_pair (either c d) v more h scaled el er has = absurd cc
-    key_pair (negation_of c) v more h scaled el er has = absurd cc
-    key_pair (is c u) v more h scaled el er has = absurd cc
+    key_pair = by_compared (λ c o. (v : Val) (more : List Val) → are_eligible tl tr o ≡ true → OfCompared (λ op a b. are_alike (kind_of a) (kind_of b) ≡ true → scale_of a ≡ scale_of b) o
+        → value_of (operand_among (λ i. not (tr i)) o) (at_row l) ≡ Ok v → value_of (operand_among tr o) (at_row r) ≡ Ok v → have_values (v ∷ more) ≡ true → Met c) comparison_pair
+        (λ c v more h scaled el er has. absurd cc)
 
     -- the equalities of a whole key
     pub keys_pair : (cs : List Condition) (values : List Val) → AllByRecursion (λ c. is_eligible tl tr c ≡ true) cs → AllByRecursion IsScaled cs

@@ -1,29 +1,22 @@
 -- Each column that trees of a query name is named by what they stand for, so the columns that are named are read.
-use Rattle.std.proofs.Common.{◌≡◌, ◌∙◌, ℕ, ◌==◌, nat_eq, Bool, true, false, not, ◌&&◌, ◌||◌, if◌then◌else◌, List, [], ◌∷◌, ◌++◌, map, refl, sym, ap, arith}
+use Rattle.std.proofs.Common.{◌≡◌, ℕ, ◌==◌, nat_eq, Bool, true, false, not, ◌||◌, if◌then◌else◌, List, [], ◌∷◌, ◌++◌, map, refl, ap, arith}
 use Rattle.std.specs.List.{AllByRecursion, flat_map, list_any}
 use Rattle.std.proofs.lemmas.Bool.Decides.{nat_tests}
 use Rattle.qw_scalar.specs.declared.expression.Expr.{Expr}
 use Rattle.qw_scalar.specs.declared.expression.Cond.{Cond}
-use Rattle.qw_scalar.specs.declared.expression.Exprs.{Exprs}
-use Rattle.qw_scalar.specs.declared.expression.Branches.{Branches}
-use Rattle.qw_scalar.specs.declared.expression.Matches.{Matches}
-use Rattle.qw_scalar.specs.declared.expression.Expr.TheVariants.{Null, Number, Date, Text, Column, Arithmetic', Negative', Extract', Case', Match', Coalesce', NullIf'}
-use Rattle.qw_scalar.specs.declared.expression.Cond.TheVariants.{Compare', Between', In', IsNull', And', Or', Not', Is'}
-use Rattle.qw_scalar.specs.declared.expression.Exprs.TheVariants as Exprs
-use Rattle.qw_scalar.specs.declared.expression.Branches.TheVariants as Branches
-use Rattle.qw_scalar.specs.declared.expression.Matches.TheVariants as Matches
-use Rattle.qw_scalar.specs.Expression.{Condition, Expression, among, cases, coalesced, largest_result}
-use Rattle.qw_scalar.specs.Tree.{choices_of, condition_of, expression_of, expressions_of, matches_of}
+use Rattle.qw_scalar.specs.Expression.{Condition}
+use Rattle.qw_scalar.specs.Tree.{condition_of, expression_of}
+use Rattle.qw_leaves.proofs.LeafLists.{all_back, all_front}
 use Rattle.qw_meaning.specs.Query.{QueryParts, joined_of, query_of, source_of}
 use Rattle.qw_meaning.specs.Select.{Joined, conjuncts_on}
 use Rattle.qw_meaning.specs.declared.query.Joined as coded_join
 use Rattle.qw_meaning.specs.declared.query.Source as coded_source
 use Rattle.qw_algebra.specs.Columns.{condition_names_only, names_only}
 use Rattle.qw_algebra.proofs.Lists.{all_append}
-use Rattle.qw_rewrite.proofs.Rows.{and_left, and_right}
-use Rattle.qw_physical.specs.Named.{and_column, and_columns, columns_in, columns_of_all, columns_of_branches, columns_of_join, columns_of_matches, columns_of_query, columns_of_source, columns_within, named_by}
+use Rattle.qw_rewrite.proofs.Names.{names_has, names_have}
+use Rattle.qw_physical.specs.Named.{and_column, and_columns, columns_in, columns_of_join, columns_of_query, columns_of_source, columns_within, named_by}
 use Rattle.qw_physical.specs.Reads.{conjuncts_in}
-use Rattle.qw_physical.proofs.Throughout.{all_back, all_front}
+use Rattle.qw_physical.proofs.Naming.{columns_within_have, named_have}
 
 module _ (test : ℕ → Bool) where
   abbrev Pass : List ℕ → Type 0
@@ -32,110 +25,11 @@ module _ (test : ℕ → Bool) where
   both : (is js : List ℕ) → Pass is → Pass js → Pass (is ++ js)
   both is js h g = all_append (λ i. test i ≡ true) is js h g
 
-  mutual
-    expression_passes : (e : Expr) → names_only test (expression_of e) ≡ true → Pass (columns_in e)
-    expression_passes Null h = tt
-    expression_passes (Number v s) h = tt
-    expression_passes (Date d) h = tt
-    expression_passes (Text x) h = tt
-    expression_passes (Column i ty) h = (h, tt)
-    expression_passes (Arithmetic' operator _ a _ b) h =
-        both (columns_in a) (columns_in b) (expression_passes a (and_left (names_only test (expression_of a)) (names_only test (expression_of b)) h))
-        (expression_passes b (and_right (names_only test (expression_of a)) (names_only test (expression_of b)) h))
-    expression_passes (Negative' _ a) h = expression_passes a h
-    expression_passes (Extract' field _ a) h = expression_passes a h
-    expression_passes (Case' _ branches) h = branches_pass (largest_result (choices_of branches)) branches h
-    expression_passes (Match' _ x _ matches) h =
-        let s : ℕ = largest_result (matches_of matches (expression_of x)) in
-        both (columns_in x) (columns_of_matches matches) (expression_passes x (matched_operand s matches (expression_of x) h)) (matches_pass s matches (expression_of x) h)
-    expression_passes (Coalesce' _ arguments) h = arguments_pass (largest_result (coalesced (expressions_of arguments))) arguments h
-    expression_passes (NullIf' _ a _ b) h =
-        let pair : (names_only test (expression_of a) && names_only test (expression_of b)) ≡ true =
-        and_left (names_only test (expression_of a) && names_only test (expression_of b)) (true && names_only test (expression_of a)) h in
-        both (columns_in a) (columns_in b) (expression_passes a (and_left (names_only test (expression_of a)) (names_only test (expression_of b)) pair))
-        (expression_passes b (and_right (names_only test (expression_of a)) (names_only test (expression_of b)) pair))
+  expression_passes : (e : Expr) → names_only test (expression_of e) ≡ true → Pass (columns_in e)
+  expression_passes e h = named_have (λ i. test i ≡ true) e (names_has test (expression_of e) h)
 
-    condition_passes : (c : Cond) → condition_names_only test (condition_of c) ≡ true → Pass (columns_within c)
-    condition_passes (Compare' op _ a _ b) h =
-        both (columns_in a) (columns_in b) (expression_passes a (and_left (names_only test (expression_of a)) (names_only test (expression_of b)) h))
-        (expression_passes b (and_right (names_only test (expression_of a)) (names_only test (expression_of b)) h))
-    condition_passes (Between' _ x _ a _ b) h =
-        let nx : Bool = names_only test (expression_of x) in
-        let na : Bool = names_only test (expression_of a) in
-        let nb : Bool = names_only test (expression_of b) in
-        let low : (nx && na) ≡ true = and_left (nx && na) (nx && nb) h in
-        let high : (nx && nb) ≡ true = and_right (nx && na) (nx && nb) h in
-        both (columns_in x) (columns_in a ++ columns_in b) (expression_passes x (and_left nx na low))
-        (both (columns_in a) (columns_in b) (expression_passes a (and_right nx na low)) (expression_passes b (and_right nx nb high)))
-    condition_passes (In' _ x _ values) h =
-        both (columns_in x) (columns_of_all values) (expression_passes x (among_operand (expression_of x) values h)) (values_pass (expression_of x) values h)
-    condition_passes (IsNull' _ a) h = expression_passes a h
-    condition_passes (And' _ c _ d) h =
-        both (columns_within c) (columns_within d) (condition_passes c (and_left (condition_names_only test (condition_of c)) (condition_names_only test (condition_of d)) h))
-        (condition_passes d (and_right (condition_names_only test (condition_of c)) (condition_names_only test (condition_of d)) h))
-    condition_passes (Or' _ c _ d) h =
-        both (columns_within c) (columns_within d) (condition_passes c (and_left (condition_names_only test (condition_of c)) (condition_names_only test (condition_of d)) h))
-        (condition_passes d (and_right (condition_names_only test (condition_of c)) (condition_names_only test (condition_of d)) h))
-    condition_passes (Not' _ c) h = condition_passes c h
-    condition_passes (Is' _ c k) h = condition_passes c h
-
-    branches_pass : (s : ℕ) (branches : Branches) → names_only test (cases s (choices_of branches)) ≡ true → Pass (columns_of_branches branches)
-    branches_pass s (Branches.Else' _ e) h = expression_passes e h
-    branches_pass s (Branches.When' _ c _ e _ rest) h =
-        let nc : Bool = condition_names_only test (condition_of c) in
-        let ne : Bool = names_only test (expression_of e) in
-        let nr : Bool = names_only test (cases s (choices_of rest)) in
-        let results : (ne && nr) ≡ true = and_right nc (ne && nr) h in
-        both (columns_within c) (columns_in e ++ columns_of_branches rest) (condition_passes c (and_left nc (ne && nr) h))
-        (both (columns_in e) (columns_of_branches rest) (expression_passes e (and_left ne nr results)) (branches_pass s rest (and_right ne nr results)))
-
-    matches_pass : (s : ℕ) (matches : Matches) (x : Expression) → names_only test (cases s (matches_of matches x)) ≡ true → Pass (columns_of_matches matches)
-    matches_pass s (Matches.Last' _ v _ e _ other) x h =
-        let nx : Bool = names_only test x in
-        let nv : Bool = names_only test (expression_of v) in
-        let ne : Bool = names_only test (expression_of e) in
-        let no : Bool = names_only test (expression_of other) in
-        let pair : (nx && nv) ≡ true = and_left (nx && nv) (ne && no) h in
-        let results : (ne && no) ≡ true = and_right (nx && nv) (ne && no) h in
-        both (columns_in v) (columns_in e ++ columns_in other) (expression_passes v (and_right nx nv pair))
-        (both (columns_in e) (columns_in other) (expression_passes e (and_left ne no results)) (expression_passes other (and_right ne no results)))
-    matches_pass s (Matches.When' _ v _ e _ rest) x h =
-        let nx : Bool = names_only test x in
-        let nv : Bool = names_only test (expression_of v) in
-        let ne : Bool = names_only test (expression_of e) in
-        let nr : Bool = names_only test (cases s (matches_of rest x)) in
-        let pair : (nx && nv) ≡ true = and_left (nx && nv) (ne && nr) h in
-        let results : (ne && nr) ≡ true = and_right (nx && nv) (ne && nr) h in
-        both (columns_in v) (columns_in e ++ columns_of_matches rest) (expression_passes v (and_right nx nv pair))
-        (both (columns_in e) (columns_of_matches rest) (expression_passes e (and_left ne nr results)) (matches_pass s rest x (and_right ne nr results)))
-
-    matched_operand : (s : ℕ) (matches : Matches) (x : Expression) → names_only test (cases s (matches_of matches x)) ≡ true → names_only test x ≡ true
-    matched_operand s (Matches.Last' _ v _ e _ other) x h =
-        and_left (names_only test x) (names_only test (expression_of v))
-        (and_left (names_only test x && names_only test (expression_of v)) (names_only test (expression_of e) && names_only test (expression_of other)) h)
-    matched_operand s (Matches.When' _ v _ e _ rest) x h =
-        and_left (names_only test x) (names_only test (expression_of v))
-        (and_left (names_only test x && names_only test (expression_of v)) (names_only test (expression_of e) && names_only test (cases s (matches_of rest x))) h)
-
-    arguments_pass : (s : ℕ) (arguments : Exprs) → names_only test (cases s (coalesced (expressions_of arguments))) ≡ true → Pass (columns_of_all arguments)
-    arguments_pass s (Exprs.Last' _ e) h = expression_passes e h
-    arguments_pass s (Exprs.More' _ e _ es) h =
-        let ne : Bool = names_only test (expression_of e) in
-        let nr : Bool = names_only test (cases s (coalesced (expressions_of es))) in
-        let results : (ne && nr) ≡ true = and_right ne (ne && nr) h in
-        both (columns_in e) (columns_of_all es) (expression_passes e (and_left ne nr results)) (arguments_pass s es (and_right ne nr results))
-
-    values_pass : (x : Expression) (values : Exprs) → condition_names_only test (among x (expressions_of values)) ≡ true → Pass (columns_of_all values)
-    values_pass x (Exprs.Last' _ v) h = expression_passes v (and_right (names_only test x) (names_only test (expression_of v)) h)
-    values_pass x (Exprs.More' _ v _ vs) h =
-        let pair : Bool = names_only test x && names_only test (expression_of v) in
-        let rest : Bool = condition_names_only test (among x (expressions_of vs)) in
-        both (columns_in v) (columns_of_all vs) (expression_passes v (and_right (names_only test x) (names_only test (expression_of v)) (and_left pair rest h))) (values_pass x vs (and_right pair rest h))
-
-    among_operand : (x : Expression) (values : Exprs) → condition_names_only test (among x (expressions_of values)) ≡ true → names_only test x ≡ true
-    among_operand x (Exprs.Last' _ v) h = and_left (names_only test x) (names_only test (expression_of v)) h
-    among_operand x (Exprs.More' _ v _ vs) h =
-        and_left (names_only test x) (names_only test (expression_of v)) (and_left (names_only test x && names_only test (expression_of v)) (condition_names_only test (among x (expressions_of vs))) h)
+  condition_passes : (c : Cond) → condition_names_only test (condition_of c) ≡ true → Pass (columns_within c)
+  condition_passes c h = columns_within_have (λ i. test i ≡ true) c (names_have test (condition_of c) h)
 
   -- ---- queries
 

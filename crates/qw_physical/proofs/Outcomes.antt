@@ -1,8 +1,8 @@
 -- The last pipeline of a well placed plan feeds the rows of the query.
-use Rattle.std.proofs.Common.{◌≡◌, ◌∙◌, ℕ, ◌+◌, Bool, true, List, [], ◌∷◌, ◌++◌, length, Result, Ok, Err, refl, sym, ap, subst, append-nil, arith}
+use Rattle.std.proofs.Common.{◌≡◌, ◌∙◌, ℕ, true, List, [], ◌∷◌, ◌++◌, Result, Ok, Err, refl, sym, ap, subst, append-nil, arith}
 use Rattle.std.specs.List.{AllByRecursion, Contains}
 use Rattle.std.specs.List.Sorted.{IsPermutation}
-use Rattle.std.proofs.lemmas.List.Sorted.{Contains-permutation, IsPermutation-sym, IsPermutation-trans, length_permutation}
+use Rattle.std.proofs.lemmas.List.Sorted.{Contains-permutation, IsPermutation-sym, IsPermutation-trans}
 use Rattle.qw_types.specs.Arithmetic.{◌>>=◌}
 use Rattle.qw_types.specs.Value.{IsSized}
 use Rattle.qw_types.specs.declared.code.Code.{Code}
@@ -10,9 +10,9 @@ use Rattle.qw_types.specs.declared.schema.ColumnType.{ColumnType}
 use Rattle.qw_types.specs.declared.value.Val.{Val}
 use Rattle.qw_scalar.specs.Evaluation.{at_row}
 use Rattle.qw_scalar.specs.Expression.{Condition, Expression}
-use Rattle.qw_meaning.specs.Flow.{Flow, each, given, selected, spread, values_of}
+use Rattle.qw_meaning.specs.Flow.{Flow, given, selected, spread, values_of}
 use Rattle.qw_meaning.specs.From.{entry_flow}
-use Rattle.qw_meaning.specs.Outcome.{IsSameOutcome, Outcome, Raises, Rows, ended, flow, outcome}
+use Rattle.qw_meaning.specs.Outcome.{IsSameOutcome, Raises, Rows, ended, flow, outcome}
 use Rattle.qw_meaning.specs.Select.{AreOfEntries, Entry, IsColumnOf, IsConditionOver, IsSpecification, Specification, conjuncts_on, entries_of}
 use Rattle.qw_algebra.specs.Columns.{condition_names_only}
 use Rattle.qw_algebra.specs.Node.{Node, filter, project, node_flow}
@@ -61,9 +61,6 @@ module _ (query : Specification) (tables : List (List (List Val))) (columns : Li
   -- the well placed plan, but for its select list
   abbrev pub below : Node
   below = keyed true (sifted true [] from)
-
-  entries : List Entry
-  entries = entries_of query.sources
 
   sized_plan : IsSizedPlan (written query)
   sized_plan = written_sized query whole sized
@@ -152,7 +149,3 @@ module _ (query : Specification) (tables : List (List (List Val))) (columns : Li
       → (code : Code) → Contains (pipeline_fed tables more (spelled columns n (split 0 node).last)).codes code → Contains (flow query tables).codes code
   last_codes node n more e built code h =
       Contains-permutation (pipeline_fed tables more (spelled columns n (split 0 node).last)).codes (flow query tables).codes code (last_fed node n more e built).1 h
-
-  pub last_count : (node : Node) (n : ℕ) (more : List (List (List Val))) → IsWellPlaced query node → AreBuilt tables [] (all_spelled columns 0 (split 0 node).builds) more
-      → length (pipeline_fed tables more (spelled columns n (split 0 node).last)).rows ≡ length (flow query tables).rows
-  last_count node n more e built = sym (length_permutation (pipeline_fed tables more (spelled columns n (split 0 node).last)).rows (flow query tables).rows (last_fed node n more e built).0)

@@ -1,5 +1,5 @@
 -- What the steps of a well placed plan keep, so that its joins may look up by keys of their own and rows made again from what is kept.
-use Rattle.std.proofs.Common.{◌≡◌, ◌∙◌, ℕ, zero, suc, ◌+◌, ◌/◌, ◌%◌, Bool, true, false, not, ◌&&◌, ◌||◌, if◌then◌else◌, List, [], ◌∷◌, ◌++◌, map, length, IfOk, Option, Some, Result, Ok, slice_get, refl, sym, ap, subst, subst₂, arith}
+use Rattle.std.proofs.Common.{◌≡◌, ◌∙◌, ℕ, zero, suc, ◌+◌, ◌/◌, ◌%◌, Bool, true, false, not, ◌&&◌, if◌then◌else◌, List, [], ◌∷◌, ◌++◌, map, length, IfOk, Some, Result, slice_get, refl, sym, ap, subst, subst₂, arith}
 use Rattle.std.specs.List.{AllByRecursion, filter_map, flat_map}
 use Rattle.std.specs.List as list
 use Rattle.qw_types.specs.Value.{IsSized}
@@ -7,43 +7,41 @@ use Rattle.qw_types.specs.declared.code.Code.{Code}
 use Rattle.qw_types.specs.declared.schema.ColumnType.{ColumnType}
 use Rattle.qw_types.specs.declared.value.Ty.{Ty}
 use Rattle.qw_types.specs.declared.value.Val.{Val}
-use Rattle.qw_scalar.specs.Columns.{HasColumns, HaveColumns}
-use Rattle.qw_scalar.specs.Evaluation.{at_row, value_of}
-use Rattle.qw_scalar.specs.Expression.{Expression, Condition, comparison, is_null, both, either, negation_of, is}
-use Rattle.qw_scalar.specs.Typing.{AreTyped, IsTyped, IsValueOf, kind_of}
+use Rattle.qw_scalar.specs.Columns.{HasColumns}
+use Rattle.qw_scalar.specs.Expression.{Condition, Expression, scale_of}
+use Rattle.qw_scalar.specs.Typing.{IsTyped, IsValueOf, kind_of}
 use Rattle.qw_scalar.proofs.ColumnLemmas.{columns_more, conditions_more}
 use Rattle.qw_scalar.proofs.TypingLemmas.{typed_value}
 use Rattle.qw_raise.specs.Raise.{can_raise, condition_can_raise}
 use Rattle.qw_raise.specs.Range.{IsInRange, IsSizedColumn}
 use Rattle.qw_raise.proofs.RaiseLemmas.{holds_of, or_false, quiet_value}
-use Rattle.qw_meaning.specs.Select.{AreJoinsOver, AreOfEntries, AreSourcesOver, Entry, IsColumnOf, IsConditionOver, IsReached, IsSpecification, Joined, Source, Specification, conjuncts_on, entries_in, entries_of, type_in, types_of}
+use Rattle.qw_leaves.specs.Compared.{OfCompared}
+use Rattle.qw_leaves.proofs.ComparedLemmas.{by_compared}
+use Rattle.qw_meaning.specs.Select.{AreJoinsOver, AreSourcesOver, Entry, IsColumnOf, IsConditionOver, IsReached, Joined, Source, conjuncts_on, entries_in, type_in, types_of}
 use Rattle.qw_algebra.specs.Columns.{condition_names_only, is_of, names_only, owns}
 use Rattle.qw_algebra.specs.Node.{Node, scan, filter, join, project, node_flow}
-use Rattle.qw_algebra.specs.Written.{from_written, source_written, with_joins, with_sources, written}
-use Rattle.qw_algebra.proofs.Lists.{all_append, all_map, all_more, all_of_any}
-use Rattle.qw_rewrite.specs.Placed.{IsSizedCondition, IsSizedPlan, IsWellPlaced}
-use Rattle.qw_rewrite.specs.Probe.{are_alike, face, is_eligible, is_equality, keyed, keys_from, keys_of_join}
+use Rattle.qw_algebra.specs.Written.{from_written, source_written, with_joins, with_sources}
+use Rattle.qw_algebra.proofs.Lists.{all_append, all_map, all_more}
+use Rattle.qw_rewrite.specs.Placed.{IsSizedCondition, IsSizedPlan}
+use Rattle.qw_rewrite.specs.Probe.{are_alike, are_eligible, face, is_eligible, is_equality, keyed, keys_from, keys_of_join}
 use Rattle.qw_rewrite.specs.Probed.{AreProbes, at_keys, beside_keys, is_key, probed}
 use Rattle.qw_rewrite.specs.Sift.{beyond, is_clean_on, is_quiet, moved, quiet_front, sifted, stayed, within}
-use Rattle.qw_rewrite.proofs.Grounds.{FitsAt, IsLaid, IsTypedNode, clauses_sound, sound, written_sized}
+use Rattle.qw_rewrite.proofs.Grounds.{FitsAt, IsLaid, IsTypedNode}
 use Rattle.qw_rewrite.proofs.Joins.{tested}
 use Rattle.qw_rewrite.proofs.Keys.{keys_are, none_of}
 use Rattle.qw_rewrite.proofs.Moved.{moved_all, stayed_all}
 use Rattle.qw_rewrite.proofs.Once.{keyed_entries, sifted_entries}
-use Rattle.qw_rewrite.proofs.Probes.{placed_probes}
-use Rattle.qw_rewrite.proofs.Rows.{NamesOnly, and_left, and_right}
-use Rattle.qw_rewrite.proofs.Sifting.{AreApart, IsFine, IsOver, IsSound, rows_over}
+use Rattle.qw_rewrite.proofs.Names.{and_left, and_right}
+use Rattle.qw_rewrite.proofs.Rows.{NamesOnly}
+use Rattle.qw_rewrite.proofs.Sifting.{IsFine, IsOver, IsSound, rows_over}
 use Rattle.qw_rewrite.proofs.Stages.{all_filtered}
 use Rattle.qw_pipe.specs.Units.{operand_of}
 use Rattle.qw_physical.specs.Reads.{IsScaled, is_read}
 use Rattle.qw_physical.specs.declared.pipeline.ReadColumn.{ReadColumn}
-use Rattle.qw_physical.proofs.EqualKeys.{AllOperands, HasOneScale, IsDivided, IsTold, divided, operand_has, sought}
+use Rattle.qw_physical.proofs.EqualKeys.{AllOperands, BothOperands, HasOneScale, IsDivided, IsTold, divided, operand_has}
+use Rattle.qw_leaves.proofs.LeafLists.{all_pairs}
 
 -- ---- conjuncts
-
-pub both_all : {A : Type 0} (P Q : A → Type 0) (xs : List A) → AllByRecursion P xs → AllByRecursion Q xs → AllByRecursion (λ x. P x × Q x) xs
-both_all P Q [] h g = tt
-both_all P Q (x ∷ xs) h g = ((h.0, g.0), both_all P Q xs h.1 g.1)
 
 pub parts_all : {A : Type 0} (P : A → Type 0) (xs ys : List A) → AllByRecursion P (xs ++ ys) → AllByRecursion P xs × AllByRecursion P ys
 parts_all P [] ys h = (tt, h)
@@ -187,7 +185,7 @@ keys_of clean left right on = one (is_clean_on clean left right)
     one true = (
       found_are tl tr on on 0 (λ j. ap (slice_get on) (from_none j)) ∙ sym some,
       subst (AllByRecursion (IsKey tl tr)) (sym some)
-          (both_all (λ c. is_eligible tl tr c ≡ true) (λ c. condition_can_raise c ≡ false) (list.filter (is_eligible tl tr) (quiet_front on))
+          (all_pairs (λ c. is_eligible tl tr c ≡ true) (λ c. condition_can_raise c ≡ false) (list.filter (is_eligible tl tr) (quiet_front on))
           (tested (is_eligible tl tr) (quiet_front on)) (all_filtered (λ c. condition_can_raise c ≡ false) (is_eligible tl tr) (quiet_front on) (front_quiet on))),
     )
     one false = (sym none, subst (AllByRecursion (IsKey tl tr)) (sym none) tt)
@@ -207,13 +205,8 @@ keyed_keys (join left right on keys) clean =
 keyed_keys (project below items) clean = keyed_keys below clean
 
 one_scale : (tl tr : ℕ → Bool) (c : Condition) → is_eligible tl tr c ≡ true → IsScaled c → HasOneScale c
-one_scale tl tr (comparison op a b) h scaled =
-    scaled (and_right (face tl tr a b) (are_alike (kind_of a) (kind_of b)) (and_right (is_equality op) (face tl tr a b && are_alike (kind_of a) (kind_of b)) h))
-one_scale tl tr (is_null a) h scaled = tt
-one_scale tl tr (both c d) h scaled = tt
-one_scale tl tr (either c d) h scaled = tt
-one_scale tl tr (negation_of c) h scaled = tt
-one_scale tl tr (is c t) h scaled = tt
+one_scale tl tr = by_compared (λ c o. are_eligible tl tr o ≡ true → OfCompared (λ op a b. are_alike (kind_of a) (kind_of b) ≡ true → scale_of a ≡ scale_of b) o → OfCompared (λ op a b. scale_of a ≡ scale_of b) o)
+    (λ op a b h scaled. scaled (and_right (face tl tr a b) (are_alike (kind_of a) (kind_of b)) (and_right (is_equality op) (face tl tr a b && are_alike (kind_of a) (kind_of b)) h))) (λ c h scaled. tt)
 
 -- ---- sizes of columns
 
@@ -295,14 +288,9 @@ module _ (entries : List Entry) (tables : List (List (List Val))) (columns : Lis
       }
 
   told_operands : (row : List Val) → IsFine tables F row → (tl tr : ℕ → Bool) (c : Condition) → IsKey tl tr c → IsOver_entries c → AllOperands (IsTold row) c
-  told_operands row fine tl tr (comparison op a b) k t =
-      let quiet = or_false (can_raise a) (can_raise b) k.1 in
-      (told_operand row fine a t.0.0.0 t.1.0 quiet.0, told_operand row fine b t.0.0.1 t.1.1 quiet.1)
-  told_operands row fine tl tr (is_null a) k t = absurd (let no = k.0 in cc)
-  told_operands row fine tl tr (both c d) k t = absurd (let no = k.0 in cc)
-  told_operands row fine tl tr (either c d) k t = absurd (let no = k.0 in cc)
-  told_operands row fine tl tr (negation_of c) k t = absurd (let no = k.0 in cc)
-  told_operands row fine tl tr (is c u) k t = absurd (let no = k.0 in cc)
+  told_operands row fine tl tr =
+      by_compared (λ c o. (are_eligible tl tr o ≡ true) × (condition_can_raise c ≡ false) → IsOver_entries c → BothOperands (IsTold row) o)
+      (λ op a b k t. let quiet = or_false (can_raise a) (can_raise b) k.1 in (told_operand row fine a t.0.0.0 t.1.0 quiet.0, told_operand row fine b t.0.0.1 t.1.1 quiet.1)) (λ c k t. absurd (let no = k.0 in cc))
 
   pub told_keys : (row : List Val) → IsFine tables F row → (tl tr test : ℕ → Bool) (cs : List Condition) → AllByRecursion (IsKey tl tr) cs → AllByRecursion IsOver_entries cs
       → AllByRecursion (IsTold row) (map (operand_of test) cs)
@@ -341,14 +329,10 @@ module _ (entries : List Entry) (tables : List (List (List Val))) (columns : Lis
   IsReady (project below items) = ⊥
 
   named_operands : (test : ℕ → Bool) (c : Condition) → condition_names_only (is_read columns) c ≡ true → names_only (is_read columns) (operand_of test c) ≡ true
-  named_operands test (comparison op a b) h =
-      operand_has (λ e. names_only (is_read columns) e ≡ true) test (comparison op a b)
-      (and_left (names_only (is_read columns) a) (names_only (is_read columns) b) h, and_right (names_only (is_read columns) a) (names_only (is_read columns) b) h)
-  named_operands test (is_null a) h = refl
-  named_operands test (both c d) h = refl
-  named_operands test (either c d) h = refl
-  named_operands test (negation_of c) h = refl
-  named_operands test (is c u) h = refl
+  named_operands test c h =
+      operand_has (λ e. names_only (is_read columns) e ≡ true) test c
+      (by_compared (λ d o. condition_names_only (is_read columns) d ≡ true → BothOperands (λ e. names_only (is_read columns) e ≡ true) o)
+      (λ op a b h. (and_left (names_only (is_read columns) a) (names_only (is_read columns) b) h, and_right (names_only (is_read columns) a) (names_only (is_read columns) b) h)) (λ d h. refl) c h)
 
   pub ready : (node : Node) → IsSound tables F node → AreProbes tables node → AreKeyed node → AllConjuncts IsOver_entries node → AllConjuncts (λ c. condition_names_only (is_read columns) c ≡ true) node → AllConjuncts IsScaled node
       → IsReady node
@@ -365,7 +349,7 @@ module _ (entries : List Entry) (tables : List (List (List Val))) (columns : Lis
           equal = k.0.0;
           divided = all_more (λ c. IsKey (owns left) (owns right) c × IsScaled c) (IsDivided (owns left) (owns right)) (at_keys keys 0 on)
               (λ c e. divided (owns left) (owns right) s.0.1 c e.0.0 (one_scale (owns left) (owns right) c e.0.0 e.1))
-              (both_all (IsKey (owns left) (owns right)) IsScaled (at_keys keys 0 on) eligible (keys_have IsScaled keys 0 on z.0).0);
+              (all_pairs (IsKey (owns left) (owns right)) IsScaled (at_keys keys 0 on) eligible (keys_have IsScaled keys 0 on z.0).0);
           told = λ test row fine. told_keys row fine (owns left) (owns right) test (at_keys keys 0 on) eligible typed;
           named = λ test. all_map (λ e. names_only (is_read columns) e ≡ true) (operand_of test) (at_keys keys 0 on)
               (all_more (λ c. condition_names_only (is_read columns) c ≡ true) (λ c. names_only (is_read columns) (operand_of test c) ≡ true) (at_keys keys 0 on) (named_operands test) names.0);

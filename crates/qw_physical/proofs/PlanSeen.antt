@@ -3,9 +3,9 @@ use Rattle.std.proofs.Common.{◌≡◌, ◌∙◌, ◌⊎◌, ℕ, ◌+◌, ◌
 use Rattle.std.specs.List.{AllByRecursion}
 use Rattle.qw_types.specs.Value.{IsSized}
 use Rattle.qw_types.specs.declared.schema.ColumnType.{ColumnType}
-use Rattle.qw_types.specs.declared.value.Ty.{Ty}
 use Rattle.qw_types.specs.declared.value.Val.{Val}
-use Rattle.qw_scalar.specs.Expression.{Expression, Condition, comparison, is_null, both, either, negation_of, is}
+use Rattle.qw_scalar.specs.Expression.{Expression, Condition}
+use Rattle.qw_leaves.proofs.ComparedLemmas.{by_compared}
 use Rattle.qw_meaning.specs.Select.{Entry}
 use Rattle.qw_algebra.specs.Columns.{entries_below, owns}
 use Rattle.qw_algebra.specs.Node.{Node, scan, filter, join, project}
@@ -18,21 +18,17 @@ use Rattle.qw_pipe.specs.Pipes.{Lookup, split, test}
 use Rattle.qw_pipe.specs.Units.{operand_of}
 use Rattle.qw_physical.specs.Courses.{column_of}
 use Rattle.qw_physical.specs.Named.{typed_numbers}
-use Rattle.qw_physical.specs.Physical.{Operator, Pipeline, filter as filter_by, probe}
+use Rattle.qw_physical.specs.Physical.{Operator, filter as filter_by, probe}
 use Rattle.qw_physical.specs.Spelled.{all_spelled, kept_columns, keys_kept, keys_sought, spelled, spelled_steps}
 use Rattle.qw_physical.specs.declared.pipeline.ReadColumn.{ReadColumn}
-use Rattle.qw_physical.proofs.EqualKeys.{AllOperands, IsDivided, operand_has, sought}
+use Rattle.qw_physical.proofs.EqualKeys.{AllOperands, BothOperands, IsDivided, operand_has, sought}
 use Rattle.qw_physical.proofs.Feeding.{building, spelled_append, spelled_join}
-use Rattle.qw_physical.proofs.Placed.{AllConjuncts, IsReady, both_all, keys_have}
+use Rattle.qw_physical.proofs.Placed.{AllConjuncts, IsReady, keys_have}
+use Rattle.qw_leaves.proofs.LeafLists.{all_pairs}
 use Rattle.qw_physical.proofs.Shown.{IsAmong, IsSeen, Sees, Shows, ShowsIn, Within, all_shown_in, among_owned, columns_shown, of_entry, owned, owned_among, sees_more, shown, shows_in_more, within_left, within_owned, within_right}
 
 operands_shown : (columns : List ReadColumn) (c : Condition) → ShowsIn columns c → AllOperands (Shows columns) c
-operands_shown columns (comparison op a b) h = h
-operands_shown columns (is_null a) h = tt
-operands_shown columns (both c d) h = tt
-operands_shown columns (either c d) h = tt
-operands_shown columns (negation_of c) h = tt
-operands_shown columns (is c t) h = tt
+operands_shown columns = by_compared (λ c o. ShowsIn columns c → BothOperands (Shows columns) o) (λ op a b h. h) (λ c h. tt)
 
 -- ---- a plan
 
@@ -60,7 +56,7 @@ module _ (entries : List Entry) (tables : List (List (List Val))) (columns : Lis
   -- the keys of a join
   module _ (left right : Node) (on : List Condition) (keys : List ℕ) (ready : Ready (join left right on keys)) (shows : AllByRecursion (ShowsIn columns) on) where
     key_parts : AllByRecursion (λ c. IsDivided (owns left) (owns right) c × ShowsIn columns c) (at_keys keys 0 on)
-    key_parts = both_all (IsDivided (owns left) (owns right)) (ShowsIn columns) (at_keys keys 0 on) ready.0.divided (keys_have entries tables columns sized (ShowsIn columns) keys 0 on shows).0
+    key_parts = all_pairs (IsDivided (owns left) (owns right)) (ShowsIn columns) (at_keys keys 0 on) ready.0.divided (keys_have entries tables columns sized (ShowsIn columns) keys 0 on shows).0
 
     pub key_sought_shown : AllByRecursion (Shows (owned (owns left) columns)) (keys_sought (looked right on keys))
     key_sought_shown =

@@ -1,7 +1,8 @@
 -- The pipelines of a well placed plan are typed.
-use Rattle.std.proofs.Common.{◌≡◌, ◌∙◌, ℕ, ◌+◌, Bool, true, false, ◌&&◌, if◌then◌else◌, List, [], ◌∷◌, ◌++◌, length, map, Option, Some, slice_get, refl, sym, ap, subst, arith, append_assoc}
+use Rattle.std.proofs.Common.{◌≡◌, ◌∙◌, ℕ, ◌+◌, Bool, true, false, ◌&&◌, if◌then◌else◌, List, [], ◌∷◌, ◌++◌, length, Option, Some, None, slice_get, refl, sym, ap, subst, arith, append_assoc}
 use Rattle.std.specs.List.{AllByRecursion, cons_option, filter_map}
-use Rattle.qw_scalar.specs.Expression.{Condition, comparison, is_null, both, either, negation_of, is}
+use Rattle.qw_leaves.specs.Compared.{Compared, compared_in}
+use Rattle.qw_scalar.specs.Expression.{Condition}
 use Rattle.qw_scalar.specs.Typing.{AreTyped}
 use Rattle.qw_meaning.specs.Select.{AreJoinsOver, AreSourcesOver, Entry, IsColumnOf, IsConditionOver, IsItemOver, IsReached, IsSpecification, Joined, Source, Specification, entries_in, entries_of}
 use Rattle.qw_raise.specs.Raise.{condition_can_raise}
@@ -10,12 +11,12 @@ use Rattle.qw_algebra.specs.Columns.{condition_names_only, entries_below, owns}
 use Rattle.qw_algebra.specs.Written.{from_written, source_written, with_joins, with_sources, written}
 use Rattle.qw_pipe.specs.Pipes.{Lookup, Pipeline, Step, make, pipelines, probe, split, test, to_table}
 use Rattle.qw_rewrite.specs.Placed.{IsWellPlaced}
-use Rattle.qw_rewrite.specs.Probe.{is_eligible, keyed, keys_from, keys_of_join}
+use Rattle.qw_rewrite.specs.Probe.{are_eligible, is_eligible, keyed, keys_from, keys_of_join}
 use Rattle.qw_rewrite.specs.Sift.{beyond, is_clean_on, is_quiet, moved, sifted, stayed, within}
 use Rattle.qw_rewrite.proofs.Moved.{moved_all, stayed_all}
 use Rattle.qw_rewrite.proofs.Stages.{all_filtered}
-use Rattle.qw_physical.specs.Typed.{AreTypedPipelines, IsComparison, IsTypedNode, IsTypedPipeline, IsTypedStep, IsValued}
-use Rattle.qw_physical.proofs.Naming.{all_both}
+use Rattle.qw_physical.specs.Typed.{AreTypedPipelines, Compares, IsComparison, IsTypedNode, IsTypedPipeline, IsTypedStep, IsValued}
+use Rattle.qw_leaves.proofs.LeafLists.{all_joined, all_weaker}
 
 -- ---- pipelines of a plan
 record AreTypedParts (next : ℕ) (node : Node) : Type 0 where
@@ -23,7 +24,7 @@ record AreTypedParts (next : ℕ) (node : Node) : Type 0 where
   pub last : IsTypedPipeline (split next node).last
 
 one_more : (p : Pipeline) (s : Step) → IsTypedPipeline p → IsTypedStep s → IsTypedPipeline (record p { steps = p.steps ++ s ∷ [] })
-one_more p s h k = record { steps = all_both IsTypedStep p.steps (s ∷ []) h.steps (k, tt); target = h.target }
+one_more p s h k = record { steps = all_joined IsTypedStep p.steps (s ∷ []) h.steps (k, tt); target = h.target }
 
 parts_typed : (next : ℕ) (node : Node) → IsTypedNode node → AreTypedParts next node
 parts_typed next (scan entry table) h = record { builds = tt; last = record { steps = tt; target = tt } }
@@ -37,7 +38,7 @@ parts_typed next (join left right on keys) h =
     let l = parts_typed (at + 1) left h.1.0 in
     let built : IsTypedPipeline (record (split next right).last { target = to_table lookup }) = record { steps = r.last.steps; target = h.0 } in
     record {
-      builds = all_both IsTypedPipeline (split next right).builds (record (split next right).last { target = to_table lookup } ∷ (split (at + 1) left).builds) r.builds (built, l.builds);
+      builds = all_joined IsTypedPipeline (split next right).builds (record (split next right).last { target = to_table lookup } ∷ (split (at + 1) left).builds) r.builds (built, l.builds);
       last = one_more (split (at + 1) left).last (probe at lookup) l.last h.0;
     }
 parts_typed next (project below items) h =
@@ -47,18 +48,17 @@ parts_typed next (project below items) h =
 pub pipelines_typed : (node : Node) → IsTypedNode node → AreTypedPipelines (pipelines node)
 pipelines_typed node h =
     let parts = parts_typed 0 node h in
-    all_both IsTypedPipeline (split 0 node).builds ((split 0 node).last ∷ []) parts.builds (parts.last, tt)
+    all_joined IsTypedPipeline (split 0 node).builds ((split 0 node).last ∷ []) parts.builds (parts.last, tt)
 
 -- ---- keys are comparisons
 eligible_comparison : (tl tr : ℕ → Bool) (c : Condition) → is_eligible tl tr c ≡ true → IsComparison c
-eligible_comparison tl tr (comparison op a b) h = tt
-eligible_comparison tl tr (is_null a) h = absurd cc
-eligible_comparison tl tr (both c d) h = absurd cc
-eligible_comparison tl tr (either c d) h = absurd cc
-eligible_comparison tl tr (negation_of c) h = absurd cc
-eligible_comparison tl tr (is c t) h = absurd cc
+eligible_comparison tl tr c h = one (compared_in c) h
+  where
+    one : (o : Option Compared) → are_eligible tl tr o ≡ true → Compares o
+    one (Some k) h = tt
+    one None h = absurd cc
 
-at_seam : (front : List Condition) (c : Condition) (cs : List Condition) → slice_get (front ++ c ∷ cs) (length front) ≡ Some c
+pub at_seam : (front : List Condition) (c : Condition) (cs : List Condition) → slice_get (front ++ c ∷ cs) (length front) ≡ Some c
 at_seam [] c cs = refl
 at_seam (d ∷ front) c cs = at_seam front c cs
 
@@ -117,14 +117,14 @@ sifted_typed (scan entry table) clean above ha h = (ha, tt)
 sifted_typed (filter conjuncts below) clean above ha h =
     let own : Bool = clean && is_quiet below in (
       stayed_all AreTyped own conjuncts h.0,
-      sifted_typed below clean (moved own conjuncts ++ above) (all_both AreTyped (moved own conjuncts) above (moved_all AreTyped own conjuncts h.0) ha) h.1,
+      sifted_typed below clean (moved own conjuncts ++ above) (all_joined AreTyped (moved own conjuncts) above (moved_all AreTyped own conjuncts h.0) ha) h.1,
     )
 sifted_typed (join left right on keys) clean above ha h =
     let own : Bool = is_clean_on clean left right in
     let down : List Condition = moved own on ++ above in
-    let hd : All down = all_both AreTyped (moved own on) above (moved_all AreTyped own on h.0) ha in
+    let hd : All down = all_joined AreTyped (moved own on) above (moved_all AreTyped own on h.0) ha in
     let rest : All (beyond left down) = beyond_typed left down hd in (
-      all_both AreTyped (beyond right (beyond left down)) (stayed own on) (beyond_typed right (beyond left down) rest) (stayed_all AreTyped own on h.0),
+      all_joined AreTyped (beyond right (beyond left down)) (stayed own on) (beyond_typed right (beyond left down) rest) (stayed_all AreTyped own on h.0),
       (
         sifted_typed left clean (within left down) (within_typed left down hd) h.1.0,
         sifted_typed right (clean && is_quiet left) (within right (beyond left down)) (within_typed right (beyond left down) rest) h.1.1,
@@ -133,10 +133,6 @@ sifted_typed (join left right on keys) clean above ha h =
 sifted_typed (project below items) clean above ha h = (h.0, sifted_typed below clean above ha h.1)
 
 -- ---- as they are written
-all_weaker : {X : Type 0} (P Q : X → Type 0) → ((x : X) → P x → Q x) → (xs : List X) → AllByRecursion P xs → AllByRecursion Q xs
-all_weaker P Q f [] h = tt
-all_weaker P Q f (x ∷ xs) h = (f x h.0, all_weaker P Q f xs h.1)
-
 joins_typed : (entries : List Entry) (first next : ℕ) (node : Node) (joins : List Joined) → IsTypedPlan node → AreJoinsOver entries first next joins → IsTypedPlan (with_joins next node joins)
 joins_typed entries first next node [] p h = p
 joins_typed entries first next node (j ∷ joins) p h =

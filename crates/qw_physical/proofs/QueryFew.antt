@@ -1,8 +1,7 @@
 -- Keys are no more than the conjuncts of a query, and kept columns no more than those that are read.
-use Rattle.std.proofs.Common.{◌≡◌, ◌∙◌, ◌≤◌, ℕ, suc, ◌+◌, Bool, true, false, not, if◌then◌else◌, List, [], ◌∷◌, ◌++◌, length, length-append, map, refl, sym, ap, subst, arith}
+use Rattle.std.proofs.Common.{◌≡◌, ◌≤◌, ℕ, suc, ◌+◌, Bool, true, false, not, if◌then◌else◌, List, [], ◌∷◌, ◌++◌, length, length-append, map, refl, sym, ap, subst, arith}
 use Rattle.std.specs.List.{AllByRecursion, AllZip, flat_map}
 use Rattle.std.specs.List as list
-use Rattle.std.specs.List.Sorted.{IsPermutation}
 use Rattle.std.proofs.lemmas.List.{length-map}
 use Rattle.std.proofs.lemmas.List.Sorted.{length_permutation}
 use Rattle.qw_types.specs.Value.{IsSized}
@@ -10,7 +9,7 @@ use Rattle.qw_types.specs.declared.schema.ColumnType.{ColumnType}
 use Rattle.qw_types.specs.declared.value.Val.{Val}
 use Rattle.qw_scalar.specs.Expression.{Condition, Expression}
 use Rattle.qw_meaning.specs.Select.{Entry, Joined, Source, Specification, conjuncts_on, entries_in, entries_of}
-use Rattle.qw_algebra.specs.Columns.{entries_below, is_of, owns}
+use Rattle.qw_algebra.specs.Columns.{entries_below, is_of}
 use Rattle.qw_algebra.specs.Node.{Node, scan, filter, join, project}
 use Rattle.qw_algebra.specs.Written.{from_written, source_written, with_joins, with_sources}
 use Rattle.qw_algebra.proofs.Lists.{all_append}
@@ -29,6 +28,7 @@ use Rattle.qw_physical.specs.declared.pipeline.ReadColumn.{ReadColumn}
 use Rattle.qw_physical.proofs.Feeding.{building, spelled_append, spelled_join}
 use Rattle.qw_physical.proofs.Outcomes.{below, last_is, ready_below}
 use Rattle.qw_physical.proofs.Placed.{IsReady}
+use Rattle.qw_physical.proofs.JoinBound.{is_less, less_trans}
 
 -- ---- at most so many keys, and so many columns, of sizes that types may have
 abbrev pub AreSizedColumns : List ReadColumn → Type 0
@@ -70,12 +70,6 @@ filter_sized passes (x ∷ xs) h = one (passes x) (filter_sized passes xs h.1)
     one true g = (h.0, g)
     one false g = g
 
-less_of : (a b m : ℕ) → a ≤ b → b ≤ m → a ≤ m
-less_of a b m h g = omega (arith, h, g)
-
-same_less : (a b m : ℕ) → a ≡ b → b ≤ m → a ≤ m
-same_less a b m h g = omega (arith, h, g)
-
 -- ---- a plan
 
 module _ (entries : List Entry) (tables : List (List (List Val))) (columns : List ReadColumn)
@@ -87,17 +81,17 @@ module _ (entries : List Entry) (tables : List (List (List Val))) (columns : Lis
     sought_few : length (keys_sought (looked right on keys)) ≤ m
     sought_few =
         subst (λ (cs : List Condition). length (map (operand_of (λ i. not (is_of (entries_below right) i))) cs) ≤ m) (sym ready.0.equal)
-        (same_less (length (map (operand_of (λ i. not (is_of (entries_below right) i))) (at_keys keys 0 on))) (length (at_keys keys 0 on)) m (length-map (at_keys keys 0 on) (operand_of (λ i. not (is_of (entries_below right) i))))
-        (less_of (length (at_keys keys 0 on)) (length on) m (at_keys_few keys 0 on) short))
+        (is_less (length (map (operand_of (λ i. not (is_of (entries_below right) i))) (at_keys keys 0 on))) (length (at_keys keys 0 on)) m (length-map (at_keys keys 0 on) (operand_of (λ i. not (is_of (entries_below right) i))))
+        (less_trans (length (at_keys keys 0 on)) (length on) m (at_keys_few keys 0 on) short))
 
     kept_few : length (keys_kept (looked right on keys)) ≤ m
     kept_few =
         subst (λ (cs : List Condition). length (map (operand_of (is_of (entries_below right))) cs) ≤ m) (sym ready.0.equal)
-        (same_less (length (map (operand_of (is_of (entries_below right))) (at_keys keys 0 on))) (length (at_keys keys 0 on)) m (length-map (at_keys keys 0 on) (operand_of (is_of (entries_below right))))
-        (less_of (length (at_keys keys 0 on)) (length on) m (at_keys_few keys 0 on) short))
+        (is_less (length (map (operand_of (is_of (entries_below right))) (at_keys keys 0 on))) (length (at_keys keys 0 on)) m (length-map (at_keys keys 0 on) (operand_of (is_of (entries_below right))))
+        (less_trans (length (at_keys keys 0 on)) (length on) m (at_keys_few keys 0 on) short))
 
     columns_few : length (kept_columns columns (looked right on keys)) ≤ k
-    columns_few = less_of (length (kept_columns columns (looked right on keys))) (length columns) k (filter_few (λ (c : ReadColumn). is_of (entries_below right) c.number) columns) many
+    columns_few = less_trans (length (kept_columns columns (looked right on keys))) (length columns) k (filter_few (λ (c : ReadColumn). is_of (entries_below right) c.number) columns) many
 
     columns_fit : AreSizedColumns (kept_columns columns (looked right on keys))
     columns_fit = filter_sized (λ (c : ReadColumn). is_of (entries_below right) c.number) columns fit
@@ -233,7 +227,7 @@ operators_follow m k (filter_by cs ∷ os) (probe q ∷ rs) z h = absurd z.0
 operators_follow m k (probe p ∷ os) (filter_by ds ∷ rs) z h = absurd z.0
 operators_follow m k (probe p ∷ os) (probe q ∷ rs) z h = (
   (
-    same_less (length q.key) (length p.key) m (sym (zip_long p.key q.key z.0.key)) h.0.0,
+    is_less (length q.key) (length p.key) m (sym (zip_long p.key q.key z.0.key)) h.0.0,
     subst (λ (c : List ReadColumn). length c ≤ k) z.0.kept h.0.1,
     subst AreSizedColumns z.0.kept h.0.2,
   ),
@@ -241,10 +235,10 @@ operators_follow m k (probe p ∷ os) (probe q ∷ rs) z h = (
 )
 
 few_sink_follows : (m k : ℕ) (s t : Sink) → FollowsSink s t → IsFewSink m k s → IsFewSink m k t
-few_sink_follows m k (build b) (build c) z h = (same_less (length c.key) (length b.key) m (sym (zip_long b.key c.key z.key)) h.0, subst (λ (l : List ReadColumn). length l ≤ k) z.kept h.1, subst AreSizedColumns z.kept h.2)
+few_sink_follows m k (build b) (build c) z h = (is_less (length c.key) (length b.key) m (sym (zip_long b.key c.key z.key)) h.0, subst (λ (l : List ReadColumn). length l ≤ k) z.kept h.1, subst AreSizedColumns z.kept h.2)
 few_sink_follows m k (build b) (select others) z h = absurd z
 few_sink_follows m k (select items) (build c) z h = absurd z
-few_sink_follows m k (select items) (select others) z h = same_less (length others) (length items) k (sym (zip_long items others z)) h
+few_sink_follows m k (select items) (select others) z h = is_less (length others) (length items) k (sym (zip_long items others z)) h
 
 pub few_follows : (m k : ℕ) (p q : Pipeline) → FollowsPipeline p q → IsFewCourse m k p → IsFewCourse m k q
 few_follows m k p q z h = record { operators = operators_follow m k p.operators q.operators z.operators h.operators; sink = few_sink_follows m k p.sink q.sink z.sink h.sink }

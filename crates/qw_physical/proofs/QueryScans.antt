@@ -1,12 +1,11 @@
 -- Each pipeline of a query scans an entry of FROM, and its table.
-use Rattle.std.proofs.Common.{◌≡◌, ◌∙◌, ℕ, suc, ◌+◌, true, Option, Some, slice_get, List, [], ◌∷◌, ◌++◌, length, refl, sym, ap, subst, arith}
-use Rattle.std.specs.List.{AllByRecursion, AllZip}
+use Rattle.std.proofs.Common.{◌≡◌, ◌∙◌, ℕ, suc, ◌+◌, true, Some, slice_get, List, [], ◌∷◌, length, refl, sym, ap, subst, arith}
+use Rattle.std.specs.List.{AllByRecursion}
 use Rattle.qw_types.specs.declared.value.Val.{Val}
-use Rattle.qw_scalar.specs.Expression.{Condition}
 use Rattle.qw_meaning.specs.Select.{Entry, Specification, entries_of}
 use Rattle.qw_algebra.specs.Columns.{entries_below}
 use Rattle.qw_algebra.specs.Node.{Node, scan, filter, join, project}
-use Rattle.qw_algebra.specs.Written.{from_written, written}
+use Rattle.qw_algebra.specs.Written.{written}
 use Rattle.qw_algebra.proofs.Lists.{all_append}
 use Rattle.qw_rewrite.specs.Sift.{sifted}
 use Rattle.qw_pipe.specs.Pipes as pipes

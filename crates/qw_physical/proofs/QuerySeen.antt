@@ -1,5 +1,5 @@
 -- Each expression of a query's pipelines, and of those that follow them, names only columns of the entry that is scanned, and those that lookups keep.
-use Rattle.std.proofs.Common.{◌≡◌, ◌∙◌, ◌⊎◌, ◌≤◌, ◌<◌, ℕ, zero, suc, ◌+◌, ◌/◌, ◌%◌, nat_eq, Bool, true, false, ◌||◌, Option, Some, slice_get, List, [], ◌∷◌, ◌++◌, length, map, inl, inr, refl, sym, ap, subst, length-append, arith}
+use Rattle.std.proofs.Common.{◌≡◌, ◌∙◌, ◌⊎◌, ◌≤◌, ◌<◌, ℕ, zero, suc, ◌+◌, ◌/◌, ◌%◌, nat_eq, Bool, true, false, ◌||◌, Some, slice_get, List, [], ◌∷◌, ◌++◌, length, map, inl, inr, refl, sym, ap, subst, length-append, arith}
 use Rattle.std.specs.List.{AllByRecursion, AllZip}
 use Rattle.std.proofs.lemmas.Bool.Decides.{nat_tests}
 use Rattle.qw_types.specs.declared.value.Ty.{Ty}
@@ -22,7 +22,8 @@ use Rattle.qw_physical.specs.Named.{typed_numbers}
 use Rattle.qw_physical.specs.Physical.{Operator, Pipeline, Sink, build, filter as filter_by, probe, select}
 use Rattle.qw_physical.specs.Sides.{IsPlanned, builds_of, last_of}
 use Rattle.qw_physical.specs.declared.pipeline.ReadColumn.{ReadColumn}
-use Rattle.qw_physical.proofs.Naming.{all_back, all_both, all_front, both_columns}
+use Rattle.qw_leaves.proofs.LeafLemmas.{columns_both}
+use Rattle.qw_leaves.proofs.LeafLists.{all_back, all_front, all_joined}
 use Rattle.qw_physical.proofs.Outcomes.{below, last_is, ready_below}
 use Rattle.qw_physical.proofs.Placed.{AllConjuncts, from_all, keyed_all, sifted_all}
 use Rattle.qw_physical.proofs.PlanSeen.{builds_see, last_sees}
@@ -127,7 +128,7 @@ module _ (query : Specification) (tables : List (List (List Val))) (columns : Li
   items_shown (e ∷ es) over shows = (
     columns_more (λ i ty. IsColumnOf (entries_of query.sources) i ty × IsAmong (typed_numbers columns) i ty) (IsAmong (typed_numbers (owned (owns plan) columns)))
         (λ i ty h. among_owned (owns plan) columns i ty (plan_owns i ty h.0) h.1) e
-        (both_columns (IsColumnOf (entries_of query.sources)) (IsAmong (typed_numbers columns)) e over.0.1 shows.0),
+        (columns_both (IsColumnOf (entries_of query.sources)) (IsAmong (typed_numbers columns)) e over.0.1 shows.0),
     items_shown es over.1 shows.1,
   )
 
@@ -149,7 +150,7 @@ module _ (query : Specification) (tables : List (List (List Val))) (columns : Li
 
 sink_follows : (s t : Sink) → FollowsSink s t → (seen : List ReadColumn) → AllByRecursion (Shows seen) (sink_values s) → AllByRecursion (Shows seen) (sink_values t)
 sink_follows (build b) (build c) z seen h =
-    all_both (Shows seen) c.key (map column_of c.kept)
+    all_joined (Shows seen) c.key (map column_of c.kept)
     (values_columns (IsAmong (typed_numbers seen)) b.key c.key z.key (all_front (Shows seen) b.key (map column_of b.kept) h))
     (subst (λ (k : List ReadColumn). AllByRecursion (Shows seen) (map column_of k)) z.kept (all_back (Shows seen) b.key (map column_of b.kept) h))
 sink_follows (build b) (select others) z seen h = absurd z

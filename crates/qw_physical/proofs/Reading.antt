@@ -1,8 +1,8 @@
 -- The columns that are read: each once, each declared, and each that an expression names among them.
-use Rattle.std.proofs.Common.{◌≡◌, ℕ, zero, suc, ◌+◌, ◌-◌, ◌*◌, ◌/◌, ◌%◌, ◌<◌, ◌≤◌, ◌==◌, ◌||◌, eqb, if◌then◌else◌, Bool, true, false, Option, Some, None, List, [], ◌∷◌, ◌++◌, length, map, drop, drop-cons, get_or, slice_get, refl, sym, ap, ap₂, ◌∙◌, subst, arith, Result, Ok, Err, IfOk, OnOk, take, take_all}
+use Rattle.std.proofs.Common.{◌≡◌, ℕ, zero, suc, ◌+◌, ◌-◌, ◌*◌, ◌/◌, ◌%◌, ◌<◌, ◌≤◌, ◌==◌, ◌||◌, eqb, if◌then◌else◌, Bool, true, false, Option, Some, None, List, [], ◌∷◌, ◌++◌, length, map, get_or, slice_get, refl, sym, ap, ap₂, ◌∙◌, subst, arith, Result, Ok, Err, IfOk, OnOk, take}
 use Rattle.std.specs.List.{AllByRecursion, IsDistinct, flat_map, list_any}
 use Rattle.std.specs.Option.{option_map}
-use Rattle.std.proofs.lemmas.List.{append-nil, append_assoc, drop_all, map-append}
+use Rattle.std.proofs.lemmas.List.{append-nil, append_assoc, map-append}
 use Rattle.std.proofs.lemmas.Option.{same_Some, slice_get-map}
 use Rattle.qw_types.specs.declared.schema.ColumnType.{ColumnType}
 use Rattle.qw_types.specs.declared.value.Ty.{Ty}
@@ -21,7 +21,9 @@ use Rattle.qw_fold.specs.Stands.{IsAmong}
 use Rattle.qw_physical.specs.declared.pipeline.ReadColumn.{ReadColumn}
 use Rattle.qw_physical.specs.Named.{HasColumn, IsDeclared, and_column, and_columns, and_first, and_firsts, column_in, columns_in, columns_joined, columns_of_entries, columns_of_join, columns_of_query, columns_of_source, columns_within, declared_at, named_by, numbers, typed_numbers}
 use Rattle.qw_physical.proofs.Folds.{taken}
-use Rattle.qw_physical.proofs.Naming.{all_back, all_both, all_front, both_columns, both_conditions, has_named, have_named, named_have, columns_within_have}
+use Rattle.qw_leaves.proofs.LeafLemmas.{columns_both, conditions_both}
+use Rattle.qw_leaves.proofs.LeafLists.{all_back, all_front, all_joined}
+use Rattle.qw_physical.proofs.Naming.{has_named, have_named, named_have, columns_within_have}
 
 -- ---- tests
 pub same_number : (x y : ℕ) → (x == y) ≡ true → x ≡ y
@@ -53,16 +55,6 @@ any_numbers f [] = refl
 any_numbers f (c ∷ columns) = ap (λ (b : Bool). f c.number || b) (any_numbers f columns)
 
 -- ---- one more
-numbers_push : (columns : List ReadColumn) (c : ReadColumn) → numbers (columns ++ c ∷ []) ≡ numbers columns ++ c.number ∷ []
-numbers_push [] c = refl
-numbers_push (d ∷ columns) c = ap (λ (l : List ℕ). d.number ∷ l) (numbers_push columns c)
-
-pub numbers_added : (old new : List ReadColumn) (c : ReadColumn) → new ≡ old ++ c ∷ [] → numbers new ≡ numbers old ++ c.number ∷ []
-numbers_added old new c is = ap numbers is ∙ numbers_push old c
-
-pub declared_added : (entries : List (List ColumnType)) (old new : List ReadColumn) (c : ReadColumn) → new ≡ old ++ c ∷ [] → IsDeclared entries c → AllByRecursion (IsDeclared entries) old → AllByRecursion (IsDeclared entries) new
-declared_added entries old new c is one all = subst (AllByRecursion (IsDeclared entries)) (sym is) (all_both (IsDeclared entries) old (c ∷ []) all (one, tt))
-
 -- where the test says that it is there, and where not
 pub column_there : (columns : List ReadColumn) (i : ℕ) (r : Bool) → r ≡ list_any (λ (c : ReadColumn). c.number == i) columns → r ≡ true → numbers columns ≡ and_column (numbers columns) i
 column_there columns i r is was =
@@ -80,27 +72,13 @@ pub first_new : (columns : List ReadColumn) (new : List ℕ) (entry : ℕ) (r : 
 first_new columns new entry r is was added =
     added ∙ sym (ap (λ (b : Bool). if b then numbers columns else numbers columns ++ (64 * entry) ∷ []) (sym (any_numbers (λ (i : ℕ). owner i == entry) columns) ∙ (sym is ∙ was)))
 
--- in a loop over numbers
-next_left : (named : List ℕ) (i d : ℕ) → i < length named → drop i named ≡ get_or named i d ∷ drop (i + 1) named
-next_left named i d less = let one : suc i ≡ i + 1 = omega arith in drop-cons named i d less ∙ ap (λ (k : ℕ). get_or named i d ∷ drop k named) one
-
-pub next_once : (all named : List ℕ) (i d : ℕ) (before after : List ℕ) → i < length named → after ≡ and_column before (get_or named i d) → and_columns before (drop i named) ≡ all → and_columns after (drop (i + 1) named) ≡ all
-next_once all named i d before after less added now =
-    ap (λ (l : List ℕ). and_columns l (drop (i + 1) named)) added ∙ (sym (ap (and_columns before) (next_left named i d less)) ∙ now)
-
-pub first_there_left : (P : ℕ → Type 0) (named : List ℕ) (i d : ℕ) → i < length named → AllByRecursion P (drop i named) → P (get_or named i d) × AllByRecursion P (drop (i + 1) named)
-first_there_left P named i d less h = subst (AllByRecursion P) (next_left named i d less) h
-
-pub last_once : (all named columns : List ℕ) (i : ℕ) → length named ≤ i → and_columns columns (drop i named) ≡ all → columns ≡ all
-last_once all named columns i past now = ap (and_columns columns) (sym (drop_all i named past)) ∙ now
-
 -- ---- each once
 pub push_distinct : (xs : List ℕ) (i : ℕ) → IsDistinct eqb xs → list_any (λ (j : ℕ). j == i) xs ≡ false → IsDistinct eqb (xs ++ i ∷ [])
 unfolding IsDistinct
 push_distinct [] i d none = (tt, tt)
 push_distinct (x ∷ xs) i d none =
     let apart = either_way (x == i) (list_any (λ (j : ℕ). j == i) xs) none in
-    (all_both (λ (y : ℕ). eqb x y ≡ false) xs (i ∷ []) d.0 (apart.0, tt), push_distinct xs i d.1 apart.1)
+    (all_joined (λ (y : ℕ). eqb x y ≡ false) xs (i ∷ []) d.0 (apart.0, tt), push_distinct xs i d.1 apart.1)
 
 column_distinct : (xs : List ℕ) (i : ℕ) → IsDistinct eqb xs → IsDistinct eqb (and_column xs i)
 column_distinct xs i d = by_test (list_any (λ (j : ℕ). j == i) xs) refl
@@ -182,12 +160,12 @@ module _ (entries : List Entry) where
 
   conjuncts_declared : (cs : List Cond) → AllByRecursion (HaveColumns (IsColumnOf entries)) (map condition_of cs) → AllByRecursion (HasColumn (columns_of_entries entries)) (flat_map columns_within cs)
   conjuncts_declared [] h = tt
-  conjuncts_declared (c ∷ cs) h = all_both (HasColumn (columns_of_entries entries)) (columns_within c) (flat_map columns_within cs) (condition_declared c h.0) (conjuncts_declared cs h.1)
+  conjuncts_declared (c ∷ cs) h = all_joined (HasColumn (columns_of_entries entries)) (columns_within c) (flat_map columns_within cs) (condition_declared c h.0) (conjuncts_declared cs h.1)
 
   items_declared : (es : List Expr) → AllByRecursion (HasColumns (IsColumnOf entries)) (map expression_of es) → AllByRecursion (HasColumn (columns_of_entries entries)) (flat_map columns_in es)
   items_declared [] h = tt
   items_declared (e ∷ es) h =
-      all_both (HasColumn (columns_of_entries entries)) (columns_in e) (flat_map columns_in es)
+      all_joined (HasColumn (columns_of_entries entries)) (columns_in e) (flat_map columns_in es)
       (named_have (HasColumn (columns_of_entries entries)) e (columns_more (IsColumnOf entries) (λ i ty. HasColumn (columns_of_entries entries) i) (has_column entries) (expression_of e) h.0))
       (items_declared es h.1)
 
@@ -196,14 +174,14 @@ module _ (entries : List Entry) where
   joins_declared (j ∷ joins) h =
       let front = all_front (HaveColumns (IsColumnOf entries)) (map condition_of j.on.items) (on_of (map joined_of joins)) h in
       let back = all_back (HaveColumns (IsColumnOf entries)) (map condition_of j.on.items) (on_of (map joined_of joins)) h in
-      all_both (HasColumn (columns_of_entries entries)) (columns_of_join j) (flat_map columns_of_join joins) (conjuncts_declared j.on.items front) (joins_declared joins back)
+      all_joined (HasColumn (columns_of_entries entries)) (columns_of_join j) (flat_map columns_of_join joins) (conjuncts_declared j.on.items front) (joins_declared joins back)
 
   sources_declared : (sources : List coded_source.Source) → AllByRecursion (HaveColumns (IsColumnOf entries)) (conjuncts_on (map source_of sources)) → AllByRecursion (HasColumn (columns_of_entries entries)) (flat_map columns_of_source sources)
   sources_declared [] h = tt
   sources_declared (source ∷ sources) h =
       let front = all_front (HaveColumns (IsColumnOf entries)) (on_of (map joined_of source.joins.items)) (conjuncts_on (map source_of sources)) h in
       let back = all_back (HaveColumns (IsColumnOf entries)) (on_of (map joined_of source.joins.items)) (conjuncts_on (map source_of sources)) h in
-      all_both (HasColumn (columns_of_entries entries)) (columns_of_source source) (flat_map columns_of_source sources) (joins_declared source.joins.items front) (sources_declared sources back)
+      all_joined (HasColumn (columns_of_entries entries)) (columns_of_source source) (flat_map columns_of_source sources) (joins_declared source.joins.items front) (sources_declared sources back)
 
 -- ---- what a specification keeps of its clauses
 reached : (entries : List Entry) (first next : ℕ) (cs : List Condition) → AllByRecursion (IsConditionOver (IsReached entries first next)) cs → AllByRecursion (HaveColumns (IsColumnOf entries)) cs
@@ -221,20 +199,20 @@ over_items entries (e ∷ es) h = (h.0.1, over_items entries es h.1)
 joins_over : (entries : List Entry) (first next : ℕ) (joins : List Joined) → AreJoinsOver entries first next joins → AllByRecursion (HaveColumns (IsColumnOf entries)) (on_of joins)
 joins_over entries first next [] h = tt
 joins_over entries first next (j ∷ joins) h =
-    all_both (HaveColumns (IsColumnOf entries)) j.on (on_of joins) (reached entries first (next + 1) j.on h.0) (joins_over entries first (next + 1) joins h.1)
+    all_joined (HaveColumns (IsColumnOf entries)) j.on (on_of joins) (reached entries first (next + 1) j.on h.0) (joins_over entries first (next + 1) joins h.1)
 
 sources_over : (entries : List Entry) (first : ℕ) (sources : List Source) → AreSourcesOver entries first sources → AllByRecursion (HaveColumns (IsColumnOf entries)) (conjuncts_on sources)
 sources_over entries first [] h = tt
 sources_over entries first (source ∷ sources) h =
-    all_both (HaveColumns (IsColumnOf entries)) (on_of source.joins) (conjuncts_on sources) (joins_over entries first (first + 1) source.joins h.0) (sources_over entries (first + length (entries_in source)) sources h.1)
+    all_joined (HaveColumns (IsColumnOf entries)) (on_of source.joins) (conjuncts_on sources) (joins_over entries first (first + 1) source.joins h.0) (sources_over entries (first + length (entries_in source)) sources h.1)
 
 pub query_declared : (query : QueryParts) → IsSpecification (query_of query) → AllByRecursion (HasColumn (columns_of_entries (entries_of (query_of query).sources))) (columns_of_query query)
 query_declared query h =
     let entries = entries_of (query_of query).sources in
     let P : ℕ → Type 0 = HasColumn (columns_of_entries entries) in
-    all_both P (flat_map columns_of_source query.sources) (flat_map columns_within query.conjuncts ++ flat_map columns_in query.items)
+    all_joined P (flat_map columns_of_source query.sources) (flat_map columns_within query.conjuncts ++ flat_map columns_in query.items)
     (sources_declared entries query.sources (sources_over entries 0 (query_of query).sources h.sources))
-    (all_both P (flat_map columns_within query.conjuncts) (flat_map columns_in query.items)
+    (all_joined P (flat_map columns_within query.conjuncts) (flat_map columns_in query.items)
     (conjuncts_declared entries query.conjuncts (over_conjuncts entries (query_of query).conjuncts h.conjuncts))
     (items_declared entries query.items (over_items entries (query_of query).items h.items)))
 
@@ -268,12 +246,12 @@ module _ (entries : List Entry) (cs : List ReadColumn) (declared : AllByRecursio
   condition_among : (c : Cond) → HaveColumns (IsColumnOf entries) (condition_of c) → AllByRecursion (IsThere (numbers cs)) (columns_within c) → HaveColumns (IsAmong (typed_numbers cs)) (condition_of c)
   condition_among c h there =
       conditions_more (λ i ty. IsColumnOf entries i ty × IsThere (numbers cs) i) (IsAmong (typed_numbers cs)) one_among (condition_of c)
-      (both_conditions (IsColumnOf entries) (λ i ty. IsThere (numbers cs) i) (condition_of c) h (have_named (IsThere (numbers cs)) c there))
+      (conditions_both (IsColumnOf entries) (λ i ty. IsThere (numbers cs) i) (condition_of c) h (have_named (IsThere (numbers cs)) c there))
 
   expression_among : (e : Expr) → HasColumns (IsColumnOf entries) (expression_of e) → AllByRecursion (IsThere (numbers cs)) (columns_in e) → HasColumns (IsAmong (typed_numbers cs)) (expression_of e)
   expression_among e h there =
       columns_more (λ i ty. IsColumnOf entries i ty × IsThere (numbers cs) i) (IsAmong (typed_numbers cs)) one_among (expression_of e)
-      (both_columns (IsColumnOf entries) (λ i ty. IsThere (numbers cs) i) (expression_of e) h (has_named (IsThere (numbers cs)) e there))
+      (columns_both (IsColumnOf entries) (λ i ty. IsThere (numbers cs) i) (expression_of e) h (has_named (IsThere (numbers cs)) e there))
 
   conjuncts_among : (conjuncts : List Cond) → AllByRecursion (HaveColumns (IsColumnOf entries)) (map condition_of conjuncts) → AllByRecursion (IsThere (numbers cs)) (flat_map columns_within conjuncts) →
       AllByRecursion (HaveColumns (IsAmong (typed_numbers cs))) (map condition_of conjuncts)
@@ -296,7 +274,7 @@ module _ (entries : List Entry) (cs : List ReadColumn) (declared : AllByRecursio
   joins_among [] h there = tt
   joins_among (j ∷ joins) h there =
       let P : Condition → Type 0 = HaveColumns (IsColumnOf entries) in
-      all_both (HaveColumns (IsAmong (typed_numbers cs))) (map condition_of j.on.items) (on_of (map joined_of joins))
+      all_joined (HaveColumns (IsAmong (typed_numbers cs))) (map condition_of j.on.items) (on_of (map joined_of joins))
       (conjuncts_among j.on.items (all_front P (map condition_of j.on.items) (on_of (map joined_of joins)) h) (all_front (IsThere (numbers cs)) (columns_of_join j) (flat_map columns_of_join joins) there))
       (joins_among joins (all_back P (map condition_of j.on.items) (on_of (map joined_of joins)) h) (all_back (IsThere (numbers cs)) (columns_of_join j) (flat_map columns_of_join joins) there))
 
@@ -306,7 +284,7 @@ module _ (entries : List Entry) (cs : List ReadColumn) (declared : AllByRecursio
   sources_among (source ∷ sources) h there =
       let P : Condition → Type 0 = HaveColumns (IsColumnOf entries) in
       let joins = source.joins.items in
-      all_both (HaveColumns (IsAmong (typed_numbers cs))) (on_of (map joined_of joins)) (conjuncts_on (map source_of sources))
+      all_joined (HaveColumns (IsAmong (typed_numbers cs))) (on_of (map joined_of joins)) (conjuncts_on (map source_of sources))
       (joins_among joins (all_front P (on_of (map joined_of joins)) (conjuncts_on (map source_of sources)) h) (all_front (IsThere (numbers cs)) (columns_of_source source) (flat_map columns_of_source sources) there))
       (sources_among sources (all_back P (on_of (map joined_of joins)) (conjuncts_on (map source_of sources)) h) (all_back (IsThere (numbers cs)) (columns_of_source source) (flat_map columns_of_source sources) there))
 
@@ -355,9 +333,6 @@ next_first all before after entry i n same less added now =
     let count : n - i ≡ suc (n - (i + 1)) = omega (arith, less) in
     ap (λ (l : List ℕ). and_firsts l (i + 1) (n - (i + 1))) (added ∙ ap (and_first before) same) ∙ (sym (ap (and_firsts before i) count) ∙ now)
 
-pub last_first : (all columns : List ℕ) (i n : ℕ) → n ≤ i → and_firsts columns i (n - i) ≡ all → columns ≡ all
-last_first all columns i n past now = let none : n - i ≡ 0 = omega (arith, past) in sym (ap (and_firsts columns i) none) ∙ now
-
 -- ---- entries, as they are copied
 joined_are : (joins : List coded_join.Joined) → columns_of_entries (map (λ (j : Joined). j.entry) (map joined_of joins)) ≡ map columns_joined joins
 joined_are [] = refl
@@ -385,9 +360,6 @@ next_entries sources i source before middle after columns joins less is old firs
     ∙ (append_assoc before (columns ∷ []) (map columns_joined source.joins.items)
     ∙ (ap₂ (λ (l : List (List ColumnType)) (c : List ColumnType). l ++ (c ∷ map columns_joined source.joins.items)) old first
     ∙ (sym (sources_push (take i sources) source) ∙ sym (ap (λ (l : List coded_source.Source). columns_of_entries (entries_of (map source_of l))) (taken sources i source less is))))))
-
-pub all_entries : (sources : List coded_source.Source) (i : ℕ) (now : List (List ColumnType)) → length sources ≤ i → now ≡ columns_of_entries (entries_of (map source_of (take i sources))) → now ≡ columns_of_entries (entries_of (map source_of sources))
-all_entries sources i now past is = is ∙ ap (λ (l : List coded_source.Source). columns_of_entries (entries_of (map source_of l))) (take_all i sources past)
 
 -- ---- results
 pub if_ok : {X E : Type 0} (r : Result X E) (P Q : X → Type 0) → ((x : X) → P x → Q x) → IfOk r P → IfOk r Q

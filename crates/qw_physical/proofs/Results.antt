@@ -9,16 +9,14 @@ use Rattle.qw_types.specs.declared.schema.ColumnType.{ColumnType}
 use Rattle.qw_types.specs.declared.value.Val.{Val}
 use Rattle.qw_meaning.specs.Outcome.{IsSameOutcome, Raises, Rows, flow, outcome}
 use Rattle.qw_meaning.specs.Select.{Entry, Specification, entries_of}
-use Rattle.qw_algebra.specs.Node.{Node, node_flow, project}
-use Rattle.qw_algebra.specs.Written.{from_written}
+use Rattle.qw_algebra.specs.Node.{Node, node_flow}
 use Rattle.qw_rewrite.specs.Sift.{sifted}
 use Rattle.qw_rewrite.proofs.Grounds.{flow_of_query, written_sized}
-use Rattle.qw_pipe.specs.Pipes as pipes
-use Rattle.qw_pipe.specs.Pipes.{make, pipelines, split}
-use Rattle.qw_physical.specs.Physical.{Operator, Pipeline}
+use Rattle.qw_pipe.specs.Pipes.{pipelines, split}
+use Rattle.qw_physical.specs.Physical.{Pipeline}
 use Rattle.qw_physical.specs.Courses.{AreBuilt, pipeline_fed}
 use Rattle.qw_physical.specs.Sides.{column_in, FeedsSide, IsApart, IsMadeFor, IsPlanned, ScansNulls, builds_of, last_of, sides}
-use Rattle.qw_physical.specs.Spelled.{all_spelled, spelled, spelled_steps}
+use Rattle.qw_physical.specs.Spelled.{all_spelled, spelled}
 use Rattle.qw_physical.specs.declared.pipeline.ReadColumn.{ReadColumn}
 use Rattle.qw_physical.proofs.Apart.{builds_apart, builds_nulls, last_apart, last_nulls}
 use Rattle.qw_physical.proofs.Building.{FeedSides, HasSide, element_at, feed_sides, side_codes, side_of}

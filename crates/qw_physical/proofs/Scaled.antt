@@ -1,5 +1,5 @@
 -- Equalities of the code compare operands of one scale where they are of one kind: results of a CASE are brought to one scale.
-use Rattle.std.proofs.Common.{◌≡◌, ◌∙◌, ℕ, ◌+◌, ◌==◌, max, Bool, true, false, List, [], ◌∷◌, ◌++◌, map, length, Option, Some, None, refl, sym, subst, arith}
+use Rattle.std.proofs.Common.{◌≡◌, ◌∙◌, ℕ, ◌+◌, max, true, List, [], ◌∷◌, map, length, Option, Some, None, refl, sym, subst, arith}
 use Rattle.std.specs.List.{AllByRecursion, flat_map}
 use Rattle.std.specs.Prelude.{IsTrue}
 use Rattle.std.proofs.lemmas.Bool.Decides.{nat_tests}
@@ -15,14 +15,15 @@ use Rattle.qw_scalar.specs.declared.expression.Exprs.{Exprs}
 use Rattle.qw_scalar.specs.declared.expression.Branches.{Branches}
 use Rattle.qw_scalar.specs.declared.expression.Matches.{Matches}
 use Rattle.qw_scalar.specs.declared.expression.Expr.TheVariants.{Null, Number, Date, Text, Column, Arithmetic', Negative', Extract', Case', Match', Coalesce', NullIf'}
-use Rattle.qw_scalar.specs.declared.expression.Cond.TheVariants.{Compare', Between', In', IsNull', And', Or', Not', Is'}
 use Rattle.qw_scalar.specs.declared.expression.Exprs.TheVariants as Exprs
 use Rattle.qw_scalar.specs.declared.expression.Branches.TheVariants as Branches
 use Rattle.qw_scalar.specs.declared.expression.Matches.TheVariants as Matches
-use Rattle.qw_scalar.specs.Expression.{Choices, Condition, Expression, Expressions, otherwise, when, case, cases, coalesced, largest_result, scale_of}
+use Rattle.qw_scalar.specs.Expression.{Choices, Expression, otherwise, when, case, cases, coalesced, largest_result, scale_of}
 use Rattle.qw_scalar.specs.Tree.{choices_of, condition_of, expression_of, expressions_of, matches_of}
 use Rattle.qw_scalar.specs.Typing.{AreResultsTyped, AreTyped, IsTyped, agree, at_scale, joined, kind_of}
 use Rattle.qw_scalar.proofs.CaseLemmas.{cases_scale, results_typed}
+use Rattle.qw_leaves.specs.Compared.{ComparedTrees, OfCompared, compared_by, trees_compared}
+use Rattle.qw_leaves.proofs.ComparedLemmas.{operands_typed, trees_are}
 use Rattle.qw_meaning.specs.Query.{QueryParts, joined_of, query_of, source_of}
 use Rattle.qw_meaning.specs.Select.{AreJoinsOver, AreSourcesOver, Entry, IsColumnOf, IsConditionOver, IsReached, IsSpecification, Joined, conjuncts_on, entries_in, entries_of}
 use Rattle.qw_meaning.specs.declared.query.Joined as coded_join
@@ -159,16 +160,15 @@ pair_scaled a b ta tb h =
     alike_scales (kind_of (expression_of a)) (kind_of (expression_of b)) (scale_of (expression_of a)) (scale_of (expression_of b)) (expression_fit a ta) (expression_fit b tb) h
 
 -- of every typed condition of the code
+trees_scaled : (o : Option ComparedTrees) → OfCompared (λ op a b. IsTyped a × IsTyped b) (compared_by o)
+    → OfCompared (λ op a b. are_alike (kind_of a) (kind_of b) ≡ true → scale_of a ≡ scale_of b) (compared_by o)
+trees_scaled None t = tt
+trees_scaled (Some k) t = λ h. pair_scaled k.left k.right t.0 t.1 h
+
 pub tree_scaled : (c : Cond) → AreTyped (condition_of c) → IsScaled (condition_of c)
-tree_scaled (Compare' op _ a _ b) t = λ h. pair_scaled a b t.0.0 t.0.1 h
-tree_scaled (Between' _ x _ a _ b) t = tt
-tree_scaled (In' _ x _ (Exprs.Last' _ v)) t = λ h. pair_scaled x v t.0.0 t.0.1 h
-tree_scaled (In' _ x _ (Exprs.More' _ v _ vs)) t = tt
-tree_scaled (IsNull' _ a) t = tt
-tree_scaled (And' _ c _ d) t = tt
-tree_scaled (Or' _ c _ d) t = tt
-tree_scaled (Not' _ c) t = tt
-tree_scaled (Is' _ c k) t = tt
+tree_scaled c t =
+    subst (OfCompared (λ op a b. are_alike (kind_of a) (kind_of b) ≡ true → scale_of a ≡ scale_of b)) (sym (trees_are c))
+    (trees_scaled (trees_compared c) (subst (OfCompared (λ op a b. IsTyped a × IsTyped b)) (trees_are c) (operands_typed (condition_of c) t)))
 
 -- ---- queries
 

@@ -5,14 +5,15 @@ use Rattle.std.proofs.lemmas.Option.{same_Some}
 use Rattle.std.specs.List.{AllByRecursion, AllZip, filter as kept_by}
 use Rattle.qw_types.specs.declared.kind.Kind.{Kind}
 use Rattle.qw_types.specs.declared.kind.Kind.TheVariants as kind
-use Rattle.qw_scalar.specs.Expression.{Condition, Expression, comparison, is_null, both, either, negation_of, is}
+use Rattle.qw_scalar.specs.Expression.{Condition, Expression}
 use Rattle.qw_scalar.specs.Same.{IsSame}
 use Rattle.qw_scalar.specs.Typing.{kind_of}
+use Rattle.qw_leaves.specs.Compared.{Compared, OfCompared, compared_in}
 use Rattle.qw_algebra.specs.Columns.{is_of, names_only}
 use Rattle.qw_pipe.specs.Pipes as pipes
 use Rattle.qw_pipe.specs.Pipes.{Lookup, LooksUp, make, test, to_table}
-use Rattle.qw_pipe.specs.Units.{equalities, operand_of}
-use Rattle.qw_rewrite.specs.Probe.{are_alike, face, is_eligible, is_equality}
+use Rattle.qw_pipe.specs.Units.{equalities, operand_among, operand_of}
+use Rattle.qw_rewrite.specs.Probe.{are_alike, are_eligible, face, is_eligible, is_equality}
 use Rattle.qw_physical.specs.Physical.{Build, Operator, Pipeline, Probe, Sink, build, filter, probe, select}
 use Rattle.qw_physical.specs.Spelled.{IsSameBuild, IsSameOperator, IsSamePipeline, IsSameSink, all_spelled, kept_columns, keys_kept, spelled, spelled_sink, spelled_steps}
 use Rattle.qw_physical.specs.declared.pipeline.ReadColumn.{ReadColumn}
@@ -29,12 +30,7 @@ AreServedBy front (probe q ∷ operators) = IsServedBy front q × AreServedBy fr
 -- ---- keys of one kind
 -- the operands of a comparison are of one kind
 abbrev pub IsAlike : Condition → Type 0
-IsAlike (comparison op a b) = kind_of a ≡ kind_of b
-IsAlike (is_null a) = Unit {0}
-IsAlike (both c d) = Unit {0}
-IsAlike (either c d) = Unit {0}
-IsAlike (negation_of c) = Unit {0}
-IsAlike (is c t) = Unit {0}
+IsAlike c = OfCompared (λ op a b. kind_of a ≡ kind_of b) (compared_in c)
 
 -- those of the keys of lookups are
 abbrev pub HaveAlike : List pipes.Step → Type 0
@@ -60,14 +56,14 @@ alike_kinds (Some kind.Text) (Some kind.Text) h = refl
 
 -- an equality that may be a key
 pub eligible_alike : (left right : ℕ → Bool) (c : Condition) → is_eligible left right c ≡ true → IsAlike c
-eligible_alike left right (comparison op a b) h =
-    let parts = and_parts (is_equality op) (face left right a b && are_alike (kind_of a) (kind_of b)) h in
-    alike_kinds (kind_of a) (kind_of b) (and_parts (face left right a b) (are_alike (kind_of a) (kind_of b)) parts.1).1
-eligible_alike left right (is_null a) h = tt
-eligible_alike left right (both c d) h = tt
-eligible_alike left right (either c d) h = tt
-eligible_alike left right (negation_of c) h = tt
-eligible_alike left right (is c t) h = tt
+eligible_alike left right c h = one (compared_in c) h
+  where
+    one : (o : Option Compared) → are_eligible left right o ≡ true → OfCompared (λ op a b. kind_of a ≡ kind_of b) o
+    one (Some k) h =
+        let alike : Bool = are_alike (kind_of k.left) (kind_of k.right) in
+        let parts = and_parts (is_equality k.operator) (face left right k.left k.right && alike) h in
+        alike_kinds (kind_of k.left) (kind_of k.right) (and_parts (face left right k.left k.right) alike parts.1).1
+    one None h = tt
 
 chosen_alike : (p q : Bool) (a b : Expression) → kind_of a ≡ kind_of b → kind_of (if p then a else b) ≡ kind_of (if q then a else b)
 chosen_alike true true a b h = refl
@@ -76,12 +72,11 @@ chosen_alike false true a b h = sym h
 chosen_alike false false a b h = refl
 
 operands_alike : (f g : ℕ → Bool) (c : Condition) → IsAlike c → kind_of (operand_of f c) ≡ kind_of (operand_of g c)
-operands_alike f g (comparison op a b) h = chosen_alike (names_only f a) (names_only g a) a b h
-operands_alike f g (is_null a) h = refl
-operands_alike f g (both c d) h = refl
-operands_alike f g (either c d) h = refl
-operands_alike f g (negation_of c) h = refl
-operands_alike f g (is c t) h = refl
+operands_alike f g c h = one (compared_in c) h
+  where
+    one : (o : Option Compared) → OfCompared (λ op a b. kind_of a ≡ kind_of b) o → kind_of (operand_among f o) ≡ kind_of (operand_among g o)
+    one (Some k) h = chosen_alike (names_only f k.left) (names_only g k.left) k.left k.right h
+    one None h = refl
 
 keys_alike : (f g : ℕ → Bool) (cs : List Condition) → AllByRecursion IsAlike cs → map kind_of (map (operand_of f) cs) ≡ map kind_of (map (operand_of g) cs)
 keys_alike f g [] alike = refl

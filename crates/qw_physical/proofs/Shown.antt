@@ -1,19 +1,19 @@
 -- What expressions of a pipeline name: columns that are seen, which are those of its entry and those that lookups keep.
-use Rattle.std.proofs.Common.{◌≡◌, ◌∙◌, ◌⊎◌, ℕ, zero, suc, ◌/◌, nat_eq, Bool, true, false, ◌&&◌, if◌then◌else◌, Contains, List, [], ◌∷◌, ◌++◌, map, inl, inr, refl, sym, ap, subst, arith}
+use Rattle.std.proofs.Common.{◌≡◌, ◌∙◌, ◌⊎◌, ℕ, zero, suc, ◌/◌, nat_eq, Bool, true, false, if◌then◌else◌, Contains, List, [], ◌∷◌, ◌++◌, map, inl, inr, refl, sym, ap, subst, arith}
 use Rattle.std.specs.List.{AllByRecursion}
 use Rattle.std.specs.List as list
 use Rattle.qw_types.specs.declared.value.Ty.{Ty}
 use Rattle.qw_scalar.specs.Columns.{HasColumns, HaveColumns}
-use Rattle.qw_scalar.specs.Expression.{Expression, Condition, null, number, date, text, column, arithmetic, negative, extract, brought, choice, comparison, is_null, both, either, negation_of, is}
+use Rattle.qw_scalar.specs.Expression.{Expression, Condition}
 use Rattle.qw_scalar.proofs.ColumnLemmas.{columns_more, conditions_more}
 use Rattle.qw_algebra.specs.Columns.{condition_names_only, names_only}
 use Rattle.qw_algebra.proofs.Lists.{all_map, all_more}
-use Rattle.qw_rewrite.proofs.Rows.{and_left, and_right}
+use Rattle.qw_leaves.proofs.LeafLemmas.{columns_both, conditions_both}
+use Rattle.qw_rewrite.proofs.Names.{names_has, names_have}
 use Rattle.qw_physical.specs.Courses.{column_of, sink_values}
 use Rattle.qw_physical.specs.Named.{typed_numbers}
 use Rattle.qw_physical.specs.Physical.{Operator, Pipeline, filter as filter_by, probe}
 use Rattle.qw_physical.specs.declared.pipeline.ReadColumn.{ReadColumn}
-use Rattle.qw_physical.proofs.Naming.{both_columns, both_conditions}
 
 -- ---- columns that are seen
 
@@ -151,33 +151,6 @@ columns_shown xs = all_map (Shows xs) column_of xs (itself_shown xs)
 
 -- ---- what is named
 module _ (passes : ℕ → Bool) where
-  mutual
-    pub names_has : (e : Expression) → names_only passes e ≡ true → HasColumns (λ i ty. passes i ≡ true) e
-    names_has null h = tt
-    names_has (number v s) h = tt
-    names_has (date d) h = tt
-    names_has (text t) h = tt
-    names_has (column i ty) h = h
-    names_has (arithmetic operator a b) h = (names_has a (and_left (names_only passes a) (names_only passes b) h), names_has b (and_right (names_only passes a) (names_only passes b) h))
-    names_has (negative a) h = names_has a h
-    names_has (extract field a) h = names_has a h
-    names_has (brought a s) h = names_has a h
-    names_has (choice c a b) h =
-        let two : (names_only passes a && names_only passes b) ≡ true = and_right (condition_names_only passes c) (names_only passes a && names_only passes b) h in (
-          names_have c (and_left (condition_names_only passes c) (names_only passes a && names_only passes b) h),
-          (names_has a (and_left (names_only passes a) (names_only passes b) two), names_has b (and_right (names_only passes a) (names_only passes b) two)),
-        )
-
-    pub names_have : (c : Condition) → condition_names_only passes c ≡ true → HaveColumns (λ i ty. passes i ≡ true) c
-    names_have (comparison op a b) h = (names_has a (and_left (names_only passes a) (names_only passes b) h), names_has b (and_right (names_only passes a) (names_only passes b) h))
-    names_have (is_null a) h = names_has a h
-    names_have (both c d) h =
-        (names_have c (and_left (condition_names_only passes c) (condition_names_only passes d) h), names_have d (and_right (condition_names_only passes c) (condition_names_only passes d) h))
-    names_have (either c d) h =
-        (names_have c (and_left (condition_names_only passes c) (condition_names_only passes d) h), names_have d (and_right (condition_names_only passes c) (condition_names_only passes d) h))
-    names_have (negation_of c) h = names_have c h
-    names_have (is c t) h = names_have c h
-
   module _ (columns : List ReadColumn) where
     one_shown : (i : ℕ) (ty : Ty) → (passes i ≡ true) × IsAmong (typed_numbers columns) i ty → IsAmong (typed_numbers (owned passes columns)) i ty
     one_shown i ty h = among_owned passes columns i ty h.0 h.1
@@ -185,16 +158,12 @@ module _ (passes : ℕ → Bool) where
     pub shown : (e : Expression) → names_only passes e ≡ true → Shows columns e → Shows (owned passes columns) e
     shown e n h =
         columns_more (λ i ty. (passes i ≡ true) × IsAmong (typed_numbers columns) i ty) (IsAmong (typed_numbers (owned passes columns))) one_shown e
-        (both_columns (λ i ty. passes i ≡ true) (IsAmong (typed_numbers columns)) e (names_has e n) h)
+        (columns_both (λ i ty. passes i ≡ true) (IsAmong (typed_numbers columns)) e (names_has passes e n) h)
 
     pub shown_in : (c : Condition) → condition_names_only passes c ≡ true → ShowsIn columns c → ShowsIn (owned passes columns) c
     shown_in c n h =
         conditions_more (λ i ty. (passes i ≡ true) × IsAmong (typed_numbers columns) i ty) (IsAmong (typed_numbers (owned passes columns))) one_shown c
-        (both_conditions (λ i ty. passes i ≡ true) (IsAmong (typed_numbers columns)) c (names_have c n) h)
-
-    pub all_shown : (es : List Expression) → AllByRecursion (λ e. names_only passes e ≡ true) es → AllByRecursion (Shows columns) es → AllByRecursion (Shows (owned passes columns)) es
-    all_shown [] n h = tt
-    all_shown (e ∷ es) n h = (shown e n.0 h.0, all_shown es n.1 h.1)
+        (conditions_both (λ i ty. passes i ≡ true) (IsAmong (typed_numbers columns)) c (names_have passes c n) h)
 
     pub all_shown_in : (cs : List Condition) → AllByRecursion (λ c. condition_names_only passes c ≡ true) cs → AllByRecursion (ShowsIn columns) cs → AllByRecursion (ShowsIn (owned passes columns)) cs
     all_shown_in [] n h = tt

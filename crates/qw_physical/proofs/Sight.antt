@@ -4,9 +4,8 @@ use Rattle.std.specs.List.{AllByRecursion}
 use Rattle.qw_types.specs.ValueOrder.{is_same_row}
 use Rattle.qw_types.specs.declared.code.Code.{Code}
 use Rattle.qw_types.specs.declared.value.Val.{Val}
-use Rattle.qw_scalar.specs.Conjuncts.{passes}
 use Rattle.qw_scalar.specs.Evaluation.{at_row}
-use Rattle.qw_scalar.specs.Expression.{Condition, Expression}
+use Rattle.qw_scalar.specs.Expression.{Expression}
 use Rattle.qw_meaning.specs.Flow.{Flow, values_of}
 use Rattle.qw_meaning.specs.From.{first_of, merged}
 use Rattle.qw_meaning.proofs.FromLemmas.{cell, merged_cell}

@@ -1,5 +1,5 @@
 -- What a pipeline feeds, operator by operator: what comes of a row before an operator, by what comes of a row behind it.
-use Rattle.std.proofs.Common.{◌≡◌, ◌∙◌, List, [], ◌∷◌, ◌++◌, get_or, length, take, if◌then◌else◌, Result, Ok, Err, refl, sym, ap}
+use Rattle.std.proofs.Common.{◌≡◌, List, [], ◌∷◌, ◌++◌, get_or, length, take, if◌then◌else◌, Result, Ok, Err, refl, ap}
 use Rattle.qw_types.specs.ValueOrder.{is_same_row}
 use Rattle.qw_types.specs.declared.code.Code.{Code}
 use Rattle.qw_types.specs.declared.value.Val.{Val}

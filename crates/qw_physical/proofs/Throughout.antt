@@ -1,24 +1,17 @@
 -- What holds of every conjunct of a query holds of every conjunct of its well placed plan.
-use Rattle.std.proofs.Common.{◌≡◌, ℕ, ◌+◌, Bool, true, not, ◌&&◌, List, [], ◌∷◌, ◌++◌, length, sym, subst}
+use Rattle.std.proofs.Common.{ℕ, ◌+◌, Bool, not, ◌&&◌, List, [], ◌∷◌, ◌++◌, length}
 use Rattle.std.specs.List.{AllByRecursion, flat_map}
 use Rattle.qw_scalar.specs.Expression.{Condition}
+use Rattle.qw_leaves.proofs.LeafLists.{all_back, all_front}
 use Rattle.qw_meaning.specs.Select.{Joined, Source, Specification, conjuncts_on, entries_in}
 use Rattle.qw_algebra.specs.Columns.{condition_names_only, owns}
 use Rattle.qw_algebra.specs.Node.{Node, scan, filter, join, project}
-use Rattle.qw_algebra.specs.Written.{from_written, source_written, with_joins, with_sources, written}
+use Rattle.qw_algebra.specs.Written.{from_written, source_written, with_joins, with_sources}
 use Rattle.qw_algebra.proofs.Lists.{all_append}
 use Rattle.qw_rewrite.specs.Probe.{keyed}
 use Rattle.qw_rewrite.specs.Sift.{beyond, is_clean_on, is_quiet, moved, sifted, stayed, within}
 use Rattle.qw_rewrite.proofs.Moved.{moved_all, stayed_all}
 use Rattle.qw_rewrite.proofs.Stages.{all_filtered}
-
-pub all_front : {X : Type 0} (P : X → Type 0) (xs ys : List X) → AllByRecursion P (xs ++ ys) → AllByRecursion P xs
-all_front P [] ys h = tt
-all_front P (x ∷ xs) ys h = (h.0, all_front P xs ys h.1)
-
-pub all_back : {X : Type 0} (P : X → Type 0) (xs ys : List X) → AllByRecursion P (xs ++ ys) → AllByRecursion P ys
-all_back P [] ys h = h
-all_back P (x ∷ xs) ys h = all_back P xs ys h.1
 
 module _ (P : Condition → Type 0) where
   abbrev pub Throughout : Node → Type 0
@@ -76,9 +69,3 @@ module _ (P : Condition → Type 0) where
         ),
       )
   sifted_through (project below items) clean above ha h = sifted_through below clean above ha h
-
-  pub keyed_through : (node : Node) (clean : Bool) → Throughout node → Throughout (keyed clean node)
-  keyed_through (scan entry table) clean h = tt
-  keyed_through (filter conjuncts below) clean h = (h.0, keyed_through below clean h.1)
-  keyed_through (join left right on keys) clean h = (h.0, (keyed_through left clean h.1.0, keyed_through right (clean && is_quiet left) h.1.1))
-  keyed_through (project below items) clean h = keyed_through below clean h

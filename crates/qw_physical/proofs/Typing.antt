@@ -5,20 +5,21 @@ use Rattle.qw_types.specs.declared.kind.Kind.{Kind}
 use Rattle.qw_types.specs.declared.kind.Kind.TheVariants as kind
 use Rattle.qw_types.specs.declared.value.Ty.{Ty}
 use Rattle.qw_scalar.specs.Columns.{HasColumns, HaveColumns}
-use Rattle.qw_scalar.specs.Expression.{Condition, Expression, comparison, is_null, both, either, negation_of, is}
-use Rattle.qw_scalar.specs.Typing.{AreTyped, are_comparable, has_kind, kind_of}
+use Rattle.qw_scalar.specs.Expression.{Condition, Expression}
+use Rattle.qw_scalar.specs.Typing.{AreTyped, IsTyped, are_comparable, has_kind, kind_of}
+use Rattle.qw_leaves.proofs.ComparedLemmas.{by_compared}
 use Rattle.qw_algebra.specs.Columns.{is_of, names_only}
 use Rattle.qw_fold.specs.Stands.{Follows, FollowsTruth}
 use Rattle.qw_fold.proofs.Named.{follows_columns, follows_conditions}
 use Rattle.qw_pipe.specs.Pipes as pipes
 use Rattle.qw_pipe.specs.Pipes.{Lookup, make, test, to_result, to_table}
-use Rattle.qw_pipe.specs.Units.{equalities, operand_of}
-use Rattle.qw_rewrite.specs.Probed.{beside_keys, is_key}
+use Rattle.qw_pipe.specs.Units.{equalities, operand_among, operand_of}
 use Rattle.qw_physical.specs.declared.pipeline.ReadColumn.{ReadColumn}
 use Rattle.qw_physical.specs.Follows.{FollowsOperator, FollowsPipeline, FollowsSink}
 use Rattle.qw_physical.specs.Physical.{Operator, Pipeline, Sink, build, filter, probe, select}
 use Rattle.qw_physical.specs.Spelled.{all_spelled, items_made, keys_kept, keys_sought, spelled, spelled_sink, spelled_steps}
-use Rattle.qw_physical.specs.Typed.{AreTypedPipelines, IsComparison, IsTypedLookup, IsTypedOperator, IsTypedPhysical, IsTypedPipeline, IsTypedSink, IsTypedStep, IsTypedTarget, IsValued}
+use Rattle.qw_physical.specs.Typed.{AreTypedPipelines, Compares, IsComparison, IsTypedLookup, IsTypedOperator, IsTypedPhysical, IsTypedPipeline, IsTypedSink, IsTypedStep, IsTypedTarget, IsValued}
+use Rattle.qw_physical.proofs.JoinBound.{beside_all}
 
 -- ---- operands of a comparison
 comparable_kinds : (k other : Option Kind) → IsTrue (are_comparable k other) → IsTrue (has_kind k) × IsTrue (has_kind other)
@@ -33,16 +34,11 @@ comparable_kinds (Some k) None h = absurd (none k h)
 comparable_kinds (Some k) (Some other) h = (refl, refl)
 
 operand_valued : (side : ℕ → Bool) (c : Condition) → AreTyped c → IsComparison c → IsValued (operand_of side c)
-operand_valued side (comparison op a b) h k = by_test (names_only side a) (comparable_kinds (kind_of a) (kind_of b) h.1)
+operand_valued side = by_compared (λ c o. AreTyped c → Compares o → IsValued (operand_among side o)) (λ op a b h k. by_test a b (h.0.0, h.0.1) (comparable_kinds (kind_of a) (kind_of b) h.1) (names_only side a)) (λ c h k. absurd k)
   where
-    by_test : (x : Bool) → IsTrue (has_kind (kind_of a)) × IsTrue (has_kind (kind_of b)) → IsValued (if x then a else b)
-    by_test true kinds = (h.0.0, kinds.0)
-    by_test false kinds = (h.0.1, kinds.1)
-operand_valued side (is_null a) h k = absurd k
-operand_valued side (both c d) h k = absurd k
-operand_valued side (either c d) h k = absurd k
-operand_valued side (negation_of c) h k = absurd k
-operand_valued side (is c t) h k = absurd k
+    by_test : (a b : Expression) → IsTyped a × IsTyped b → IsTrue (has_kind (kind_of a)) × IsTrue (has_kind (kind_of b)) → (x : Bool) → IsValued (if x then a else b)
+    by_test a b typed kinds true = (typed.0, kinds.0)
+    by_test a b typed kinds false = (typed.1, kinds.1)
 
 keys_valued : (side : ℕ → Bool) (cs : List Condition) → AllByRecursion AreTyped cs → AllByRecursion IsComparison cs → AllByRecursion IsValued (map (operand_of side) cs)
 keys_valued side [] h k = tt
@@ -58,14 +54,6 @@ pub all_positions : {X : Type 0} (P : X → Type 0) (xs : List X) (keys : List �
 all_positions P xs [] h = tt
 all_positions P xs (k ∷ keys) h = and_one P xs k (filter_map (λ p. slice_get xs p) keys) h (all_positions P xs keys h)
 
-all_beside : (P : Condition → Type 0) (keys : List ℕ) (k : ℕ) (cs : List Condition) → AllByRecursion P cs → AllByRecursion P (beside_keys keys k cs)
-all_beside P keys k [] h = tt
-all_beside P keys k (c ∷ cs) h = by_test (is_key keys k) (all_beside P keys (k + 1) cs h.1)
-  where
-    by_test : (b : Bool) → AllByRecursion P (beside_keys keys (k + 1) cs) → AllByRecursion P (if b then beside_keys keys (k + 1) cs else c ∷ beside_keys keys (k + 1) cs)
-    by_test true rest = rest
-    by_test false rest = (h.0, rest)
-
 sought_valued : (lookup : Lookup) → IsTypedLookup lookup → AllByRecursion IsValued (keys_sought lookup)
 sought_valued lookup h = keys_valued (λ i. not (is_of lookup.entries i)) (equalities lookup) (all_positions AreTyped lookup.on lookup.keys h.on) h.keys
 
@@ -76,7 +64,7 @@ kept_valued lookup h = keys_valued (is_of lookup.entries) (equalities lookup) (a
 steps_typed : (columns : List ReadColumn) (steps : List pipes.Step) → AllByRecursion IsTypedStep steps → AllByRecursion IsTypedOperator (spelled_steps columns steps)
 steps_typed columns [] h = tt
 steps_typed columns (test cs ∷ steps) h = (h.0, steps_typed columns steps h.1)
-steps_typed columns (pipes.probe table lookup ∷ steps) h = ((sought_valued lookup h.0, all_beside AreTyped lookup.keys 0 lookup.on h.0.on), steps_typed columns steps h.1)
+steps_typed columns (pipes.probe table lookup ∷ steps) h = ((sought_valued lookup h.0, beside_all AreTyped lookup.keys 0 lookup.on h.0.on), steps_typed columns steps h.1)
 steps_typed columns (make items ∷ steps) h = steps_typed columns steps h.1
 
 items_valued : (items : List Expression) (steps : List pipes.Step) → AllByRecursion IsValued items → AllByRecursion IsTypedStep steps → AllByRecursion IsValued (items_made items steps)

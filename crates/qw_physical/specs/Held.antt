@@ -5,7 +5,7 @@ use Rattle.qw_types.specs.declared.value.Val.{Val}
 use Rattle.qw_layout.specs.Row.{entry_size}
 use Rattle.qw_algebra.specs.Columns.{is_of}
 use Rattle.qw_physical.specs.Courses.{pipeline_fed}
-use Rattle.qw_physical.specs.Physical.{Build, Pipeline, Sink, build, select}
+use Rattle.qw_physical.specs.Physical.{Pipeline, Sink, build, select}
 use Rattle.qw_physical.specs.declared.pipeline.ReadColumn.{ReadColumn}
 
 -- how many columns of some entries of FROM are kept

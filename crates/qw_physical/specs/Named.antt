@@ -6,14 +6,7 @@ use Rattle.qw_types.specs.declared.schema.ColumnType.{ColumnType}
 use Rattle.qw_types.specs.declared.value.Ty.{Ty}
 use Rattle.qw_scalar.specs.declared.expression.Expr.{Expr}
 use Rattle.qw_scalar.specs.declared.expression.Cond.{Cond}
-use Rattle.qw_scalar.specs.declared.expression.Exprs.{Exprs}
-use Rattle.qw_scalar.specs.declared.expression.Branches.{Branches}
-use Rattle.qw_scalar.specs.declared.expression.Matches.{Matches}
-use Rattle.qw_scalar.specs.declared.expression.Expr.TheVariants.{Null, Number, Date, Text, Column, Arithmetic', Negative', Extract', Case', Match', Coalesce', NullIf'}
-use Rattle.qw_scalar.specs.declared.expression.Cond.TheVariants.{Compare', Between', In', IsNull', And', Or', Not', Is'}
-use Rattle.qw_scalar.specs.declared.expression.Exprs.TheVariants as Exprs
-use Rattle.qw_scalar.specs.declared.expression.Branches.TheVariants as Branches
-use Rattle.qw_scalar.specs.declared.expression.Matches.TheVariants as Matches
+use Rattle.qw_leaves.specs.Leaves.{columns_among, leaves_in, leaves_within}
 use Rattle.qw_meaning.specs.Query.{QueryParts}
 use Rattle.qw_meaning.specs.Select.{Entry}
 use Rattle.qw_meaning.specs.declared.query.Joined.{Joined}
@@ -22,42 +15,11 @@ use Rattle.qw_algebra.specs.Columns.{owner}
 use Rattle.qw_physical.specs.declared.pipeline.ReadColumn.{ReadColumn}
 
 -- ---- the numbers of the columns of trees, from left to right
-abbrev mutual
-  pub columns_in : Expr → List ℕ
-  columns_in Null = []
-  columns_in (Number v s) = []
-  columns_in (Date d) = []
-  columns_in (Text t) = []
-  columns_in (Column i ty) = i ∷ []
-  columns_in (Arithmetic' operator _ a _ b) = columns_in a ++ columns_in b
-  columns_in (Negative' _ a) = columns_in a
-  columns_in (Extract' field _ a) = columns_in a
-  columns_in (Case' _ branches) = columns_of_branches branches
-  columns_in (Match' _ x _ matches) = columns_in x ++ columns_of_matches matches
-  columns_in (Coalesce' _ arguments) = columns_of_all arguments
-  columns_in (NullIf' _ a _ b) = columns_in a ++ columns_in b
+abbrev pub columns_in : Expr → List ℕ
+columns_in e = columns_among (leaves_in e)
 
-  pub columns_within : Cond → List ℕ
-  columns_within (Compare' op _ a _ b) = columns_in a ++ columns_in b
-  columns_within (Between' _ x _ a _ b) = columns_in x ++ (columns_in a ++ columns_in b)
-  columns_within (In' _ x _ values) = columns_in x ++ columns_of_all values
-  columns_within (IsNull' _ a) = columns_in a
-  columns_within (And' _ c _ d) = columns_within c ++ columns_within d
-  columns_within (Or' _ c _ d) = columns_within c ++ columns_within d
-  columns_within (Not' _ c) = columns_within c
-  columns_within (Is' _ c t) = columns_within c
-
-  pub columns_of_all : Exprs → List ℕ
-  columns_of_all (Exprs.Last' _ e) = columns_in e
-  columns_of_all (Exprs.More' _ e _ es) = columns_in e ++ columns_of_all es
-
-  pub columns_of_branches : Branches → List ℕ
-  columns_of_branches (Branches.Else' _ e) = columns_in e
-  columns_of_branches (Branches.When' _ c _ e _ rest) = columns_within c ++ (columns_in e ++ columns_of_branches rest)
-
-  pub columns_of_matches : Matches → List ℕ
-  columns_of_matches (Matches.Last' _ v _ e _ other) = columns_in v ++ (columns_in e ++ columns_in other)
-  columns_of_matches (Matches.When' _ v _ e _ rest) = columns_in v ++ (columns_in e ++ columns_of_matches rest)
+abbrev pub columns_within : Cond → List ℕ
+columns_within c = columns_among (leaves_within c)
 
 -- of each ON in written order, of WHERE, and of the select list
 abbrev pub columns_of_join : Joined → List ℕ

@@ -2,8 +2,9 @@
 -- scale, as results of a choice are that are brought to one (ISO/IEC 9075:1992, 6.9, 9.3).
 use Rattle.std.specs.Prelude.{◌≡◌, ℕ, nat_eq, Bool, true, List, ◌++◌}
 use Rattle.std.specs.List.{AllByRecursion, list_any}
-use Rattle.qw_scalar.specs.Expression.{Condition, Expression, comparison, is_null, both, either, negation_of, is, scale_of}
+use Rattle.qw_scalar.specs.Expression.{Condition, Expression, scale_of}
 use Rattle.qw_scalar.specs.Typing.{kind_of}
+use Rattle.qw_leaves.specs.Compared.{OfCompared, compared_in}
 use Rattle.qw_meaning.specs.Select.{Specification, conjuncts_on}
 use Rattle.qw_algebra.specs.Columns.{condition_names_only, names_only}
 use Rattle.qw_rewrite.specs.Probe.{are_alike}
@@ -24,12 +25,7 @@ pub record AreRead (columns : List ReadColumn) (query : Specification) : Type 0 
 
 -- operands of one kind, and numbers of one scale, have one scale
 abbrev pub IsScaled : Condition → Type 0
-IsScaled (comparison op a b) = are_alike (kind_of a) (kind_of b) ≡ true → scale_of a ≡ scale_of b
-IsScaled (is_null a) = Unit {0}
-IsScaled (both c d) = Unit {0}
-IsScaled (either c d) = Unit {0}
-IsScaled (negation_of c) = Unit {0}
-IsScaled (is c t) = Unit {0}
+IsScaled c = OfCompared (λ op a b. are_alike (kind_of a) (kind_of b) ≡ true → scale_of a ≡ scale_of b) (compared_in c)
 
 abbrev pub AreScaled : Specification → Type 0
 AreScaled query = AllByRecursion IsScaled (conjuncts_in query)

@@ -1,13 +1,11 @@
 -- How large the trees of pipelines are, by any measure of expressions and conditions: of pipelines as they are split off a plan, and spelled out.
-use Rattle.std.specs.Prelude.{ℕ, ◌+◌, Bool, not, if◌then◌else◌, List, [], ◌∷◌, slice_get, sum_by}
+use Rattle.std.specs.Prelude.{ℕ, ◌+◌, Bool, not, if◌then◌else◌, List, [], ◌∷◌, Option, Some, None, slice_get, sum_by}
 use Rattle.std.specs.List.{filter_map}
 use Rattle.qw_scalar.specs.declared.expression.Expr.{Expr}
 use Rattle.qw_scalar.specs.declared.expression.Cond.{Cond}
-use Rattle.qw_scalar.specs.declared.expression.Exprs.{Exprs}
 use Rattle.qw_scalar.specs.declared.expression.Expr.TheVariants.{Null}
-use Rattle.qw_scalar.specs.declared.expression.Cond.TheVariants.{Compare', Between', In', IsNull', And', Or', Not', Is'}
-use Rattle.qw_scalar.specs.declared.expression.Exprs.TheVariants as Exprs
 use Rattle.qw_scalar.specs.Tree.{expression_of}
+use Rattle.qw_leaves.specs.Compared.{ComparedTrees, trees_compared}
 use Rattle.qw_algebra.specs.Columns.{is_of, names_only}
 use Rattle.qw_fold.specs.Texts.{texts_in, texts_within}
 use Rattle.qw_pipe.specs.declared.pipeline.Lookup.{Lookup}
@@ -50,20 +48,13 @@ split_size of_expression of_condition p = pipeline_weight (measured_by of_expres
 abbrev pub chosen : (side : ℕ → Bool) → Expr → Expr → Expr
 chosen side a b = if names_only side (expression_of a) then a else b
 
-abbrev pub chosen_value : (side : ℕ → Bool) → Expr → Exprs → Expr
-chosen_value side x (Exprs.Last' _ value) = chosen side x value
-chosen_value side x (Exprs.More' _ value _ values) = Null
-
 -- of an equality the operand of a side, IN of one value being one (ISO/IEC 9075:1992, 8.2, 8.4)
+abbrev pub operand_chosen : (side : ℕ → Bool) → Option ComparedTrees → Expr
+operand_chosen side None = Null
+operand_chosen side (Some k) = chosen side k.left k.right
+
 abbrev pub operand_in : (side : ℕ → Bool) → Cond → Expr
-operand_in side (Compare' op _ a _ b) = chosen side a b
-operand_in side (Between' _ x _ a _ b) = Null
-operand_in side (In' _ x _ values) = chosen_value side x values
-operand_in side (IsNull' _ a) = Null
-operand_in side (And' _ c _ d) = Null
-operand_in side (Or' _ c _ d) = Null
-operand_in side (Not' _ c) = Null
-operand_in side (Is' _ c t) = Null
+operand_in side c = operand_chosen side (trees_compared c)
 
 -- of each key its table's operand where the table is built, and the other one where it is looked up
 abbrev pub by_operands : (of_expression : Expr → ℕ) (of_condition : Cond → ℕ) → Measures

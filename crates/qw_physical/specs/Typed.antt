@@ -1,8 +1,9 @@
 -- Pipelines whose expressions are typed: what spelling them out takes, and what it gives (ISO/IEC 9075:1992, 6.11, 8.2, 8.12).
 use Rattle.std.specs.List.{AllByRecursion}
-use Rattle.qw_scalar.specs.Expression.{Condition, Expression, comparison, is_null, both, either, negation_of, is}
+use Rattle.qw_scalar.specs.Expression.{Condition, Expression}
 use Rattle.qw_scalar.specs.Typing.{AreTyped, HasKind, IsTyped}
-use Rattle.std.specs.Prelude.{List}
+use Rattle.qw_leaves.specs.Compared.{Compared, compared_in}
+use Rattle.std.specs.Prelude.{List, Option, Some, None}
 use Rattle.qw_algebra.specs.Columns.{entries_below}
 use Rattle.qw_algebra.specs.Node.{Node, scan, filter as filter_by, join, project}
 use Rattle.qw_pipe.specs.Pipes as pipes
@@ -10,13 +11,13 @@ use Rattle.qw_pipe.specs.Pipes.{Lookup, make, test, to_result, to_table}
 use Rattle.qw_pipe.specs.Units.{equalities}
 use Rattle.qw_physical.specs.Physical.{Operator, Pipeline, Sink, build, filter, probe, select}
 
+-- a condition that compares
+abbrev pub Compares : Option Compared → Type 0
+Compares None = ⊥
+Compares (Some k) = Unit {0}
+
 abbrev pub IsComparison : Condition → Type 0
-IsComparison (comparison op a b) = Unit {0}
-IsComparison (is_null a) = ⊥
-IsComparison (both c d) = ⊥
-IsComparison (either c d) = ⊥
-IsComparison (negation_of c) = ⊥
-IsComparison (is c t) = ⊥
+IsComparison c = Compares (compared_in c)
 
 -- typed, and not null alone
 abbrev pub IsValued : Expression → Type 0

@@ -9,7 +9,6 @@
 #![tactic(auto)]
 
 pub mod bound_laws;
-mod columns;
 pub mod course_laws;
 mod named;
 pub mod pipeline;

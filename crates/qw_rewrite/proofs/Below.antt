@@ -3,52 +3,21 @@ use Rattle.std.proofs.Common.{◌≡◌, ◌∙◌, ◌⊎◌, ℕ, zero, suc, �
 use Rattle.std.specs.List.{AllByRecursion}
 use Rattle.std.proofs.lemmas.Bool.Decides.{nat_tests}
 use Rattle.qw_types.specs.declared.value.Ty.{Ty}
-use Rattle.qw_scalar.specs.Columns.{HasColumns, HaveColumns}
-use Rattle.qw_scalar.specs.Expression.{Expression, Condition, null, number, date, text, column, arithmetic, negative, extract, brought, choice, comparison, is_null, both, either, negation_of, is}
+use Rattle.qw_scalar.specs.Expression.{Condition}
 use Rattle.qw_meaning.specs.Select.{AreJoinsOver, AreSourcesOver, Entry, IsColumnOf, IsConditionOver, IsReached, IsSpecification, Joined, Source, Specification, entries_in, entries_of, type_in}
 use Rattle.qw_algebra.specs.Node.{Node, scan, filter, join, project}
 use Rattle.qw_algebra.specs.Written.{from_written, source_written, with_joins, with_sources, written}
 use Rattle.qw_algebra.proofs.Lists.{all_append, all_more}
-use Rattle.qw_algebra.specs.Columns.{condition_names_only, is_of, names_only, owns}
+use Rattle.qw_algebra.specs.Columns.{condition_names_only, is_of, owns}
 use Rattle.qw_rewrite.specs.Lowest.{NamesBelow}
 use Rattle.qw_rewrite.specs.Probe.{keyed}
 use Rattle.qw_rewrite.specs.Sift.{beyond, is_clean_on, is_quiet, moved, sifted, stayed, within}
 use Rattle.qw_rewrite.proofs.Joins.{tested}
 use Rattle.qw_rewrite.proofs.Moved.{moved_all, stayed_all}
+use Rattle.qw_rewrite.proofs.Names.{condition_names_from}
 use Rattle.qw_rewrite.proofs.Once.{keyed_entries, sifted_entries}
 use Rattle.qw_rewrite.proofs.Sifting.{owns_join}
 use Rattle.qw_rewrite.proofs.Stages.{all_filtered}
-
-both_true : (a b : Bool) → a ≡ true → b ≡ true → (a && b) ≡ true
-both_true true b h g = g
-both_true false b h g = h
-
--- ---- what typed expressions name
-
-mutual
-  names_all : (P : ℕ → Ty → Type 0) (test : ℕ → Bool) → ((i : ℕ) (ty : Ty) → P i ty → test i ≡ true) → (e : Expression) → HasColumns P e → names_only test e ≡ true
-  names_all P test more null h = refl
-  names_all P test more (number v s) h = refl
-  names_all P test more (date d) h = refl
-  names_all P test more (text t) h = refl
-  names_all P test more (column i ty) h = more i ty h
-  names_all P test more (arithmetic operator a b) h = both_true (names_only test a) (names_only test b) (names_all P test more a h.0) (names_all P test more b h.1)
-  names_all P test more (negative a) h = names_all P test more a h
-  names_all P test more (extract field a) h = names_all P test more a h
-  names_all P test more (brought a s) h = names_all P test more a h
-  names_all P test more (choice c a b) h =
-      both_true (condition_names_only test c) (names_only test a && names_only test b) (condition_names_all P test more c h.0)
-      (both_true (names_only test a) (names_only test b) (names_all P test more a h.1.0) (names_all P test more b h.1.1))
-
-  condition_names_all : (P : ℕ → Ty → Type 0) (test : ℕ → Bool) → ((i : ℕ) (ty : Ty) → P i ty → test i ≡ true) → (c : Condition) → HaveColumns P c → condition_names_only test c ≡ true
-  condition_names_all P test more (comparison op a b) h = both_true (names_only test a) (names_only test b) (names_all P test more a h.0) (names_all P test more b h.1)
-  condition_names_all P test more (is_null a) h = names_all P test more a h
-  condition_names_all P test more (both c d) h =
-      both_true (condition_names_only test c) (condition_names_only test d) (condition_names_all P test more c h.0) (condition_names_all P test more d h.1)
-  condition_names_all P test more (either c d) h =
-      both_true (condition_names_only test c) (condition_names_only test d) (condition_names_all P test more c h.0) (condition_names_all P test more d h.1)
-  condition_names_all P test more (negation_of c) h = condition_names_all P test more c h
-  condition_names_all P test more (is c t) h = condition_names_all P test more c h
 
 abbrev pub Only : (ℕ → Bool) → List Condition → Type 0
 Only test cs = AllByRecursion (λ c. condition_names_only test c ≡ true) cs
@@ -86,7 +55,7 @@ join_covers left right on keys low mid high hl hr i h g = owns_join left right o
 on_below : (entries : List Entry) (first next : ℕ) (node : Node) (cs : List Condition) → Covers first next node → AllByRecursion (IsConditionOver (IsReached entries first next)) cs → Only (owns node) cs
 on_below entries first next node cs covers h =
     all_more (IsConditionOver (IsReached entries first next)) (λ c. condition_names_only (owns node) c ≡ true) cs
-    (λ c t. condition_names_all (IsReached entries first next) (owns node) (λ i ty r. covers i r.1.0 r.1.1) c t.1) h
+    (λ c t. condition_names_from (IsReached entries first next) (owns node) (λ i ty r. covers i r.1.0 r.1.1) c t.1) h
 
 joins_below : (entries : List Entry) (joins : List Joined) (first next : ℕ) (node : Node) → NamesBelow node → Covers first next node → AreJoinsOver entries first next joins
     → NamesBelow (with_joins next node joins) × Covers first (next + length (map (λ (j : Joined). j.entry) joins)) (with_joins next node joins)
@@ -144,7 +113,7 @@ written_below query whole =
     let entries : List Entry = entries_of query.sources in
     let from = from_below entries query.sources whole.some_source whole.sources in (
       all_more (IsConditionOver (IsColumnOf entries)) (λ c. condition_names_only (owns (from_written query.sources)) c ≡ true) query.conjuncts
-          (λ c t. condition_names_all (IsColumnOf entries) (owns (from_written query.sources)) (λ i ty h. from.1 i (omega arith) (entry_there entries (i / 64) (i % 64) ty h)) c t.1) whole.conjuncts,
+          (λ c t. condition_names_from (IsColumnOf entries) (owns (from_written query.sources)) (λ i ty h. from.1 i (omega arith) (entry_there entries (i / 64) (i % 64) ty h)) c t.1) whole.conjuncts,
       from.0,
     )
 

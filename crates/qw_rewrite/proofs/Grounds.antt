@@ -8,10 +8,10 @@ use Rattle.qw_types.specs.declared.schema.ColumnType.{ColumnType}
 use Rattle.qw_types.specs.declared.value.Ty.{Ty}
 use Rattle.qw_types.specs.declared.value.Val.{Val}
 use Rattle.qw_types.specs.declared.value.Val.TheVariants.{Null}
-use Rattle.qw_scalar.specs.Columns.{HasColumns, HaveColumns}
-use Rattle.qw_scalar.specs.Expression.{Expression, Condition, null, number, date, text, column, arithmetic, negative, extract, brought, choice, comparison, is_null, both, either, negation_of, is}
+use Rattle.qw_scalar.specs.Expression.{Condition}
 use Rattle.qw_scalar.proofs.ColumnLemmas.{conditions_more}
 use Rattle.qw_meaning.specs.Flow.{each, selected}
+use Rattle.qw_leaves.proofs.LeafLemmas.{conditions_both}
 use Rattle.qw_meaning.specs.From.{at_places}
 use Rattle.qw_meaning.specs.Select.{AreJoinsOver, AreOfEntries, AreSourcesOver, Entry, IsColumnOf, IsConditionOver, IsOfEntry, IsReached, IsSpecification, Joined, Source, Specification, entries_in, entries_of, type_in, types_of}
 use Rattle.qw_meaning.proofs.FromLemmas.{cell, cell_behind, null_beside}
@@ -77,28 +77,6 @@ row_long [] [] h = refl
 row_long [] (v ∷ row) h = absurd h
 row_long (c ∷ columns) [] h = absurd h
 row_long (c ∷ columns) (v ∷ row) h = ap suc (row_long columns row h.1)
-
--- of both what holds of columns
-mutual
-  columns_both : (P Q : ℕ → Ty → Type 0) (e : Expression) → HasColumns P e → HasColumns Q e → HasColumns (λ i ty. P i ty × Q i ty) e
-  columns_both P Q null h g = tt
-  columns_both P Q (number v s) h g = tt
-  columns_both P Q (date d) h g = tt
-  columns_both P Q (text t) h g = tt
-  columns_both P Q (column i ty) h g = (h, g)
-  columns_both P Q (arithmetic operator a b) h g = (columns_both P Q a h.0 g.0, columns_both P Q b h.1 g.1)
-  columns_both P Q (negative a) h g = columns_both P Q a h g
-  columns_both P Q (extract field a) h g = columns_both P Q a h g
-  columns_both P Q (brought a s) h g = columns_both P Q a h g
-  columns_both P Q (choice c a b) h g = (conditions_both P Q c h.0 g.0, (columns_both P Q a h.1.0 g.1.0, columns_both P Q b h.1.1 g.1.1))
-
-  conditions_both : (P Q : ℕ → Ty → Type 0) (c : Condition) → HaveColumns P c → HaveColumns Q c → HaveColumns (λ i ty. P i ty × Q i ty) c
-  conditions_both P Q (comparison op a b) h g = (columns_both P Q a h.0 g.0, columns_both P Q b h.1 g.1)
-  conditions_both P Q (is_null a) h g = columns_both P Q a h g
-  conditions_both P Q (both c d) h g = (conditions_both P Q c h.0 g.0, conditions_both P Q d h.1 g.1)
-  conditions_both P Q (either c d) h g = (conditions_both P Q c h.0 g.0, conditions_both P Q d h.1 g.1)
-  conditions_both P Q (negation_of c) h g = conditions_both P Q c h g
-  conditions_both P Q (is c t) h g = conditions_both P Q c h g
 
 -- ---- plans
 

@@ -4,6 +4,7 @@ pub mod Joins
 pub mod Keys
 pub mod Lowest
 pub mod Moved
+pub mod Names
 pub mod Once
 pub mod Pairs
 pub mod Probes

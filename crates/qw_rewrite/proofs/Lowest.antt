@@ -15,7 +15,7 @@ use Rattle.qw_rewrite.specs.Probe.{keyed, keys_of_join}
 use Rattle.qw_rewrite.specs.Sift.{are_quiet, beyond, is_clean_on, is_quiet, moved, quiet_front, raising_rest, sifted, stayed, within}
 use Rattle.qw_rewrite.proofs.Joins.{tested}
 use Rattle.qw_rewrite.proofs.Once.{keyed_entries, once, sifted_entries}
-use Rattle.qw_rewrite.proofs.Rows.{and_left, and_right}
+use Rattle.qw_rewrite.proofs.Names.{and_left, and_right}
 use Rattle.qw_rewrite.proofs.Stages.{all_filtered}
 
 -- ---- quiet conjuncts

@@ -6,21 +6,24 @@ use Rattle.qw_types.specs.declared.code.Code.{Code}
 use Rattle.qw_types.specs.declared.truth.Truth.{Truth}
 use Rattle.qw_types.specs.declared.truth.Truth.TheVariants.{True, False, Unknown}
 use Rattle.qw_types.specs.declared.value.Val.{Val}
+use Rattle.qw_scalar.specs.declared.comparison.Comparison.{Comparison}
 use Rattle.qw_scalar.specs.declared.comparison.Comparison.TheVariants.{Equal, NotEqual, Less, LessOrEqual, Greater, GreaterOrEqual}
 use Rattle.qw_scalar.specs.Conjuncts.{passes}
 use Rattle.qw_scalar.specs.Evaluation.{at_row, chosen, compared, truth_of, value_of}
-use Rattle.qw_scalar.specs.Expression.{Expression, Condition, comparison, is_null, both, either, negation_of, is, scale_of}
+use Rattle.qw_scalar.specs.Expression.{Expression, Condition, comparison, scale_of}
 use Rattle.qw_scalar.specs.Typing.{kind_of}
+use Rattle.qw_leaves.proofs.ComparedLemmas.{by_compared}
 use Rattle.qw_meaning.specs.Flow.{Flow, codes_given, each, kept, rows_given}
 use Rattle.qw_meaning.specs.From.{crossed, merged}
 use Rattle.qw_meaning.proofs.FromLemmas.{cell, first_of_null, merged_cell}
 use Rattle.qw_algebra.proofs.Flows.{same_flow}
 use Rattle.qw_algebra.proofs.Lists.{all_more, flat_map_same}
 use Rattle.qw_algebra.specs.Columns.{names_column, names_only}
-use Rattle.qw_rewrite.specs.Probe.{are_alike, face, is_eligible, is_of_side}
-use Rattle.qw_rewrite.specs.Probed.{all_meet, found, is_true, key_meets, meet, probed}
+use Rattle.qw_rewrite.specs.Probe.{are_alike, are_eligible, face, is_eligible, is_of_side}
+use Rattle.qw_rewrite.specs.Probed.{all_meet, found, is_true, key_meets, meet, operands_meet, probed}
 use Rattle.qw_rewrite.proofs.Pairs.{flat_pairs, pairs}
-use Rattle.qw_rewrite.proofs.Rows.{IsNullAt, and_left, and_right, value_agrees}
+use Rattle.qw_rewrite.proofs.Names.{and_left, and_right}
+use Rattle.qw_rewrite.proofs.Rows.{IsNullAt, value_agrees}
 use Rattle.qw_rewrite.proofs.Stages.{HaveTruths}
 
 -- what a comparison that can be told lets through
@@ -61,20 +64,21 @@ module _ (tl tr : ℕ → Bool) (l r : List Val) (nulls_left : IsNullAt tr l) (n
       ∙ ap₂ (λ v w. if meet v (scale_of x) w (scale_of y) then next else Ok false)
       (of_right x (and_left (is_of_side tr x) (is_of_side tl y) other)) (of_left y (and_right (is_of_side tr x) (is_of_side tl y) other))
 
-  key_at : (c : Condition) (t : Truth) (next : Result Bool Code) → truth_of c (at_row (merged l r)) ≡ Ok t → is_eligible tl tr c ≡ true
+  abbrev Meets : Condition → Type 0
+  Meets c = (t : Truth) (next : Result Bool Code) → truth_of c (at_row (merged l r)) ≡ Ok t → is_eligible tl tr c ≡ true
       → (truth_of c (at_row (merged l r)) >>= (λ u. chosen u next (Ok false))) ≡ (if key_meets tl tr c l r then next else Ok false)
-  key_at (comparison Equal x y) t next told h =
-      equality_at x y t next told (is_of_side tl x && is_of_side tr y) refl (and_left (face tl tr x y) (are_alike (kind_of x) (kind_of y)) h)
-  key_at (comparison NotEqual x y) t next told h = absurd cc
-  key_at (comparison Less x y) t next told h = absurd cc
-  key_at (comparison LessOrEqual x y) t next told h = absurd cc
-  key_at (comparison Greater x y) t next told h = absurd cc
-  key_at (comparison GreaterOrEqual x y) t next told h = absurd cc
-  key_at (is_null a) t next told h = absurd cc
-  key_at (both c d) t next told h = absurd cc
-  key_at (either c d) t next told h = absurd cc
-  key_at (negation_of c) t next told h = absurd cc
-  key_at (is c u) t next told h = absurd cc
+
+  comparison_at : (op : Comparison) (x y : Expression) → Meets (comparison op x y)
+  comparison_at Equal x y t next told h = equality_at x y t next told (is_of_side tl x && is_of_side tr y) refl (and_left (face tl tr x y) (are_alike (kind_of x) (kind_of y)) h)
+  comparison_at NotEqual x y t next told h = absurd cc
+  comparison_at Less x y t next told h = absurd cc
+  comparison_at LessOrEqual x y t next told h = absurd cc
+  comparison_at Greater x y t next told h = absurd cc
+  comparison_at GreaterOrEqual x y t next told h = absurd cc
+
+  key_at : (c : Condition) → Meets c
+  key_at = by_compared (λ c o. (t : Truth) (next : Result Bool Code) → truth_of c (at_row (merged l r)) ≡ Ok t → are_eligible tl tr o ≡ true
+      → (truth_of c (at_row (merged l r)) >>= (λ u. chosen u next (Ok false))) ≡ (if operands_meet tl tr o l r then next else Ok false)) comparison_at (λ c t next told h. absurd cc)
 
   keys_at : (keys rest : List Condition) → HaveTruths keys (merged l r) → AllByRecursion (λ c. is_eligible tl tr c ≡ true) keys
       → passes (keys ++ rest) (at_row (merged l r)) ≡ (if all_meet tl tr keys l r then passes rest (at_row (merged l r)) else Ok false)

@@ -2,13 +2,14 @@
 //!
 //! - [`rewrite::rewrite`]: each conjunct that may move as low as its columns are, and the keys of joins; [`rewrite::order_joins`]: the order of
 //!   the joins, for now that of the text.
+//! - [`columns::names_side`]: whether an expression names columns of one side of a join alone.
 //! - [`place_laws`]: what holds of the well placed plan of every query; [`worked_laws`]: worked cases. No function there computes anything.
 //!
 //! A call takes the plan and hands its expressions on as they are; it takes memory for the new steps, and as much time as conjuncts and steps
 //! above one another have.
 #![tactic(auto)]
 
-mod columns;
+pub mod columns;
 pub mod place_laws;
 mod probe;
 pub mod rewrite;

@@ -40,6 +40,18 @@ pub(crate) fn owned(alloc: Global, cell: Cell<'_>) -> Result<Val, NoMemory>
     })
 }
 
+/// A value as that of a cell, its text lent.
+pub(crate) fn lent(value: &Val) -> Cell<'_>
+    ensures { val_of result ≡ value.now }
+{
+    match value {
+        Val::Null => Cell::Null,
+        Val::Num(number) => Cell::Number(*number),
+        Val::Date(day) => Cell::Date(*day),
+        Val::Text(text) => Cell::Text(text.as_str().as_bytes()),
+    }
+}
+
 /// The value of the cell at an address.
 pub(crate) fn cell_at(memory: &Linear, at: u64, kind: Kind) -> Cell<'_>
     requires room { length memory.now.octets < 2 ^ 32 }

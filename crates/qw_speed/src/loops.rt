@@ -178,12 +178,51 @@ fn calls(alloc: Global, turns: u32) -> Result<Module, AllocError> {
     module(alloc, functions, 2)
 }
 
+/// One cell of 4,096 after another is read and tested; none of them isn't 0, so what the test guards is passed by, as in a scan
+/// that rejects its rows.
+fn choices(alloc: Global, turns: u32) -> Result<Module, AllocError> {
+    let locals = [Locals {
+        count: 2,
+        ty: ValType::I32,
+    }];
+    let kept = [get(2), i32(1), binary(ValType::I32, Binary::Add), set(2)];
+    let turn = [
+        get(1),
+        i32(4095),
+        binary(ValType::I32, Binary::And),
+        i32(3),
+        binary(ValType::I32, Binary::Shl),
+        Instr::Op(Op::Load(Load::Full(ValType::I64), WHOLE)),
+        i64(0),
+        Instr::Op(Op::Relation(ValType::I64, Relation::Ne)),
+        Instr::If {
+            result: None,
+            then_body: 0,
+            else_body: Some(1),
+        },
+        get(1),
+        i32(1),
+        binary(ValType::I32, Binary::Add),
+        tee(1),
+        i32(turns),
+        less(ValType::I32),
+        Instr::BrIf(0),
+    ];
+    let begin = [Instr::Loop {
+        result: None,
+        body: 2,
+    }];
+    let run = function(alloc, 0, &locals, &[&kept, &[], &turn, &begin])?;
+    module(alloc, vec![in alloc; run]?, 1)
+}
+
 /// The module of the loop of a name with so many turns. `None` where there is none, and for want of memory.
 pub(crate) fn module_of(alloc: Global, name: &str, turns: u32) -> Option<Module> {
     match name {
         "sums" => sums(alloc, turns).ok(),
         "cells" => cells(alloc, turns).ok(),
         "calls" => calls(alloc, turns).ok(),
+        "choices" => choices(alloc, turns).ok(),
         _ => None,
     }
 }

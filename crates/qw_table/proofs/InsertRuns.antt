@@ -295,7 +295,7 @@ module _ (Has : Cells → ℕ → ℕ → List Val → Type 0) (size : ℕ) (wid
     Table = HasTable Has slot size k o d u before
 
     -- its chains have the entries of their slots
-    same-more : (chains : ℕ → List Row) (entries : List (List Val)) (new : Row) (i : ℕ) → IsPermutation (values_of (chains i)) (in_slot slot i entries) →
+    pub same-more : (chains : ℕ → List Row) (entries : List (List Val)) (new : Row) (i : ℕ) → IsPermutation (values_of (chains i)) (in_slot slot i entries) →
         IsPermutation (values_of (with_entry chains (slot new.values) new i)) (in_slot slot i (entries ++ new.values ∷ []))
     same-more chains entries new i has =
         let v : List Val = new.values in

@@ -53,14 +53,14 @@ module _ (types : List ValType) (free_is : slice_get types 1 ≡ Some I32) (left
   cell_typed None at plain is typed = typed
   cell_typed (Some n) at plain is typed = (is, (free_is, (omega arith, refl)), typed)
 
-  cells_typed : (fs : List Field) (at : ℕ) → AreDeclared types fs → IsTyped types (cells_block at (sources_of fs))
+  pub cells_typed : (fs : List Field) (at : ℕ) → AreDeclared types fs → IsTyped types (cells_block at (sources_of fs))
   cells_typed [] at h = tt
   cells_typed (f ∷ fs) at h = (cell_typed f.cell.null at (plain_block (Some f.kind) f.cell at) h.0.1 (plain_typed f.kind f.cell at h.0.0), cells_typed fs (at + 16) h.1)
 
-  room_typed : (n : ℕ) → n < 2 ^ 32 → IsTyped types (room_block n)
+  pub room_typed : (n : ℕ) → n < 2 ^ 32 → IsTyped types (room_block n)
   room_typed n small = ((left_is, (small, refl), refl), (((omega arith, refl), free_is), (I32, left_is, (omega arith, refl))), tt)
 
-  enter_typed : (n d h x : ℕ) → n < 2 ^ 32 → slice_get types d ≡ Some I32 → slice_get types h ≡ Some I32 → slice_get types x ≡ Some I32 → IsTyped types (enter_block n d h x)
+  pub enter_typed : (n d h x : ℕ) → n < 2 ^ 32 → slice_get types d ≡ Some I32 → slice_get types h ≡ Some I32 → slice_get types x ≡ Some I32 → IsTyped types (enter_block n d h x)
   enter_typed n d h x small d_is h_is x_is =
       ((x_is, (d_is, h_is, refl)), ((free_is, x_is), (((d_is, h_is, refl), free_is), ((I32, free_is, (free_is, (small, refl), refl)), (I32, left_is, (left_is, (small, refl), refl))))))
 
@@ -73,7 +73,7 @@ cell_size : (null : Option ℕ) (at : ℕ) (plain : Statement) → size plain �
 cell_size None at plain few = omega (arith, few)
 cell_size (Some n) at plain few = omega (arith, few)
 
-cells_size : (fs : List Field) (at : ℕ) → size (cells_block at (sources_of fs)) ≤ 11 * length fs
+pub cells_size : (fs : List Field) (at : ℕ) → size (cells_block at (sources_of fs)) ≤ 11 * length fs
 cells_size [] at = omega arith
 cells_size (f ∷ fs) at = let one = cell_size f.cell.null at (plain_block (Some f.kind) f.cell at) (plain_size f.kind f.cell at) in let rest = cells_size fs (at + 16) in omega (arith, one, rest)
 

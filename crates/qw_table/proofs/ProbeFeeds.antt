@@ -56,13 +56,13 @@ module _ (Text : Part → ℕ → List ℕ → Type 0) (s : LowState) (lies : (p
   supplied_held (f ∷ fs) (v ∷ vs) h = ((supplied_holds f.cell v h.0.0, h.0.1), supplied_held fs vs h.1)
 
 -- ---- the key of an entry
-cell_map : (Text Text' : Part → ℕ → List ℕ → Type 0) (c : Cells) (k at : ℕ) (v : Val) → ((p : Part) (o : ℕ) (octets : List ℕ) → Text p o octets → Text' p o octets) → HasCell Text c k at v → HasCell Text' c k at v
+pub cell_map : (Text Text' : Part → ℕ → List ℕ → Type 0) (c : Cells) (k at : ℕ) (v : Val) → ((p : Part) (o : ℕ) (octets : List ℕ) → Text p o octets → Text' p o octets) → HasCell Text c k at v → HasCell Text' c k at v
 cell_map Text Text' c k at val.Null also h = h
 cell_map Text Text' c k at (val.Num z) also h = h
 cell_map Text Text' c k at (val.Date z) also h = h
 cell_map Text Text' c k at (val.Text t) also h = (h.0, h.1, h.2, h.3, also h.0 h.1 t h.4, h.5)
 
-cells_taken : (Text Text' : Part → ℕ → List ℕ → Type 0) (c : Cells) (k at n : ℕ) (vs : List Val) → ((p : Part) (o : ℕ) (octets : List ℕ) → Text p o octets → Text' p o octets) → HasCells Text c k at vs → HasCells Text' c k at (take n vs)
+pub cells_taken : (Text Text' : Part → ℕ → List ℕ → Type 0) (c : Cells) (k at n : ℕ) (vs : List Val) → ((p : Part) (o : ℕ) (octets : List ℕ) → Text p o octets → Text' p o octets) → HasCells Text c k at vs → HasCells Text' c k at (take n vs)
 cells_taken Text Text' c k at zero vs also h = tt
 cells_taken Text Text' c k at (suc n) [] also h = tt
 cells_taken Text Text' c k at (suc n) (v ∷ vs) also h = (cell_map Text Text' c k at v also h.0, cells_taken Text Text' c k (at + 16) n vs also h.1)

@@ -4,6 +4,7 @@
 //! its values; a key is any number of fields, each of which may be null. What a block needs of a key or an entry it is told by its caller: nothing
 //! in the blocks of a table knows the key.
 //!
+//! - [`cells`]: the cells of an entry are stored.
 //! - [`directory`]: an empty directory is placed.
 //! - [`insert`]: an entry, whose cells a block stores, is put into a slot.
 //! - [`probe`]: a block at each entry of a slot where a test holds.
@@ -18,7 +19,7 @@
 //! one number takes 97, its test 11.
 #![tactic(auto)]
 
-mod cells;
+pub mod cells;
 pub mod directory;
 pub mod entry;
 pub mod insert;

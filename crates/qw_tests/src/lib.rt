@@ -13,6 +13,8 @@ mod many_statements;
 #[cfg(test)]
 mod noted_lines;
 #[cfg(test)]
+mod ordered_rows;
+#[cfg(test)]
 mod page_limits;
 #[cfg(test)]
 mod reports;

@@ -8,6 +8,7 @@ use std::process::Abort;
 use std::test::Fail;
 
 mod commands;
+mod faults;
 mod file_limits;
 mod joins;
 mod refused_texts;

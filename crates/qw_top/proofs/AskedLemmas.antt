@@ -5,6 +5,7 @@ use Rattle.std.proofs.lemmas.Option.{same_Some}
 use Rattle.qw_types.specs.declared.kind.Kind.{Kind}
 use Rattle.qw_types.specs.declared.schema.Table.{Table}
 use Rattle.qw_meaning.specs.Select.{Specification}
+use Rattle.qw_order.specs.declared.sort_key.SortKey.{SortKey}
 use Rattle.qw_ast.specs.Syntax.{Select}
 use Rattle.qw_parse.proofs.ScriptLemmas.{script_one}
 use Rattle.qw_typer.specs.Faults.{Fault}
@@ -38,15 +39,17 @@ same_heads (h ∷ a) (k ∷ b) names kinds =
 same_header : (specification : Specification) (names : List (List ℕ)) (a b : List Head) → IsHeader specification names a → IsHeader specification names b → a ≡ b
 same_header specification names a b h k = same_heads a b (h.names_are ∙ sym k.names_are) (h.kinds_are ∙ sym k.kinds_are)
 
-abbrev asked : Specification → List Head → Asked
-asked specification header = record { specification = specification; header = header }
+abbrev asked : Specification → List Head → List SortKey → Asked
+asked specification header keys = record { specification = specification; header = header; keys = keys }
 
 IsAsked-unique : (schema : List Table) (query : Select) (a b : Asked) → IsAsked schema query a → IsAsked schema query b → a ≡ b
 IsAsked-unique schema query a b h k =
-    let e = one_meaning schema query a.specification b.specification h.names k.names h.means k.means in
+    let e = one_meaning schema query a.specification b.specification h.names k.names a.keys b.keys h.means k.means in
     let first = subst (λ (n : List (List ℕ)). IsHeader a.specification n a.header) e.1 h.header in
     let second = subst (λ (s : Specification). IsHeader s k.names a.header) e.0 first in
-    ap (λ (s : Specification). asked s a.header) e.0 ∙ ap (λ (heads : List Head). asked b.specification heads) (same_header b.specification k.names a.header b.header second k.header)
+    ap (λ (s : Specification). asked s a.header a.keys) e.0
+    ∙ ap (λ (heads : List Head). asked b.specification heads a.keys) (same_header b.specification k.names a.header b.header second k.header)
+    ∙ ap (λ (keys : List SortKey). asked b.specification b.header keys) e.2
 
 AreAsked-unique : (schema : List Table) (script : List Select) (a b : List Asked) → AreAsked schema script a → AreAsked schema script b → a ≡ b
 AreAsked-unique schema [] [] [] h k = refl

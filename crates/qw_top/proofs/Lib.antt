@@ -4,6 +4,7 @@ pub mod BenchLemmas
 mod CallLemmas
 mod CauseLemmas
 mod CommandLemmas
+mod CompleteLemmas
 mod ContentLemmas
 mod DeliverLemmas
 mod EachLemmas

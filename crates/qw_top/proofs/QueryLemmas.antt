@@ -13,6 +13,7 @@ use Rattle.qw_scalar.specs.Typing.{IsTyped, has_kind, kind_of}
 use Rattle.qw_scalar.specs.declared.expression.Expr.{Expr}
 use Rattle.qw_meaning.specs.Query.{query_of}
 use Rattle.qw_meaning.specs.Select.{Entry, IsItemOver, Specification, entries_of}
+use Rattle.qw_order.specs.declared.sort_key.SortKey.{SortKey}
 use Rattle.qw_token.specs.Token.{Lexeme}
 use Rattle.qw_ast.specs.Syntax.{Select}
 use Rattle.qw_parse.specs.Script.{AreAccepted, ReadsScript}
@@ -60,9 +61,9 @@ entries_over : (schema : List Table) (entries : List Entry) → AllByRecursion (
 entries_over schema [] all = tt
 entries_over schema (e ∷ entries) all = (record { table = all.0.table; there = all.0.there; columns_are = all.0.columns_are }, entries_over schema entries all.1)
 
-is_over : (schema : List Table) (s : Select) (t : TypedQuery) → Means schema s (query_of t.query) t.names.items → IsSmall t.query → IsOver schema t
+is_over : (schema : List Table) (s : Select) (t : TypedQuery) → Means schema s (query_of t.query) t.names.items t.keys.items → IsSmall t.query → IsOver schema t
 is_over schema s t means small = record {
-  entries = entries_over schema (entries_of (query_of t.query).sources) (entries_there schema s (query_of t.query) t.names.items means);
+  entries = entries_over schema (entries_of (query_of t.query).sources) (entries_there schema s (query_of t.query) t.names.items t.keys.items means);
   short = is_short t.query small;
 }
 
@@ -94,10 +95,10 @@ head_kinds (name ∷ names) [] many kinds = absurd (omega (arith, many))
 head_kinds (name ∷ names) (e ∷ es) many kinds =
     ap (λ (k : Option Kind). k ∷ map (λ (h : Head). Some h.kind) (heads_of names es)) (the_kind (kind_of e) kinds.0) ∙ ap (λ (ks : List (Option Kind)). kind_of e ∷ ks) (head_kinds names es (omega (arith, many)) kinds.1)
 
-is_header : (schema : List Table) (s : Select) (specification : Specification) (names : List (List ℕ)) → Means schema s specification names → IsHeader specification names (heads_of names specification.items)
-is_header schema s specification names means =
-    let many = many_names schema s specification names means in
-    record { names_are = head_names names specification.items many; kinds_are = head_kinds names specification.items many (items_have_kinds schema s specification names means) }
+is_header : (schema : List Table) (s : Select) (specification : Specification) (names : List (List ℕ)) (keys : List SortKey) → Means schema s specification names keys → IsHeader specification names (heads_of names specification.items)
+is_header schema s specification names keys means =
+    let many = many_names schema s specification names keys means in
+    record { names_are = head_names names specification.items many; kinds_are = head_kinds names specification.items many (items_have_kinds schema s specification names keys means) }
 
 -- ---- what the script asks for
 
@@ -109,7 +110,7 @@ are_asked schema (s ∷ script) (t ∷ typed) all = (
   record {
     names = t.names.items;
     means = all.0;
-    header = is_header schema s (query_of t.query) t.names.items all.0;
+    header = is_header schema s (query_of t.query) t.names.items t.keys.items all.0;
   },
   are_asked schema script typed all.1,
 )

@@ -15,13 +15,13 @@ use Rattle.qw_top.specs.declared.status.Status.TheVariants.{Done, Raised, PageLi
 -- ---- blocks
 
 pub AreBlocks-more : (counts : Bool) (queries : List Asked) (b : Standing) (k : ℕ) (asked : Asked) (text block : List ℕ) (n : ℕ) → AreBlocks counts queries b k text → n ≡ k + length queries →
-    IsBlock asked.header b n (end_in b.shared n) block → AreBlocks counts (queries ++ asked ∷ []) b k ((text ++ block) ++ counts_line counts b n)
+    IsBlock asked b n (end_in b.shared n) block → AreBlocks counts (queries ++ asked ∷ []) b k ((text ++ block) ++ counts_line counts b n)
 AreBlocks-more counts [] b k asked text block n are n_is here =
     let same : n ≡ k = omega (arith, n_is) in (
       block,
       [],
       ap (λ (t : List ℕ). (t ++ block) ++ counts_line counts b n) are ∙ ap (λ (m : ℕ). block ++ counts_line counts b m) same ∙ sym (append-nil (block ++ counts_line counts b k)),
-      subst (λ (m : ℕ). IsBlock asked.header b m (end_in b.shared m) block) same here,
+      subst (λ (m : ℕ). IsBlock asked b m (end_in b.shared m) block) same here,
       refl,
     )
 AreBlocks-more counts (first ∷ queries) b k asked text block n (piece, pieces, is, shown, more) n_is here =

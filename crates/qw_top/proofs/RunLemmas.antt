@@ -23,6 +23,7 @@ use Rattle.qw_bench.specs.declared.bench.Limits.{Limits}
 use Rattle.qw_map.proofs.TurnFacts.{found-in as there}
 use Rattle.qw_bench.proofs.Serving.{turns-serving}
 use Rattle.qw_bench.proofs.Starting.{compiled-answers, start-serving}
+use Rattle.qw_order.proofs.SortedLemmas as sorting
 use Rattle.qw_sink.specs.Sink.{report_of_exception, report_of_pages, report_of_rows, report_of_steps}
 use Rattle.qw_top.specs.Delivered.{counts_line, HasRun, IsProgramOf, ShowsEnd, ShowsEnds, ends_below, is_exception, is_pages, is_steps, status_of_ends}
 use Rattle.qw_top.specs.Top.{Asked, IsPastSteps, same_limits}
@@ -139,12 +140,12 @@ module _ (limits : Limits) (tables : List Contents) (asked : Asked) (b : Standin
       (page_bound asked.specification (rows_in_tables tables)) one.t.descriptor one.i.world b.shared.common.memory end
 
   -- the block of an end shows it
-  shows_at : (end : Option End) → IfSome end AnswersTo → (block : List ℕ) → IsBlock asked.header b k end block → ShowsEnd tables asked b k end block
+  shows_at : (end : Option End) → IfSome end AnswersTo → (block : List ℕ) → IsBlock asked b k end block → ShowsEnd tables asked b k end block
   shows_at None at block is = absurd is
-  shows_at (Some EndedDone) (none, (rows, same_out, there_is)) block (shown, found, is) =
+  shows_at (Some EndedDone) (none, (rows, same_out, there_is)) block (shown, printed, found, sorted, is) =
       let same : rows ≡ shown = same_Some rows shown (sym (rows_are ∙ there_is) ∙ found) in
       let bag = bag_of (outcome asked.specification (rows_in_tables tables)) rows same_out in
-      (bag.0, shown, bag.1, subst (λ (rs : List (List Val)). IsPermutation bag.0 rs) same bag.2, found, is)
+      (bag.0, shown, printed, bag.1, subst (λ (rs : List (List Val)). IsPermutation bag.0 rs) same bag.2, found, sorted, is)
   shows_at (Some (Exception code)) (none, (raised, other, out, among, code_is)) block (shown, shown_is, is) =
       let same : other ≡ shown = same_raised other shown (sym code_is ∙ shown_is) in
       (raised, shown, out, subst (λ (c : Code). Contains raised c) same among, shown_is, is)
@@ -152,15 +153,15 @@ module _ (limits : Limits) (tables : List Contents) (asked : Asked) (b : Standin
   shows_at (Some (Steps limit)) at block is = is
   shows_at (Some Trap) at block is = absurd is
 
-  pub shows_block : (block : List ℕ) → IsBlock asked.header b k (end_in b.shared k) block → ShowsEnd tables asked b k (end_in b.shared k) block
+  pub shows_block : (block : List ℕ) → IsBlock asked b k (end_in b.shared k) block → ShowsEnd tables asked b k (end_in b.shared k) block
   shows_block block is =
       let end = end_is b.shared k one.i one.found in
       subst (λ (o : Option End). ShowsEnd tables asked b k o block) (sym end)
-      (shows_at one.i.end one.at.answers block (subst (λ (o : Option End). IsBlock asked.header b k o block) end is))
+      (shows_at one.i.end one.at.answers block (subst (λ (o : Option End). IsBlock asked b k o block) end is))
 
 -- the blocks of queries show their ends, where each shows its own
 shows_blocks : (counts : Bool) (tables : List Contents) (b : Standing) (queries : List Asked) (k : ℕ) (text : List ℕ) →
-    ((n j : ℕ) (asked : Asked) (block : List ℕ) → n ≡ k + j → slice_get queries j ≡ Some asked → IsBlock asked.header b n (end_in b.shared n) block → ShowsEnd tables asked b n (end_in b.shared n) block) →
+    ((n j : ℕ) (asked : Asked) (block : List ℕ) → n ≡ k + j → slice_get queries j ≡ Some asked → IsBlock asked b n (end_in b.shared n) block → ShowsEnd tables asked b n (end_in b.shared n) block) →
     AreBlocks counts queries b k text → ShowsEnds counts tables queries b k text
 shows_blocks counts tables b [] k text each are = are
 shows_blocks counts tables b (asked ∷ queries) k text each (block, blocks, is, first, more) = (
@@ -199,7 +200,8 @@ module _ (limits : Limits) (tables : List Contents) (asked : Asked) (b : Standin
   some_at None some at = cc
   some_at (Some EndedDone) some (none, (rows, same_out, there_is)) =
       let bag = bag_of (outcome asked.specification (rows_in_tables tables)) rows same_out in
-      (report_of_rows (suc k) asked.header rows, (bag.0, rows, bag.1, bag.2, rows_are limits tables asked b k one ∙ there_is, refl))
+      let printed = sorting.sorted_by asked.keys rows in
+      (report_of_rows (suc k) asked.header printed, (bag.0, rows, printed, bag.1, bag.2, rows_are limits tables asked b k one ∙ there_is, sorting.there asked.keys rows, refl))
   some_at (Some (Exception code)) some (none, (raised, other, out, among, code_is)) = (report_of_exception (suc k) other, (raised, other, out, among, code_is, refl))
   some_at (Some (Pages held asked_for limit)) some at = (report_of_pages (suc k) held asked_for limit, refl)
   some_at (Some (Steps limit)) some at = (report_of_steps (suc k) limit, refl)

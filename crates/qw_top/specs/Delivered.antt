@@ -9,6 +9,7 @@ use Rattle.qw_types.specs.declared.value.Val.{Val}
 use Rattle.qw_meaning.specs.Outcome.{Rows, Raises, outcome}
 use Rattle.qw_map.specs.Turns.{Act, End, Done as EndedDone, Exception, Pages, Steps, Trap, Shared, turns}
 use Rattle.qw_meaning.specs.Select.{AreOfEntries, entries_of}
+use Rattle.qw_order.specs.Order.{AreSorted}
 use Rattle.qw_promise.specs.Compiled.{IsCompiled, raised_for}
 use Rattle.qw_compile.specs.PlannedQueries.{promise_of}
 use Rattle.qw_bench.specs.Bench.{AreRounds, IsStart, Program, end_in, held_in, ran_in, rows_in_tables}
@@ -44,13 +45,14 @@ pub record HasRun (limits : Limits) (quantum : ℕ) (tables : List Contents) (qu
   pub turned : b.shared ≡ turns given start
   pub ended : (k : ℕ) → k < length queries → IsSome (end_in b.shared k)
 
--- What is reported of the end of query k, counted from 0: the rows that stand in the bench's memory, in their order there, which are the bag of
--- the query's meaning; the exception, which is one of its meaning's; the pages, or the limit of instructions. There is no other end.
+-- What is reported of the end of query k, counted from 0: the rows that stand in the bench's memory, which are the bag of the query's meaning,
+-- sorted by its keys, and without keys in their order there; the exception, which is one of its meaning's; the pages, or the limit of
+-- instructions. There is no other end.
 abbrev pub ShowsEnd : List Contents → Asked → Standing → ℕ → Option End → (block : List ℕ) → Type 0
 ShowsEnd tables asked b k None block = ⊥
-ShowsEnd tables asked b k (Some EndedDone) block = (bag : List (List Val)) × (rows : List (List Val))
+ShowsEnd tables asked b k (Some EndedDone) block = (bag : List (List Val)) × (rows : List (List Val)) × (printed : List (List Val))
     × (outcome asked.specification (rows_in_tables tables) ≡ Rows bag) × IsPermutation bag rows × (rows_in b k ≡ Some rows)
-    × (block ≡ report_of_rows (suc k) asked.header rows)
+    × AreSorted asked.keys rows printed × (block ≡ report_of_rows (suc k) asked.header printed)
 ShowsEnd tables asked b k (Some (Exception code)) block = (raised : List Code) × (one : Code)
     × (outcome asked.specification (rows_in_tables tables) ≡ Raises raised) × Contains raised one × (code ≡ raised_for one) × (block ≡ report_of_exception (suc k) one)
 ShowsEnd tables asked b k (Some (Pages held asked_for limit)) block = block ≡ report_of_pages (suc k) held asked_for limit

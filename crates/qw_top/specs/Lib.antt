@@ -1,6 +1,7 @@
 pub mod Asking
 pub mod Call
 pub mod Causes
+pub mod Complete
 pub mod Delivered
 pub mod FileNames
 pub mod Inner

@@ -10,6 +10,7 @@ use Rattle.qw_linear.specs.Memory.{most_pages}
 use Rattle.qw_csv.specs.Loading.{IsFirstFault, Loads}
 use Rattle.qw_meaning.specs.Outcome.{Raises, outcome}
 use Rattle.qw_meaning.specs.Select.{Specification}
+use Rattle.qw_order.specs.declared.sort_key.SortKey.{SortKey}
 use Rattle.qw_scalar.specs.Typing.{kind_of}
 use Rattle.qw_ast.specs.Syntax.{Select}
 use Rattle.qw_schema.specs.Parse.{IsRefused, ReadsSchema}
@@ -65,10 +66,11 @@ TablesAre files folder [] [] = Unit {0}
 TablesAre files folder (table ∷ tables) (one ∷ contents) = TableIs files folder table one × TablesAre files folder tables contents
 TablesAre files folder _ _ = ⊥
 
--- A query of a script: its specification, and the header of its rows.
+-- A query of a script: its specification, the header of its rows, and the keys by which these are sorted, none without ORDER BY.
 pub record Asked : Type 0 where
   pub specification : Specification
   pub header : List Head
+  pub keys : List SortKey
 
 -- The header of a specification's rows, whose columns have these names: of each column its name, and the kind of its values.
 pub record IsHeader (specification : Specification) (names : List (List ℕ)) (header : List Head) : Type 0 where
@@ -78,7 +80,7 @@ pub record IsHeader (specification : Specification) (names : List (List ℕ)) (h
 -- a query of the text means this over the schema
 pub record IsAsked (schema : List Table) (query : Select) (one : Asked) : Type 0 where
   pub names : List (List ℕ)
-  pub means : Means schema query one.specification names
+  pub means : Means schema query one.specification names one.keys
   pub header : IsHeader one.specification names one.header
 
 -- so do queries, one for one

@@ -1,4 +1,4 @@
--- The table, the query over two tables and the watched file that the worked cases speak of.
+-- The table, the queries over one table and over two, and the watched file that the worked cases speak of.
 use Rattle.std.specs.Prelude.{ℕ, ℤ, pos, List, [], ◌∷◌, Option, Some, codes, map, true, false}
 use Rattle.qw_io.specs.Files.{Watched}
 use Rattle.qw_types.specs.Contents.{Contents}
@@ -6,6 +6,10 @@ use Rattle.qw_types.specs.declared.kind.Kind.TheVariants as kind
 use Rattle.qw_types.specs.declared.schema.Table.{Table}
 use Rattle.qw_types.specs.declared.value.Ty.TheVariants.{Integer, Date}
 use Rattle.qw_types.specs.declared.value.Val.TheVariants.{Num}
+use Rattle.qw_scalar.specs.declared.expression.Operator.TheVariants as operator
+use Rattle.qw_scalar.specs.Expression.{arithmetic, column, number}
+use Rattle.qw_meaning.specs.Select.{alone}
+use Rattle.qw_promise.specs.WorkedQueries.{integers}
 use Rattle.qw_compile.specs.WorkedJoins.{equal_numbers}
 use Rattle.qw_top.specs.Top.{Asked}
 
@@ -18,7 +22,19 @@ worked_table = record {
 
 -- SELECT T.A FROM T, U WHERE T.A = U.A, over two tables of one column A INTEGER NOT NULL
 abbrev pub joined : Asked
-joined = record { specification = equal_numbers; header = record { name = codes "A"; kind = kind.Number 0 } ∷ [] }
+joined = record { specification = equal_numbers; header = record { name = codes "A"; kind = kind.Number 0 } ∷ []; keys = [] }
+
+-- SELECT 8 / (A - 1) AS Q FROM T, over the first of them
+abbrev pub divided : Asked
+divided = record {
+  specification = record {
+    sources = alone (integers 0) ∷ [];
+    conjuncts = [];
+    items = arithmetic operator.Divide (number (pos 8) 0) (arithmetic operator.Subtract (column 0 Integer) (number (pos 1) 0)) ∷ [];
+  };
+  header = record { name = codes "Q"; kind = kind.Number 0 } ∷ [];
+  keys = [];
+}
 
 -- a table of that column, with these numbers
 abbrev pub numbers : List ℤ → Contents

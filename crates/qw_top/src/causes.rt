@@ -190,6 +190,7 @@ fn counted_in_script(what: ScriptCount) -> &'static str
         ScriptCount::Statements => "statements",
         ScriptCount::SelectItems => "select items",
         ScriptCount::FromEntries => "from entries",
+        ScriptCount::SortKeys => "sort keys",
         ScriptCount::Nodes => "nodes",
         ScriptCount::LiteralOctets => "literal octets",
     }
@@ -221,6 +222,7 @@ fn kind_words(kind: FaultKind) -> &'static str
         FaultKind::ScaleTooLarge => "scale too large",
         FaultKind::LiteralTooLong => "literal too long",
         FaultKind::BadDate => "bad date",
+        FaultKind::BadOrdinal => "bad ordinal",
     }
 }
 

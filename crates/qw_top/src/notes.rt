@@ -7,7 +7,7 @@ ghost use Rattle.qw_top.specs.declared.stop.Stop.{Stop};
 ghost use Rattle.qw_top.specs.Inner.Sinks.{CountsWrite};
 ghost use Rattle.qw_top.specs.Inner.Noted.{NotesLine, NotesStop, NotesWords};
 ghost use Rattle.qw_top.specs.Causes.{line_of_cause, number_out_of_range};
-ghost use Rattle.qw_top.specs.Notes.{read_fault_line, want_of_memory_line};
+ghost use Rattle.qw_top.specs.Notes.{read_fault_line, want_of_memory_line, words_not_utf8_line};
 ghost use Rattle.qw_top.specs.Output.{TookFront, with_text};
 
 use crate::output::{end_of_write, write_whole};
@@ -49,6 +49,15 @@ pub fn note_words<E: Sink>(notes: &mut E, fault: &WordsFault) -> Status
         WordsFault::OutOfRange(number) => note_out_of_range(notes, *number),
         WordsFault::NoMemory => note_want_of_memory(notes),
     }
+}
+
+/// Notes that a word isn't UTF-8, and answers how the call ends.
+pub fn note_words_not_utf8<E: Sink>(notes: &mut E) -> Status
+    ensures noted { NotesLine words_not_utf8_line Status.WordsRefused result (E.taken notes.old) (E.taken notes.new) }
+    ensures fault { result ≡ Status.WriteFailed → IsCounted (E.faults notes.old) (E.faults notes.new) }
+    ensures no_fault { result ≢ Status.WriteFailed → E.faults notes.new ≡ E.faults notes.old }
+{
+    note_line(notes, b"words: not utf-8\n", Status::WordsRefused)
 }
 
 /// Notes that this number is out of its range, and answers how the call ends.

@@ -13,6 +13,7 @@ ghost use Rattle.qw_command_line.specs.Words.{RunOptions, no_command, out_of_ran
 ghost use Rattle.qw_top.specs.Asking.{AsksWithin};
 ghost use Rattle.qw_top.specs.Call.{Asks, AsksToCheck, AsksToCompile, Explains, IsLimit, IsNamed, Leaves, LeavesFront, Notes, Settles};
 ghost use Rattle.qw_top.specs.Causes.{AreOne, Cause, status_of_cause};
+ghost use Rattle.qw_top.specs.Complete.{Completes};
 ghost use Rattle.qw_top.specs.Limits.{limits_of};
 ghost use Rattle.qw_top.specs.declared.status.Status.{Status};
 ghost use Rattle.qw_top.specs.Notes.{want_of_memory_line};
@@ -64,6 +65,7 @@ pub fn qwasm<F: Shelf, O: Sink, E: Sink>(
     ensures plain { (told : List ℕ → Option (List ℕ)) (options : RunOptions) (schema : List Table) (tables : List Contents) (queries : List Asked)
         → F.files files.old ≡ Some told → Asks (Some told) (map string_bytes words.now) options schema tables queries
         → AllByRecursion (RaisesNothing (rows_in_tables tables)) queries → result ≢ Status.Raised }
+    ensures complete { Completes (F.files files.old) (map string_bytes words.now) kept.new result (O.taken out.old) (O.taken out.new) }
     ensures compiles { (told : List ℕ → Option (List ℕ)) (one : Asked) → F.files files.old ≡ Some told
         → AsksToCompile (Some told) (map string_bytes words.now) one → (result ≡ Status.Done) ⊎ IsFault result }
     ensures checks { (told : List ℕ → Option (List ℕ)) → F.files files.old ≡ Some told

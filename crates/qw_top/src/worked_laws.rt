@@ -1,6 +1,6 @@
 //! Cases with numbers of definitions that no function computes as they stand. No function here computes anything.
 
-ghost use Rattle.std.specs.Prelude.{◌≡◌, ◌^◌, pos, [], ◌∷◌, Some, codes};
+ghost use Rattle.std.specs.Prelude.{◌≡◌, ◌^◌, pos, [], ◌∷◌, Some, None, codes};
 ghost use Rattle.qw_types.specs.declared.numeral.FieldFault.TheVariants.{NotDate, NotNumber, TooFine, TooLarge};
 ghost use Rattle.qw_types.specs.declared.value.Val.TheVariants.{Num};
 ghost use Rattle.qw_csv.specs.declared.cell.CellFault.TheVariants as cell;
@@ -9,9 +9,9 @@ ghost use Rattle.qw_meaning.specs.Outcome.{Rows, outcome};
 ghost use Rattle.qw_map.specs.Turns.{Done, Exception, Pages, Steps};
 ghost use Rattle.qw_schema.specs.declared.parse.Count.TheVariants.{Columns};
 ghost use Rattle.qw_schema.specs.declared.parse.SchemaFault.TheVariants as schema;
-ghost use Rattle.qw_parse.specs.declared.fault.Count.TheVariants.{Statements, SelectItems, FromEntries, Nodes, LiteralOctets};
+ghost use Rattle.qw_parse.specs.declared.fault.Count.TheVariants.{Statements, SelectItems, FromEntries, SortKeys, Nodes, LiteralOctets};
 ghost use Rattle.qw_parse.specs.declared.fault.ParseFault.TheVariants as script;
-ghost use Rattle.qw_typer.specs.declared.fault.FaultKind.TheVariants.{Ambiguous, BadDate, Clash, DuplicateAlias, LiteralTooLong, ScaleTooLarge, UnknownColumn, UnknownTable};
+ghost use Rattle.qw_typer.specs.declared.fault.FaultKind.TheVariants.{Ambiguous, BadDate, BadOrdinal, Clash, DuplicateAlias, LiteralTooLong, ScaleTooLarge, UnknownColumn, UnknownTable};
 ghost use Rattle.qw_typer.specs.declared.fault.TypeFault.TheVariants.{Fault};
 ghost use Rattle.qw_octet_grammar.specs.declared.fault.What.TheVariants.{DataSection};
 ghost use Rattle.qw_valid.specs.declared.valid.Part.TheVariants.{Exports};
@@ -20,10 +20,11 @@ ghost use Rattle.qw_compile.specs.PlannedQueries.{page_bound};
 ghost use Rattle.qw_bench.specs.Bench.{rows_in_tables};
 ghost use Rattle.qw_top.specs.Asking.{AsksWithin, IsOne};
 ghost use Rattle.qw_top.specs.Causes.{line_of_cause, module_refused, module_too_long, no_statement, number_out_of_range, queries_mistyped, queries_refused, queries_too_long, schema_refused, schema_too_long, table_refused, table_too_long, total_pages};
+ghost use Rattle.qw_top.specs.Complete.{AreEnough, most_steps, status_meant};
 ghost use Rattle.qw_top.specs.Delivered.{status_of_ends};
 ghost use Rattle.qw_top.specs.Limits.{limits_of, most_module_octets, most_table_octets, most_text_octets};
 ghost use Rattle.qw_top.specs.Top.{IsHeader, RaisesNothing};
-ghost use Rattle.qw_top.specs.Worked.{joined, joined_tables, watched_file, worked_table};
+ghost use Rattle.qw_top.specs.Worked.{divided, joined, joined_tables, watched_file, worked_table};
 ghost use Rattle.qw_command_line.specs.Words.{default_options};
 ghost use Rattle.qw_command_line.specs.declared.command.Number.TheVariants as number;
 ghost use Rattle.qw_top.specs.declared.status.Status.{Status};
@@ -44,6 +45,20 @@ pub fn worked_join()
     ensures rows { outcome joined.specification (rows_in_tables joined_tables) ≡ Rows ((Num (pos 4) ∷ []) ∷ []) }
     ensures plain { RaisesNothing (rows_in_tables joined_tables) joined }
     ensures pages { page_bound joined.specification (rows_in_tables joined_tables) ≡ 4 }
+{}
+
+/// No compiled module of that query runs more than 2^24 * (1 + 1,067) instructions over these tables. So 4 pages and as many instructions are
+/// enough for it, whichever module it has, and so are those that a query may use where the words have no options; a page or an instruction
+/// fewer are not. It means that the work is done; beside `SELECT 8 / (A - 1) AS Q FROM T`, which divides by zero at the row 1, that an
+/// exception was raised.
+pub fn worked_ends()
+    ensures steps { most_steps joined (rows_in_tables joined_tables) ≡ 17918066688 }
+    ensures enough { AreEnough (record { pages = 4; steps = 17918066688 }) (rows_in_tables joined_tables) (joined ∷ []) None }
+    ensures defaults { AreEnough (limits_of default_options) (rows_in_tables joined_tables) (joined ∷ []) None }
+    ensures few_pages { AreEnough (record { pages = 3; steps = 17918066688 }) (rows_in_tables joined_tables) (joined ∷ []) None → ⊥ }
+    ensures few_steps { AreEnough (record { pages = 4; steps = 17918066687 }) (rows_in_tables joined_tables) (joined ∷ []) None → ⊥ }
+    ensures done { status_meant (rows_in_tables joined_tables) (joined ∷ []) ≡ Status.Done }
+    ensures raised { status_meant (rows_in_tables joined_tables) (joined ∷ divided ∷ []) ≡ Status.Raised }
 {}
 
 /// The lines on a schema file.
@@ -81,6 +96,7 @@ pub fn worked_query_lines()
     ensures many_statements { line_of_cause (queries_refused (script.TooMany 1 Statements 64)) ≡ codes "queries: too many statements in statement 1, limit 64\n" }
     ensures many_items { line_of_cause (queries_refused (script.TooMany 1 SelectItems 64)) ≡ codes "queries: too many select items in statement 1, limit 64\n" }
     ensures many_entries { line_of_cause (queries_refused (script.TooMany 4 FromEntries 8)) ≡ codes "queries: too many from entries in statement 4, limit 8\n" }
+    ensures many_keys { line_of_cause (queries_refused (script.TooMany 2 SortKeys 64)) ≡ codes "queries: too many sort keys in statement 2, limit 64\n" }
     ensures many_nodes { line_of_cause (queries_refused (script.TooMany 3 Nodes 1000)) ≡ codes "queries: too many nodes in statement 3, limit 1000\n" }
     ensures many_octets { line_of_cause (queries_refused (script.TooMany 2 LiteralOctets 16384)) ≡ codes "queries: too many literal octets in statement 2, limit 16384\n" }
     ensures unknown_table { line_of_cause (queries_mistyped (Fault 2 UnknownTable (codes "U"))) ≡ codes "queries: unknown table U in statement 2\n" }
@@ -92,6 +108,7 @@ pub fn worked_query_lines()
     ensures literal { line_of_cause (queries_mistyped (Fault 1 LiteralTooLong (codes "1000000000000000000")))
         ≡ codes "queries: literal too long 1000000000000000000 in statement 1\n" }
     ensures date { line_of_cause (queries_mistyped (Fault 1 BadDate (codes "'1998-02-29'"))) ≡ codes "queries: bad date '1998-02-29' in statement 1\n" }
+    ensures ordinal { line_of_cause (queries_mistyped (Fault 1 BadOrdinal (codes "2"))) ≡ codes "queries: bad ordinal 2 in statement 1\n" }
     ensures pages { line_of_cause (total_pages 65536) ≡ codes "total pages 65536\n" }
 {}
 

@@ -15,6 +15,7 @@ use Rattle.qw_types.specs.declared.value.Ty.{Ty}
 use Rattle.qw_scalar.specs.Expression as meaning
 use Rattle.qw_scalar.proofs.ColumnLemmas.{columns_more, conditions_more}
 use Rattle.qw_scalar.specs.Typing.{has_kind, kind_of}
+use Rattle.qw_order.specs.declared.sort_key.SortKey.{SortKey}
 use Rattle.qw_meaning.specs.Select as specified
 use Rattle.qw_meaning.specs.Select.{AreJoinsOver, AreSourcesOver, IsColumnOf, IsConditionOver, IsItemOver, IsReached, IsSpecification, Specification, type_in}
 use Rattle.qw_ast.specs.Grammar.{name_of}
@@ -23,8 +24,9 @@ use Rattle.qw_ast.specs.Syntax as written
 use Rattle.qw_ast.specs.Syntax.{Condition, comparison, between, among, is_null, both, either, negation_of, is, bracketed, SelectItem, Selected, all_columns, items, Joined, Source, Select}
 use Rattle.qw_typer.specs.declared.fault.FaultKind.TheVariants.{DuplicateAlias, UnknownTable}
 use Rattle.qw_typer.specs.Faults.{condition_faults, fault_where, faults, first_token, item_faults, or_own}
+use Rattle.qw_typer.specs.Keys.{keys_meant}
 use Rattle.qw_typer.specs.Meant.{Entry, Scope, condition_meant, meant}
-use Rattle.qw_typer.specs.Typed.{HasFewItems, IsWithin, Means, columns_from, columns_of, conjuncts, conjuncts_of, entries_faults, entry_meant, entry_name, filter_faults, in_scope, items_meant, joins_faults, joins_meant, list_faults, over_faults, place_of, query_faults, result_names, scope_from, scope_of, selected_faults, sources_faults, sources_meant}
+use Rattle.qw_typer.specs.Typed.{HasFewItems, IsWithin, Means, columns_from, columns_of, conjuncts, conjuncts_of, entries_faults, entry_meant, entry_name, filter_faults, in_scope, items_meant, joins_faults, joins_meant, list_faults, order_faults, over_faults, place_of, query_faults, result_names, scope_from, scope_of, selected_faults, sources_faults, sources_meant}
 use Rattle.qw_typer.specs.Inner.Queries.{HaveTables}
 use Rattle.qw_typer.proofs.FaultLemmas.{meaning_of}
 use Rattle.qw_typer.proofs.SoundLemmas.{AreSized, HasSized, IsAt, IsIn, all_both, all_more, column_good, condition_good, good, no_both, no_own, not_where, tested, types_of}
@@ -397,22 +399,26 @@ made from cs is' = record { sources = from; conjuncts = cs; items = is' }
 same_parts : (a b : Specification) → a.sources ≡ b.sources → a.conjuncts ≡ b.conjuncts → a.items ≡ b.items → a ≡ b
 same_parts a b e c i = ap (λ from. made from a.conjuncts a.items) e ∙ ap (λ cs. made b.sources cs a.items) c ∙ ap (made b.sources b.conjuncts) i
 
-means_is : (schema : List Table) (s : Select) (specification : Specification) (names : List (List ℕ)) → Means schema s specification names → specification ≡ meaning_of schema s
-means_is schema s specification names m = same_parts specification (meaning_of schema s) m.sources_are m.conjuncts_are m.items_are
+means_is : (schema : List Table) (s : Select) (specification : Specification) (names : List (List ℕ)) (keys : List SortKey) → Means schema s specification names keys → specification ≡ meaning_of schema s
+means_is schema s specification names keys m = same_parts specification (meaning_of schema s) m.sources_are m.conjuncts_are m.items_are
 
-pub typed_query : (schema : List Table) (s : Select) (specification : Specification) (names : List (List ℕ)) → AllByRecursion (λ (t : Table). AreColumns t.columns) schema → IsWithin s → Means schema s specification names → IsSpecification specification
-typed_query schema s specification names all within m =
-    let q = no_own (entries_faults schema [] (entries_of s.sources)) (over_faults schema s) m.faultless in
-    subst IsSpecification (sym (means_is schema s specification names m)) (specified_query schema s (tables_known schema [] 0 (entries_of s.sources) all q.0) within q.1)
+pub typed_query : (schema : List Table) (s : Select) (specification : Specification) (names : List (List ℕ)) (keys : List SortKey) → AllByRecursion (λ (t : Table). AreColumns t.columns) schema → IsWithin s → Means schema s specification names keys → IsSpecification specification
+typed_query schema s specification names keys all within m =
+    let q = no_own (entries_faults schema [] (entries_of s.sources)) (or_own (over_faults schema s) (order_faults schema s)) m.faultless in
+    let p = no_own (over_faults schema s) (order_faults schema s) q.1 in
+    subst IsSpecification (sym (means_is schema s specification names keys m)) (specified_query schema s (tables_known schema [] 0 (entries_of s.sources) all q.0) within p.0)
 
 -- ---- a meaning, and one alone
 
-pub query_meaning : (schema : List Table) (s : Select) → query_faults schema s ≡ [] → (specification : Specification) × (names : List (List ℕ)) × Means schema s specification names
+pub query_meaning : (schema : List Table) (s : Select) → query_faults schema s ≡ [] → (specification : Specification) × (names : List (List ℕ)) × (keys : List SortKey) × Means schema s specification names keys
 query_meaning schema s h = (
   meaning_of schema s,
   result_names (scope_of schema s) s.selected,
-  record { faultless = h; sources_are = refl; conjuncts_are = refl; items_are = refl; names_are = refl },
+  keys_meant (scope_of schema s) (result_names (scope_of schema s) s.selected) (items_meant (scope_of schema s) s.selected) s.order,
+  record { faultless = h; sources_are = refl; conjuncts_are = refl; items_are = refl; names_are = refl; keys_are = refl },
 )
 
-pub one_meaning : (schema : List Table) (s : Select) (specification other : Specification) (names others : List (List ℕ)) → Means schema s specification names → Means schema s other others → (specification ≡ other) × (names ≡ others)
-one_meaning schema s specification other names others m n = (means_is schema s specification names m ∙ sym (means_is schema s other others n), m.names_are ∙ sym n.names_are)
+pub one_meaning : (schema : List Table) (s : Select) (specification other : Specification) (names others : List (List ℕ)) (keys further : List SortKey) → Means schema s specification names keys → Means schema s other others further
+    → (specification ≡ other) × (names ≡ others) × (keys ≡ further)
+one_meaning schema s specification other names others keys further m n =
+    (means_is schema s specification names keys m ∙ sym (means_is schema s other others further n), m.names_are ∙ sym n.names_are, m.keys_are ∙ sym n.keys_are)

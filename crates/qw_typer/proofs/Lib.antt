@@ -5,6 +5,7 @@ mod DayLemmas
 mod EntryLemmas
 mod FaultLemmas
 mod FitLemmas
+mod KeyLemmas
 pub mod LawLemmas
 mod LiteralLemmas
 pub mod MeansLemmas

@@ -1,5 +1,6 @@
--- What follows of a specification that a query means: its entries are tables of the schema, and each item has a kind and a name.
-use Rattle.std.proofs.Common.{◌≡◌, ℕ, suc, true, false, List, [], ◌∷◌, ◌++◌, ◌+◌, ◌*◌, arith, map, length, get_or, Option, Some, None, refl, sym, ap, ◌∙◌, slice_get, subst, is_none}
+-- What follows of a specification that a query means: its entries are tables of the schema, each item has a kind and a name, and each key is
+-- a result column.
+use Rattle.std.proofs.Common.{◌≡◌, ◌<◌, ℕ, suc, true, false, List, [], ◌∷◌, ◌++◌, ◌+◌, ◌*◌, arith, map, length, get_or, Option, Some, None, refl, sym, ap, ◌∙◌, slice_get, subst, is_none}
 use Rattle.std.specs.List.{AllByRecursion, list_any}
 use Rattle.std.specs.Str.{bytes_eq}
 use Rattle.std.proofs.lemmas.List.{length-append, length-map}
@@ -10,6 +11,7 @@ use Rattle.qw_types.specs.declared.schema.Column.{Column}
 use Rattle.qw_types.specs.declared.schema.Table.{Table}
 use Rattle.qw_scalar.specs.Expression as meaning
 use Rattle.qw_scalar.specs.Typing.{has_kind, kind_of}
+use Rattle.qw_order.specs.declared.sort_key.SortKey.{SortKey}
 use Rattle.qw_meaning.specs.Select as specified
 use Rattle.qw_meaning.specs.Select.{Specification}
 use Rattle.qw_ast.specs.Grammar.{name_of}
@@ -18,8 +20,10 @@ use Rattle.qw_ast.specs.Syntax as written
 use Rattle.qw_ast.specs.Syntax.{SelectItem, Selected, all_columns, items, Select}
 use Rattle.qw_typer.specs.declared.fault.FaultKind.TheVariants.{DuplicateAlias, UnknownTable}
 use Rattle.qw_typer.specs.Faults.{fault_where, faults, first_token, item_faults, or_own}
+use Rattle.qw_typer.specs.Keys.{keys_meant}
 use Rattle.qw_typer.specs.Meant.{Scope, meant}
-use Rattle.qw_typer.specs.Typed.{Means, columns_from, entries_faults, entry_meant, entry_name, in_scope, item_names, items_meant, list_faults, over_faults, place_of, result_names, scope_from, scope_of, selected_faults}
+use Rattle.qw_typer.specs.Typed.{Means, columns_from, entries_faults, entry_meant, entry_name, in_scope, item_names, items_meant, list_faults, order_faults, over_faults, place_of, result_names, scope_from, scope_of, selected_faults}
+use Rattle.qw_typer.proofs.KeyLemmas.{keys_below}
 use Rattle.qw_typer.proofs.LawLemmas.{entries_meant}
 use Rattle.qw_typer.proofs.SoundLemmas.{all_both, no_both, no_own, not_where, tested}
 
@@ -54,9 +58,9 @@ scope_there schema before number (e ∷ es) h =
     let p = no_both fs gs q.0 in
     (entry_there schema number e (not_where (is_none (place_of schema (name_of e.table))) UnknownTable (name_of e.table) p.0), scope_there schema (before ++ entry_name e ∷ []) (number + 1) es q.1)
 
-pub entries_there : (schema : List Table) (s : Select) (specification : Specification) (names : List (List ℕ)) → Means schema s specification names → AllByRecursion (IsOfTable schema) (specified.entries_of specification.sources)
-entries_there schema s specification names means =
-    let q = no_own (entries_faults schema [] (entries_of s.sources)) (over_faults schema s) means.faultless in
+pub entries_there : (schema : List Table) (s : Select) (specification : Specification) (names : List (List ℕ)) (keys : List SortKey) → Means schema s specification names keys → AllByRecursion (IsOfTable schema) (specified.entries_of specification.sources)
+entries_there schema s specification names keys means =
+    let q = no_own (entries_faults schema [] (entries_of s.sources)) (or_own (over_faults schema s) (order_faults schema s)) means.faultless in
     let same : map entry_meant (scope_from schema 0 (entries_of s.sources)) ≡ specified.entries_of specification.sources = sym (ap specified.entries_of means.sources_are ∙ entries_meant schema 0 s.sources) in
     subst (AllByRecursion (IsOfTable schema)) same (scope_there schema [] 0 (entries_of s.sources) q.0)
 
@@ -85,10 +89,11 @@ item_kinds scope all_columns h = all_kinds scope
 item_kinds scope (items list) h = list_kinds scope list h
 
 -- each item has a kind
-pub items_have_kinds : (schema : List Table) (s : Select) (specification : Specification) (names : List (List ℕ)) → Means schema s specification names → AllByRecursion (λ (e : meaning.Expression). has_kind (kind_of e) ≡ true) specification.items
-items_have_kinds schema s specification names means =
-    let q = no_own (entries_faults schema [] (entries_of s.sources)) (over_faults schema s) means.faultless in
-    let p = no_both (selected_faults (scope_of schema s) s.selected) _ q.1 in
+pub items_have_kinds : (schema : List Table) (s : Select) (specification : Specification) (names : List (List ℕ)) (keys : List SortKey) → Means schema s specification names keys → AllByRecursion (λ (e : meaning.Expression). has_kind (kind_of e) ≡ true) specification.items
+items_have_kinds schema s specification names keys means =
+    let q = no_own (entries_faults schema [] (entries_of s.sources)) (or_own (over_faults schema s) (order_faults schema s)) means.faultless in
+    let r = no_own (over_faults schema s) (order_faults schema s) q.1 in
+    let p = no_both (selected_faults (scope_of schema s) s.selected) _ r.0 in
     subst HaveKinds (sym means.items_are) (item_kinds (scope_of schema s) s.selected p.0)
 
 -- ---- names
@@ -116,6 +121,19 @@ many scope all_columns = many_of_all scope
 many scope (items list) = many_named 1 list ∙ sym (length-map list (λ (i : SelectItem). meant scope i.value))
 
 -- there are as many names as items
-pub many_names : (schema : List Table) (s : Select) (specification : Specification) (names : List (List ℕ)) → Means schema s specification names → length names ≡ length specification.items
-many_names schema s specification names means =
+pub many_names : (schema : List Table) (s : Select) (specification : Specification) (names : List (List ℕ)) (keys : List SortKey) → Means schema s specification names keys → length names ≡ length specification.items
+many_names schema s specification names keys means =
     ap (λ (ns : List (List ℕ)). length ns) means.names_are ∙ many (scope_of schema s) s.selected ∙ sym (ap (λ (es : List meaning.Expression). length es) means.items_are)
+
+-- ---- keys
+
+-- each key is one of the result columns
+pub keys_within : (schema : List Table) (s : Select) (specification : Specification) (names : List (List ℕ)) (keys : List SortKey) → Means schema s specification names keys → AllByRecursion (λ (k : SortKey). k.position < length specification.items) keys
+keys_within schema s specification names keys means =
+    let q = no_own (entries_faults schema [] (entries_of s.sources)) (or_own (over_faults schema s) (order_faults schema s)) means.faultless in
+    let r = no_own (over_faults schema s) (order_faults schema s) q.1 in
+    let scope = scope_of schema s in
+    let columns = items_meant scope s.selected in
+    let below = keys_below scope (result_names scope s.selected) columns (many scope s.selected) s.order r.1 in
+    subst (λ (ks : List SortKey). AllByRecursion (λ (k : SortKey). k.position < length specification.items) ks) (sym means.keys_are)
+    (subst (λ (es : List meaning.Expression). AllByRecursion (λ (k : SortKey). k.position < length es) (keys_meant scope (result_names scope s.selected) columns s.order)) (sym means.items_are) below)

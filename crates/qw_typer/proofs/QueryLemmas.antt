@@ -6,6 +6,7 @@ use Rattle.std.proofs.lemmas.List.Sums.{sum_by-cons}
 use Rattle.qw_types.specs.declared.schema.Table.{Table}
 use Rattle.qw_meaning.specs.Query.{QueryParts, query_of}
 use Rattle.qw_meaning.specs.Select.{IsSpecification, Specification}
+use Rattle.qw_order.specs.declared.sort_key.SortKey.{SortKey}
 use Rattle.qw_ast.specs.Limits.{entries_of}
 use Rattle.qw_ast.specs.Syntax as written
 use Rattle.qw_ast.specs.Syntax.{Select}
@@ -15,8 +16,9 @@ use Rattle.qw_typer.specs.declared.refusal.Refusal.{Refusal}
 use Rattle.qw_typer.specs.declared.refusal.Refusal.TheVariants as refusal
 use Rattle.qw_typer.specs.declared.scope.Entry.{Entry as CodeEntry}
 use Rattle.qw_typer.specs.Faults.{Fault, or_own}
+use Rattle.qw_typer.specs.Keys.{keys_faults, keys_meant}
 use Rattle.qw_typer.specs.Meant.{Entry, Scope}
-use Rattle.qw_typer.specs.Typed.{IsWithin, Means, entries_faults, over_faults, query_faults, result_names, scope_from, scope_of}
+use Rattle.qw_typer.specs.Typed.{IsWithin, Means, entries_faults, items_meant, order_faults, over_faults, query_faults, result_names, scope_from, scope_of}
 use Rattle.qw_typer.specs.Inner.Queries.{HaveTables, IsOneOf}
 use Rattle.qw_typer.specs.Inner.Sizes.{column_count}
 use Rattle.qw_typer.specs.Inner.Typing.{Refuses, as_entry, in_reach, outcome, spelled, typed_over}
@@ -36,12 +38,12 @@ memory_is_one fs = tt
 pub memory_refused : (r : Refusal) (fs : List Fault) → r ≡ refusal.NoMemory → IsOneOf r fs
 memory_refused r fs e = rw e (memory_is_one fs)
 
-refused_outcome : {A : Type 0} (r : Refusal) (fs : List Fault) (a : A) → Refuses r (outcome fs a) → IsOneOf r fs
+pub refused_outcome : {A : Type 0} (r : Refusal) (fs : List Fault) (a : A) → Refuses r (outcome fs a) → IsOneOf r fs
 unfolding Refuses IsOneOf
 refused_outcome refusal.NoMemory fs a h = tt
 refused_outcome (refusal.Fault kind token) fs a h = first_fault fs a (record { kind = kind; name = spelled token }) h
 
-own_first : (r : Refusal) (fs gs : List Fault) → IsOneOf r fs → IsOneOf r (or_own fs gs)
+pub own_first : (r : Refusal) (fs gs : List Fault) → IsOneOf r fs → IsOneOf r (or_own fs gs)
 unfolding IsOneOf
 own_first refusal.NoMemory fs gs h = tt
 own_first (refusal.Fault kind token) [] gs h = absurd (nothing h)
@@ -52,7 +54,7 @@ own_first (refusal.Fault kind token) (f ∷ fs) gs h = h
 
 -- a fault of the entries of FROM
 pub entries_refused : (schema : List Table) (s : Select) (named : List written.Entry) (r : Refusal) → named ≡ entries_of s.sources → IsOneOf r (entries_faults schema [] named) → IsOneOf r (query_faults schema s)
-entries_refused schema s named r same h = own_first r (entries_faults schema [] (entries_of s.sources)) (over_faults schema s) (rw same at h)
+entries_refused schema s named r same h = own_first r (entries_faults schema [] (entries_of s.sources)) (or_own (over_faults schema s) (order_faults schema s)) (rw same at h)
 
 -- without one the scope is that of FROM
 abbrev pub IsScope : List Table → List written.Entry → Scope → Type 0
@@ -66,21 +68,42 @@ pub over_refused : (schema : List Table) (s : Select) (named : List written.Entr
 over_refused schema s named scope r same known h =
     let whole = whole_scope schema s named scope same known in
     let over = refused_outcome r (over_faults schema s) (meaning_of schema s) (rw (whole.1, over_is schema s) at h) in
-    rw whole.0 over
+    rw whole.0 (own_first r (over_faults schema s) (order_faults schema s) over)
+
+-- the keys over the result columns of what was typed
+abbrev KeysOver : Scope → QueryParts → List (List ℕ) → Select → List Fault
+KeysOver scope parts names s = keys_faults scope names (query_of parts).items s.order
+
+same_order : (schema : List Table) (s : Select) (scope : Scope) (parts : QueryParts) (names : List (List ℕ)) → scope ≡ scope_of schema s → meaning_of schema s ≡ query_of parts → names ≡ result_names scope s.selected → KeysOver scope parts names s ≡ order_faults schema s
+same_order schema s scope parts names same is names_are =
+    let named : names ≡ result_names (scope_of schema s) s.selected = names_are ∙ ap (λ (sc : Scope). result_names sc s.selected) same in
+    let items : (query_of parts).items ≡ items_meant (scope_of schema s) s.selected = sym (ap (λ (q : Specification). q.items) is) in
+    rw (same, named, items) refl
+
+-- and one of the keys over what stands over them
+pub keys_refused : (schema : List Table) (s : Select) (named : List written.Entry) (scope : Scope) (parts : QueryParts) (names : List (List ℕ)) (r : Refusal) → named ≡ entries_of s.sources → IsScope schema named scope
+    → typed_over scope s ≡ Ok (query_of parts) → names ≡ result_names scope s.selected → IsOneOf r (keys_faults scope names (query_of parts).items s.order) → IsOneOf r (query_faults schema s)
+keys_refused schema s named scope parts names r same known gives names_are h =
+    let whole = whole_scope schema s named scope same known in
+    let o = no_fault (over_faults schema s) (meaning_of schema s) (query_of parts) (sym (over_is schema s) ∙ ap (λ (sc : Scope). typed_over sc s) (sym whole.1) ∙ gives) in
+    rw (whole.0, o.0) (rw (same_order schema s scope parts names whole.1 o.1 names_are) at h)
 
 -- ---- what is given
 
-pub query_means : (schema : List Table) (s : Select) (named : List written.Entry) (scope : Scope) (parts : QueryParts) (names : List (List ℕ)) → named ≡ entries_of s.sources → IsScope schema named scope
-    → typed_over scope s ≡ Ok (query_of parts) → names ≡ result_names scope s.selected → Means schema s (query_of parts) names
-query_means schema s named scope parts names same known gives names_are =
+pub query_means : (schema : List Table) (s : Select) (named : List written.Entry) (scope : Scope) (parts : QueryParts) (names : List (List ℕ)) (keys : List SortKey) → named ≡ entries_of s.sources → IsScope schema named scope
+    → typed_over scope s ≡ Ok (query_of parts) → names ≡ result_names scope s.selected → (keys_faults scope names (query_of parts).items s.order ≡ []) × (keys ≡ keys_meant scope names (query_of parts).items s.order) → Means schema s (query_of parts) names keys
+query_means schema s named scope parts names keys same known gives names_are found =
     let whole = whole_scope schema s named scope same known in
     let o = no_fault (over_faults schema s) (meaning_of schema s) (query_of parts) (sym (over_is schema s) ∙ ap (λ (sc : Scope). typed_over sc s) (sym whole.1) ∙ gives) in
+    let named : names ≡ result_names (scope_of schema s) s.selected = names_are ∙ ap (λ (sc : Scope). result_names sc s.selected) whole.1 in
+    let items : (query_of parts).items ≡ items_meant (scope_of schema s) s.selected = sym (ap (λ (q : Specification). q.items) o.1) in
     record {
-      faultless = rw (whole.0, o.0) refl;
+      faultless = rw (whole.0, o.0) (sym (same_order schema s scope parts names whole.1 o.1 names_are) ∙ found.0);
       sources_are = ap (λ (q : Specification). q.sources) (sym o.1);
       conjuncts_are = ap (λ (q : Specification). q.conjuncts) (sym o.1);
       items_are = ap (λ (q : Specification). q.items) (sym o.1);
-      names_are = names_are ∙ ap (λ (sc : Scope). result_names sc s.selected) whole.1;
+      names_are = named;
+      keys_are = found.1 ∙ rw (whole.1, named, items) refl;
     }
 
 pub query_specified : (schema : List Table) (s : Select) (named : List written.Entry) (scope : Scope) (parts : QueryParts) → named ≡ entries_of s.sources → IsScope schema named scope → HaveTables scope → IsWithin s

@@ -221,9 +221,9 @@ module _ (Inner : Clause → List Lexeme → List Lexeme → Type 0) (inner : (c
   few_sources _ _ _ (some_sources s others ts us rest h are) = few_all_sources (s ∷ others) (few_source s ts us h, list_all FewInSource few_source others us rest are)
 
   few_select : (s : Select) (ts rest : List Lexeme) → IsSelect Inner s ts rest → 2 * query_nodes s ≤ 7 * script.query_nodes s + 1024
-  few_select _ _ _ (a_select selected sources filter word from ts us vs ws rest w all list w' froms where') =
+  few_select _ _ _ (a_select selected sources filter order word from ts us vs ws xs rest w all list w' froms where' ordered') =
       let one = few_selected selected us (from ∷ vs) list in
-      let two = few_filter filter ws rest where' in
+      let two = few_filter filter ws xs where' in
       let three = few_sources sources vs ws froms in
       omega (arith, one, two, three)
 

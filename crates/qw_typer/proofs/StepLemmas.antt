@@ -148,7 +148,7 @@ items_end scope made all h = h ∙ ap Ok (none_more (map expression_of made))
 
 -- ---- queries
 
-pub meant_step : (schema : List Table) (all : List Select) (s : Select) (others : List Select) (made : List TypedQuery) (t : TypedQuery) → Means schema s (query_of t.query) t.names.items
+pub meant_step : (schema : List Table) (all : List Select) (s : Select) (others : List Select) (made : List TypedQuery) (t : TypedQuery) → Means schema s (query_of t.query) t.names.items t.keys.items
     → ((ts : List TypedQuery) → AreMeant schema (s ∷ others) ts → AreMeant schema all (made ++ ts)) → (ts : List TypedQuery) → AreMeant schema others ts → AreMeant schema all ((made ++ t ∷ []) ++ ts)
 meant_step schema all s others made t m h ts k = rw (push_more made t ts) (h (t ∷ ts) (m, k))
 
@@ -166,7 +166,7 @@ pub queries_kept : (rest others : List Statement) (s : Statement) → rest ≡ s
 queries_kept rest others s first h = rw first at h
 
 pub meant_kept : (schema : List Table) (all : List Select) (rest others : List Statement) (s : Statement) (made made' : List TypedQuery) (t : TypedQuery) → rest ≡ s ∷ others → made' ≡ made ++ t ∷ []
-    → Means schema (select_of s) (query_of t.query) t.names.items → ((ts : List TypedQuery) → AreMeant schema (map select_of rest) ts → AreMeant schema all (made ++ ts))
+    → Means schema (select_of s) (query_of t.query) t.names.items t.keys.items → ((ts : List TypedQuery) → AreMeant schema (map select_of rest) ts → AreMeant schema all (made ++ ts))
     → (ts : List TypedQuery) → AreMeant schema (map select_of others) ts → AreMeant schema all (made' ++ ts)
 meant_kept schema all rest others s made made' t first more m h ts k = rw more (meant_step schema all (select_of s) (map select_of others) made t m (rw first at h) ts k)
 

@@ -78,8 +78,8 @@ abbrev pub qualifier_of : Option (List ℕ) → List ℕ
 qualifier_of None = []
 qualifier_of (Some qualifier) = name_of qualifier
 
--- a column reference means one column; that none or several have its name is a fault (6.4)
-abbrev pub counted_faults : List ℕ → List meaning.Expression → List Fault
+-- a name means one of what may have it; that none or several have it is a fault (6.4 of a column reference)
+abbrev pub counted_faults : {A : Type 0} → List ℕ → List A → List Fault
 counted_faults name [] = record { kind = UnknownColumn; name = name } ∷ []
 counted_faults name (e ∷ []) = []
 counted_faults name (e ∷ f ∷ es) = record { kind = Ambiguous; name = name } ∷ []

@@ -1,6 +1,7 @@
 pub mod Days
 pub mod Faults
 pub mod Inner
+pub mod Keys
 pub mod Literal
 pub mod Meanings
 pub mod Meant

@@ -1,5 +1,5 @@
--- The query specification that a query means over a schema's tables, with the names of its result columns; or its faults (ISO/IEC
--- 9075:1992, 6.3, 6.4, 7.4, 7.6, 7.9).
+-- The query specification that a query means over a schema's tables, with the names of its result columns and the keys of their order; or
+-- its faults (ISO/IEC 9075:1992, 6.3, 6.4, 7.4, 7.6, 7.9, 13.1).
 use Rattle.std.specs.Prelude.{◌≡◌, ◌≤◌, ◌+◌, ◌*◌, ℕ, suc, List, [], ◌∷◌, ◌++◌, length, map, Option, position, slice_get, unwrap_or, is_none, Contains, codes}
 use Rattle.std.specs.Fmt.{decimal}
 use Rattle.std.specs.List.{flat_map, list_any}
@@ -11,6 +11,7 @@ use Rattle.qw_types.specs.declared.schema.Table.{Table}
 use Rattle.qw_scalar.specs.Expression as meaning
 use Rattle.qw_meaning.specs.Select as specified
 use Rattle.qw_meaning.specs.Select.{Specification}
+use Rattle.qw_order.specs.declared.sort_key.SortKey.{SortKey}
 use Rattle.qw_ast.specs.Grammar.{name_of}
 use Rattle.qw_ast.specs.Limits.{entries_in, entries_of}
 use Rattle.qw_ast.specs.Syntax.{Expression, null, number, text, date, column, signed, arithmetic, extract, searched_case, simple_case, coalesce, null_if, Condition, comparison, between, among, is_null, both, either, negation_of, is, bracketed, SelectItem, Selected, all_columns, items, Entry, Joined, Source, Select}
@@ -20,6 +21,7 @@ use Rattle.qw_typer.specs.declared.fault.TypeFault.TheVariants as type_fault
 use Rattle.qw_typer.specs.Meant as scoped
 use Rattle.qw_typer.specs.Meant.{Scope, condition_meant, meant}
 use Rattle.qw_typer.specs.Faults.{Fault, condition_faults, fault_where, faults, first_token, item_faults, or_own}
+use Rattle.qw_typer.specs.Keys.{keys_faults, keys_meant}
 
 -- ---- FROM (6.3, 7.4, 7.5). What is said here of a name that is no table means nothing, and only makes the meaning total.
 
@@ -162,19 +164,24 @@ entries_faults schema before (e ∷ es) =
 abbrev pub over_faults : List Table → Select → List Fault
 over_faults schema s = selected_faults (scope_of schema s) s.selected ++ (sources_faults schema 0 s.sources ++ filter_faults (scope_of schema s) s)
 
--- the faults of the entries of FROM; without one those of the expressions over their columns
+-- of the keys of ORDER BY over the result columns
+abbrev pub order_faults : List Table → Select → List Fault
+order_faults schema s = keys_faults (scope_of schema s) (result_names (scope_of schema s) s.selected) (items_meant (scope_of schema s) s.selected) s.order
+
+-- the faults of the entries of FROM; without one those of the expressions over their columns; and without one of these those of the keys
 abbrev pub query_faults : List Table → Select → List Fault
-query_faults schema s = or_own (entries_faults schema [] (entries_of s.sources)) (over_faults schema s)
+query_faults schema s = or_own (entries_faults schema [] (entries_of s.sources)) (or_own (over_faults schema s) (order_faults schema s))
 
 -- ---- what a query means
 
--- The query has no fault, and means this specification, whose result columns have these names.
-pub record Means (schema : List Table) (s : Select) (specification : Specification) (names : List (List ℕ)) : Type 0 where
+-- The query has no fault, and means this specification, whose result columns have these names, and these keys for the order of its rows.
+pub record Means (schema : List Table) (s : Select) (specification : Specification) (names : List (List ℕ)) (keys : List SortKey) : Type 0 where
   pub faultless : query_faults schema s ≡ []
   pub sources_are : specification.sources ≡ sources_meant schema 0 s.sources
   pub conjuncts_are : specification.conjuncts ≡ map (condition_meant (scope_of schema s)) (conjuncts s)
   pub items_are : specification.items ≡ items_meant (scope_of schema s) s.selected
   pub names_are : names ≡ result_names (scope_of schema s) s.selected
+  pub keys_are : keys ≡ keys_meant (scope_of schema s) (result_names (scope_of schema s) s.selected) (items_meant (scope_of schema s) s.selected) s.order
 
 -- ---- a script
 

@@ -1,10 +1,13 @@
 -- Tables and queries of worked cases.
-use Rattle.std.specs.Prelude.{ℕ, false, List, [], ◌∷◌, Some, None, codes}
+use Rattle.std.specs.Prelude.{ℕ, false, List, [], ◌∷◌, map, Option, Some, None, codes}
 use Rattle.qw_types.specs.declared.schema.Column.{Column}
 use Rattle.qw_types.specs.declared.schema.Table.{Table}
 use Rattle.qw_types.specs.declared.value.Ty.TheVariants as type
 use Rattle.qw_scalar.specs.declared.comparison.Comparison.TheVariants.{Equal}
-use Rattle.qw_ast.specs.Syntax.{Expression, column, comparison, Entry, Joined, Source, Select, all_columns, items}
+use Rattle.qw_order.specs.declared.sort_key.SortKey.{SortKey}
+use Rattle.qw_ast.specs.Syntax.{Expression, column, number, comparison, Entry, Joined, Source, Key, result_column, SortSpecification, Select, all_columns, items}
+use Rattle.qw_typer.specs.Keys.{keys_meant}
+use Rattle.qw_typer.specs.Typed.{items_meant, result_names, scope_of}
 
 abbrev pub integer_column : List ℕ → Column
 integer_column name = record { name = name; ty = type.Integer; not_null = false }
@@ -36,7 +39,35 @@ join entry a b = record { entry = entry; on = comparison Equal a b }
 
 -- SELECT * FROM sources, and SELECT e FROM sources
 abbrev pub all_from : List Source → Select
-all_from sources = record { selected = all_columns; sources = sources; filter = None }
+all_from sources = record { selected = all_columns; sources = sources; filter = None; order = [] }
 
 abbrev pub item_from : Expression → List Source → Select
-item_from e sources = record { selected = items (record { value = e; name = None } ∷ []); sources = sources; filter = None }
+item_from e sources = record { selected = items (record { value = e; name = None } ∷ []); sources = sources; filter = None; order = [] }
+
+-- a result column by its name
+abbrev pub key_of : Option (List ℕ) → List ℕ → Key
+key_of qualifier name = result_column qualifier name
+
+abbrev pub sorts : List Key → List SortSpecification
+sorts keys = map (λ (k : Key). record { key = k; is_descending = false }) keys
+
+-- SELECT A.X AS Z, B.K, 5 FROM A, B ORDER BY keys
+abbrev pub in_order : List Key → Select
+in_order keys = record {
+  selected = items (record { value = of (codes "a") (codes "x"); name = Some (codes "z") } ∷ record { value = of (codes "b") (codes "k"); name = None } ∷ record { value = number (codes "5"); name = None } ∷ []);
+  sources = alone (table (codes "a")) ∷ alone (table (codes "b")) ∷ [];
+  filter = None;
+  order = sorts keys;
+}
+
+-- SELECT * FROM A, B ORDER BY keys
+abbrev pub all_in_order : List Key → Select
+all_in_order keys = record { selected = all_columns; sources = alone (table (codes "a")) ∷ alone (table (codes "b")) ∷ []; filter = None; order = sorts keys }
+
+-- the keys that the first of the two means
+abbrev pub keys_of : List Key → List SortKey
+keys_of keys =
+    keys_meant (scope_of two_tables (in_order keys)) (result_names (scope_of two_tables (in_order keys)) (in_order keys).selected) (items_meant (scope_of two_tables (in_order keys)) (in_order keys).selected) (sorts keys)
+
+abbrev pub ascending : ℕ → SortKey
+ascending position = record { position = position; is_descending = false }

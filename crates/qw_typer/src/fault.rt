@@ -8,9 +8,10 @@ use thiserror::Error;
 pub enum FaultKind {
     /// A name in FROM that is no table of the schema, or a qualifier that is no entry in reach (ISO/IEC 9075:1992, 6.3, 6.4).
     UnknownTable,
-    /// A name that is no column of the entries in reach (6.4).
+    /// A name that is no column of the entries in reach (6.4), or a sort key that is no result column (13.1).
     UnknownColumn,
-    /// A name without a qualifier that is a column of two entries in reach or more (6.4).
+    /// A name without a qualifier that is a column of two entries in reach or more (6.4); a sort key that is two result columns or more
+    /// (13.1).
     Ambiguous,
     /// A name that two entries of FROM have (6.3).
     DuplicateAlias,
@@ -22,6 +23,8 @@ pub enum FaultKind {
     LiteralTooLong,
     /// A string that is no day of the years 1 to 9999, an interval that isn't 1 to 7 digits, or a sum out of these years (5.3, 6.14).
     BadDate,
+    /// A sort key that is no position of a result column: 0, or more than there are (13.1).
+    BadOrdinal,
 }
 
 /// Why a script has no meaning over a schema.

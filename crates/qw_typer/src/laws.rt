@@ -7,27 +7,29 @@ ghost use Rattle.qw_types.specs.declared.schema.Table.{Table};
 ghost use Rattle.qw_types.specs.declared.value.Ty.TheVariants.{Integer};
 ghost use Rattle.qw_scalar.specs.declared.comparison.Comparison.TheVariants.{Equal};
 ghost use Rattle.qw_meaning.specs.Select.{IsSpecification, Specification};
+ghost use Rattle.qw_order.specs.declared.sort_key.SortKey.{SortKey};
 ghost use Rattle.qw_ast.specs.declared.script.Sign.TheVariants.{Plus, Minus};
 ghost use Rattle.qw_scalar.specs.Expression as meaning;
-ghost use Rattle.qw_ast.specs.Syntax.{Select, all_columns, column, number, signed, text};
-ghost use Rattle.qw_typer.specs.declared.fault.FaultKind.TheVariants.{Ambiguous, DuplicateAlias, UnknownColumn, UnknownTable};
+ghost use Rattle.qw_ast.specs.Syntax.{Select, all_columns, column, number, ordinal, signed, text};
+ghost use Rattle.qw_typer.specs.declared.fault.FaultKind.TheVariants.{Ambiguous, BadOrdinal, DuplicateAlias, UnknownColumn, UnknownTable};
 ghost use Rattle.qw_typer.specs.Literal.{date_of, number_of};
 ghost use Rattle.qw_typer.specs.Meant.{meant};
 ghost use Rattle.qw_typer.specs.Typed.{IsWithin, Means, item_names, items_meant, own_name, query_faults, result_names, scope_of, sources_meant};
-ghost use Rattle.qw_typer.specs.Worked.{all_from, alone, item_from, join, of, table, table_as, two_tables};
+ghost use Rattle.qw_typer.specs.Worked.{all_from, all_in_order, alone, ascending, in_order, item_from, join, key_of, keys_of, of, table, table_as, two_tables};
 
-/// A query means a specification exactly where it has no fault, and then one alone, with one name for each result column.
+/// A query means a specification exactly where it has no fault, and then one alone, with one name for each result column and one key for
+/// each sort specification.
 pub fn meaning_or_fault()
-    ensures meaning { (schema : List Table) (s : Select) → query_faults schema s ≡ [] → (specification : Specification) × (names : List (List ℕ)) × Means schema s specification names }
-    ensures no_fault { (schema : List Table) (s : Select) (specification : Specification) (names : List (List ℕ)) → Means schema s specification names → query_faults schema s ≡ [] }
-    ensures one { (schema : List Table) (s : Select) (specification other : Specification) (names others : List (List ℕ)) → Means schema s specification names → Means schema s other others
-        → (specification ≡ other) × (names ≡ others) }
+    ensures meaning { (schema : List Table) (s : Select) → query_faults schema s ≡ [] → (specification : Specification) × (names : List (List ℕ)) × (keys : List SortKey) × Means schema s specification names keys }
+    ensures no_fault { (schema : List Table) (s : Select) (specification : Specification) (names : List (List ℕ)) (keys : List SortKey) → Means schema s specification names keys → query_faults schema s ≡ [] }
+    ensures one { (schema : List Table) (s : Select) (specification other : Specification) (names others : List (List ℕ)) (keys further : List SortKey) → Means schema s specification names keys
+        → Means schema s other others further → (specification ≡ other) × (names ≡ others) × (keys ≡ further) }
 {}
 
 /// What a query means is typed over the columns of its entries and keeps a specification's limits (ISO/IEC 9075:1992, 6.9 to 6.12, 8.2).
 pub fn meanings_are_typed()
-    ensures { (schema : List Table) (s : Select) (specification : Specification) (names : List (List ℕ)) → AllByRecursion (λ (t : Table). AreColumns t.columns) schema → IsWithin s
-        → Means schema s specification names → IsSpecification specification }
+    ensures { (schema : List Table) (s : Select) (specification : Specification) (names : List (List ℕ)) (keys : List SortKey) → AllByRecursion (λ (t : Table). AreColumns t.columns) schema → IsWithin s
+        → Means schema s specification names keys → IsSpecification specification }
 {}
 
 /// `1.50` is 150 of scale 2, `.5` is 5 of scale 1, `5.` is 5; zeros at the start don't count; a number of 19 digits and one of 19 digits
@@ -96,6 +98,23 @@ pub fn worked_references()
     ensures only_one { meant (scope_of two_tables (all_from (alone (table (codes "a")) ∷ alone (table (codes "b")) ∷ []))) (column None (codes "y")) ≡ meaning.column 65 Integer }
     ensures other_table { query_faults two_tables (item_from (of (codes "a") (codes "y")) (alone (table (codes "a")) ∷ alone (table (codes "b")) ∷ [])) ≡ record { kind = UnknownColumn; name = codes "Y" } ∷ [] }
     ensures no_entry { query_faults two_tables (item_from (of (codes "p") (codes "k")) (alone (table (codes "a")) ∷ alone (table (codes "b")) ∷ [])) ≡ record { kind = UnknownTable; name = codes "P" } ∷ [] }
+{}
+
+/// Over A (K, X) and B (K, Y) a key is a result column (13.1): by its name, by its position from 1, or as that very column of FROM. In
+/// `SELECT A.X AS Z, B.K, 5 FROM A, B` the names are Z, K and C3: Z is the first and C3 the third; A.X is the first too, though X is none;
+/// 3 is the last position.
+pub fn worked_keys()
+    ensures faultless { query_faults two_tables (in_order (key_of None (codes "z") ∷ key_of None (codes "c3") ∷ key_of (Some (codes "a")) (codes "x") ∷ ordinal (codes "03") ∷ [])) ≡ [] }
+    ensures named { keys_of (key_of None (codes "z") ∷ key_of None (codes "c3") ∷ []) ≡ ascending 0 ∷ ascending 2 ∷ [] }
+    ensures qualified { keys_of (key_of (Some (codes "b")) (codes "k") ∷ key_of (Some (codes "a")) (codes "x") ∷ []) ≡ ascending 1 ∷ ascending 0 ∷ [] }
+    ensures ordinals { keys_of (ordinal (codes "3") ∷ ordinal (codes "01") ∷ []) ≡ ascending 2 ∷ ascending 0 ∷ [] }
+    ensures zero { query_faults two_tables (in_order (ordinal (codes "0") ∷ [])) ≡ record { kind = BadOrdinal; name = codes "0" } ∷ [] }
+    ensures past_the_last { query_faults two_tables (in_order (ordinal (codes "4") ∷ [])) ≡ record { kind = BadOrdinal; name = codes "4" } ∷ [] }
+    ensures no_result_column { query_faults two_tables (in_order (key_of None (codes "x") ∷ [])) ≡ record { kind = UnknownColumn; name = codes "X" } ∷ [] }
+    ensures other_column { query_faults two_tables (in_order (key_of (Some (codes "a")) (codes "k") ∷ [])) ≡ record { kind = UnknownColumn; name = codes "K" } ∷ [] }
+    ensures no_entry { query_faults two_tables (in_order (key_of (Some (codes "p")) (codes "k") ∷ [])) ≡ record { kind = UnknownTable; name = codes "P" } ∷ [] }
+    ensures ambiguous { query_faults two_tables (all_in_order (key_of None (codes "k") ∷ [])) ≡ record { kind = Ambiguous; name = codes "K" } ∷ [] }
+    ensures star { query_faults two_tables (all_in_order (key_of (Some (codes "b")) (codes "k") ∷ key_of None (codes "y") ∷ ordinal (codes "4") ∷ [])) ≡ [] }
 {}
 
 /// An ON reaches the entries of its source up to its own (7.5): in `FROM A JOIN B ON A.K = Q.K JOIN A AS Q ON Q.K = B.K` the first ON names Q

@@ -1,7 +1,8 @@
 //! The query specifications that a script means over a schema, and the faults of those that mean none.
 //!
-//! - [`script::type_script`]: the specifications of a script's queries with the names of their result columns, or the first fault.
-//! - [`query::TypedQuery`]: a specification and the names of its result columns.
+//! - [`script::type_script`]: the specifications of a script's queries with the names of their result columns and the keys of their order, or
+//!   the first fault.
+//! - [`query::TypedQuery`]: a specification, the names of its result columns and the keys by which its rows are sorted.
 //! - [`fault::TypeFault`]: why a script means nothing.
 //! - [`laws`]: a query means a specification exactly where it has no fault; that is typed; worked cases.
 #![tactic(auto)]
@@ -12,6 +13,7 @@ mod date;
 mod entries;
 mod expression;
 pub mod fault;
+mod key;
 mod kinds;
 pub mod laws;
 mod leaf;

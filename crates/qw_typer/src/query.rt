@@ -1,30 +1,35 @@
-//! A query over the tables of a schema (ISO/IEC 9075:1992, 7.4, 7.6, 7.9): its specification, and the names of its result columns.
+//! A query over the tables of a schema (ISO/IEC 9075:1992, 7.4, 7.6, 7.9, 13.1): its specification, the names of its result columns, and the
+//! keys of its order.
 
-ghost use Rattle.std.specs.Prelude.{◌≡◌, ◌≤◌, MatchResult, IfOk, Ok, length};
+ghost use Rattle.std.specs.Prelude.{◌≡◌, ◌≤◌, [], MatchResult, IfOk, Ok, length};
 ghost use Rattle.qw_ast.specs.Limits.{entries_of};
 ghost use Rattle.qw_ast.specs.SyntaxTree.{select_of};
 ghost use Rattle.qw_meaning.specs.Query.{query_of};
 ghost use Rattle.qw_typer.specs.Inner.Queries.{IsOneOf, parts_of};
 ghost use Rattle.qw_typer.specs.Inner.Sizes.{FitsQuery, column_count};
 ghost use Rattle.qw_typer.specs.Inner.Typing.{Refuses, in_reach, typed_over};
+ghost use Rattle.qw_typer.specs.Keys.{keys_faults, keys_meant};
 ghost use Rattle.qw_typer.specs.Typed.{IsWithin, Means, query_faults, result_names};
 
 use crate::entries::{entries, named};
+use crate::key::keys;
 use crate::refusal::Refusal;
 use crate::scope::Entry;
 use crate::sources::sources;
 use crate::statement::{filter, list, names};
 use qw_ast::script::Statement;
 use qw_meaning::query::{Query, Source};
+use qw_order::SortKey;
 use qw_scalar::expression::{Cond, Expr};
 use qw_types::{Schema, Text};
 use std::alloc::Global;
 
-/// A query over a schema's tables: its specification, and the names of its result columns in order.
+/// A query over a schema's tables: its specification, the names of its result columns in order, and the keys by which its rows are sorted.
 #[derive(Drop)]
 pub struct TypedQuery {
     pub query: Query,
     pub names: Vec<Text>,
+    pub keys: Vec<SortKey>,
 }
 
 /// What a query is over the entries of its FROM.
@@ -44,7 +49,7 @@ pub(crate) fn query<'a>(
     statement: &Statement<'a>,
 ) -> Result<TypedQuery, Refusal<'a>>
     requires { IsWithin (select_of statement.now) }
-    ensures means { MatchResult result (λ made. Means schema.now (select_of statement.now) (query_of made.query) made.names.items)
+    ensures means { MatchResult result (λ made. Means schema.now (select_of statement.now) (query_of made.query) made.names.items made.keys.items)
         (λ refusal. IsOneOf refusal (query_faults schema.now (select_of statement.now))) }
     ensures fits { IfOk result (λ made. FitsQuery made.query (select_of statement.now)) }
 {
@@ -52,10 +57,32 @@ pub(crate) fn query<'a>(
     let named = named(alloc, sources).map_err(|_| Refusal::NoMemory)?;
     let entries = entries(alloc, schema.as_slice(), named.as_slice())?;
     let over = over_entries(alloc, entries.as_slice(), statement)?;
+    let keys = keys_over(alloc, entries.as_slice(), &over, statement)?;
     Ok(TypedQuery {
         query: Query::new(over.sources, over.conjuncts, over.items),
         names: over.names,
+        keys,
     })
+}
+
+/// The keys of a query's order over its result columns.
+fn keys_over<'a>(
+    alloc: Global,
+    entries: &[Entry<'_>],
+    over: &Over,
+    statement: &Statement<'a>,
+) -> Result<Vec<SortKey>, Refusal<'a>>
+    ensures { MatchResult result (λ made. (keys_faults (in_reach entries.now) over.now.names.items (query_of (parts_of over.now)).items (select_of statement.now).order ≡ [])
+        × (made.items ≡ keys_meant (in_reach entries.now) over.now.names.items (query_of (parts_of over.now)).items (select_of statement.now).order))
+        (λ refusal. IsOneOf refusal (keys_faults (in_reach entries.now) over.now.names.items (query_of (parts_of over.now)).items (select_of statement.now).order)) }
+{
+    keys(
+        alloc,
+        entries,
+        over.names.as_slice(),
+        over.items.as_slice(),
+        statement.order.as_slice(),
+    )
 }
 
 /// A query over the entries of its FROM.

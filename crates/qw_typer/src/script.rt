@@ -17,7 +17,8 @@ use qw_ast::script::Script;
 use qw_types::{NoMemory, Schema, Text};
 use std::alloc::Global;
 
-/// The specifications of a script's queries over a schema's tables, in order, each with the names of its result columns.
+/// The specifications of a script's queries over a schema's tables, in order, each with the names of its result columns and the keys of
+/// its order.
 ///
 /// # Errors
 ///

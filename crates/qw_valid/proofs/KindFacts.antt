@@ -253,3 +253,10 @@ two-back t u known after types e are =
     let m = then_some (one_to_one t u) (popped t known) after e in
     let b = one-back t u m.0 after types m.2 are in
     (b.0, b.1, popped-back t known m.0 (t ∷ b.0) m.1 b.2)
+
+-- ---- where any operands may lie below the known ones, and none is known, all of any types can be taken
+pub any_taken : (types : List ValType) (known : Known) → known ≡ anything → all_popped types known ≡ Some known
+any_taken types known e = rw e (from_anything types) where
+  from_anything : (types : List ValType) → all_popped types anything ≡ Some anything
+  from_anything [] = refl
+  from_anything (type ∷ types) = from_anything types

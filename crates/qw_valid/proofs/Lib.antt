@@ -4,7 +4,7 @@ mod HeightFacts
 mod InitialConstants
 mod KindFacts
 mod LocalsLemmas
-mod Names
+mod NameLemmas
 mod Numbering
 mod OpPlaces
 mod Places

@@ -1,7 +1,6 @@
 -- A function whose body's places are typable is valid.
 use Rattle.std.proofs.Common.{◌≡◌, ℕ, ◌<◌, List, [], ◌∷◌, ◌++◌, length, map, reverse, All, Option, Some, slice_get, refl, ap, subst}
 use Rattle.std.specs.Prelude.{IsSomeAnd, Result, Ok, Err, OnOk}
-use Rattle.qw_module.specs.declared.module.Locals.{Locals}
 use Rattle.qw_valid.specs.Inner.Checkers.{typing_with}
 use Rattle.std.specs.List.{AllByRecursion, filter_map}
 use Rattle.std.specs.Option.{option_map_or}
@@ -48,10 +47,10 @@ valid_function m function ty found has typable =
     (record { numbered = has.1; typed = typed_body (typing_with_signature m function (signature_of ty)) (code_of_body function.body) typable })
 
 -- the typing that a checker has
-pub typing_same : (m : Module) (function : Function) (ty : FuncType) (params : List ValType) (locals : List Locals) (results : List ValType) →
-    params ≡ ty.params.items → locals ≡ function.locals.items → results ≡ reverse ty.results.items →
-    typing_with (outside_of m) params (declared_types locals) results ≡ typing_with_signature m function (signature_of ty)
-typing_same m function ty params locals results a b c = rw (a, b, c) refl
+pub typing_same : (m : Module) (function : Function) (ty : FuncType) (params declared results : List ValType) →
+    params ≡ ty.params.items → declared ≡ declared_types function.locals.items → results ≡ reverse ty.results.items →
+    typing_with (outside_of m) params declared results ≡ typing_with_signature m function (signature_of ty)
+typing_same m function ty params declared results a b c = rw (a, b, c) refl
 
 pub valid_by : {A E : Type 0} (r : Result A E) (m : Module) (function : Function) (ty : FuncType) (f : Typing) → f ≡ typing_with_signature m function (signature_of ty) →
     slice_get m.types.items function.type_index ≡ Some ty → HasBody m function → OnOk r (IsTypable f (tokens_of (code_of_body function.body))) → OnOk r (IsValidFunction m function)

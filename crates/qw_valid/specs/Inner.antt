@@ -4,4 +4,5 @@ pub mod Checking
 pub mod Heights
 pub mod Initial
 pub mod Refusals
+pub mod Runs
 pub mod Walks

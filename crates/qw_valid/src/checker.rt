@@ -6,15 +6,16 @@ ghost use Rattle.std.specs.Option.{option_and_then};
 ghost use Rattle.qw_module.specs.Numbers.{values_of, constant, type_of_constant, converts_from, converts_to};
 ghost use Rattle.qw_module.specs.Numbers.{type_of_load, load_width, type_of_store, store_width, octets_of};
 ghost use Rattle.qw_module.specs.Typing.{Scope};
-ghost use Rattle.qw_module.specs.Validity.{outside_of, signature_of, global_type, declared_types};
+ghost use Rattle.qw_module.specs.Validity.{outside_of, signature_of, global_type};
 ghost use Rattle.qw_valid.specs.Inner.Checking.{Around, scope_at, has_memory, joined, after_select, after_set, after_call, after_op, one_to_one, two_to_one};
 ghost use Rattle.qw_valid.specs.Inner.Checkers.{typing_of, HaveTypes};
 ghost use Rattle.qw_valid.specs.Inner.Refusals.{Finds, Decides};
 
 use crate::imports::function_type;
+use crate::locals::LocalTypes;
 use crate::operands::{Operands, Refusal};
 use qw_module::instruction::{BlockType, Const, Conversion, Load, MemArg, Op, Store, ValType};
-use qw_module::module::{Body, FuncType, Global, Locals, Module};
+use qw_module::module::{Body, FuncType, Global, Module};
 use std::alloc;
 
 pub(crate) fn constant_type(number: Const) -> ValType
@@ -120,7 +121,7 @@ pub(crate) struct Checker<'a> {
     pub(crate) module: &'a Module,
     pub(crate) parameters: &'a [ValType],
     /// The locals after the parameters.
-    pub(crate) locals: &'a [Locals],
+    pub(crate) locals: &'a LocalTypes<'a>,
     pub(crate) result: BlockType,
     pub(crate) has_memory: bool,
     pub(crate) body: &'a Body,
@@ -129,13 +130,15 @@ pub(crate) struct Checker<'a> {
 impl Checker<'_> {
     fn local(&self, index: u32) -> Result<ValType, Refusal>
         ensures { Finds result
-            (slice_get (self.now.parameters.now ++ declared_types self.now.locals.now) index) (λ ty. ty) }
+            (slice_get (self.now.parameters.now ++ self.now.locals.now) index) (λ ty. ty) }
     {
         let index = index as usize;
         if let Some(ty) = self.parameters.get(index) {
             return Ok(*ty);
         }
-        declared_type(self.locals, index - self.parameters.len()).ok_or(Refusal::IllTyped)
+        self.locals
+            .get(index - self.parameters.len())
+            .ok_or(Refusal::IllTyped)
     }
 
     fn global(&self, index: u32) -> Result<&Global, Refusal>
@@ -273,19 +276,4 @@ fn two_to_one(ty: ValType, result_type: ValType, operands: &mut Operands) -> Res
 {
     operands.pop(ty)?;
     one_to_one(ty, result_type, operands)
-}
-
-/// The type of the local of an index among runs of them.
-fn declared_type(runs: &[Locals], index: usize) -> Option<ValType>
-    ensures { result ≡ slice_get (declared_types runs.now) index }
-{
-    let mut before = index;
-    for run in runs {
-        let count = run.count as usize;
-        if before < count {
-            return Some(run.ty);
-        }
-        before -= count;
-    }
-    None
 }

@@ -9,6 +9,8 @@ mod checker;
 pub mod heights;
 pub mod imports;
 pub mod initial;
+mod locals;
+mod names;
 mod operands;
 pub mod valid;
 mod walk;

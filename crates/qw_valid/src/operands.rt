@@ -1,6 +1,6 @@
 //! The operands that are known while a body is checked.
 
-ghost use Rattle.std.specs.Prelude.{◌≡◌, Some, None, reverse};
+ghost use Rattle.std.specs.Prelude.{◌≡◌, IsTrue, Some, None, reverse};
 ghost use Rattle.qw_module.specs.Typing.{types_of};
 ghost use Rattle.qw_valid.specs.Inner.Checking.{Known, nothing, anything, pushed, pushed_kind, popped, any_popped, all_pushed};
 ghost use Rattle.qw_valid.specs.Inner.Checking.{all_popped, has_none};
@@ -96,11 +96,15 @@ impl Operands {
         }
     }
 
-    /// Takes the arguments of a call, the last one first.
+    /// Takes the arguments of a call, the last one first. Where none is known and any may be there, nothing is left to do, so a call takes
+    /// no more steps than there are operands known.
     pub(crate) fn pop_arguments(&mut self, types: &[ValType]) -> Result<(), Refusal>
         ensures { Finds result (all_popped (reverse types.now) self.old) (λ _. self.new) }
     {
         for ty in types.iter().rev() {
+            if self.are_any() {
+                return Ok(());
+            }
             self.pop(*ty)?;
         }
         Ok(())
@@ -121,6 +125,13 @@ impl Operands {
     {
         self.known.clear();
         self.unreachable = true;
+    }
+
+    /// Whether none is known, and any may be there.
+    fn are_any(&self) -> bool
+        ensures { IsTrue result → self.now ≡ anything }
+    {
+        self.unreachable && self.known.is_empty()
     }
 
     pub(crate) fn is_empty(&self) -> bool

@@ -3,8 +3,6 @@
 ghost use Rattle.std.specs.Prelude.{◌≡◌, ◌≢◌, ◌↔◌, ◌<◌, ◌≤◌, ℕ, length, reverse, Some, slice_get};
 ghost use Rattle.std.specs.Prelude.{All, IsTrue, IfOk, IfErr, IfSome, OnOk, Err};
 ghost use Rattle.std.specs.List.{AllPairs};
-ghost use Rattle.std.specs.String.{string_bytes};
-ghost use Rattle.qw_module.specs.declared.module.Export.{Export};
 ghost use Rattle.qw_module.specs.Syntax.{NamesBelow, IsNumbered};
 ghost use Rattle.qw_module.specs.Typing.{types_of};
 ghost use Rattle.qw_module.specs.Places.{tokens_of, IsRefusedAt};
@@ -20,11 +18,11 @@ use crate::checker::{Checker, constant_type};
 use crate::heights::{Heights, module_heights};
 use crate::imports::{imported_functions, imported_memories};
 use crate::initial::constant_of;
+use crate::locals::LocalTypes;
+use crate::names::names_differ;
 use crate::walk::{BodyFault, check_body};
 use qw_module::instruction::{BlockType, Instr};
-use qw_module::module::{
-    Body, Export, ExportKind, FuncType, Function, Global, Import, Limits, Module,
-};
+use qw_module::module::{Body, ExportKind, FuncType, Function, Global, Import, Limits, Module};
 use std::alloc;
 use std::marker::Model;
 use thiserror::Error;
@@ -182,32 +180,19 @@ fn is_export(module: &Module, kind: ExportKind) -> bool
     }
 }
 
-fn lack_name(exports: &[Export], name: &str) -> bool
-    ensures { IsTrue result ↔ All (λ (export : Export). string_bytes export.name ≢ name.now) exports.now }
+/// Whether each export is of something that is there, and all have different names. `None` is want of memory.
+fn are_exports(alloc: alloc::Global, module: &Module) -> Option<bool>
+    ensures { IfSome result (λ are. IsTrue are ↔ (All (IsExport «module».now) «module».now.exports.items
+        × AllPairs HaveOtherNames «module».now.exports.items)) }
 {
-    exports.iter().all(|export| export.name.as_str() != name)
-}
-
-fn names_differ(exports: &[Export]) -> bool
-    ensures { IsTrue result ↔ AllPairs HaveOtherNames exports.now }
-{
-    for (index, export) in exports.iter().enumerate() {
-        if !lack_name(&exports[..index], export.name.as_str()) {
-            return false;
-        }
-    }
-    true
-}
-
-fn are_exports(module: &Module) -> bool
-    ensures { IsTrue result ↔ (All (IsExport «module».now) «module».now.exports.items
-        × AllPairs HaveOtherNames «module».now.exports.items) }
-{
-    module
+    let are_there = module
         .exports
         .iter()
-        .all(|export| is_export(module, export.kind))
-        && names_differ(&module.exports)
+        .all(|export| is_export(module, export.kind));
+    if !are_there {
+        return Some(false);
+    }
+    names_differ(alloc, &module.exports)
 }
 
 /// Whether an instruction of the sequence of this number names only lower ones, and only labels that are there.
@@ -268,7 +253,7 @@ fn has_body(module: &Module, function: &Function) -> bool
 }
 
 /// Whether the parts of a module other than bodies are valid, and otherwise which is the first that isn't.
-fn check_parts(module: &Module) -> Result<(), ValidFault>
+fn check_parts(alloc: alloc::Global, module: &Module) -> Result<(), ValidFault>
     ensures valid { OnOk result (ArePartsValid «module».now) }
     ensures fault { IfErr result (λ fault. IsFault fault «module».now) }
 {
@@ -287,7 +272,7 @@ fn check_parts(module: &Module) -> Result<(), ValidFault>
     if !are_globals(&module.globals) {
         return Err(ValidFault::Part(Part::Globals));
     }
-    if !are_exports(module) {
+    if !are_exports(alloc, module).ok_or(ValidFault::NoMemory)? {
         return Err(ValidFault::Part(Part::Exports));
     }
     Ok(())
@@ -316,11 +301,12 @@ fn check_function(
     ensures refused { (at : ℕ) → result ≡ Err (BodyFault.At at) → IsRefusedAt (typing_in «module».now function.now) (tokens_of (code_of_body function.now.body)) at }
 {
     let ty = &module.types[function.type_index as usize];
+    let locals = LocalTypes::new(alloc, &function.locals).ok_or(BodyFault::NoMemory)?;
     check_body(Checker {
         alloc,
         module,
         parameters: &ty.params,
-        locals: &function.locals,
+        locals: &locals,
         result: result_of(ty),
         has_memory: memories(module) > 0,
         body: &function.body,
@@ -357,7 +343,7 @@ fn check(alloc: alloc::Global, module: &Module) -> Result<(), ValidFault>
     ensures valid { OnOk result (IsValid «module».now) }
     ensures fault { IfErr result (λ fault. IsFault fault «module».now) }
 {
-    check_parts(module)?;
+    check_parts(alloc, module)?;
     check_functions(alloc, module)
 }
 

@@ -1,6 +1,7 @@
 //! Whether a body is typed: its places are gone through from the first on, with what is open and the operands that are known
 //! (WebAssembly Core Specification 1.0, appendix "Validation Algorithm"). Nothing recurses, and each place takes a bounded
-//! number of steps but for a branch, which looks up its label, and a `br_table`, which looks up each of its labels.
+//! number of steps but for one that names a local, whose type is found by a search, a `br_table`, which looks up each of its labels, and a
+//! call, which takes no more arguments than there are operands known.
 
 ghost use Rattle.std.specs.Option.{option_map};
 ghost use Rattle.qw_module.specs.declared.instruction.ValType.TheVariants.{I32};
@@ -91,15 +92,12 @@ impl<'a> Walk<'a> {
         Ok(walk)
     }
 
-    /// What is open with this many others inside it.
+    /// What is open with this many others inside it. It is read by its place, since `nth` of an iterator goes through those before it.
     fn open_at(&self, index: u32) -> Result<&Open, Refusal>
         ensures { Finds result (slice_get (reverse self.now.opened.items) index) (λ opened. opened.now) }
     {
-        self.opened
-            .iter()
-            .rev()
-            .nth(index as usize)
-            .ok_or(Refusal::IllTyped)
+        let at = self.opened.len().checked_sub(index as usize + 1);
+        Ok(&self.opened[at.ok_or(Refusal::IllTyped)?])
     }
 
     /// What a branch to the label of an index takes.

@@ -32,13 +32,13 @@ ghost use Rattle.std.specs.IoError.{error_kind};
 ghost use Rattle.std.specs.Process.{exit_status};
 ghost use Rattle.std.specs.String.{string_bytes};
 ghost use Rattle.qw_top.specs.Inner.Noted.{NotesLine};
-ghost use Rattle.qw_top.specs.Notes.{want_of_memory_line};
+ghost use Rattle.qw_top.specs.Notes.{want_of_memory_line, words_not_utf8_line};
 ghost use Rattle.qw_top.specs.Status.{exit_code};
 ghost use Rattle.qw_top.specs.declared.status.Status.{Status};
 ghost use Rattle.qwasm.specs.Program.{HasEnded};
 
 use qw_io::{FileShelf, Shelf, Sink, StdSink};
-use qw_top::notes::note_want_of_memory;
+use qw_top::notes::{note_want_of_memory, note_words_not_utf8};
 use qw_top::{Status, qwasm};
 use std::alloc::Global;
 use std::io::ErrorKind;
@@ -56,19 +56,18 @@ fn words<R: Env + AllocGlobal>(rt: &R) -> io::Result<Vec<String>> {
     Ok(words)
 }
 
-/// How the program ends where its words could not be had: want of memory is noted, and words that are no
-/// texts are refused.
+/// How the program ends where its words could not be had, which is noted: there was no memory left, or a word isn't UTF-8.
 fn end_without_words<E: Sink>(error: &io::Error, notes: &mut E) -> Status
     ensures wanted { error_kind error.now ≡ ErrorKind.OutOfMemory
         → NotesLine want_of_memory_line Status.NoMemory result (E.taken notes.old) (E.taken notes.new) }
     ensures refused { error_kind error.now ≢ ErrorKind.OutOfMemory
-        → (result ≡ Status.WordsRefused) × (E.taken notes.new ≡ E.taken notes.old) }
+        → NotesLine words_not_utf8_line Status.WordsRefused result (E.taken notes.old) (E.taken notes.new) }
     ensures no_fault { result ≢ Status.WriteFailed → E.faults notes.new ≡ E.faults notes.old }
 {
     if error.kind() == ErrorKind::OutOfMemory {
         note_want_of_memory(notes)
     } else {
-        Status::WordsRefused
+        note_words_not_utf8(notes)
     }
 }
 
@@ -86,8 +85,10 @@ fn end<F: Shelf, O: Sink, E: Sink>(
         × (exit_status result ≡ exit_code status)
         × (status ≢ Status.WriteFailed → E.faults notes.new ≡ E.faults notes.old)
         × NotesLine want_of_memory_line Status.NoMemory status (E.taken notes.old) (E.taken notes.new)) }
-    ensures refused { IfErr words (λ error. error_kind error ≢ ErrorKind.OutOfMemory
-        → (exit_status result ≡ 2) × (E.taken notes.new ≡ E.taken notes.old)) }
+    ensures refused { IfErr words (λ error. error_kind error ≢ ErrorKind.OutOfMemory → (status : Status)
+        × (exit_status result ≡ exit_code status)
+        × (status ≢ Status.WriteFailed → E.faults notes.new ≡ E.faults notes.old)
+        × NotesLine words_not_utf8_line Status.WordsRefused status (E.taken notes.old) (E.taken notes.new)) }
 {
     match words {
         Ok(words) => {

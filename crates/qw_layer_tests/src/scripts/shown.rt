@@ -2,7 +2,8 @@
 //! condition that stands in brackets in the text.
 
 use qw_ast::script::{
-    Branches, Cond, Entry, Expr, Exprs, Interval, Item, Phrase, SelectList, Sign, Source, Statement,
+    Branches, Cond, Entry, Expr, Exprs, Interval, Item, Key, Phrase, SelectList, Sign,
+    SortSpecification, Source, Statement,
 };
 use qw_scalar::comparison::Comparison;
 use qw_scalar::expression::{Field, Operator};
@@ -293,6 +294,36 @@ fn put_sources(out: &mut Line, sources: &[Source<'_>]) {
     }
 }
 
+fn put_sort(out: &mut Line, sort: &SortSpecification<'_>) {
+    match sort.key {
+        Key::Ordinal(digits) => put(out, digits),
+        Key::Column(qualifier, name) => {
+            if let Some(qualifier) = qualifier {
+                put(out, qualifier);
+                put(out, b".");
+            }
+            put(out, name);
+        }
+    }
+    if sort.is_descending {
+        put(out, b" DESC");
+    }
+}
+
+fn put_order(out: &mut Line, order: &[SortSpecification<'_>]) {
+    for (index, sort) in order.iter().enumerate() {
+        put(
+            out,
+            if index == 0 {
+                b" ORDER BY ".as_slice()
+            } else {
+                b"; ".as_slice()
+            },
+        );
+        put_sort(out, sort);
+    }
+}
+
 fn put_statement(out: &mut Line, statement: &Statement<'_>) {
     match &statement.list {
         SelectList::All => put(out, b"*"),
@@ -304,6 +335,7 @@ fn put_statement(out: &mut Line, statement: &Statement<'_>) {
         put(out, b" WHERE ");
         put_condition(out, condition);
     }
+    put_order(out, &statement.order);
 }
 
 /// The statement in one line.

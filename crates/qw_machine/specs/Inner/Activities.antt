@@ -1,20 +1,25 @@
--- Mirrors `Activity::execute`, `leave_finished`, `step` and `run`, and `following`: what the machine does at an instruction, and what its
--- steps answer.
-use Rattle.std.specs.Prelude.{◌≡◌, ℕ, ◌+◌, ◌≤◌, nat_le, Bool, true, false, List, ◌∷◌, ◌++◌, length, take, drop, Some, slice_get, ◌-◌}
+-- Mirrors `Activity::execute`, `leave_finished`, `step` and `run`, `following`, `passing` and `turns`: what the machine does at an
+-- instruction, and what its steps answer.
+use Rattle.std.specs.Prelude.{◌≡◌, ◌≢◌, ◌==◌, ℕ, ◌+◌, ◌≤◌, nat_le, Bool, true, false, List, ◌∷◌, ◌++◌, length, take, drop, Option, None, Some, slice_get, ◌-◌}
 use Rattle.std.specs.Bool.{MatchBool}
+use Rattle.qw_module.specs.declared.instruction.ValType.{ValType}
 use Rattle.qw_module.specs.declared.instruction.Instr.{Instr}
+use Rattle.qw_module.specs.declared.instruction.Instr.TheVariants as i
 use Rattle.qw_module.specs.declared.module.Module.{Module}
 use Rattle.qw_machine.specs.declared.activity.Entry.{Entry}
 use Rattle.qw_machine.specs.declared.activity.Frame.{Frame}
+use Rattle.qw_machine.specs.declared.activity.Awaiting.{Awaiting}
 use Rattle.qw_machine.specs.declared.activity.Awaiting.TheVariants.{Label, Call}
 use Rattle.qw_machine.specs.declared.stepped.Stepped.{Stepped}
 use Rattle.qw_machine.specs.declared.stepped.Run.{Run}
 use Rattle.qw_module.specs.Numbers.{truth}
+use Rattle.qw_module.specs.Syntax.{Sequences, sequence_at}
 use Rattle.qw_module.specs.Execution.{Config, State, Running, Returned, Event}
+use Rattle.qw_module.specs.Start.{body_of}
 use Rattle.qw_module.specs.Step.{next}
 use Rattle.qw_machine.specs.Inner.Points.{Point, under, config_at, state_at, resumed, instructions_at, with_held}
 use Rattle.qw_machine.specs.declared.room.Rooms.{Rooms}
-use Rattle.qw_machine.specs.Inner.Placed.{IsPoint, IsRunning}
+use Rattle.qw_machine.specs.Inner.Placed.{IsExecuted, IsPoint, IsRunning}
 use Rattle.qw_machine.specs.Inner.Ended.{run_end_of, is_over, state_after, WhileRunning}
 use Rattle.qw_machine.specs.Instance.{IsAnswer, Went, Runs}
 
@@ -83,3 +88,42 @@ pub record IsFollowed (m : Module) (rooms : Rooms) (sequence : List Instr) (p : 
   pub first_in : p.first_local ≤ length p.locals
   pub room_is : rooms.operands ≡ room
   pub running : IsRunning m rooms (with_held p index operands globals locals)
+
+-- whether an instruction of a body only takes its operand where that is 0: a `br_if`, or an `if` without an `else` or with an empty one
+abbrev pub passes_on_zero : Sequences → Instr → Bool
+passes_on_zero sequences (i.BrIf index) = true
+passes_on_zero sequences (i.If result inner None) = true
+passes_on_zero sequences (i.If result inner (Some other)) = length (sequence_at sequences other) == 0
+passes_on_zero sequences _ = false
+
+-- The innermost label is that of a loop whose body is the sequence of this number, on so many operands: a branch to it, and the
+-- `loop` that it goes to, begin the sequence anew.
+pub record Repeats (sequences : Sequences) (number : ℕ) (awaiting : List Awaiting) (base : ℕ) : Type 0 where
+  pub entry : Entry
+  pub rest : List Awaiting
+  pub result : Option ValType
+  pub innermost : awaiting ≡ Label entry ∷ rest
+  pub takes_none : entry.takes ≡ false
+  pub begins : slice_get (sequence_at sequences entry.sequence) entry.target ≡ Some (i.Loop result number)
+  pub after_it : entry.after ≡ entry.target + 1
+  pub base_is : entry.base ≡ base
+
+-- a `br_if` that is taken, and the `loop` that it goes to, lead from these operands to those after, at the beginning of the sequence
+pub record IsTurn (sequences : Sequences) (number : ℕ) (awaiting : List Awaiting) (instruction : Instr) (before after : List ℕ) : Type 0 where
+  pub branches : instruction ≡ i.BrIf 0
+  pub condition : ℕ
+  pub holds : condition ≢ 0
+  pub left : List ℕ
+  pub popped : before ≡ condition ∷ left
+  pub base : ℕ
+  pub repeats : Repeats sequences number awaiting base
+  pub cut : after ≡ under base left
+
+-- A point runs at an index of a sequence of its function's body, of this number, with these labels and frames around; its operands,
+-- globals and locals are held apart.
+pub record IsAtHand (m : Module) (rooms : Rooms) (sequences : Sequences) (number : ℕ) (awaiting : List Awaiting) (sequence : List Instr) (p : Point) (index room : ℕ) (operands globals locals : List ℕ) : Type 0 where
+  pub executed : IsExecuted m
+  pub body_is : sequences ≡ body_of m p.function
+  pub number_is : p.sequence ≡ number
+  pub awaiting_is : p.awaiting ≡ awaiting
+  pub followed : IsFollowed m rooms sequence p index room operands globals locals

@@ -6,7 +6,7 @@ use Rattle.qw_scalar.specs.declared.expression.Operator.{Operator}
 use Rattle.qw_scalar.specs.declared.comparison.Comparison.{Comparison}
 use Rattle.qw_token.specs.Token.{Lexeme}
 use Rattle.qw_ast.specs.declared.script.Sign.{Sign}
-use Rattle.qw_ast.specs.Syntax.{Expression, null, number, text, date, column, signed, arithmetic, extract, searched_case, simple_case, coalesce, null_if, Condition, comparison, between, among, is_null, both, either, negation_of, is, bracketed, Clause, condition, expression, Branching, SelectItem, Selected, all_columns, items, Entry, Joined, Source, Select}
+use Rattle.qw_ast.specs.Syntax.{Expression, null, number, text, date, column, signed, arithmetic, extract, searched_case, simple_case, coalesce, null_if, Condition, comparison, between, among, is_null, both, either, negation_of, is, bracketed, Clause, condition, expression, Branching, SelectItem, Selected, all_columns, items, Entry, Joined, Source, Key, ordinal, result_column, SortSpecification, Select}
 use Rattle.qw_ast.specs.ScriptGrammar.{is_word, is_symbol, is_number, is_string, is_integer, is_regular, is_name, sign_of, addition_of, multiplication_of, comparison_of, field_of, truth_of, appended, is_comma, Dated, moved, arguments, Branch, is_condition, is_when, branching, is_and, is_or}
 
 abbrev pub Reader : Type 0 → Type 0
@@ -365,10 +365,28 @@ source_at inner ts = entry_at ts >>= (λ e. joins_at inner e.1 >>= (λ js. Some 
 unfoldable pub sources_at : Reader Clause → Reader (List Source)
 sources_at inner ts = source_at inner ts >>= (λ s. further_at (source_at inner) s.1 >>= (λ others. Some (s.0 ∷ others.0, others.1)))
 
+unfoldable pub key_at : Reader Key
+key_at ts =
+    option_map_or (λ t. Some (ordinal t.0, t.1)) (token_at (octets_if is_integer) ts)
+    (token_at (octets_if is_name) ts >>= (λ q. option_map_or (λ us. token_at (octets_if is_name) us >>= (λ t. Some (result_column (Some q.0) t.0, t.1))) (symbol_at (codes ".") q.1) (Some (result_column None q.0, q.1))))
+
+-- whether DESC stands there, and the tokens behind it, behind ASC, or all of them
+unfoldable pub direction_at : List Lexeme → Bool × List Lexeme
+direction_at ts = option_map_or (λ rest. (true, rest)) (word_at (codes "DESC") ts) (option_map_or (λ rest. (false, rest)) (word_at (codes "ASC") ts) (false, ts))
+
+unfoldable pub sort_at : Reader SortSpecification
+sort_at ts = key_at ts >>= (λ k. Some (record { key = k.0; is_descending = (direction_at k.1).0 }, (direction_at k.1).1))
+
+unfoldable pub order_at : Reader (List SortSpecification)
+order_at ts =
+    option_map_or (λ us. word_at (codes "BY") us >>= (λ vs. sort_at vs >>= (λ s. further_at sort_at s.1 >>= (λ others. Some (s.0 ∷ others.0, others.1)))))
+    (word_at (codes "ORDER") ts)
+    (Some ([], ts))
+
 unfoldable pub select_at : Reader Clause → Reader Select
 select_at inner ts =
-    word_at (codes "SELECT") ts >>= (λ us. select_list_at inner (behind_all us) >>= (λ l. word_at (codes "FROM") l.1 >>= (λ vs. sources_at inner vs >>= (λ ss. filter_at inner ss.1 >>= (λ f.
-    Some (record { selected = l.0; sources = ss.0; filter = f.0 }, f.1))))))
+    word_at (codes "SELECT") ts >>= (λ us. select_list_at inner (behind_all us) >>= (λ l. word_at (codes "FROM") l.1 >>= (λ vs. sources_at inner vs >>= (λ ss. filter_at inner ss.1 >>= (λ f. order_at f.1 >>= (λ o.
+    Some (record { selected = l.0; sources = ss.0; filter = f.0; order = o.0 }, o.1)))))))
 
 -- the query that all tokens are
 abbrev pub whole : Option (Select × List Lexeme) → Option Select

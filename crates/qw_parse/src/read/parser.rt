@@ -2,7 +2,7 @@
 
 ghost use Rattle.std.specs.Prelude.{◌≡◌, option_map, if◌then◌else◌, Some, None, false, IfOk};
 ghost use Rattle.qw_token.specs.Token.{lexeme};
-ghost use Rattle.qw_ast.specs.ScriptGrammar.{addition_of, comparison_of, field_of, is_name, is_number, is_regular, is_string, multiplication_of, sign_of, truth_of};
+ghost use Rattle.qw_ast.specs.ScriptGrammar.{addition_of, comparison_of, field_of, is_integer, is_name, is_number, is_regular, is_string, multiplication_of, sign_of, truth_of};
 ghost use Rattle.qw_parse.specs.Inner.Readers.{interval_sign_at, join_at, not_at, octets_if, symbol_at, token_at, word_at};
 ghost use Rattle.qw_parse.specs.Inner.Parser.{Passes, Reads, behind, first_of, is_there, left};
 
@@ -270,6 +270,20 @@ impl<'a> Parser<'a> {
         Some(token.octets)
     }
 
+    /// The number without a point that is next, if there is one.
+    #[tactic(auto, unfolding(crate::specs::Inner::Readers::token_at))]
+    pub(crate) fn integer(&mut self) -> Option<&'a [u8]>
+        ensures found { token_at (octets_if is_integer) (left self.old) ≡ option_map (λ x. (x.now, left self.new)) result }
+        ensures kept { result ≡ None → left self.new ≡ left self.old }
+    {
+        let token = self.first()?;
+        if !terminal::is_integer(&token) {
+            return None;
+        }
+        self.skip();
+        Some(token.octets)
+    }
+
     /// The character string that is next, if there is one, with its quotes.
     #[tactic(auto, unfolding(crate::specs::Inner::Readers::token_at))]
     pub(crate) fn string(&mut self) -> Option<&'a [u8]>
@@ -318,7 +332,7 @@ impl<'a> Parser<'a> {
     /// Reads a number without a point.
     #[tactic(auto, unfolding(crate::specs::Inner::Readers::one_at))]
     pub(crate) fn expect_integer(&mut self) -> Result<(), Stop>
-        ensures { Passes (Rattle.qw_parse.specs.Inner.Readers.one_at Rattle.qw_ast.specs.ScriptGrammar.is_integer (left self.old)) result (left self.new) }
+        ensures { Passes (Rattle.qw_parse.specs.Inner.Readers.one_at is_integer (left self.old)) result (left self.new) }
     {
         let token = self.first().ok_or(Stop::NotGrammar)?;
         if !terminal::is_integer(&token) {

@@ -1,6 +1,6 @@
-//! Queries (ISO/IEC 9075:1992, 7.9, 7.3, 7.4, 7.5, 7.6).
+//! Queries (ISO/IEC 9075:1992, 7.9, 7.3, 7.4, 7.5, 7.6; 13.1 for the order of their rows).
 
-ghost use Rattle.std.specs.Prelude.{◌≡◌, ◌∷◌, option_map, map, IfOk};
+ghost use Rattle.std.specs.Prelude.{option_map, map};
 ghost use Rattle.qw_token.specs.Token.{lexemes};
 ghost use Rattle.qw_ast.specs.SyntaxTree.{condition_of, entry_of, expression_of, item_of, joined_of, octets_of, selected_of, source_of};
 ghost use Rattle.qw_ast.specs.SyntaxTree as tree;
@@ -10,21 +10,13 @@ ghost use Rattle.qw_parse.specs.Inner.Parser.{Finds, Reads, left};
 
 use super::parser::{Parser, Stop};
 use super::rank::nested;
-use super::tree::{push, the_condition, the_expression};
+use super::tree::{in_front, push, the_condition, the_expression};
 use qw_ast::script::{Cond, Entry, Expr, Item, Joined, SelectList, Source, Statement};
 use qw_token::token::Token;
-use std::alloc::{AllocError, Global};
+use std::alloc::Global;
 
 /// How many levels of brackets and CASEs are read. A statement in which more than 32 are open is refused before.
 const LEVELS: usize = 33;
-
-/// The first and the others, in order.
-fn in_front<T: Drop>(first: T, mut others: Vec<T>) -> Result<Vec<T>, AllocError>
-    ensures { IfOk result (λ all. all.items ≡ first ∷ others.items) }
-{
-    others.insert(0, first)?;
-    Ok(others)
-}
 
 impl<'a> Parser<'a> {
     /// Reads a name behind AS or alone, or nothing.
@@ -185,10 +177,12 @@ impl<'a> Parser<'a> {
         self.expect_word(b"FROM")?;
         let sources = self.sources()?;
         let condition = self.filter()?;
+        let order = self.order()?;
         Ok(Statement {
             list,
             sources,
             condition,
+            order,
         })
     }
 }

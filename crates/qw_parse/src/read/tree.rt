@@ -42,6 +42,14 @@ pub(crate) fn push<T: Drop>(list: &mut Vec<T>, value: T) -> Result<(), AllocErro
     Ok(())
 }
 
+/// The first and the others, in order.
+pub(crate) fn in_front<T: Drop>(first: T, mut others: Vec<T>) -> Result<Vec<T>, AllocError>
+    ensures { IfOk result (λ all. all.items ≡ first ∷ others.items) }
+{
+    others.insert(0, first)?;
+    Ok(others)
+}
+
 /// The phrase, if it is an expression.
 pub(crate) fn the_expression<'a>(phrase: Phrase<'a>) -> Result<Expr<'a>, Stop>
     ensures { Finds expression_of (the_expression (clause_of phrase.entry)) result }

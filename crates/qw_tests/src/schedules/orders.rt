@@ -207,6 +207,59 @@ fn turns_change_nothing(rt: HostRuntime) -> Result<(), Fail> {
     Ok(())
 }
 
+// A round of turns: which instance runs, and how many instructions at most.
+const LISTED: [(usize, u64); 3] = [(0, 1), (2, 7), (1, 3)];
+
+// How many instructions a turn of an instance ran.
+fn turned(bench: &mut Bench, k: usize, quantum: u64) -> u64 {
+    if bench.len() <= k || quantum == 0 {
+        return 0;
+    }
+    bench.turn(k, quantum)
+}
+
+// Gives the turns of a round, and adds what each answers to the sum of its instance.
+fn listed_round(bench: &mut Bench, sums: &mut [u64; 3]) {
+    for &(k, quantum) in &LISTED {
+        let ran = turned(bench, k, quantum);
+        if let Some(sum) = sums.get_mut(k) {
+            *sum = sum.wrapping_add(ran);
+        }
+    }
+}
+
+// Gives listed rounds until all instances have ended, and answers how many instructions the turns of each ran.
+fn listed_to_the_end(bench: &mut Bench) -> [u64; 3] {
+    let mut sums = [0; 3];
+    for _ in 0..1_000_000 {
+        if !runs(bench) {
+            return sums;
+        }
+        listed_round(bench, &mut sums);
+    }
+    sums
+}
+
+// The turns of unlike quanta, 1, 7 and 3, end each statement as it ends alone, and what they answer are its instructions. A turn behind
+// the end runs none.
+#[test]
+fn listed_turns_change_nothing(rt: HostRuntime) -> Result<(), Fail> {
+    let alloc = rt.alloc();
+    let schema = schema_of(alloc, SCHEMA)?;
+    let file = file(alloc)?;
+    let alone = alone(alloc, &schema, file.as_bytes())?;
+    let mut bench = together(alloc, &schema, file.as_bytes())?;
+    let sums = listed_to_the_end(&mut bench);
+    for (came, sum) in alone.iter().zip(&sums) {
+        assert_eq!(rt; *sum, came.steps);
+    }
+    let mut behind = [0; 3];
+    listed_round(&mut bench, &mut behind);
+    let other = first_other(alloc, &bench, alone.as_slice())?;
+    assert_eq!(rt; (behind, other), ([0; 3], None));
+    Ok(())
+}
+
 // T stands behind another table.
 const BEHIND: &[u8] = b"CREATE TABLE S (A INTEGER NOT NULL); \
       CREATE TABLE T (K INTEGER NOT NULL, P DECIMAL(9,2), D DATE, L VARCHAR(5))";

@@ -37,7 +37,7 @@ heads_of (name ∷ names) (item ∷ items) = head_of name item ∷ heads_of name
 
 -- the query that it is
 abbrev pub asked_of : TypedQuery → Asked
-asked_of query = record { specification = query_of query.query; header = heads_of query.names.items (map expression_of query.query.items) }
+asked_of query = record { specification = query_of query.query; header = heads_of query.names.items (map expression_of query.query.items); keys = query.keys.items }
 
 -- an entry of FROM is over a table of the schema, and its columns are that table's
 pub record IsEntryOver (schema : List Table) (entry : Entry) : Type 0 where

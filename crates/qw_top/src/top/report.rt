@@ -15,7 +15,7 @@ use crate::output::{end_of_write, write_whole};
 use crate::status::Status;
 use qw_bench::bench::{Bench, Ended};
 use qw_io::Sink;
-use qw_sink::received::with_rows;
+use qw_sink::ordered::with_ordered_rows;
 use qw_sink::sink::{with_counts, with_exception, with_pages, with_steps};
 use qw_typer::query::TypedQuery;
 use qw_types::NoMemory;
@@ -87,7 +87,7 @@ fn with_query(
     requires few { k < 2 ^ 64 - 1 }
     requires ended { IsSome (end_in bench.now.shared k) }
     ensures { IfOk result (λ text. (block : List ℕ) × (text.items ≡ (report.items ++ block) ++ counts_line counts bench.now k)
-        × IsBlock (asked_of query.now).header bench.now k (end_in bench.now.shared k) block) }
+        × IsBlock (asked_of query.now) bench.now k (end_in bench.now.shared k) block) }
 {
     let report = with_block(alloc, report, bench, k, query)?;
     if counts {
@@ -108,12 +108,13 @@ fn with_block(
     requires there { k < length bench.now.shared.instances }
     requires few { k < 2 ^ 64 - 1 }
     requires ended { IsSome (end_in bench.now.shared k) }
-    ensures { IfOk result (λ text. (block : List ℕ) × (text.items ≡ report.items ++ block) × IsBlock (asked_of query.now).header bench.now k (end_in bench.now.shared k) block) }
+    ensures { IfOk result (λ text. (block : List ℕ) × (text.items ≡ report.items ++ block) × IsBlock (asked_of query.now) bench.now k (end_in bench.now.shared k) block) }
 {
     match bench.ended(k) {
         Some(Ended::Done) => {
             let header = header_of(alloc, query)?;
-            with_rows(alloc, report, k + 1, header.as_slice(), bench, k)
+            let keys = query.keys.as_slice();
+            with_ordered_rows(alloc, report, k + 1, header.as_slice(), keys, bench, k)
         }
         Some(Ended::Raised(code)) => with_exception(alloc, report, k + 1, code),
         Some(Ended::Pages { held, asked, limit }) => {

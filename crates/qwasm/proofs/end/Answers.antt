@@ -9,6 +9,7 @@ returns-in-Ok-clause-run g c =
       number = c.from.ensures ∙ c.code.ensures;
       explained = rw (← c.as_slice.ensures.value) c.qwasm-status.ensures.explained;
       kept = c.qwasm-status.new.kept;
+      complete = rw (← c.as_slice.ensures.value) c.qwasm-status.ensures.complete;
       left = rw (← c.as_slice.ensures.value) c.qwasm-status.ensures.left;
       noted = rw (← c.as_slice.ensures.value) c.qwasm-status.ensures.noted;
     })

@@ -1,5 +1,7 @@
+use Rattle.std.proofs.Common.{codes, rules}
+use Rattle.clap.specs.Simple.{new_app}
 use Rattle.std.proofs.lemmas.Result.{IfOk-weaker}
 use Rattle.qw_command_line.proofs.program.check.Goals as goal
 
 pub returns : goal.returns
-returns c = IfOk-weaker c.with_place.result _ _ (λ check last. last _ (record { is = c.new.ensures.app; local = c.new.ensures.local })) c.with_place.ensures
+returns c = IfOk-weaker c.with_place.result _ _ (λ check last. last (new_app (codes "check")) (record { is = search rules; local = search rules })) c.with_place.ensures

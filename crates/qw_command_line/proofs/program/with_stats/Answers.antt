@@ -7,7 +7,7 @@ use Rattle.qw_command_line.proofs.program.with_stats.Goals as goal
 
 pub returns : goal.returns
 returns c =
-    let rule : rule_of c.action-stats.result ≡ stats_option = search rules in
+    let rule : rule_of c.help-stats.result ≡ stats_option = search rules in
     IfOk-weaker c.arg.result _ _ (λ more adds app old. record {
       is = adds.shape (search rules) ∙ ap₂ with_rule old.is rule;
       local = search (rules, adds.globals, old.local);

@@ -1,5 +1,5 @@
 use Rattle.std.proofs.Common.{◌≡◌, ◌++◌, drop}
-use Rattle.qw_compile.specs.Leaves.{words_among}
+use Rattle.qw_compile.specs.Words.{words_among}
 use Rattle.qw_compile.proofs.constants.words_of.Given as goal
 
 abbrev pub invariant-loop-leaf : goal.invariant-loop-leaf

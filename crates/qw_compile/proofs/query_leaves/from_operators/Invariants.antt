@@ -1,6 +1,6 @@
 use Rattle.std.proofs.Common.{take}
 use Rattle.std.specs.List.{flat_map}
-use Rattle.qw_compile.specs.Leaves.{Gathers}
+use Rattle.qw_leaves.specs.Leaves.{Gathers}
 use Rattle.qw_compile.specs.QueryLiterals.{operator_leaves}
 use Rattle.qw_compile.proofs.query_leaves.from_operators.Given as goal
 

@@ -1,5 +1,5 @@
 use Rattle.std.proofs.Common.{◌≡◌, ◌++◌, drop}
-use Rattle.qw_compile.specs.Leaves.{texts_among}
+use Rattle.qw_leaves.specs.Leaves.{texts_among}
 use Rattle.qw_compile.proofs.texts.texts_of.Given as goal
 
 abbrev pub invariant-loop-leaf : goal.invariant-loop-leaf

@@ -5,7 +5,7 @@ use Rattle.qw_scalar.specs.declared.expression.Expr.{Expr}
 use Rattle.qw_meaning.specs.declared.query.Source.{Source}
 use Rattle.qw_algebra.specs.Sizes.{tests_on}
 use Rattle.qw_physical.proofs.Reading.{if_ok}
-use Rattle.qw_compile.specs.Leaves.{leaves_in, leaves_within, texts_among}
+use Rattle.qw_leaves.specs.Leaves.{leaves_in, leaves_within, texts_among}
 use Rattle.qw_compile.specs.WrittenTexts.{texts_of_query}
 use Rattle.qw_compile.proofs.TextsWithin.{texts_gathered, utf8_gathered}
 use Rattle.qw_compile.proofs.written_texts.written_texts.Goals as goal

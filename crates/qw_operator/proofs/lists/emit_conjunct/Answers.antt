@@ -9,7 +9,8 @@ use Rattle.qw_operator.specs.Needed.{IsWithin}
 use Rattle.qw_operator.proofs.Conjuncts.{conjunct_known, known_front, served_after}
 use Rattle.qw_operator.proofs.Listed.{conjunct_emits}
 use Rattle.qw_operator.proofs.Fronts.{between}
-use Rattle.qw_operator.proofs.Shortness.{conjunct_short, part_short, some_nodes_of}
+use Rattle.qw_leaves.proofs.TreeLeaves.{some_nodes_of}
+use Rattle.qw_operator.proofs.Shortness.{conjunct_short, part_short}
 use Rattle.qw_operator.proofs.lists.emit_conjunct.Goals as goal
 
 pub emit_test-requires-clause-known : goal.emit_test-requires-clause-known

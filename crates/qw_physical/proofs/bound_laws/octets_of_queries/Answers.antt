@@ -1,4 +1,4 @@
-use Rattle.std.proofs.Common.{◌≡◌, ◌+◌, ◌*◌, ◌≤◌, max, List, [], ◌++◌, length, sym, subst}
+use Rattle.std.proofs.Common.{◌≡◌, ◌+◌, ◌*◌, ◌≤◌, max, [], ◌++◌, length, sym, subst}
 use Rattle.std.specs.List.{AllByRecursion}
 use Rattle.qw_algebra.specs.Node.{Node, node_flow}
 use Rattle.qw_pipe.specs.Octets.{greatest_entry, table_count, table_octets}

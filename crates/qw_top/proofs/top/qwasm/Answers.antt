@@ -1,10 +1,11 @@
 use Rattle.std.proofs.Common.{map, subst, Some}
 use Rattle.std.specs.String.{string_bytes}
 use Rattle.qw_command_line.specs.Words.{Reading, reading}
-use Rattle.qw_top.specs.Call.{Explains, ExplainsBy}
+use Rattle.qw_top.specs.Call.{Explains, ExplainsBy, LeavesBy}
 use Rattle.qw_top.specs.Limits.{limits_of}
 use Rattle.qw_top.specs.Top.{Files}
 use Rattle.qw_top.proofs.CallLemmas.{check_ends, compile_ends, ends_by}
+use Rattle.qw_top.proofs.CompleteLemmas.{ends_as_meant}
 use Rattle.qw_top.proofs.SettleLemmas.{enough_explained, plain_explained, runs_explained}
 use Rattle.qw_top.proofs.top.qwasm.Goals as goal
 
@@ -31,6 +32,15 @@ returns-clause-plain g c told options schema tables queries is (names, are, held
     let files = g.F.Shelf.files c.args.files.now in
     plain_explained (limits_of options) files names c.perform.new.kept c.perform.result (subst (λ (r : Reading). ExplainsBy files r c.perform.new.kept c.perform.result) are c.perform.ensures.explained)
     told schema tables queries is held none
+
+pub returns-clause-complete : goal.returns-clause-complete
+returns-clause-complete g c told options schema tables queries is (names, are, held) room enough =
+    let files = g.F.Shelf.files c.args.files.now in
+    let old = g.O.Sink.taken c.args.out.now in
+    let new = g.O.Sink.taken c.perform.new.out in
+    ends_as_meant options files names c.perform.new.kept c.perform.result old new told schema tables queries is held
+    (subst (λ (r : Reading). ExplainsBy files r c.perform.new.kept c.perform.result) are c.perform.ensures.explained)
+    (subst (λ (r : Reading). LeavesBy files r c.perform.result c.perform.new.kept old new) are c.perform.ensures.left) room enough
 
 pub returns-clause-compiles : goal.returns-clause-compiles
 returns-clause-compiles g c told one is (names, k, are, has) =

@@ -11,6 +11,7 @@ returns c = record {
   many_statements = refl;
   many_items = refl;
   many_entries = refl;
+  many_keys = refl;
   many_nodes = refl;
   many_octets = refl;
   unknown_table = refl;
@@ -21,5 +22,6 @@ returns c = record {
   scale = refl;
   literal = refl;
   date = refl;
+  ordinal = refl;
   pages = refl;
 }

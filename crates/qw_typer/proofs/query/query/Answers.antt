@@ -6,7 +6,7 @@ use Rattle.qw_ast.specs.SyntaxTree.{select_of}
 use Rattle.qw_typer.specs.declared.scope.Entry.{Entry as CodeEntry}
 use Rattle.qw_typer.specs.Inner.Queries.{parts_of}
 use Rattle.qw_typer.specs.Inner.Typing.{in_reach}
-use Rattle.qw_typer.proofs.QueryLemmas.{as_many, entries_refused, few_columns, over_refused, query_means, query_specified}
+use Rattle.qw_typer.proofs.QueryLemmas.{as_many, entries_refused, few_columns, keys_refused, over_refused, query_means, query_specified}
 use Rattle.qw_typer.proofs.query.query.Goals as goal
 
 pub returns-in_err-entries-clause-means : goal.returns-in_err-entries-clause-means
@@ -35,6 +35,17 @@ returns-in_err-over-clause-means c =
     (over_refused c.args.schema.now s named (in_reach c.in_ok-entries.entries.items) c.in_err-over.field-0.0 same (rw (c.as_slice.ensures.same, c.as_slice-2.ensures.value) at c.in_ok-entries.ensures.known)
     (rw c.as_slice-3.ensures.value at c.in_err-over.ensures.gives))
 
+pub returns-in_err-keys-clause-means : goal.returns-in_err-keys-clause-means
+returns-in_err-keys-clause-means c =
+    let s = select_of c.args.statement.now in
+    let named = map syntax.entry_of c.in_ok-named.named.items in
+    let same : map syntax.entry_of c.in_ok-named.named.items ≡ entries_of (select_of c.args.statement.now).sources = search rules in
+    let err = err_from_is_err_and c.from_residual-in_err-keys.result c.from_residual-in_err-keys.ensures.1 in
+    rw (err.1, err.2)
+    (keys_refused c.args.schema.now s named (in_reach c.in_ok-entries.entries.items) (parts_of c.in_ok-over.over) c.in_ok-over.over.names.items c.in_err-keys.field-0.0 same
+    (rw (c.as_slice.ensures.same, c.as_slice-2.ensures.value) at c.in_ok-entries.ensures.known) (rw c.as_slice-3.ensures.value at c.in_ok-over.ensures.gives.0) (rw c.as_slice-3.ensures.value at c.in_ok-over.ensures.gives.1)
+    (rw c.as_slice-4.ensures.value at c.in_err-keys.ensures))
+
 pub new-requires : goal.new-requires
 new-requires c =
     let s = select_of c.args.statement.now in
@@ -49,8 +60,8 @@ returns-clause-means c =
     let named = map syntax.entry_of c.in_ok-named.named.items in
     let same : map syntax.entry_of c.in_ok-named.named.items ≡ entries_of (select_of c.args.statement.now).sources = search rules in
     rw c.new.ensures
-    (query_means c.args.schema.now s named (in_reach c.in_ok-entries.entries.items) (parts_of c.in_ok-over.over) c.in_ok-over.over.names.items same (rw (c.as_slice.ensures.same, c.as_slice-2.ensures.value) at c.in_ok-entries.ensures.known)
-    (rw c.as_slice-3.ensures.value at c.in_ok-over.ensures.gives.0) (rw c.as_slice-3.ensures.value at c.in_ok-over.ensures.gives.1))
+    (query_means c.args.schema.now s named (in_reach c.in_ok-entries.entries.items) (parts_of c.in_ok-over.over) c.in_ok-over.over.names.items c.in_ok-keys.keys.items same (rw (c.as_slice.ensures.same, c.as_slice-2.ensures.value) at c.in_ok-entries.ensures.known)
+    (rw c.as_slice-3.ensures.value at c.in_ok-over.ensures.gives.0) (rw c.as_slice-3.ensures.value at c.in_ok-over.ensures.gives.1) (rw c.as_slice-4.ensures.value at c.in_ok-keys.ensures))
 
 pub returns-clause-fits : goal.returns-clause-fits
 returns-clause-fits c =

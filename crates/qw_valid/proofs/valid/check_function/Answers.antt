@@ -1,7 +1,7 @@
-use Rattle.std.proofs.Common.{length, refl, sym, subst, ◌∙◌}
+use Rattle.std.proofs.Common.{length, refl, sym, ap, subst, ◌∙◌}
 use Rattle.std.proofs.lemmas.Option.{slice_get_read}
 use Rattle.qw_module.specs.Places.{Typing, tokens_of, IsRefusedAt}
-use Rattle.qw_module.specs.Validity.{code_of_body, IsValidType}
+use Rattle.qw_module.specs.Validity.{code_of_body, declared_types, IsValidType}
 use Rattle.qw_valid.specs.declared.valid.Part.TheVariants as part
 use Rattle.qw_valid.proofs.ValidBodies.{have_types, typing_is, typing_same, valid_by}
 use Rattle.qw_valid.proofs.valid.check_function.Goals as goal
@@ -20,7 +20,7 @@ returns-clause-valid c =
     let f = c.args.function.now in
     let ty = c.index-ty.result.now in
     let found = slice_get_read m.types.items (length m.types.items) f.type_index ty refl c.requires.body.0 c.index-ty.ensures in
-    valid_by c.check_body.result m f ty _ (typing_same m f ty _ _ _ c.deref.ensures.value c.deref-2.ensures.value c.result_of.ensures) found c.requires.body c.check_body.ensures.typable
+    valid_by c.check_body.result m f ty _ (typing_same m f ty _ _ _ c.deref-2.ensures.value ((rw c.in_ok-locals.ensures.ok_part at c.new.ensures) ∙ ap declared_types c.deref.ensures.value) c.result_of.ensures) found c.requires.body c.check_body.ensures.typable
 
 pub returns-clause-refused : goal.returns-clause-refused
 returns-clause-refused c =
@@ -28,5 +28,5 @@ returns-clause-refused c =
     let f = c.args.function.now in
     let ty = c.index-ty.result.now in
     let found = slice_get_read m.types.items (length m.types.items) f.type_index ty refl c.requires.body.0 c.index-ty.ensures in
-    let same = typing_same m f ty _ _ _ c.deref.ensures.value c.deref-2.ensures.value c.result_of.ensures ∙ sym (typing_is m f ty found) in
+    let same = typing_same m f ty _ _ _ c.deref-2.ensures.value ((rw c.in_ok-locals.ensures.ok_part at c.new.ensures) ∙ ap declared_types c.deref.ensures.value) c.result_of.ensures ∙ sym (typing_is m f ty found) in
     λ at e. subst (λ (g : Typing). IsRefusedAt g (tokens_of (code_of_body f.body)) at) same (c.check_body.ensures.refused at e)

@@ -8,9 +8,6 @@ use Rattle.qw_machine.proofs.Runs.{run-keeps-length, run-told, run-step, run-wit
 use Rattle.qw_machine.proofs.activity.Activity.stretch.Goals as goal
 use Rattle.qw_machine.proofs.activity.Activity.stretch.Goals.{in-Ran, in_default}
 
-pub operators-run-requires-clause-point : goal.operators-run-requires-clause-point
-operators-run-requires-clause-point c = (c.args.program.now, c.requires.point, c.requires.sequence)
-
 pub step_in-last-requires-clause-sequence : goal.step_in-last-requires-clause-sequence
 step_in-last-requires-clause-sequence c =
     c.requires.sequence ∙ sym (ap₂ (instructions_at c.args.program.now) c.operators-run.ensures.place.0 c.operators-run.ensures.place.1)
@@ -21,7 +18,7 @@ step_in-last-requires-clause-point c =
     elim c.match-matches.branch [
       | in-Ran w ↦
           let told = run-told c.args.program.now (rooms_of c.args.self.now) c.args.spare (c.args.most - 1) (point_of c.args.self.now) c.args.memory.now.octets
-          run.result (point_of run.new.self) run.new.memory.octets w.in-Ran.is (run.ensures.run c.args.program.now c.requires.point c.requires.sequence) in
+          run.result (point_of run.new.self) run.new.memory.octets w.in-Ran.is run.ensures.run in
           rw run.ensures.rooms told.running.point
       | in_default w ↦ absurd (false≢true (sym w.matches-is ∙ c.if-not-matches.false))
     ]
@@ -32,7 +29,7 @@ step_in-last-requires-clause-unfinished c =
     elim c.match-matches.branch [
       | in-Ran w ↦
           let told = run-told c.args.program.now (rooms_of c.args.self.now) c.args.spare (c.args.most - 1) (point_of c.args.self.now) c.args.memory.now.octets
-          run.result (point_of run.new.self) run.new.memory.octets w.in-Ran.is (run.ensures.run c.args.program.now c.requires.point c.requires.sequence) in
+          run.result (point_of run.new.self) run.new.memory.octets w.in-Ran.is run.ensures.run in
           told.running.unfinished
       | in_default w ↦ absurd (false≢true (sym w.matches-is ∙ c.if-not-matches.false))
     ]
@@ -43,7 +40,7 @@ step_in-last-requires-clause-pages c =
     elim c.match-matches.branch [
       | in-Ran w ↦
           let told = run-told c.args.program.now (rooms_of c.args.self.now) c.args.spare (c.args.most - 1) (point_of c.args.self.now) c.args.memory.now.octets
-          run.result (point_of run.new.self) run.new.memory.octets w.in-Ran.is (run.ensures.run c.args.program.now c.requires.point c.requires.sequence) in
+          run.result (point_of run.new.self) run.new.memory.octets w.in-Ran.is run.ensures.run in
           rw (
             run.ensures.reserved,
             run-keeps-length c.args.program.now (rooms_of c.args.self.now) c.args.spare (c.args.most - 1) (point_of c.args.self.now) c.args.memory.now.octets
@@ -58,7 +55,7 @@ returns-clause-run c =
     elim c.match-matches.branch [
       | in-Ran w ↦
           let told = run-told c.args.program.now (rooms_of c.args.self.now) c.args.spare (c.args.most - 1) (point_of c.args.self.now) c.args.memory.now.octets
-          run.result (point_of run.new.self) run.new.memory.octets w.in-Ran.is (run.ensures.run c.args.program.now c.requires.point c.requires.sequence) in
+          run.result (point_of run.new.self) run.new.memory.octets w.in-Ran.is run.ensures.run in
           let going : Run = record { steps = run.result.steps; last = Ran } in
           run-step c.args.program.now (rooms_of c.args.self.now) c.args.spare c.args.most (point_of c.args.self.now) c.args.memory.now.octets
           run.result.steps (run.result.steps + 1) (point_of run.new.self) (point_of c.step_in-last.new.self) run.new.memory.octets c.step_in-last.new.memory.octets c.step_in-last.result

@@ -1,0 +1,3 @@
+pub mod WideBlocks
+pub mod ValueBlocks
+pub mod GroupSteps

@@ -1,0 +1,58 @@
+-- Mirrors `src/sum.rt`, `src/quotient.rt` and `src/average.rt`: the statements whose steps their functions add. The words are in the locals n and n + 1;
+-- what is behind them is the blocks' own.
+use Rattle.std.specs.Prelude.{ℕ, ◌+◌, ◌-◌, ◌*◌, ◌^◌}
+use Rattle.qw_module.specs.declared.instruction.ValType.TheVariants.{I32, I64}
+use Rattle.qw_module.specs.declared.instruction.Sign.TheVariants.{Unsigned}
+use Rattle.qw_module.specs.declared.instruction.Binary.TheVariants.{Add, Sub, Mul, Shl, Shr}
+use Rattle.qw_module.specs.declared.instruction.Division.TheVariants.{Div, Rem}
+use Rattle.qw_module.specs.declared.instruction.Relation.TheVariants.{Ne, Lt, Le}
+use Rattle.qw_module.specs.declared.instruction.Conversion.TheVariants.{Extend}
+use Rattle.qw_low.specs.Syntax.{local, binop, divop, relop, cvtop, Statement, skip, seq, assign, conditional, while, raise}
+use Rattle.qw_feed.specs.Room.{i32}
+use Rattle.qw_group.specs.Wides.{i64, sign_of}
+
+-- local n has the number, which has at most 18 digits, or 2 is raised
+abbrev pub fit_block : (n : ℕ) → Statement
+fit_block n =
+    seq (conditional (relop I64 Ne (local (n + 1)) (sign_of (local n))) (raise 2) skip)
+    (conditional (relop I64 (Lt Unsigned) (i64 (2 * (10 ^ 18 - 1))) (binop I64 Add (local n) (i64 (10 ^ 18 - 1)))) (raise 2) skip)
+
+-- one bit of a quotient by local c: the remainder is in local n + 2
+abbrev pub divide_turn : (n c : ℕ) → Statement
+divide_turn n c =
+    seq (assign (n + 2) (binop I64 Add (binop I64 Shl (local (n + 2)) (i64 1)) (binop I64 (Shr Unsigned) (local (n + 1)) (i64 63))))
+    (seq (assign (n + 1) (binop I64 Add (binop I64 Shl (local (n + 1)) (i64 1)) (binop I64 (Shr Unsigned) (local n) (i64 63))))
+    (seq (assign n (binop I64 Shl (local n) (i64 1)))
+    (seq (conditional (relop I64 (Le Unsigned) (local c) (local (n + 2))) (seq (assign (n + 2) (binop I64 Sub (local (n + 2)) (local c))) (assign n (binop I64 Add (local n) (i64 1)))) skip)
+    (assign (n + 3) (binop I32 Sub (local (n + 3)) (i32 1))))))
+
+-- the quotient without sign, in its place, and the remainder in local n + 2
+abbrev pub div_128_block : (n c : ℕ) → Statement
+div_128_block n c = seq (assign (n + 2) (i64 0)) (seq (assign (n + 3) (i32 128)) (while (local (n + 3)) (divide_turn n c)))
+
+-- a digit more: the quotient is in local n, the remainder in local n + 2
+abbrev pub digit_block : (n c : ℕ) → Statement
+digit_block n c =
+    seq (assign (n + 2) (binop I64 Mul (local (n + 2)) (i64 10)))
+    (seq (assign n (binop I64 Add (binop I64 Mul (local n) (i64 10)) (divop I64 (Div Unsigned) (local (n + 2)) (local c))))
+    (assign (n + 2) (divop I64 (Rem Unsigned) (local (n + 2)) (local c))))
+
+-- ten thousand times the number without sign in the locals n and n + 1, divided by local c; 2 is raised where that has more than 18 digits
+abbrev pub average_block : (n c : ℕ) → Statement
+average_block n c =
+    seq (div_128_block n c)
+    (seq (conditional (relop I64 (Le Unsigned) (i64 (10 ^ 14)) (local n)) (raise 2) skip)
+    (seq (digit_block n c) (seq (digit_block n c) (seq (digit_block n c) (digit_block n c)))))
+
+-- the opposite number
+abbrev pub opposite_128 : (n : ℕ) → Statement
+opposite_128 n =
+    seq (assign (n + 1) (binop I64 Sub (binop I64 Sub (i64 0) (local (n + 1))) (cvtop (Extend Unsigned) (relop I64 Ne (local n) (i64 0)))))
+    (assign n (binop I64 Sub (i64 0) (local n)))
+
+-- The average of the sum in the locals f + 1 and f + 2, over local c: local f says whether it is below 0. It is left in local f + 1.
+abbrev pub averaging_block : (f c : ℕ) → Statement
+averaging_block f c =
+    seq (assign f (relop I64 (Lt Unsigned) (i64 (2 ^ 63 - 1)) (local (f + 1 + 1))))
+    (seq (conditional (local f) (opposite_128 (f + 1)) skip)
+    (seq (average_block (f + 1) c) (conditional (local f) (assign (f + 1) (binop I64 Sub (i64 0) (local (f + 1)))) skip)))

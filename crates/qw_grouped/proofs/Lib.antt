@@ -1,0 +1,9 @@
+pub mod Extremes
+pub mod FunctionLemmas
+pub mod GroupLemmas
+pub mod Lists
+pub mod OrderLemmas
+pub mod Permuting
+pub mod TypedGroups
+pub mod TypedRows
+pub mod ValueTotal

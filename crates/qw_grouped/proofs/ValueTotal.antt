@@ -1,0 +1,224 @@
+-- The order of values is total, so the lesser and the greater of several are the same however they are found.
+use Rattle.std.proofs.Common.{◌≡◌, ◌∙◌, ◌<◌, ◌<ℤ◌, ℕ, ℤ, pos, Bool, true, false, List, [], ◌∷◌, if◌then◌else◌, refl, sym, ap}
+use Rattle.std.proofs.lemmas.Cmp.{back_total, tied_itself, upto, on_total, then_total, nat_cmp_total, int_cmp_total, nat_list_cmp_total}
+use Rattle.std.specs.Cmp.{IsTotalOrder, int_ranks, ranks}
+use Rattle.std.specs.Ordering.{MatchOrdering, int_cmp, is_eq, is_ge, flip_args, is_gt, is_le, nat_cmp, on, ordering_reverse, ordering_then, then_cmp}
+use Rattle.std.specs.Cmp.Lexicographic.{slice_cmp}
+use Rattle.std.specs.declared.cmp.Ordering.{Ordering}
+use Rattle.std.specs.declared.cmp.Ordering.TheVariants.{Less, Equal, Greater}
+use Rattle.qw_types.specs.TextOrder.{text_order}
+use Rattle.qw_types.specs.ValueOrder.{is_same_row, row_order, value_order}
+use Rattle.qw_types.specs.declared.value.Val.{Val}
+use Rattle.qw_types.specs.declared.value.Val.TheVariants.{Null, Num, Date, Text}
+use Rattle.qw_grouped.specs.SetFunctions.{greater, lesser}
+
+as_slices : (left right : List ℕ) → text_order left right ≡ slice_cmp nat_cmp left right
+as_slices [] [] = refl
+as_slices [] (b ∷ others) = refl
+as_slices (a ∷ rest) [] = refl
+as_slices (a ∷ rest) (b ∷ others) = ap (ordering_then (nat_cmp a b)) (as_slices rest others)
+
+abbrev rank : Val → ℕ
+rank Null = 0
+rank (Num v) = 1
+rank (Date d) = 2
+rank (Text t) = 3
+
+abbrev whole : Val → ℤ
+whole Null = pos 0
+whole (Num v) = v
+whole (Date d) = d
+whole (Text t) = pos 0
+
+abbrev octets : Val → List ℕ
+octets Null = []
+octets (Num v) = []
+octets (Date d) = []
+octets (Text t) = t
+
+abbrev by_parts : Val → Val → Ordering
+by_parts = then_cmp (on rank nat_cmp) (then_cmp (on whole int_cmp) (on octets (slice_cmp nat_cmp)))
+
+then_equal : (r : Ordering) → r ≡ ordering_then r Equal
+then_equal Less = refl
+then_equal Equal = refl
+then_equal Greater = refl
+
+is_by_parts : (a b : Val) → value_order a b ≡ by_parts a b
+is_by_parts Null Null = refl
+is_by_parts Null (Num b) = refl
+is_by_parts Null (Date b) = refl
+is_by_parts Null (Text b) = refl
+is_by_parts (Num a) Null = refl
+is_by_parts (Num a) (Num b) = then_equal (int_cmp a b)
+is_by_parts (Num a) (Date b) = refl
+is_by_parts (Num a) (Text b) = refl
+is_by_parts (Date a) Null = refl
+is_by_parts (Date a) (Num b) = refl
+is_by_parts (Date a) (Date b) = then_equal (int_cmp a b)
+is_by_parts (Date a) (Text b) = refl
+is_by_parts (Text a) Null = refl
+is_by_parts (Text a) (Num b) = refl
+is_by_parts (Text a) (Date b) = refl
+is_by_parts (Text a) (Text b) = as_slices a b
+
+parts_total : IsTotalOrder by_parts
+parts_total = then_total (on_total rank nat_cmp_total) (then_total (on_total whole int_cmp_total) (on_total octets nat_list_cmp_total))
+
+pub value_total : IsTotalOrder value_order
+value_total = record {
+  antisymm = λ a b. is_by_parts a b ∙ parts_total.antisymm a b ∙ ap ordering_reverse (sym (is_by_parts b a));
+  trans = λ a b c h g. is_by_parts a c ∙ parts_total.trans a b c (sym (is_by_parts a b) ∙ h) (sym (is_by_parts b c) ∙ g);
+  congr = λ a b c h. is_by_parts a c ∙ parts_total.congr a b c (sym (is_by_parts a b) ∙ h) ∙ sym (is_by_parts b c);
+}
+
+-- ---- what is equal in the order is the same
+
+number_equal : (a b : ℤ) (r : Ordering) → r ≡ Equal → MatchOrdering r (a <ℤ b) (a ≡ b) (b <ℤ a) → a ≡ b
+number_equal a b Less h m = absurd cc
+number_equal a b Equal h m = m
+number_equal a b Greater h m = absurd cc
+
+same_number : (a b : ℤ) → int_cmp a b ≡ Equal → a ≡ b
+same_number a b h = number_equal a b (int_cmp a b) h (int_ranks a b)
+
+octet_equal : (a b : ℕ) (r : Ordering) → r ≡ Equal → MatchOrdering r (a < b) (a ≡ b) (b < a) → a ≡ b
+octet_equal a b Less h m = absurd cc
+octet_equal a b Equal h m = m
+octet_equal a b Greater h m = absurd cc
+
+both_equal : (r s : Ordering) → ordering_then r s ≡ Equal → (r ≡ Equal) × (s ≡ Equal)
+both_equal Less s h = absurd cc
+both_equal Equal s h = (refl, h)
+both_equal Greater s h = absurd cc
+
+same_text : (left right : List ℕ) → text_order left right ≡ Equal → left ≡ right
+same_text [] [] h = refl
+same_text [] (b ∷ others) h = absurd cc
+same_text (a ∷ rest) [] h = absurd cc
+same_text (a ∷ rest) (b ∷ others) h =
+    let parts = both_equal (nat_cmp a b) (text_order rest others) h in
+    let head : a ≡ b = octet_equal a b (nat_cmp a b) parts.0 (ranks a b) in
+    let tail : rest ≡ others = same_text rest others parts.1 in
+    cc
+
+pub same_value : (a b : Val) → value_order a b ≡ Equal → a ≡ b
+same_value Null Null h = refl
+same_value Null (Num b) h = absurd cc
+same_value Null (Date b) h = absurd cc
+same_value Null (Text b) h = absurd cc
+same_value (Num a) Null h = absurd cc
+same_value (Num a) (Num b) h = ap Num (same_number a b h)
+same_value (Num a) (Date b) h = absurd cc
+same_value (Num a) (Text b) h = absurd cc
+same_value (Date a) Null h = absurd cc
+same_value (Date a) (Num b) h = absurd cc
+same_value (Date a) (Date b) h = ap Date (same_number a b h)
+same_value (Date a) (Text b) h = absurd cc
+same_value (Text a) Null h = absurd cc
+same_value (Text a) (Num b) h = absurd cc
+same_value (Text a) (Date b) h = absurd cc
+same_value (Text a) (Text b) h = ap Text (same_text a b h)
+
+-- rows that aren't distinct are the same, and the other way round
+rows_equal : (row other : List Val) → row_order row other ≡ Equal → row ≡ other
+rows_equal [] [] h = refl
+rows_equal [] (b ∷ others) h = absurd cc
+rows_equal (a ∷ rest) [] h = absurd cc
+rows_equal (a ∷ rest) (b ∷ others) h =
+    let parts = both_equal (value_order a b) (row_order rest others) h in
+    rw (same_value a b parts.0, rows_equal rest others parts.1) refl
+
+equal_if : (r : Ordering) → is_eq r ≡ true → r ≡ Equal
+equal_if Less h = absurd cc
+equal_if Equal h = refl
+equal_if Greater h = absurd cc
+
+pub same_row : (row other : List Val) → is_same_row row other ≡ true → row ≡ other
+same_row row other h = rows_equal row other (equal_if (row_order row other) h)
+
+pub row_itself : (row : List Val) → is_same_row row row ≡ true
+row_itself [] = refl
+row_itself (a ∷ rest) = rw (tied_itself value_total a) (row_itself rest)
+
+-- ---- the lesser of two, by any total order in which only the same is equal
+
+module _ (R : Val → Val → Ordering) (total : IsTotalOrder R) (only : (a b : Val) → R a b ≡ Equal → a ≡ b) where
+  abbrev low : Val → Val → Val
+  low v w = if is_le (R v w) then v else w
+
+  low_first : (a b : Val) (r : Ordering) → R a b ≡ r → is_gt r ≡ false → low a b ≡ a
+  low_first a b Less e h = rw e refl
+  low_first a b Equal e h = rw e refl
+  low_first a b Greater e h = absurd cc
+
+  low_second : (a b : Val) (r : Ordering) → R a b ≡ r → is_gt r ≡ true → low a b ≡ b
+  low_second a b Less e h = absurd cc
+  low_second a b Equal e h = absurd cc
+  low_second a b Greater e h = rw e refl
+
+  turn : (a b : Val) (r : Ordering) → R a b ≡ r → R b a ≡ ordering_reverse r
+  turn a b r e = total.antisymm b a ∙ ap ordering_reverse e
+
+  either_by : (a b : Val) (r : Ordering) → R a b ≡ r → low a b ≡ low b a
+  either_by a b Less e = low_first a b Less e refl ∙ sym (low_second b a Greater (turn a b Less e) refl)
+  either_by a b Equal e = low_first a b Equal e refl ∙ only a b e ∙ sym (low_first b a Equal (turn a b Equal e) refl)
+  either_by a b Greater e = low_second a b Greater e refl ∙ sym (low_first b a Less (turn a b Greater e) refl)
+
+  pub low_either : (a b : Val) → low a b ≡ low b a
+  low_either a b = either_by a b (R a b) refl
+
+  is_greater : (r : Ordering) → is_gt r ≡ true → r ≡ Greater
+  is_greater Less h = absurd cc
+  is_greater Equal h = absurd cc
+  is_greater Greater h = refl
+
+  past : (a b c : Val) → is_gt (R a b) ≡ true → is_gt (R b c) ≡ true → is_gt (R a c) ≡ true
+  past a b c h g =
+      let below : R c a ≡ Less = total.trans c b a (turn b c Greater (is_greater (R b c) g)) (turn a b Greater (is_greater (R a b) h)) in
+      ap is_gt (turn c a Less below)
+
+  any_by : (a b c : Val) (p q : Bool) → is_gt (R a b) ≡ p → is_gt (R b c) ≡ q → low (low a b) c ≡ low a (low b c)
+  any_by a b c false false h g =
+      ap (λ v. low v c) (low_first a b (R a b) refl h) ∙ low_first a c (R a c) refl (upto total a b c h g)
+      ∙ sym (low_first a b (R a b) refl h) ∙ ap (low a) (sym (low_first b c (R b c) refl g))
+  any_by a b c false true h g = ap (λ v. low v c) (low_first a b (R a b) refl h) ∙ ap (low a) (sym (low_second b c (R b c) refl g))
+  any_by a b c true false h g =
+      ap (λ v. low v c) (low_second a b (R a b) refl h) ∙ low_first b c (R b c) refl g
+      ∙ sym (low_second a b (R a b) refl h) ∙ ap (low a) (sym (low_first b c (R b c) refl g))
+  any_by a b c true true h g =
+      ap (λ v. low v c) (low_second a b (R a b) refl h) ∙ low_second b c (R b c) refl g
+      ∙ sym (low_second a c (R a c) refl (past a b c h g)) ∙ ap (low a) (sym (low_second b c (R b c) refl g))
+
+  pub low_any : (a b c : Val) → low (low a b) c ≡ low a (low b c)
+  low_any a b c = any_by a b c (is_gt (R a b)) (is_gt (R b c)) refl refl
+
+pub lesser_either : (a b : Val) → lesser a b ≡ lesser b a
+lesser_either = low_either value_order value_total same_value
+
+pub lesser_any : (a b c : Val) → lesser (lesser a b) c ≡ lesser a (lesser b c)
+lesser_any = low_any value_order value_total same_value
+
+-- the greater is the lesser of the order turned round
+turned_total : IsTotalOrder (flip_args value_order)
+turned_total = back_total value_total
+
+turned_same : (a b : Val) → flip_args value_order a b ≡ Equal → a ≡ b
+turned_same a b h = sym (same_value b a h)
+
+is_turned : (a b : Val) (r s : Ordering) → s ≡ ordering_reverse r → (if is_ge r then a else b) ≡ (if is_le s then a else b)
+is_turned a b Less s e = rw e refl
+is_turned a b Equal s e = rw e refl
+is_turned a b Greater s e = rw e refl
+
+greater_low : (a b : Val) → greater a b ≡ low (flip_args value_order) turned_total turned_same a b
+greater_low a b = is_turned a b (value_order a b) (value_order b a) (value_total.antisymm b a)
+
+pub greater_either : (a b : Val) → greater a b ≡ greater b a
+greater_either a b = greater_low a b ∙ low_either (flip_args value_order) turned_total turned_same a b ∙ sym (greater_low b a)
+
+pub greater_any : (a b c : Val) → greater (greater a b) c ≡ greater a (greater b c)
+greater_any a b c =
+    ap (λ v. greater v c) (greater_low a b) ∙ greater_low (low (flip_args value_order) turned_total turned_same a b) c
+    ∙ low_any (flip_args value_order) turned_total turned_same a b c
+    ∙ sym (greater_low a (low (flip_args value_order) turned_total turned_same b c)) ∙ ap (greater a) (sym (greater_low b c))

@@ -1,0 +1,5 @@
+pub mod Agreement
+pub mod ComparedLemmas
+pub mod LeafLemmas
+pub mod LeafLists
+pub mod TreeLeaves

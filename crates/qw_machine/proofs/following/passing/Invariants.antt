@@ -1,0 +1,21 @@
+use Rattle.std.proofs.Common.{◌≡◌, ◌-◌, ◌≤◌}
+use Rattle.qw_module.specs.declared.module.Module.{Module}
+use Rattle.qw_module.specs.Start.{body_of}
+use Rattle.qw_module.specs.Validity.{sequences_of}
+use Rattle.qw_machine.specs.declared.room.Rooms.{Rooms}
+use Rattle.qw_machine.specs.declared.stepped.Stepped.TheVariants.{Ran}
+use Rattle.qw_machine.specs.Inner.Placed.{IsExecuted}
+use Rattle.qw_machine.specs.Inner.Points.{Point, with_held}
+use Rattle.qw_machine.specs.Inner.Activities.{IsFollowed, IsRun}
+use Rattle.qw_machine.proofs.following.passing.Given as goal
+
+-- so many steps led to the index
+abbrev pub invariant-loop-operands : goal.invariant-loop-operands
+invariant-loop-operands l =
+    (l.operands.room ≡ l.initial.operands.room) × (l.first ≤ l.index) × (l.memory.reserved ≡ l.initial.memory.reserved)
+    × ((m : Module) (rooms : Rooms) (p : Point) → IsExecuted m → sequences_of l.body ≡ body_of m p.function → IsFollowed m rooms l.sequence p l.first l.initial.operands.room l.initial.operands.values l.initial.globals l.initial.locals →
+    IsRun m rooms l.spare (l.end - l.first) (with_held p l.first l.initial.operands.values l.initial.globals l.initial.locals) l.initial.memory.octets (record { steps = l.index - l.first; last = Ran })
+    (with_held p l.index l.operands.values l.globals l.locals) l.memory.octets)
+
+abbrev pub decreases-loop-operands : goal.decreases-loop-operands
+decreases-loop-operands l = l.end - l.index

@@ -1,0 +1,3 @@
+pub mod Evaluable
+pub mod Flows
+pub mod Outcomes

@@ -1,0 +1,26 @@
+(module
+  (memory 1)
+  (func (export "run") (local i32 i32 i32)
+    (loop
+      local.get 1
+      i32.const 4095
+      i32.and
+      i32.const 3
+      i32.shl
+      i64.load
+      i64.const 0
+      i64.ne
+      if
+        local.get 2
+        i32.const 1
+        i32.add
+        local.set 2
+      else
+      end
+      local.get 1
+      i32.const 1
+      i32.add
+      local.tee 1
+      i32.const 10000000
+      i32.lt_u
+      br_if 0)))

@@ -1,0 +1,93 @@
+-- A plan over tables whose rows stand in another order comes to the same rows and exceptions in another order, within the same units and octets.
+use Rattle.std.proofs.Common.{◌≡◌, ◌∙◌, ℕ, ◌+◌, ◌*◌, nat_eq, if◌then◌else◌, not, Bool, List, [], ◌∷◌, map, length, sum_by, refl, sym, ap, ap₂}
+use Rattle.std.specs.List.{flat_map}
+use Rattle.std.specs.List.Sorted.{IsPermutation}
+use Rattle.std.proofs.lemmas.List.Sorted.{IsPermutation-append, IsPermutation-map, IsPermutation-refl, IsPermutation-trans, length_permutation, sum_by-IsPermutation}
+use Rattle.qw_types.specs.Contents.{rows_of}
+use Rattle.qw_types.specs.Value.{text_octets}
+use Rattle.qw_types.specs.declared.value.Val.{Val}
+use Rattle.qw_scalar.specs.Evaluation.{at_row}
+use Rattle.qw_scalar.specs.Units.{units_of_all, units_of_items}
+use Rattle.qw_meaning.specs.Flow.{Flow, kept, selected}
+use Rattle.qw_meaning.specs.From.{at_places, crossed, merged}
+use Rattle.qw_algebra.specs.Columns.{entries_below, is_of}
+use Rattle.qw_algebra.specs.Node.{Node, scan, filter, join, project, node_flow}
+use Rattle.qw_grouped.proofs.Lists.{flat_map_permuted}
+use Rattle.qw_grouped.proofs.OrderLemmas.{Alike, each_alike}
+use Rattle.qw_pipe.specs.Octets as octets
+use Rattle.qw_pipe.specs.Pipes.{Lookup}
+use Rattle.qw_pipe.specs.Units.{Hashing, key_kept, key_sought, keyed_units, meets, operands_of, table_units, units_of}
+use Rattle.qw_whole.specs.AnyOrder.{ArePermuted}
+use Rattle.qw_whole.proofs.PermutedTables.{made_permuted, sum_permuted}
+
+-- each row of the one beside each of the other
+abbrev beside : (lefts rights : List (List Val)) → List (List Val)
+beside lefts rights = flat_map (λ row. map (merged row) rights) lefts
+
+each_beside : (lefts rights others : List (List Val)) → IsPermutation rights others → IsPermutation (beside lefts rights) (beside lefts others)
+each_beside [] rights others h = IsPermutation-refl []
+each_beside (row ∷ lefts) rights others h =
+    IsPermutation-append (map (merged row) rights) (map (merged row) others) (beside lefts rights) (beside lefts others)
+    (IsPermutation-map (merged row) rights others h) (each_beside lefts rights others h)
+
+pub beside_permuted : (lefts rights others more : List (List Val)) → IsPermutation lefts others → IsPermutation rights more → IsPermutation (beside lefts rights) (beside others more)
+beside_permuted lefts rights others more p q =
+    IsPermutation-trans (beside lefts rights) (beside others rights) (beside others more) (flat_map_permuted (λ row. map (merged row) rights) lefts others p) (each_beside others rights more q)
+
+crossed_alike : (left right other more : Flow (List Val)) → Alike left other → Alike right more → Alike (crossed left right) (crossed other more)
+crossed_alike left right other more p q = record {
+  rows = beside_permuted left.rows right.rows other.rows more.rows p.rows q.rows;
+  codes = IsPermutation-append left.codes other.codes right.codes more.codes p.codes q.codes;
+}
+
+pub table_same : (h : Hashing) (lookup : Lookup) (seeking others kept_rows more : List (List Val)) → IsPermutation seeking others → IsPermutation kept_rows more
+    → table_units h lookup seeking kept_rows ≡ table_units h lookup others more
+table_same h lookup seeking others kept_rows more p q =
+    let long : length kept_rows ≡ length more = sym (length_permutation kept_rows more q) in
+    let sought : List Val → List Val = key_sought lookup in
+    let keys : List Val → List Val = key_kept lookup in
+    let ps : IsPermutation (map sought seeking) (map sought others) = IsPermutation-map sought seeking others p in
+    let qs : IsPermutation (map keys kept_rows) (map keys more) = IsPermutation-map keys kept_rows more q in
+    let met : ℕ → List (List Val) → List Val → ℕ = λ n ks key. sum_by (λ other. if nat_eq (h.slot n other) (h.slot n key) then 1 + text_octets key else 0) ks in
+    let one : (is_side : ℕ → Bool) → (xs ys : List (List Val)) → IsPermutation xs ys → keyed_units is_side lookup xs ≡ keyed_units is_side lookup ys =
+    λ is_side xs ys h'. sym (sum_by-IsPermutation (λ (row : List Val). units_of_items (operands_of is_side lookup) (at_row row)) xs ys h') in
+    ap₂ (λ (a b : ℕ). a + b)
+    (ap₂ (λ (a b : ℕ). a + b)
+    (ap₂ (λ (a b : ℕ). a + b)
+    (ap₂ (λ (a b : ℕ). a + b)
+    (ap₂ (λ (a b : ℕ). a + b) long (ap₂ (λ (a b : ℕ). a + b) (sym (sum_by-IsPermutation h.folded (map keys kept_rows) (map keys more) qs)) (sym (sum_by-IsPermutation h.folded (map sought seeking) (map sought others) ps))))
+    (ap h.slots long))
+    (ap₂ (λ (a b : ℕ). a + b) (one (is_of lookup.entries) kept_rows more q) (one (λ i. not (is_of lookup.entries i)) seeking others p)))
+    (sum_permuted (met (length kept_rows) (map keys kept_rows)) (met (length more) (map keys more)) (map sought seeking) (map sought others)
+    (λ key. ap (λ (n : ℕ). met n (map keys kept_rows) key) long
+    ∙ sym (sum_by-IsPermutation (λ other. if nat_eq (h.slot (length more) other) (h.slot (length more) key) then 1 + text_octets key else 0) (map keys kept_rows) (map keys more) qs)) ps))
+    (sym (sum_by-IsPermutation (λ row. if meets lookup row then units_of_all lookup.on (at_row row) else 0) (beside seeking kept_rows) (beside others more) (beside_permuted seeking kept_rows others more p q)))
+
+module _ (tables others : List (List (List Val))) (same : ArePermuted tables others) where
+  pub node_alike : (node : Node) → Alike (node_flow tables node) (node_flow others node)
+  node_alike (scan entry table) = record { rows = IsPermutation-map (at_places entry) (rows_of tables table) (rows_of others table) (same table); codes = IsPermutation-refl [] }
+  node_alike (filter conjuncts below) = each_alike (kept conjuncts) (node_flow tables below) (node_flow others below) (node_alike below)
+  node_alike (join left right on keys) =
+      each_alike (kept on) (crossed (node_flow tables left) (node_flow tables right)) (crossed (node_flow others left) (node_flow others right))
+      (crossed_alike (node_flow tables left) (node_flow tables right) (node_flow others left) (node_flow others right) (node_alike left) (node_alike right))
+  node_alike (project below items) = each_alike (selected items) (node_flow tables below) (node_flow others below) (node_alike below)
+
+  pub units_same : (h : Hashing) (node : Node) → units_of h tables node ≡ units_of h others node
+  units_same h (scan entry table) = sym (length_permutation (rows_of tables table) (rows_of others table) (same table))
+  units_same h (filter conjuncts below) =
+      ap₂ (λ (a b : ℕ). a + b) (units_same h below)
+      (sym (sum_by-IsPermutation (λ (row : List Val). units_of_all conjuncts (at_row row)) (node_flow tables below).rows (node_flow others below).rows (node_alike below).rows))
+  units_same h (join left right on keys) =
+      ap₂ (λ (a b : ℕ). a + b) (ap₂ (λ (a b : ℕ). a + b) (units_same h left) (units_same h right))
+      (table_same h (record { entries = entries_below right; on = on; keys = keys }) (node_flow tables left).rows (node_flow others left).rows (node_flow tables right).rows (node_flow others right).rows
+      (node_alike left).rows (node_alike right).rows)
+  units_same h (project below items) =
+      ap₂ (λ (a b : ℕ). a + b) (units_same h below) (made_permuted items (node_flow tables below) (node_flow others below) (node_alike below))
+
+  pub octets_same : (kept_columns : List ℕ → ℕ) (node : Node) → octets.table_octets kept_columns tables node ≡ octets.table_octets kept_columns others node
+  octets_same k (scan entry table) = refl
+  octets_same k (filter conjuncts below) = octets_same k below
+  octets_same k (join left right on keys) =
+      ap₂ (λ (a b : ℕ). a + b) (ap₂ (λ (a b : ℕ). a + b) (octets_same k left) (octets_same k right))
+      (ap (λ (n : ℕ). 4096 + n * octets.entry_octets k right keys) (sym (length_permutation (node_flow tables right).rows (node_flow others right).rows (node_alike right).rows)))
+  octets_same k (project below items) = octets_same k below

@@ -1,0 +1,5 @@
+pub mod AnyOrder
+pub mod GroupTables
+pub mod Shares
+pub mod WholePromises
+pub mod WorkedWholes
