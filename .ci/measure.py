@@ -5,14 +5,20 @@ measure.py loading [RECORDS]    tables of so many records and of half as many, a
 measure.py scanning [RECORDS]   a table of so many records, and a script of ten queries over it
 measure.py joining [LEFT RIGHT] tables of so many records and of half as many, and a join of them by an INTEGER column, of as many rows as the
                                 left one has; each key of the right one comes once
+measure.py grouping [RECORDS]   tables of so many records and of half as many in 10, 1,000 and 100,000 groups, a count and a sum of each; and
+                                what a row takes that meets a table of all groups: emitted instructions, native ones of these, and native ones
+                                and seconds of the same loop in C (groups.c, built by clang -O2; native ones are counted by valgrind)
 """
+import array
 import os
 import random
+import re
 import subprocess
 import sys
 import tempfile
 
-PROGRAM = os.path.join(os.path.dirname(os.path.abspath(__file__)), "../crates/qwasm/out/qwasm")
+TOP = os.path.dirname(os.path.abspath(__file__))
+PROGRAM = os.path.join(TOP, "../crates/qwasm/out/qwasm")
 SCHEMA = "CREATE TABLE ITEM (ID INTEGER NOT NULL, PRICE {} NOT NULL, SOLD {} NOT NULL, LABEL {} NOT NULL);"
 TYPES = ("DECIMAL(12, 2)", "DATE", "VARCHAR(20)")
 PEER_TYPES = ("NUMERIC", "TEXT", "TEXT")
@@ -34,6 +40,11 @@ SCANNING = [
 PAIR = "CREATE TABLE A (K INTEGER NOT NULL, X INTEGER NOT NULL);\nCREATE TABLE B (K INTEGER NOT NULL, Y INTEGER NOT NULL);\n"
 JOIN = "SELECT A.X, B.Y FROM A JOIN B ON A.K = B.K"
 PAGES = "8192"
+
+TABLE = "CREATE TABLE T (K INTEGER NOT NULL, X INTEGER NOT NULL);\n"
+GROUPED = "SELECT K, COUNT(*) AS N, SUM(X) AS S FROM T GROUP BY K"
+GROUPS = (10, 1_000, 100_000)
+COUNTED_ROWS = 10_000  # behind the first row of each group, of which native instructions are counted
 
 
 def record():
@@ -122,6 +133,71 @@ def measure_join(counts):
         measured(tried)
 
 
+def write_groups(folder, groups, count):
+    """Writes a table of so many rows as T's file, and for groups.c. Each key comes once, and then they come at random."""
+    os.mkdir(folder)
+    keys = random.sample(range(-2**31, 2**31), groups)
+    rows = [(keys[row] if row < groups else random.choice(keys), random.randint(-2**31, 2**31 - 1)) for row in range(count)]
+    with open(f"{folder}/t.csv", "w") as file:
+        file.write("K,X\n")
+        file.writelines(f"{key},{value}\n" for key, value in rows)
+    numbers = array.array("i", (number for row in rows for number in row))
+    if sys.byteorder == "big":
+        numbers.byteswap()
+    with open(f"{folder}/t.bin", "wb") as file:
+        numbers.tofile(file)
+
+
+def grouping(folder, times=1):
+    """The run of so many grouped queries over a folder's table."""
+    schema = written(f"{folder}/schema.sql", TABLE)
+    script = written(f"{folder}/queries{times}.sql", ";\n".join([GROUPED] * times))
+    return [PROGRAM, "run", schema, folder, script, "--pages", PAGES]
+
+
+def emitted(folder):
+    """How many instructions the query of a folder's table ran."""
+    report = subprocess.run(grouping(folder) + ["--stats"], capture_output=True, check=True, text=True).stdout
+    return int(re.search(r"^STATS 1 STEPS (\d+) ", report, flags=re.M)[1])
+
+
+def native(command):
+    """How many native instructions a command takes."""
+    counted = ["valgrind", "--tool=callgrind", "--callgrind-out-file=/dev/null"] + command
+    notes = subprocess.run(counted, stdout=subprocess.DEVNULL, stderr=subprocess.PIPE, check=True, text=True).stderr
+    return int(re.search(r"Collected : (\d+)", notes)[1])
+
+
+def native_twice(command_of):
+    """How many native instructions are taken by doing once more what a command does once or twice: so reading its file doesn't count."""
+    return native(command_of(2)) - native(command_of(1))
+
+
+def measure_groups(records):
+    random.seed(1)
+    with tempfile.TemporaryDirectory() as room:
+        loop = f"{room}/groups"
+        subprocess.run(["clang", "-O2", "-o", loop, f"{TOP}/groups.c"], check=True)
+        for groups in GROUPS:
+            tried = {}
+            counts = (records, records // 2, groups + 2 * COUNTED_ROWS, groups + COUNTED_ROWS)
+            folders = [f"{room}/{groups}_{order}" for order in range(len(counts))]
+            for folder, count in zip(folders, counts):
+                write_groups(folder, groups, count)
+            for folder, count in list(zip(folders, counts))[:2]:
+                tried["qwasm", f"{groups} groups of {count}"] = grouping(folder)
+                peer = ["sqlite3", ":memory:", TABLE, ".mode csv", f".import --skip 1 {folder}/t.csv T", GROUPED + ";"]
+                tried["sqlite3", f"{groups} groups of {count}"] = peer
+            measured(tried)
+            rows = counts[0] - counts[1]
+            print(f"{groups} groups: {(emitted(folders[0]) - emitted(folders[1])) / rows:.1f} emitted instructions a row")
+            ours = [native_twice(lambda times: grouping(folder, times)) for folder in folders[2:]]
+            theirs = [native_twice(lambda times: [loop, f"{folder}/t.bin", str(times)]) for folder in folders[2:]]
+            for name, (more, fewer) in (("qwasm", ours), ("C", theirs)):
+                print(f"{groups} groups: {name} {(more - fewer) / COUNTED_ROWS:.1f} native instructions a row")
+            print(f"{groups} groups: C {subprocess.run([loop, f'{folders[0]}/t.bin', '5'], capture_output=True, check=True, text=True).stdout.strip()}")
+
+
 def main():
     what = sys.argv[1] if len(sys.argv) > 1 else ""
     records = int(sys.argv[2]) if len(sys.argv) > 2 else 1_000_000
@@ -132,6 +208,8 @@ def main():
     elif what == "joining":
         left, right = (int(word) for word in sys.argv[2:4]) if len(sys.argv) > 3 else (100_000, 100_000)
         measure_join([(left, right), (left // 2, right // 2)])
+    elif what == "grouping":
+        measure_groups(max(records, 2 * max(GROUPS)))
     else:
         sys.exit(__doc__)
 

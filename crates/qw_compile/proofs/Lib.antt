@@ -32,14 +32,14 @@ pub mod QuerySteps
 pub mod QueryTold
 pub mod QueryTyped
 pub mod QueryWithin
-mod ReadersFew
+pub mod ReadersFew
 pub mod RowsRead
 pub mod ScansCounted
 pub mod Sizes
 pub mod SmallWords
 pub mod SpanLengths
 pub mod Spent
-mod StatementLengths
+pub mod StatementLengths
 pub mod StoodBuilt
 pub mod TableBegins
 pub mod TextsFew

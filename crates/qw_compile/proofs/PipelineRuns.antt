@@ -39,7 +39,7 @@ use Rattle.qw_feed.proofs.RoomRuns.{IsRefusal}
 use Rattle.qw_layout.specs.Row.{entry_size}
 use Rattle.qw_expr.specs.Cells.{DeclaresValue}
 use Rattle.qw_expr.specs.Computes.{Known, AreHeld, AreDeclared}
-use Rattle.qw_read.specs.Reading.{known_of, AreBases, HasEntryOf, HasOctets, StandsAt}
+use Rattle.qw_read.specs.Reading.{known_of, AreBases, BeginsAll, HasEntryOf, HasOctets, StandsAt}
 use Rattle.qw_read.proofs.Elsewhere.{stands_same}
 use Rattle.qw_table.specs.Joins.{HasJoinEntry, keyed, sources_of}
 use Rattle.qw_table.specs.Tables.{HasTable, directory_block}
@@ -66,7 +66,7 @@ use Rattle.qw_operator.proofs.WholeFeeds.{built_feeds, selected_feeds}
 use Rattle.qw_emit.proofs.QueryBegins.{RowsBegun, rows_begin_end, rows_keep}
 use Rattle.qw_emit.proofs.QueryEnds.{BehindWords}
 use Rattle.qw_compile.specs.QueryLocals.{base_start, cell_start, own_start, query_readers, readers_over, rows_end, rows_left}
-use Rattle.qw_compile.specs.Statements.{AreCourses, Course, IsCourse, build_block, builds_block, course_block}
+use Rattle.qw_compile.specs.Statements.{AreCourses, Course, IsCourse, build_block, builds_block, count_block, course_block}
 use Rattle.qw_compile.proofs.CourseBegins.{Opened, opened_then}
 use Rattle.qw_leaves.proofs.LeafLists.{all_back, all_front}
 use Rattle.qw_compile.proofs.LocalsDeclared.{first_own_types, rest_own_types}
@@ -211,7 +211,7 @@ module _ (T n : ℕ) (columns : List ReadColumn) (literals : List Known) (conten
     abbrev Same : LowState → Type 0
     Same s = Keeps (Steady T n) (Before base) s0 s
 
-    less_known : (s : LowState) → Same s → IsLess c s.cells
+    pub less_known : (s : LowState) → Same s → IsLess c s.cells
     less_known s keeps (Column k) a b v is = keeps.mapped k a b ∙ (sym (g.columns_seen k a b) ∙ is)
     less_known s keeps (Own k) a b v is = let own = g.own_seen k a b v is in keeps.cells k a b own.0.1 ∙ own.1
 
@@ -240,7 +240,7 @@ module _ (T n : ℕ) (columns : List ReadColumn) (literals : List Known) (conten
       entered_at k rows readers s v keeps cells sizes high end all.1 inside.1 ends.1,
     )
 
-    standing_at : (i : ℕ) (row : List Val) (readers : List Reader) (s : LowState) → ((k a b : ℕ) → s.cells (Column k) a b ≡ s0.cells (Column k) a b) → s.columns ≡ s0.columns → AllByRecursion (IsStanding i row s0) readers →
+    pub standing_at : (i : ℕ) (row : List Val) (readers : List Reader) (s : LowState) → ((k a b : ℕ) → s.cells (Column k) a b ≡ s0.cells (Column k) a b) → s.columns ≡ s0.columns → AllByRecursion (IsStanding i row s0) readers →
         AllByRecursion (IsStanding i row s) readers
     standing_at i row [] s mapped sizes all = tt
     standing_at i row (r ∷ readers) s mapped sizes all = (
@@ -260,13 +260,13 @@ module _ (T n : ℕ) (columns : List ReadColumn) (literals : List Known) (conten
     counted_over : (entry : ℕ) → AllByRecursion (λ (r : Reader). (r.left ≡ rows_left T) × (r.end ≡ rows_end T)) (over entry)
     counted_over entry = all_over (λ (r : Reader). (r.left ≡ rows_left T) × (r.end ≡ rows_end T)) entry (query_readers T n columns) (counted_each T start low 0 columns)
 
-    declared_over : (entry : ℕ) → AreDeclared types (literals ++ map known_of (over entry))
+    pub declared_over : (entry : ℕ) → AreDeclared types (literals ++ map known_of (over entry))
     declared_over entry =
         let P : Known → Type 0 = λ (k : Known). DeclaresValue types k.operand in
         all-append P literals (map known_of (over entry)) (all_front P literals (map known_of (query_readers T n columns)) g.declared)
         (known_over_all P entry (query_readers T n columns) (all_back P literals (map known_of (query_readers T n columns)) g.declared))
 
-    laid : (entry next : ℕ) → own_first ≤ next → Laid literals (over entry) (rows_left T) (rows_left T) (rows_end T) low next
+    pub laid : (entry next : ℕ) → own_first ≤ next → Laid literals (over entry) (rows_left T) (rows_left T) (rows_end T) low next
     laid entry next behind = record {
       counters = (omega arith, omega arith, omega arith);
       counted = counted_over entry;
@@ -276,27 +276,39 @@ module _ (T n : ℕ) (columns : List ReadColumn) (literals : List Known) (conten
       readers_within = known_over_all (λ (k : Known). Uses (Among next) k.operand.cell) entry (query_readers T n columns) (read_within T start low 0 next columns (omega arith) (omega (arith, behind)));
     }
 
-    -- ---- a pipeline's scan, where it begins
-    module _ (stoods : List Stood) (p : Pipeline) (course : Course) (next : ℕ) (own : List ValType) (behind : own_first ≤ next) (room : next + length own ≤ many) (is : IsCourse literals (query_readers T n columns) next p course own)
-        (own_types : AreOwn types next own) (source : SourceOf p) (finds : FindsOf stoods p) where
+    -- ---- the blocks before a pipeline's scan, whatever is done at its rows
+    module _ (p : Pipeline) (course : Course) (first : Reader) (first_is : slice_get (over p.entry) 0 ≡ Some first) (index_is : course.index ≡ first.index) (begins : BeginsAll (over p.entry) course.begins) (source : SourceOf p) where
       abbrev rows : List (List Val)
       rows = rows_of p
 
       -- the first column tells how many rows there are
       first_entered : (readers : List Reader) (r : Reader) → slice_get readers 0 ≡ Some r → AllByRecursion (Entered (length rows) s0) readers → AllByRecursion (λ (q : Reader). q.index < length columns) readers →
           (s0.cells (Own 0) (entry_offset r.index + 12) 4 ≡ Some (Number (length rows))) × (r.index < length columns)
-      first_entered [] r first all inside = absurd cc
-      first_entered (q ∷ readers) r first all inside =
-          let same : q ≡ r = same_Some q r first in
+      first_entered [] r there all inside = absurd cc
+      first_entered (q ∷ readers) r there all inside =
+          let same : q ≡ r = same_Some q r there in
           (subst (λ (x : Reader). s0.cells (Own 0) (entry_offset x.index + 12) 4 ≡ Some (Number (length rows))) same all.0.entry.3, subst (λ (x : Reader). x.index < length columns) same inside.0)
 
       counted_rows : (s : LowState) → Same s → s.cells (Own 0) (entry_offset course.index + 12) 4 ≡ Some (Number (length rows))
       counted_rows s keeps =
-          let first = first_entered (over p.entry) is.first is.first_is source.entered source.indices in
+          let known = first_entered (over p.entry) first first_is source.entered source.indices in
           let before = g.entries_before in
-          subst (λ (k : ℕ). s.cells (Own 0) (entry_offset k + 12) 4 ≡ Some (Number (length rows))) (sym is.index_is) (keeps.cells 0 (entry_offset is.first.index + 12) 4 (omega (arith, before, first.1)) ∙ first.0)
+          subst (λ (k : ℕ). s.cells (Own 0) (entry_offset k + 12) 4 ≡ Some (Number (length rows))) (sym index_is) (keeps.cells 0 (entry_offset first.index + 12) 4 (omega (arith, before, known.1)) ∙ known.0)
 
-      module _ (s v : LowState) (keeps : Same s) (sized : slice_get s.own 0 ≡ Some page) (stand : AllStand c stoods v) (opened : Opened T (length rows) start (over p.entry) s v) where
+      -- what is done behind them
+      pub course_opens : (row : Statement) (m : ℕ) (P : LowState → Type 0) (R : ℕ → Type 0) (s : LowState) → Same s → ((v : LowState) → Opened T (length rows) start (over p.entry) s v → Ends m P Never R (meaning most fuel row v)) →
+          Ends (9 + (size course.begins + m)) P Never R (meaning most fuel (seq (count_block T course.index) (seq course.begins row)) s)
+      course_opens row m P R s keeps onward =
+          opened_then T most fuel (length rows) course.index source.few s (omega (arith, g.long, g.first_own, keeps.many)) (keeps.locals 0 (inl refl) ∙ g.descriptor) (counted_rows s keeps) start (over p.entry) course.begins (omega arith) begins
+          (bases_over p.entry T start start low 0 (length s.locals) columns (omega arith) (omega (arith, g.long, g.first_own, keeps.many)))
+          (λ v counted. entered_at start (length rows) (over p.entry) s v keeps (ap (λ (x : LowState). x.cells) counted.kept.others) (ap (λ (x : LowState). x.columns) counted.kept.others) (omega arith) counted.end source.entered source.indices
+          (ends_all (over p.entry) (counted_over p.entry)))
+          R m P row onward
+
+    -- ---- a pipeline's scan, where it begins
+    module _ (stoods : List Stood) (p : Pipeline) (course : Course) (next : ℕ) (own : List ValType) (behind : own_first ≤ next) (room : next + length own ≤ many) (is : IsCourse literals (query_readers T n columns) next p course own)
+        (own_types : AreOwn types next own) (source : SourceOf p) (finds : FindsOf stoods p) where
+      module _ (s v : LowState) (keeps : Same s) (sized : slice_get s.own 0 ≡ Some page) (stand : AllStand c stoods v) (opened : Opened T (length (rows_of p)) start (over p.entry) s v) where
         literals_same : (i : ℕ) → 8 + T ≤ i → i < start → slice_get v.locals i ≡ slice_get s0.locals i
         literals_same i from to = opened.later i (omega (arith, from)) to ∙ keeps.locals i (inr (from, to))
 
@@ -337,14 +349,9 @@ module _ (T n : ℕ) (columns : List ReadColumn) (literals : List Known) (conten
         }
 
       -- what is done behind its beginning
-      pub course_then : (m : ℕ) (P : LowState → Type 0) (R : ℕ → Type 0) (s : LowState) → Same s → ((v : LowState) → Opened T (length rows) start (over p.entry) s v → Ends m P Never R (meaning most fuel (rows_block (rows_left T) course.row) v)) →
+      pub course_then : (m : ℕ) (P : LowState → Type 0) (R : ℕ → Type 0) (s : LowState) → Same s → ((v : LowState) → Opened T (length (rows_of p)) start (over p.entry) s v → Ends m P Never R (meaning most fuel (rows_block (rows_left T) course.row) v)) →
           Ends (9 + (size course.begins + m)) P Never R (meaning most fuel (course_block T course) s)
-      course_then m P R s keeps onward =
-          opened_then T most fuel (length rows) course.index source.few s (omega (arith, g.long, g.first_own, keeps.many)) (keeps.locals 0 (inl refl) ∙ g.descriptor) (counted_rows s keeps) start (over p.entry) course.begins (omega arith) is.begins
-          (bases_over p.entry T start start low 0 (length s.locals) columns (omega arith) (omega (arith, g.long, g.first_own, keeps.many)))
-          (λ v counted. entered_at start (length rows) (over p.entry) s v keeps (ap (λ (x : LowState). x.cells) counted.kept.others) (ap (λ (x : LowState). x.columns) counted.kept.others) (omega arith) counted.end source.entered source.indices
-          (ends_all (over p.entry) (counted_over p.entry)))
-          R m P (rows_block (rows_left T) course.row) onward
+      course_then m P R s keeps onward = course_opens p course is.first is.first_is is.index_is is.begins source (rows_block (rows_left T) course.row) m P R s keeps onward
 
     -- one more of them
     last_or : (stoods : List Stood) (new : Stood) (t : ℕ) (st : Stood) → slice_get (stoods ++ new ∷ []) t ≡ Some st → (slice_get stoods t ≡ Some st) ⊎ ((t ≡ length stoods) × (new ≡ st))
@@ -354,7 +361,7 @@ module _ (T n : ℕ) (columns : List ReadColumn) (literals : List Known) (conten
     last_or (one ∷ stoods) new (suc t) st there = ⊎_elim (λ before. inl before) (λ last. inr (ap suc last.0, last.1)) (last_or stoods new t st there)
 
     -- what opening a scan leaves as it was
-    opened_keeps : (rows : ℕ) (readers : List Reader) (s v : LowState) → Opened T rows start readers s v → Keeps (Steady T n) (Before base) s v
+    pub opened_keeps : (rows : ℕ) (readers : List Reader) (s v : LowState) → Opened T rows start readers s v → Keeps (Steady T n) (Before base) s v
     opened_keeps rows readers s v o = record {
       many = o.kept.many;
       locals = λ i old. ⊎_elim (λ z. o.kept.below i (omega (arith, z))) (λ g'. o.later i (omega (arith, g'.0)) g'.1) old;
@@ -367,7 +374,7 @@ module _ (T n : ℕ) (columns : List ReadColumn) (literals : List Known) (conten
     }
 
     -- an old local is one that a scan keeps
-    steady_below : (i : ℕ) → Steady T n i → But (rows_left T) (Below low) i
+    pub steady_below : (i : ℕ) → Steady T n i → But (rows_left T) (Below low) i
     steady_below i old = ⊎_elim (λ z. (inl z, λ e. omega (arith, z, e))) (λ g'. (inr (omega (arith, g'.0), omega (arith, g'.1)), λ e. omega (arith, g'.0, e))) old
 
     -- ---- what the blocks of pipelines feed
@@ -376,7 +383,7 @@ module _ (T n : ℕ) (columns : List ReadColumn) (literals : List Known) (conten
 
     module _ (Told : ℕ → Type 0) where
       -- tables still stand where what is before free space was kept
-      all_keep : (stoods : List Stood) (m : ℕ) (Spared : ℕ → ℕ → Type 0) (front : ℕ) (s s' : LowState) → ((t : ℕ) (st : Stood) → slice_get stoods t ≡ Some st → (base ≤ pos st.part st.offset) × (st.front ≤ front)) → ((at width : ℕ) → at + width ≤ front → Spared at width) →
+      pub all_keep : (stoods : List Stood) (m : ℕ) (Spared : ℕ → ℕ → Type 0) (front : ℕ) (s s' : LowState) → ((t : ℕ) (st : Stood) → slice_get stoods t ≡ Some st → (base ≤ pos st.part st.offset) × (st.front ≤ front)) → ((at width : ℕ) → at + width ≤ front → Spared at width) →
           5 + length stoods ≤ m → Keeps (Below m) Spared s s' → AllStand c stoods s → AllStand c stoods s'
       all_keep stoods m Spared front s s' fronts spared high keeps stand t st there =
           let within = slice_get_within stoods t st there in
@@ -525,7 +532,7 @@ module _ (T n : ℕ) (columns : List ReadColumn) (literals : List Known) (conten
       stood_many before (q ∷ ps) [] are = absurd are
       stood_many before (q ∷ ps) (one ∷ stoods) are = ap suc (stood_many (before ++ one ∷ []) ps stoods are.1)
 
-      more_paid : (stoods : List Stood) (budget later : ℕ) (s : LowState) → budget ≤ later → BetweenOf stoods budget s → BetweenOf stoods later s
+      pub more_paid : (stoods : List Stood) (budget later : ℕ) (s : LowState) → budget ≤ later → BetweenOf stoods budget s → BetweenOf stoods later s
       more_paid stoods budget later s le h = record {
         part = h.part;
         offset = h.offset;
@@ -541,7 +548,7 @@ module _ (T n : ℕ) (columns : List ReadColumn) (literals : List Known) (conten
           (reached : (front : List Pipeline) (p : Pipeline) (back : List Pipeline) (stoods : List Stood) → building ≡ front ++ p ∷ back → AreStood contents [] front stoods →
           IsReached T n columns literals contents u most N s0 stoods p (budget (length front)) (budget (suc (length front))))
           (told : (front : List Pipeline) (p : Pipeline) (back : List Pipeline) (stoods : List Stood) → building ≡ front ++ p ∷ back → AreStood contents [] front stoods → (raised : ℕ) → Tells (fed_by stoods p).codes raised → Told raised)
-          (all_built : length building ≡ T) where
+          (all_built : length building ≤ T) where
         -- all tables up to these stand
         pub record AllBuilt (front : List Pipeline) (paid_for : ℕ) (t : LowState) : Type 0 where
           pub stoods : List Stood
@@ -570,10 +577,10 @@ module _ (T n : ℕ) (columns : List ReadColumn) (literals : List Known) (conten
 
         pub builds_end : (front back : List Pipeline) (stoods : List Stood) (number : ℕ) → building ≡ front ++ back → AreStood contents [] front stoods → number ≡ length front → (courses : List Course) (next : ℕ) (own : List ValType) → own_first ≤ next → next + length own ≤ many →
             AreOwn types next own → AreCourses literals (query_readers T n columns) next back courses own → (s : LowState) → BetweenOf stoods (budget (length front)) s →
-            Ends (size (builds_block T number courses) * N) (AllBuilt building (budget T)) Never Told (meaning most fuel (builds_block T number courses) s)
+            Ends (size (builds_block T number courses) * N) (AllBuilt building (budget (length building))) Never Told (meaning most fuel (builds_block T number courses) s)
         builds_end front [] stoods number parts are number_is [] next own behind room own_types courses_are s between =
             let whole : building ≡ front = parts ∙ append-nil front in
-            let last : length front ≡ T = sym (ap (λ (l : List Pipeline). length l) whole) ∙ all_built in
+            let last : length front ≡ length building = sym (ap (λ (l : List Pipeline). length l) whole) in
             (omega arith, record { stoods = stoods; are = subst (λ (l : List Pipeline). AreStood contents [] l stoods) (sym whole) are; between = subst (λ (k : ℕ). BetweenOf stoods (budget k) s) last between })
         builds_end front [] stoods number parts are number_is (c' ∷ courses) next own behind room own_types courses_are s between = absurd courses_are
         builds_end front (p ∷ back) stoods number parts are number_is [] next own behind room own_types courses_are s between = absurd courses_are
@@ -582,8 +589,8 @@ module _ (T n : ℕ) (columns : List ReadColumn) (literals : List Known) (conten
             let first : Statement = build_block T number course in
             let rest : Statement = builds_block T (number + 1) courses in
             let further : length (front ++ p ∷ []) ≡ suc (length front) = let two = length-append front (p ∷ []) in omega (arith, two) in
-            Ends-more (AllBuilt building (budget T)) Never Told (size first * N + size rest * N) (size (builds_block T number (course ∷ courses)) * N) (meaning most fuel (builds_block T number (course ∷ courses)) s) (omega (arith, add-mul (size first) (size rest) N))
-            (Ends-then (AllBuilt building (budget T)) Never Told (size first * N) (size rest * N) (AllBuilt (front ++ p ∷ []) (budget (suc (length front)))) (meaning most fuel first s) (meaning most fuel rest)
+            Ends-more (AllBuilt building (budget (length building))) Never Told (size first * N + size rest * N) (size (builds_block T number (course ∷ courses)) * N) (meaning most fuel (builds_block T number (course ∷ courses)) s) (omega (arith, add-mul (size first) (size rest) N))
+            (Ends-then (AllBuilt building (budget (length building))) Never Told (size first * N) (size rest * N) (AllBuilt (front ++ p ∷ []) (budget (suc (length front)))) (meaning most fuel first s) (meaning most fuel rest)
             (one_ends front p back stoods number parts are number_is course next courses_are.0 behind (omega (arith, room, all)) (first_own_types types next own courses_are.0 courses_are.1 courses_are.2 own_types) courses_are.3 s between)
             (λ t h. builds_end (front ++ p ∷ []) back h.stoods (number + 1) (parts ∙ sym (append_assoc front (p ∷ []) back)) h.are (omega (arith, further, number_is)) courses (next + length courses_are.0) courses_are.1 (omega (arith, behind)) (omega (arith, room, all))
             (rest_own_types types next own courses_are.0 courses_are.1 courses_are.2 own_types) courses_are.4 t (subst (λ (k : ℕ). BetweenOf h.stoods (budget k) t) (sym further) h.between)))
@@ -597,11 +604,11 @@ module _ (T n : ℕ) (columns : List ReadColumn) (literals : List Known) (conten
           RowHas = HasRow (LiesIn c) (map kind_of items)
 
           abbrev Resulted : List Stood → LowState → Type 0
-          Resulted stoods w = IsResult T n contents c base u (budget T) s0 last items stoods w
+          Resulted stoods w = IsResult T n contents c base u (budget (length building)) s0 last items stoods w
 
-          module _ (stoods : List Stood) (are : AreStood contents [] building stoods) (source : SourceOf last) (finds : FindsOf stoods last) (fits : row_width + u ≤ page) (enough : budget T + length (fed_by stoods last).rows * row_width + 2 * u < (most + 1) * u)
+          module _ (stoods : List Stood) (are : AreStood contents [] building stoods) (source : SourceOf last) (finds : FindsOf stoods last) (fits : row_width + u ≤ page) (enough : budget (length building) + length (fed_by stoods last).rows * row_width + 2 * u < (most + 1) * u)
               (course : Course) (next : ℕ) (own : List ValType) (behind : own_first ≤ next) (room : next + length own ≤ many) (is : IsCourse literals (query_readers T n columns) next last course own) (own_types : AreOwn types next own)
-              (told_last : (raised : ℕ) → Tells (fed_by stoods last).codes raised → Told raised) (s : LowState) (between : BetweenOf stoods (budget T) s) where
+              (told_last : (raised : ℕ) → Tells (fed_by stoods last).codes raised → Told raised) (s : LowState) (between : BetweenOf stoods (budget (length building)) s) where
             abbrev rows_base : ℕ
             rows_base = pos between.part between.offset
 
@@ -615,14 +622,14 @@ module _ (T n : ℕ) (columns : List ReadColumn) (literals : List Known) (conten
             fewer_last rows more le = let all = length-append rows more in omega (arith, le, all)
 
             -- the result begins behind the tables
-            module _ (t : LowState) (begun : RowsBegun RowHas row_width u (budget T) between.part between.offset s t) where
+            module _ (t : LowState) (begun : RowsBegun RowHas row_width u (budget (length building)) between.part between.offset s t) where
               same_last : Same t
               same_last = Keeps-then (Steady T n) (Before base) s0 s t between.keeps
-                  (Keeps-less (Steady T n) (Before base) (From 5) (Before base) s t (λ i old. ⊎_elim inl (λ g'. inr (omega (arith, g'.0))) old) (λ at wide low'. low') (rows_keep (Before base) RowHas row_width u (budget T) between.part between.offset s t begun))
+                  (Keeps-less (Steady T n) (Before base) (From 5) (Before base) s t (λ i old. ⊎_elim inl (λ g'. inr (omega (arith, g'.0))) old) (λ at wide low'. low') (rows_keep (Before base) RowHas row_width u (budget (length building)) between.part between.offset s t begun))
 
               stand_begun : AllStand c stoods t
               stand_begun = all_keep stoods (rows_left T) (λ at wide. Unit {0}) rows_base s t between.fronts (λ at wide low'. tt) (omega (arith, stood_T))
-                  (Keeps-less (Below (rows_left T)) (λ at wide. Unit {0}) (From 5) (λ at wide. Unit {0}) s t (λ i old. ⊎_elim inl (λ g'. inr g'.0) old) (λ at wide x. x) (rows_keep (λ at wide. Unit {0}) RowHas row_width u (budget T) between.part between.offset s t begun))
+                  (Keeps-less (Below (rows_left T)) (λ at wide. Unit {0}) (From 5) (λ at wide. Unit {0}) s t (λ i old. ⊎_elim inl (λ g'. inr g'.0) old) (λ at wide x. x) (rows_keep (λ at wide. Unit {0}) RowHas row_width u (budget (length building)) between.part between.offset s t begun))
                   between.stand
 
               module _ (v : LowState) (opened : Opened T (length (rows_of last)) start (over last.entry) t v) where
@@ -633,12 +640,12 @@ module _ (T n : ℕ) (columns : List ReadColumn) (literals : List Known) (conten
                 scanned_last : ScannedBy stoods last (over last.entry) next course.row own v
                 scanned_last = scanned stoods last course next own behind room is own_types source finds t v same_last (begun.has.room.pages 0 (omega arith)) stand_open opened
 
-                has_begun : HasRows RowHas row_width rows_base u (budget T) [] v
+                has_begun : HasRows RowHas row_width rows_base u (budget (length building)) [] v
                 has_begun = rows_kept RowHas row_width (omega arith) (λ c1 c2 k o values same has. row-same (LiesIn c) (map kind_of items) c1 c2 k o values (λ a b from to. let many_kinds = length-map items kind_of in same a b from (omega (arith, to, many_kinds))) has)
-                    rows_base u (budget T) fits most fuel (rows_left T) (omega arith) [] t v opened.kept begun.has
+                    rows_base u (budget (length building)) fits most fuel (rows_left T) (omega arith) [] t v opened.kept begun.has
 
                 abbrev sink_last : Sink
-                sink_last = rows_sink RowHas row_width rows_base u (budget T) (AtMost (length fed_last.rows)) fewer_last
+                sink_last = rows_sink RowHas row_width rows_base u (budget (length building)) (AtMost (length fed_last.rows)) fewer_last
 
                 resulted : (w : LowState) → FedTo sink_last (But (rows_left T) (Below low)) Any fed_last [] v w → Resulted stoods w
                 resulted w done = record {
@@ -658,7 +665,7 @@ module _ (T n : ℕ) (columns : List ReadColumn) (literals : List Known) (conten
                     let block : Statement = rows_block (rows_left T) course.row in
                     Ends-weaker (size block * cost) (size block * N) (FedTo sink_last (But (rows_left T) (Below low)) Any fed_last [] v) (Resulted stoods) Never Never (Tells fed_last.codes) Told (meaning most fuel block v)
                     (mul-le (size block) cost (size block) N (omega arith) finds.cost) resulted (λ w x. x) told_last
-                    (selected_feeds c stoods (rows_left T) (omega (arith, stood_T)) most fuel many types u (budget T) (AtMost (length fed_last.rows)) fewer_last contents last literals (over last.entry) (rows_left T) (rows_end T) low next course.row own v scanned_last
+                    (selected_feeds c stoods (rows_left T) (omega (arith, stood_T)) most fuel many types u (budget (length building)) (AtMost (length fed_last.rows)) fewer_last contents last literals (over last.entry) (rows_left T) (rows_end T) low next course.row own v scanned_last
                     items rows_base fits (λ rows few. let less = mul-le (length rows) row_width (length fed_last.rows) row_width few (omega arith) in omega (arith, less, enough))
                     (λ j a w x is'. let seen_low = (g.own_seen j a w x is').0 in inr (seen_low.0, omega (arith, seen_low.1, between.behind))) (λ i st there. let before = between.fronts i st there in let start_low = g.entries_before in (omega (arith, before.0, start_low), before.1))
                     last_is [] has_begun (omega arith))
@@ -669,8 +676,8 @@ module _ (T n : ℕ) (columns : List ReadColumn) (literals : List Known) (conten
                 let loop : ℕ = size (rows_block (rows_left T) course.row) in
                 let all : ℕ = 9 + size course.begins in
                 let before = g.entries_before in
-                Ends-then P Never Told 6 (size (course_block T course) * N + m) (RowsBegun RowHas row_width u (budget T) between.part between.offset s) (meaning most fuel begin_block s) (meaning most fuel (seq (course_block T course) finish))
-                (rows_begin_end Told most fuel s RowHas row_width u (budget T) between.part between.offset (omega (arith, between.behind, before)) between.room (omega (arith, g.long, g.first_own, between.keeps.many))
+                Ends-then P Never Told 6 (size (course_block T course) * N + m) (RowsBegun RowHas row_width u (budget (length building)) between.part between.offset s) (meaning most fuel begin_block s) (meaning most fuel (seq (course_block T course) finish))
+                (rows_begin_end Told most fuel s RowHas row_width u (budget (length building)) between.part between.offset (omega (arith, between.behind, before)) between.room (omega (arith, g.long, g.first_own, between.keeps.many))
                 (between.keeps.locals 0 (inl refl) ∙ g.descriptor) (between.keeps.cells 0 8 4 (omega (arith, before)) ∙ g.root) between.paid)
                 (λ t begun. Ends-then P Never Told (size (course_block T course) * N) m (Resulted stoods) (meaning most fuel (course_block T course) t) (meaning most fuel finish)
                 (Ends-more (Resulted stoods) Never Told (9 + (size course.begins + loop * N)) (size (course_block T course) * N) (meaning most fuel (course_block T course) t) (omega (arith, add-mul all loop N, at_least all N g.some))

@@ -28,11 +28,11 @@ use Rattle.qw_physical.proofs.Results.{column_by_lists, in_order}
 use Rattle.qw_physical.proofs.Scaled.{query_scaled}
 use Rattle.qw_physical.proofs.Shown.{IsAmong, IsColumn, Within, at_either, behind, front_is, none_among}
 use Rattle.qw_operator.proofs.PairRows.{AreDistinct}
-use Rattle.qw_compile.specs.Inner.Passes.{ArePipelinesOf}
-use Rattle.qw_compile.specs.Inner.Columns.{AreColumnsOf}
+use Rattle.qw_compile.specs.QueryPasses.{ArePipelinesOf}
+use Rattle.qw_compile.specs.QueryColumns.{AreColumnsOf}
 use Rattle.qw_compile.specs.QueryMade.{CanStand}
 use Rattle.qw_compile.specs.WrittenTexts.{texts_of_query}
-use Rattle.qw_compile.proofs.QueryCan.{query_scans, query_stands}
+use Rattle.qw_compile.proofs.QueryCan.{IsReadyPipeline, query_ready, query_scans, query_stands}
 use Rattle.qw_compile.proofs.ScansCounted.{pipelines_counted}
 use Rattle.qw_compile.proofs.TextsWithin.{texts_within}
 use Rattle.qw_physical.proofs.Firsts.{firsts_kept}
@@ -189,7 +189,7 @@ module _ (parts : QueryParts) (kept columns : List ReadColumn) (made : List code
   few_rows : 0 ≤ 1000000
   few_rows = omega arith
 
-  over_none : IsPlanned (query_of parts) [] kept of.node
+  pub over_none : IsPlanned (query_of parts) [] kept of.node
   over_none = planned [] (all_of_any (IsOfEntry []) entries (λ e. record { few = few_rows; typed = tt }))
 
   -- with the query's texts
@@ -197,6 +197,11 @@ module _ (parts : QueryParts) (kept columns : List ReadColumn) (made : List code
   all_stand count =
       query_stands (query_of parts) kept columns of.node over_none are.on are.conjuncts are.items are.kept_few (are_sized entries kept are.sized are.kept_declared)
       (named_within parts kept columns are) are.each count (texts_of_query parts) made (texts_within parts kept made of) of.follow of.typed
+
+  -- and wherever literals are
+  pub all_ready : AllByRecursion (IsReadyPipeline kept columns) (map pipeline_of made)
+  all_ready =
+      query_ready (query_of parts) kept columns of.node over_none are.on are.conjuncts are.items are.kept_few (are_sized entries kept are.sized are.kept_declared) are.each (map pipeline_of made) of.follow of.typed
 
   pub all_scan : AllByRecursion (ScansOne (entries_of (query_of parts).sources)) (map pipeline_of made)
   all_scan =

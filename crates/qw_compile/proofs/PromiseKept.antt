@@ -40,8 +40,8 @@ use Rattle.qw_physical.proofs.Typing.{zip_all}
 use Rattle.qw_operator.specs.Takes.{CanCarry}
 use Rattle.qw_operator.proofs.Stood.{Stood}
 use Rattle.qw_emit.proofs.Answered.{IsTold}
-use Rattle.qw_compile.specs.Inner.Columns.{AreColumnsOf}
-use Rattle.qw_compile.specs.Inner.Passes.{ArePipelinesOf}
+use Rattle.qw_compile.specs.QueryColumns.{AreColumnsOf}
+use Rattle.qw_compile.specs.QueryPasses.{ArePipelinesOf}
 use Rattle.qw_compile.specs.PlannedQueries.{greatest, page_bound, placed, stored, units}
 use Rattle.qw_compile.proofs.Greatest.{greatest_small}
 use Rattle.qw_compile.proofs.KeptBounds.{greatest_few, stored_few}

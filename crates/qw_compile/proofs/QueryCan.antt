@@ -115,13 +115,13 @@ known_behind k (x ∷ ks) known h = inr (known_behind k ks known h)
 knows_behind : (ks known : List Known) (e : Expression) → Knows known e → Knows (ks ++ known) e
 knows_behind ks known e h = (h.0, known_behind (record { expression = e; operand = h.0 }) ks known h.1)
 
-literals_behind : (ks known : List Known) (l : Leaf) → IsLiteralOf known l → IsLiteralOf (ks ++ known) l
+pub literals_behind : (ks known : List Known) (l : Leaf) → IsLiteralOf known l → IsLiteralOf (ks ++ known) l
 literals_behind ks known (leaf.Number v s) h = knows_behind ks known (number v s) h
 literals_behind ks known (leaf.Date d) h = knows_behind ks known (date d) h
 literals_behind ks known (leaf.Text t) h = knows_behind ks known (text t) h
 literals_behind ks known (leaf.Column i ty) h = tt
 
-knows_kept : (kept seen : List ReadColumn) (known : List Known) → KnowsAll known seen → KnowsAll (map anywhere kept ++ known) (kept ++ seen)
+pub knows_kept : (kept seen : List ReadColumn) (known : List Known) → KnowsAll known seen → KnowsAll (map anywhere kept ++ known) (kept ++ seen)
 knows_kept [] seen known has i ty h = has i ty h
 knows_kept (c ∷ kept) seen known has i ty h = one (at_either (c.number, c.ty) (typed_numbers (kept ++ seen)) (i, ty) h) (λ g. knows_kept kept seen known has i ty g)
   where
@@ -415,15 +415,18 @@ module _ (query : Specification) (kept columns : List ReadColumn) (node : Node) 
       (all_pairs (IsFewCourse 1000 512) (IsSeen kept) (builds_of kept node) (query_builds_few query [] kept node planned many fit) (builds_seen query [] kept node planned on conjuncts items)))
       ((query_last_scans query [] kept node planned, (query_last_few query [] kept node planned many fit, last_seen query [] kept node planned on conjuncts items)), tt))
 
-  -- so each of the code's can stand
+  -- so each of the code's is ready
+  pub query_ready : HasEach columns (length entries) → (qs : List Pipeline) → AllZip FollowsPipeline (all_spelled kept 0 (pipelines node)) qs → AllByRecursion IsTypedPhysical qs → AllByRecursion (IsReadyPipeline kept columns) qs
+  query_ready each qs follow typed =
+      let fine : AllByRecursion IsFine qs =
+      zip_all FollowsPipeline IsFine IsFine (λ p q z h. (scans_follow entries p q z h.0, (few_follows 1000 512 p q z h.1.0, seen_follows kept p q z h.1.1))) (all_spelled kept 0 (pipelines node)) qs follow spelled_fine in
+      all_more (λ p. IsFine p × IsTypedPhysical p) (IsReadyPipeline kept columns) qs (λ p h. (scan_some entries columns each p h.0.0, (h.1, h.0.1)))
+      (all_pairs IsFine IsTypedPhysical qs fine typed)
+
+  -- and can stand
   pub query_stands : Within kept columns → HasEach columns (length entries) → (count : ℕ) (ts : List (List ℕ)) (ps : List coded.Pipeline) → AllByRecursion (Contains ts) (query_texts ps) → AllZip FollowsPipeline (all_spelled kept 0 (pipelines node)) (map pipeline_of ps)
       → AllByRecursion IsTypedPhysical (map pipeline_of ps) → AllByRecursion (λ (q : coded.Pipeline). CanStand count ts ps columns (pipeline_of q)) ps
-  query_stands within each count ts ps among follow typed =
-      let fine : AllByRecursion IsFine (map pipeline_of ps) =
-      zip_all FollowsPipeline IsFine IsFine (λ p q z h. (scans_follow entries p q z h.0, (few_follows 1000 512 p q z h.1.0, seen_follows kept p q z h.1.1))) (all_spelled kept 0 (pipelines node)) (map pipeline_of ps) follow spelled_fine in
-      all_stand count ts ps kept columns among within
-      (all_more (λ p. IsFine p × IsTypedPhysical p) (IsReadyPipeline kept columns) (map pipeline_of ps) (λ p h. (scan_some entries columns each p h.0.0, (h.1, h.0.1)))
-      (all_pairs IsFine IsTypedPhysical (map pipeline_of ps) fine typed))
+  query_stands within each count ts ps among follow typed = all_stand count ts ps kept columns among within (query_ready each (map pipeline_of ps) follow typed)
 
   -- and scans an entry
   pub query_scans : (qs : List Pipeline) → AllZip FollowsPipeline (all_spelled kept 0 (pipelines node)) qs → AllByRecursion (ScansOne entries) qs

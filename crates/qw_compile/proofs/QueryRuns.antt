@@ -298,7 +298,7 @@ module _ (layout : Layout) (tables : List (List (List Val))) (limit others : ℕ
         (words_up (word_start T (length texts)) (word_start T (length texts) + length words) (length u'.locals) constants (omega (arith, kept.many, long, room)) (words_in_locals (word_start T (length texts)) words)))
 
     -- then what follows is done
-    leads_then : (t : LowState) → SpaceBegun base others first t → (R : ℕ → Type 0) (m : ℕ) (P : LowState → Type 0) (rest : Statement) → ((s : LowState) → IsBegun s → Ends m P Never R (meaning most fuel rest s)) →
+    pub leads_then : (t : LowState) → SpaceBegun base others first t → (R : ℕ → Type 0) (m : ℕ) (P : LowState → Type 0) (rest : Statement) → ((s : LowState) → IsBegun s → Ends m P Never R (meaning most fuel rest s)) →
         Ends (size leads + (size sets + m)) P Never R (meaning most fuel (seq leads (seq sets rest)) t)
     leads_then t begun R m P rest onward =
         let long = begun.many in
@@ -310,13 +310,13 @@ module _ (layout : Layout) (tables : List (List (List Val))) (limit others : ℕ
         (λ u' led. Ends-then P Never R (size sets) m IsBegun (meaning most fuel sets u') (meaning most fuel rest) (sets_end t u' begun led.0 led.1 R) onward)
 
     module _ (s0 : LowState) (begun : IsBegun s0) (some : 1 ≤ N) (turns : N ≤ fuel) (u_low : u ≤ page) (declared : AreDeclared types (literals ++ map known_of (query_readers T n columns))) where
-      cells_first : s0.cells ≡ first.cells
+      pub cells_first : s0.cells ≡ first.cells
       cells_first = ap (λ (x : LowState). x.cells) begun.kept.others
 
-      sizes_first : s0.columns ≡ first.columns
+      pub sizes_first : s0.columns ≡ first.columns
       sizes_first = ap (λ (x : LowState). x.columns) begun.kept.others
 
-      long_first : length s0.locals ≡ many
+      pub long_first : length s0.locals ≡ many
       long_first = begun.kept.many ∙ ap suc (length-replicate {A = Value} others (Number 0))
 
       own_seen : (k a b : ℕ) (v : Value) → c (Own k) a b ≡ Some v → ((12 ≤ pos k a) × (pos k a + b ≤ base)) × (s0.cells (Own k) a b ≡ Some v)
@@ -391,6 +391,12 @@ module _ (layout : Layout) (tables : List (List (List Val))) (limit others : ℕ
       items_many : length items ≡ length layout.cells
       items_many = sym (length-map items kind_of) ∙ (ap (λ (ks : List (Option Kind)). length ks) kinds_are ∙ length-map layout.cells (λ (k : Kind). Some k))
 
+      last_here : (stoods : List Stood) → AreStood tables [] building stoods → LastReach T n columns literals tables u most N table_of stoods last (length items) (budget (length building))
+      last_here stoods are = subst (λ (k : ℕ). LastReach T n columns literals tables u most N table_of stoods last (length items) (budget k)) (sym all_built) (last_reached stoods are)
+
+      no_more : length building ≤ T
+      no_more = omega (arith, all_built)
+
       module _ (s0 : LowState) (begun : IsBegun s0) where
         g : Grounds T n columns literals c base u fuel N many types s0
         g = grounds s0 begun some turns u_low declared
@@ -411,35 +417,35 @@ module _ (layout : Layout) (tables : List (List (List Val))) (limit others : ℕ
             }
 
         -- from the rows that were fed to what is settled
-        finish_ends : (stoods : List Stood) → AreStood tables [] building stoods → (w : LowState) → IsResult T n tables c base u (budget T) s0 last items stoods w → Ends 12 Answered Never Told (meaning most fuel finish_block w)
+        finish_ends : (stoods : List Stood) → AreStood tables [] building stoods → (w : LowState) → IsResult T n tables c base u (budget (length building)) s0 last items stoods w → Ends 12 Answered Never Told (meaning most fuel finish_block w)
         finish_ends stoods are w r =
-            let fits = (last_reached stoods are).fits in
+            let fits = (last_here stoods are).fits in
             let IsFirst : ℕ → Type 0 = λ (i : ℕ). i ≡ 0 in
             let keeps : Keeps IsFirst (BehindWords base) first w =
             Keeps-then IsFirst (BehindWords base) first s0 w (Keeps-kept IsFirst (BehindWords base) 1 first s0 (λ i z. omega (arith, z)) begun.kept)
             (Keeps-less IsFirst (BehindWords base) (Steady T n) (BehindWords base) s0 w (λ i z. inl z) (λ a wide b. b) r.keeps) in
             let rows = (fed_over tables stoods last).rows in
-            let one : HasRows (HasRow (LiesIn c) (map kind_of items)) (8 + 16 * length layout.cells) r.rows_base u (budget T) rows w =
-            subst (λ (m : ℕ). HasRows (HasRow (LiesIn c) (map kind_of items)) (8 + 16 * m) r.rows_base u (budget T) rows w) items_many r.has in
-            let two : HasRows (HasRow (LiesIn c) (map (λ (k : Kind). Some k) layout.cells)) (8 + 16 * length layout.cells) r.rows_base u (budget T) rows w =
-            subst (λ (ks : List (Option Kind)). HasRows (HasRow (LiesIn c) ks) (8 + 16 * length layout.cells) r.rows_base u (budget T) rows w) kinds_are one in
+            let one : HasRows (HasRow (LiesIn c) (map kind_of items)) (8 + 16 * length layout.cells) r.rows_base u (budget (length building)) rows w =
+            subst (λ (m : ℕ). HasRows (HasRow (LiesIn c) (map kind_of items)) (8 + 16 * m) r.rows_base u (budget (length building)) rows w) items_many r.has in
+            let two : HasRows (HasRow (LiesIn c) (map (λ (k : Kind). Some k) layout.cells)) (8 + 16 * length layout.cells) r.rows_base u (budget (length building)) rows w =
+            subst (λ (ks : List (Option Kind)). HasRows (HasRow (LiesIn c) ks) (8 + 16 * length layout.cells) r.rows_base u (budget (length building)) rows w) kinds_are one in
             Ends-weaker 12 12 (λ t. (settled : Settled layout tables t) × (in_order settled.found ≡ rows)) Answered Never Never Told Told (meaning most fuel finish_block w) (omega arith)
             (λ t left. record { stoods = stoods; are = are; none = r.none; settled = left.0; rows = left.1 }) (λ t x. x) (λ code x. x)
-            (rows_left layout tables limit others Told most fuel r.rows_base u (budget T) IsFirst w rows (omega (arith, fits, items_many)) keeps two)
+            (rows_left layout tables limit others Told most fuel r.rows_base u (budget (length building)) IsFirst w rows (omega (arith, fits, items_many)) keeps two)
 
-        result_ends : (t : LowState) → AllBuilt T n columns literals tables c base u most fuel N many types s0 g Told building budget reached_at told all_built building (budget T) t →
+        result_ends : (t : LowState) → AllBuilt T n columns literals tables c base u most fuel N many types s0 g Told building budget reached_at told no_more building (budget (length building)) t →
             Ends (6 + (size (course_block T last_course) * N + 12)) Answered Never Told (meaning most fuel (result_block T last_course) t)
         result_ends t h =
-            let r = last_reached h.stoods h.are in
-            result_then T n columns literals tables c base u most fuel N many types s0 g Told building budget reached_at told all_built last items last_is h.stoods h.are
+            let r = last_here h.stoods h.are in
+            result_then T n columns literals tables c base u most fuel N many types s0 g Told building budget reached_at told no_more last items last_is h.stoods h.are
             (source last r.table_is r.has_column s0 (cells_first s0 begun some turns u_low declared) (sizes_first s0 begun some turns u_low declared)) r.finds r.fits r.enough last_course (own_first + length builds_own) last_own (omega arith)
             (omega (arith, own_room)) made (rest_own_types types own_first (builds_own ++ last_own) builds_own last_own refl own_types) (told_last h.stoods h.are) t h.between 12 Answered finish_block (λ w r'. finish_ends h.stoods h.are w r')
 
         pipelines_end : Ends (size (builds_block T 0 builds) * N + (6 + (size (course_block T last_course) * N + 12))) Answered Never Told (meaning most fuel (seq (builds_block T 0 builds) (result_block T last_course)) s0)
         pipelines_end =
-            Ends-then Answered Never Told (size (builds_block T 0 builds) * N) (6 + (size (course_block T last_course) * N + 12)) (AllBuilt T n columns literals tables c base u most fuel N many types s0 g Told building budget reached_at told all_built building (budget T))
+            Ends-then Answered Never Told (size (builds_block T 0 builds) * N) (6 + (size (course_block T last_course) * N + 12)) (AllBuilt T n columns literals tables c base u most fuel N many types s0 g Told building budget reached_at told no_more building (budget (length building)))
             (meaning most fuel (builds_block T 0 builds) s0) (meaning most fuel (result_block T last_course))
-            (builds_end T n columns literals tables c base u most fuel N many types s0 g Told building budget reached_at told all_built [] building [] 0 refl tt refl builds own_first builds_own (omega arith) (omega (arith, own_room))
+            (builds_end T n columns literals tables c base u most fuel N many types s0 g Told building budget reached_at told no_more [] building [] 0 refl tt refl builds own_first builds_own (omega arith) (omega (arith, own_room))
             (first_own_types types own_first (builds_own ++ last_own) builds_own last_own refl own_types) built s0 (between_none s0 begun some turns u_low declared (budget 0)))
             result_ends
 

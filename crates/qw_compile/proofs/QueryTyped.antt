@@ -39,7 +39,7 @@ abbrev pub IsLeading : List ValType → Pipeline → Type 0
 IsLeading types p = AreLed types p.operators × IsLed types p.sink × CanSink p.sink
 
 module _ (T at : ℕ) (columns : List ReadColumn) (texts : List (List ℕ)) (words : List Word) (own : List ValType) where
-  abbrev n : ℕ
+  abbrev pub n : ℕ
   n = literal_count texts words
 
   abbrev pub types : List ValType
@@ -51,7 +51,7 @@ module _ (T at : ℕ) (columns : List ReadColumn) (texts : List (List ℕ)) (wor
   abbrev behind_directories : List ValType
   behind_directories = I32 ∷ I32 ∷ I32 ∷ behind_counters
 
-  abbrev readers : List Reader
+  abbrev pub readers : List Reader
   readers = query_readers T n columns
 
   -- ---- where each kind of locals is
@@ -90,22 +90,22 @@ module _ (T at : ℕ) (columns : List ReadColumn) (texts : List (List ℕ)) (wor
   directory_is t low = table_declared types behind_directories 5 T types_tables t low
 
   -- ---- what is known
-  texts_typed : AllByRecursion (λ (l : Literal). DeclaresValue types (text_operand l)) (texts_placed T at texts)
+  pub texts_typed : AllByRecursion (λ (l : Literal). DeclaresValue types (text_operand l)) (texts_placed T at texts)
   texts_typed = literals_declared types (word_types (length words) (part_types columns (held_types columns own))) (text_start T) at texts types_texts
 
-  constants_typed : AllByRecursion (λ (c : Constant). DeclaresValue types (constant_operand c)) (words_placed T (length texts) words)
+  pub constants_typed : AllByRecursion (λ (c : Constant). DeclaresValue types (constant_operand c)) (words_placed T (length texts) words)
   constants_typed = words_declared types (part_types columns (held_types columns own)) (word_start T (length texts)) words types_words
 
-  parts_typed : AllByRecursion (DeclaresBases types) readers
+  pub parts_typed : AllByRecursion (DeclaresBases types) readers
   parts_typed = parts_declared types (held_types columns own) T (base_start T n) (cell_start T n (length columns)) 0 columns types_parts
 
   cells_typed : AllByRecursion (λ (r : Reader). DeclaresValue types (operand_of r)) readers
   cells_typed = held_declared types own T (base_start T n) (cell_start T n (length columns)) 0 columns types_held
 
-  counts_typed : AllByRecursion (CountsDeclared types) readers
+  pub counts_typed : AllByRecursion (CountsDeclared types) readers
   counts_typed = counts_declared types T (base_start T n) (cell_start T n (length columns)) 0 columns left_is end_is
 
-  readers_typed : AllByRecursion (IsReaderDeclared types) readers
+  pub readers_typed : AllByRecursion (IsReaderDeclared types) readers
   readers_typed = all_declared types readers counts_typed parts_typed cells_typed
 
   pub known_typed : AreDeclared types (literals_known T at texts words ++ map known_of readers)
@@ -115,14 +115,14 @@ module _ (T at : ℕ) (columns : List ReadColumn) (texts : List (List ℕ)) (wor
       (constants_declared types (words_placed T (length texts) words) constants_typed))
       (known_declared types readers cells_typed)
 
-  known_over_typed : (entry : ℕ) → AreDeclared types (literals_known T at texts words ++ map known_of (readers_over entry readers))
+  pub known_over_typed : (entry : ℕ) → AreDeclared types (literals_known T at texts words ++ map known_of (readers_over entry readers))
   known_over_typed entry =
       let P : Known → Type 0 = λ (k : Known). DeclaresValue types k.operand in
       all-append P (literals_known T at texts words) (map known_of (readers_over entry readers)) (all_front P (literals_known T at texts words) (map known_of readers) known_typed)
       (known_over_all P entry readers (all_back P (literals_known T at texts words) (map known_of readers) known_typed))
 
   -- ---- pipelines
-  course_typed : (next : ℕ) (p : Pipeline) (c : Course) (mine : List ValType) → IsCourse (literals_known T at texts words) readers next p c mine → AreOwn types next mine → IsLeading types p → IsTyped types (course_block T c)
+  pub course_typed : (next : ℕ) (p : Pipeline) (c : Course) (mine : List ValType) → IsCourse (literals_known T at texts words) readers next p c mine → AreOwn types next mine → IsLeading types p → IsTyped types (course_block T c)
   course_typed next p c mine is owned leading = (
     ((end_is, refl), ((I32, end_is, (end_is, (omega arith, refl), refl)), (I32, left_is, end_is))),
     (
@@ -137,13 +137,13 @@ module _ (T at : ℕ) (columns : List ReadColumn) (texts : List (List ℕ)) (wor
     ),
   )
 
-  directory_typed : (t : ℕ) → t < T → IsTyped types (directory_block (directory t))
+  pub directory_typed : (t : ℕ) → t < T → IsTyped types (directory_block (directory t))
   directory_typed t low = (
     ((refl, (omega arith, refl), refl), (((omega arith, refl), refl), (I32, refl, (omega arith, refl))), tt),
     ((I32, directory_is t low, refl), ((I32, refl, (refl, (omega arith, refl), refl)), (I32, refl, (refl, (omega arith, refl), refl)))),
   )
 
-  builds_typed : (number next : ℕ) (ps : List Pipeline) (cs : List Course) (mine : List ValType) → AreCourses (literals_known T at texts words) readers next ps cs mine → AreOwn types next mine → AllByRecursion (IsLeading types) ps → number + length ps ≤ T →
+  pub builds_typed : (number next : ℕ) (ps : List Pipeline) (cs : List Course) (mine : List ValType) → AreCourses (literals_known T at texts words) readers next ps cs mine → AreOwn types next mine → AllByRecursion (IsLeading types) ps → number + length ps ≤ T →
       IsTyped types (builds_block T number cs)
   builds_typed number next [] [] mine are owned leading low = tt
   builds_typed number next [] (c ∷ cs) mine are owned leading low = absurd are

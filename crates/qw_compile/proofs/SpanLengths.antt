@@ -24,7 +24,7 @@ few_sink : (s : Sink) → CanSink (sink_of s) → sink_span s ≤ 420 * sink_siz
 few_sink (sink.Build b) can = let kept : length b.kept.items ≤ 512 = can.1 in omega (arith, kept, many_nodes b.key.items)
 few_sink (sink.Select items) can = omega (arith, many_nodes items.items)
 
-few_operators : (os : List Operator) (s : Sink) (known : List Known) → CanCarry known (map operator_of os) (sink_of s)
+pub few_operators : (os : List Operator) (s : Sink) (known : List Known) → CanCarry known (map operator_of os) (sink_of s)
     → span os s ≤ 420 * (sum_by (operator_size nodes nodes_of) os + sink_size nodes s) + 338 * sum_by keys_of_operator os + 185 * keys_of_sink s + 12900 * sum_by one_lookup os + 6756
 few_operators [] s known can = let own = few_sink s can.1 in omega (arith, own)
 few_operators (operator.Filter cs ∷ os) s known can =
@@ -59,7 +59,7 @@ few_steps : (readers : List Reader) (p : Pipeline) → CanBe p → length (reade
 few_steps readers p can few = let own = few_operators p.operators.items p.sink can.known can.takes in omega (arith, own, few)
 
 -- ---- all of them
-all_steps : (readers : List Reader) → ((entry : ℕ) → length (readers_over entry readers) ≤ 64) → (ps : List Pipeline) → AllByRecursion CanBe ps
+pub all_steps : (readers : List Reader) → ((entry : ℕ) → length (readers_over entry readers) ≤ 64) → (ps : List Pipeline) → AllByRecursion CanBe ps
     → sum_by (course_span readers) ps ≤ 420 * sum_by (size nodes nodes_of) ps + 338 * sum_by keys_sought ps + 185 * sum_by keys_built ps + 12900 * sum_by lookups ps + 16008 * length ps
 all_steps readers few [] can = omega arith
 all_steps readers few (p ∷ ps) can =

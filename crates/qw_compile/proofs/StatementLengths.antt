@@ -67,7 +67,7 @@ pub held_long : (columns : List ReadColumn) (rest : List ValType) → length (he
 held_long [] rest = omega arith
 held_long (column ∷ columns) rest = let more = held_long columns rest in omega (arith, more)
 
-locals_long : (tables texts words : ℕ) (columns : List ReadColumn) (own : List ValType) → length (query_locals tables texts words columns own) ≡ 7 + tables + (2 * texts + words) + 6 * length columns + length own
+pub locals_long : (tables texts words : ℕ) (columns : List ReadColumn) (own : List ValType) → length (query_locals tables texts words columns own) ≡ 7 + tables + (2 * texts + words) + 6 * length columns + length own
 locals_long tables texts words columns own =
     let held : List ValType = held_types columns own in
     let parts : List ValType = part_types columns held in

@@ -22,7 +22,7 @@ in_expression e = omega (arith, ap (λ (l : List (List ℕ)). length l) (texts_t
 in_condition : (c : Cond) → length (texts_within c) ≤ nodes_of c
 in_condition c = omega (arith, ap (λ (l : List (List ℕ)). length l) (texts_at c), texts_few (leaves_within c), condition_few c)
 
-in_query : (parts : QueryParts) → length (texts_of_query parts) ≤ query_size nodes nodes_of parts
+pub in_query : (parts : QueryParts) → length (texts_of_query parts) ≤ query_size nodes nodes_of parts
 in_query parts =
     let on = each_few texts_within nodes_of (tests_on parts.sources) in_condition in
     let conjuncts = each_few texts_within nodes_of parts.conjuncts in_condition in
@@ -31,7 +31,7 @@ in_query parts =
     let two = length-append (flat_map texts_within parts.conjuncts) (flat_map texts_in parts.items) in
     omega (arith, on, conjuncts, items, one, two)
 
-octets_are : (texts : List (List ℕ)) → length (concat texts) ≡ sum_by (λ (t : List ℕ). length t) texts
+pub octets_are : (texts : List (List ℕ)) → length (concat texts) ≡ sum_by (λ (t : List ℕ). length t) texts
 octets_are [] = omega arith
 octets_are (t ∷ texts) = let rest = octets_are texts in omega (arith, rest, length-append t (concat texts), sum_by-cons (λ (u : List ℕ). length u) t texts)
 

@@ -27,7 +27,7 @@ use Rattle.qw_physical.specs.declared.pipeline.Sink.{Sink}
 use Rattle.qw_physical.specs.declared.pipeline.Sink.TheVariants as sinks
 use Rattle.qw_leaves.specs.Leaves.{OfText, leaves_in, leaves_of_all, leaves_of_branches, leaves_of_matches, leaves_within, texts_among}
 use Rattle.qw_leaves.proofs.LeafLists.{texts_all, texts_of_both, texts_of_each}
-use Rattle.qw_compile.specs.Inner.Passes.{ArePipelinesOf}
+use Rattle.qw_compile.specs.QueryPasses.{ArePipelinesOf}
 use Rattle.qw_compile.specs.QueryLiterals.{operator_leaves, pipeline_leaves, query_texts, sink_leaves}
 use Rattle.qw_compile.specs.WrittenTexts.{texts_of_query}
 

@@ -1,12 +1,13 @@
 pub mod CourseSpan
-pub mod Inner
 pub mod Limits
 pub mod Literals
 pub mod Placed
 pub mod PlannedQueries
+pub mod QueryColumns
 pub mod QueryLiterals
 pub mod QueryLocals
 pub mod QueryMade
+pub mod QueryPasses
 pub mod Statements
 pub mod UsedColumns
 pub mod WorkedJoins

@@ -1,7 +1,7 @@
 //! From a typed query to its module: the passes of a query one after another.
 //!
 //! - [`compile`]: all of them, in their order.
-//! - `passes`: from a query, by its plan, to its physical pipelines.
+//! - [`passes`]: from a query, by its plan, to its physical pipelines.
 //! - [`used`]: the columns of tables that it reads; [`written_texts`]: its text literals.
 //! - [`query_leaves`]: the columns and the literals of pipelines.
 //! - [`texts`], [`constants`]: the literals, and the locals for them; [`query_locals`]: all locals of a query.
@@ -15,7 +15,7 @@ pub mod bindings;
 pub mod compile;
 pub mod constants;
 pub mod courses;
-mod passes;
+pub mod passes;
 pub mod planned_laws;
 pub mod query_leaves;
 pub mod query_locals;

@@ -4,6 +4,7 @@ pub mod Conformed
 pub mod CellsRead
 mod FormLemmas
 mod Locals
+pub mod LongBehaves
 pub mod ModuleCompiled
 mod ModuleRuns
 mod ModuleSpelled

@@ -1,7 +1,7 @@
 -- The module of a statement is a compiled form of what is promised, where over tables of the entries that are ready the statement ends within the promise's
 -- units and pages, with the rows of the outcome in the result, in any order. Over any other tables that are ready it does what it does over such ones
--- (Conformed). What the statement does on the way is not told.
-use Rattle.std.proofs.Common.{◌≡◌, ℕ, ◌+◌, ◌*◌, ◌^◌, ◌≤◌, List, [], ◌∷◌, ◌++◌, length, map, Some, None, slice_get, refl, sym, ap, ◌∙◌, subst, append_assoc, arith}
+-- (Conformed). What the statement does on the way is not told. Nor is the outcome where it takes 10^18 instructions, which no run has.
+use Rattle.std.proofs.Common.{◌≡◌, ℕ, ◌+◌, ◌*◌, ◌^◌, ◌≤◌, inl, List, [], ◌∷◌, ◌++◌, length, map, Some, None, slice_get, refl, sym, ap, ◌∙◌, subst, append_assoc, ⊎_elim, arith}
 use Rattle.std.proofs.lemmas.List.{append-nil}
 use Rattle.qw_types.specs.declared.value.Val.{Val}
 use Rattle.qw_linear.specs.Memory.{page}
@@ -30,12 +30,14 @@ use Rattle.qw_promise.specs.Compiled.{AnswersAt, GoesWith, IsCompiled, bound}
 use Rattle.qw_promise.specs.Promise.{Promise}
 use Rattle.qw_feed.specs.Rows.{Row, in_order, HasAnswer}
 use Rattle.qw_feed.specs.Cells.{HasRow}
+use Rattle.qw_limit.specs.Counting.{EndsOrTakes}
 use Rattle.qw_emit.specs.RunsOf.{comes_to, first_locals, IsMadeOf}
 use Rattle.qw_emit.specs.Alike.{AreAlike}
 use Rattle.qw_emit.proofs.Answered.{IsSomeCode, IsTold, promised_answers, told_some}
 use Rattle.qw_emit.proofs.CellsRead.{row_read}
 use Rattle.qw_emit.proofs.Conformed.{conform_of, conform_ready, conformed}
 use Rattle.qw_feed.proofs.Frames.{Never}
+use Rattle.qw_emit.proofs.LongBehaves.{long_behaves}
 use Rattle.qw_emit.proofs.ReturnRuns as back
 use Rattle.qw_emit.proofs.RunWorlds.{Keeps, run-keeps}
 use Rattle.qw_emit.proofs.SeenTexts.{shown, StandsIn, stands-same, text_read}
@@ -225,10 +227,10 @@ module _ (promise : Promise) (layout : Layout) (whole : Statement) (others : ℕ
   abbrev count : List (List (List Val)) → ℕ
   count tables = size whole * (1 + promise.units tables)
 
-  -- over tables of the entries that are ready: the outcome, within the promise's units and pages
+  -- over tables of the entries that are ready: the outcome, within the promise's units and pages, or a run that is longer than any may be
   module _ (goes_with : GoesWith promise layout)
       (ends : (tables : List (List (List Val))) (limit : ℕ) → AreOfEntries promise.entries tables → AreReady layout tables limit →
-      Ends (count tables) (Ending promise layout tables) Never (IsTold (promise.outcome tables)) (low tables limit))
+      EndsOrTakes (10 ^ 18) (count tables) (Ending promise layout tables) (Settled layout tables) Never (IsTold (promise.outcome tables)) IsSomeCode (low tables limit))
       (m : Module) (is_made : IsMadeOf m whole others)
       (number : ℕ) (shape : IsShaped m number) (descriptor limit : ℕ) (placed : List Placed) (tables : List (List (List Val))) (memory : List ℕ)
       (of_entries : AreOfEntries promise.entries tables) (ready : IsReady layout placed tables descriptor limit memory) where
@@ -241,28 +243,39 @@ module _ (promise : Promise) (layout : Layout) (whole : Statement) (others : ℕ
     runs : RunsAs (low tables limit) (promise.pages tables) start
     runs = is_made.runs.runs (promise.pages tables) (fuel tables) number descriptor limit layout placed tables memory shape goes_with.small ready
 
-    all_end : Ends (count tables) (Ending promise layout tables) Never (IsTold (promise.outcome tables)) (low tables limit)
+    all_end : EndsOrTakes (10 ^ 18) (count tables) (Ending promise layout tables) (Settled layout tables) Never (IsTold (promise.outcome tables)) IsSomeCode (low tables limit)
     all_end = ends tables limit of_entries (record { placed = placed; descriptor = descriptor; memory = memory; ready = ready })
 
-    run_behaves : BehavesWithin most (promise.pages tables) most_run (AnswersAt (promise.outcome tables) layout most (promise.pages tables) descriptor) start
-    run_behaves =
-        let within : count tables ≤ most = rw (is_made.called number shape) (omega arith) in
+    within : count tables ≤ most
+    within = rw (is_made.called number shape) (omega arith)
+
+    ended_behaves : Ends (count tables) (Ending promise layout tables) Never (IsTold (promise.outcome tables)) (low tables limit) → BehavesWithin most (promise.pages tables) most_run (AnswersAt (promise.outcome tables) layout most (promise.pages tables) descriptor) start
+    ended_behaves h =
         promised_answers (promise.outcome tables) layout most (promise.pages tables) most_run descriptor start (Ending promise layout tables) (returned layout tables goes_with.small descriptor start refl promise) (fuel tables) whole (first tables limit) refl runs
-        (Ends-weaker (count tables) most (Ending promise layout tables) (Ending promise layout tables) Never Never (IsTold (promise.outcome tables)) (IsTold (promise.outcome tables)) (low tables limit) within (λ t x. x) (λ t x. x) (λ code x. x) all_end)
+        (Ends-weaker (count tables) most (Ending promise layout tables) (Ending promise layout tables) Never Never (IsTold (promise.outcome tables)) (IsTold (promise.outcome tables)) (low tables limit) within (λ t x. x) (λ t x. x) (λ code x. x) h)
+
+    run_behaves : BehavesWithin most (promise.pages tables) most_run (AnswersAt (promise.outcome tables) layout most (promise.pages tables) descriptor) start
+    run_behaves = ⊎_elim
+        ended_behaves
+        (λ long. long_behaves (count tables) most (promise.pages tables) most_run (Settled layout tables) IsSomeCode (AnswersAt (promise.outcome tables) layout most (promise.pages tables) descriptor) (low tables limit) start runs within long.0 (omega arith) long.1)
+        all_end
 
   module _ (goes_with : GoesWith promise layout) (alike : AreAlike promise.entries) (short : size whole ≤ 2 ^ 22)
       (ends : (tables : List (List (List Val))) (limit : ℕ) → AreOfEntries promise.entries tables → AreReady layout tables limit →
-      Ends (count tables) (Ending promise layout tables) Never (IsTold (promise.outcome tables)) (low tables limit))
+      EndsOrTakes (10 ^ 18) (count tables) (Ending promise layout tables) (Settled layout tables) Never (IsTold (promise.outcome tables)) IsSomeCode (low tables limit))
       (m : Module) (is_made : IsMadeOf m whole others) where
     -- whatever the rows are
     settles : (tables : List (List (List Val))) (limit : ℕ) → AreOfEntries promise.entries tables → AreReady layout tables limit →
         Ends (count tables) (Settled layout tables) Never IsSomeCode (low tables limit)
-    settles tables limit of ready =
-        Ends-weaker (count tables) (count tables) (Ending promise layout tables) (Settled layout tables) Never Never (IsTold (promise.outcome tables)) IsSomeCode (low tables limit) (omega arith)
-        (λ t h. h.settled) (λ t x. x) (λ code told. told_some (promise.outcome tables) code told) (ends tables limit of ready)
+    settles tables limit of ready = ⊎_elim
+        (λ ended. Ends-weaker (count tables) (count tables) (Ending promise layout tables) (Settled layout tables) Never Never (IsTold (promise.outcome tables)) IsSomeCode (low tables limit) (omega arith)
+        (λ t h. h.settled) (λ t x. x) (λ code told. told_some (promise.outcome tables) code told) ended)
+        (λ long. long.0)
+        (ends tables limit of ready)
 
-    pub module_compiled : IsCompiled promise layout m
-    module_compiled = record {
+    -- where the statement may also take 10^18 instructions and more: no run has as many, so none that long ends
+    pub module_compiled_or_long : IsCompiled promise layout m
+    module_compiled_or_long = record {
       runnable = is_made.runnable;
       is_job = job promise layout whole others count promise.pages fuel goes_with alike settles m is_made;
       goes_with = goes_with;
@@ -274,3 +287,11 @@ module _ (promise : Promise) (layout : Layout) (whole : Statement) (others : ℕ
       behaves = λ number descriptor limit placed tables memory of shape ready. run_behaves goes_with ends m is_made number shape descriptor limit placed tables memory of ready;
       steady = steady promise layout whole others count promise.pages fuel goes_with alike settles m is_made;
     }
+
+  -- where it always ends as it should
+  module _ (goes_with : GoesWith promise layout) (alike : AreAlike promise.entries) (short : size whole ≤ 2 ^ 22)
+      (ends : (tables : List (List (List Val))) (limit : ℕ) → AreOfEntries promise.entries tables → AreReady layout tables limit →
+      Ends (count tables) (Ending promise layout tables) Never (IsTold (promise.outcome tables)) (low tables limit))
+      (m : Module) (is_made : IsMadeOf m whole others) where
+    pub module_compiled : IsCompiled promise layout m
+    module_compiled = module_compiled_or_long goes_with alike short (λ tables limit of ready. inl (ends tables limit of ready)) m is_made

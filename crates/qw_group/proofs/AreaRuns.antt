@@ -36,7 +36,7 @@ use Rattle.qw_table.specs.Joins.{unless_null}
 use Rattle.qw_table.specs.declared.key.Field.{Field}
 use Rattle.qw_wide.specs.Relations.{relation_of}
 use Rattle.qw_wide.proofs.Words as words
-use Rattle.qw_group.specs.Areas.{InPlace, HasCount, HasSum, HasPlain, HasChosen, HasAggregate, Gives, OrdersTexts, Aggregates, count_more, sum_more, plain_put, chosen_read, is_beaten, choose_more, area_block}
+use Rattle.qw_group.specs.Areas.{InPlace, HasCount, HasSum, HasPlain, HasChosen, HasAggregate, Chooses, Gives, OrdersTexts, Aggregates, count_more, sum_more, plain_put, chosen_read, is_beaten, choose_more, area_block}
 use Rattle.qw_group.specs.Wides.{IsWide, i64}
 use Rattle.qw_group.proofs.AreaFrames.{place-none, place-then, place-wider, place-kept}
 use Rattle.qw_group.proofs.AreaSteps as steps
@@ -75,7 +75,7 @@ numeric-word Text xs c (val.Date v) of h = absurd of
 numeric-word Text xs c (val.Text v) of h = absurd of
 
 module _ (Text : Part → ℕ → List ℕ → Type 0) (most fuel more p off e at g : ℕ) (some : 1 ≤ more) (turns : more ≤ fuel) (e_low : e < g) (f : Field) (below : IsBelow g f) (t : LowState) (values : List Val) (few : length values < 10 ^ 18) (v : Val)
-    (units : AllByRecursion (λ (w : Val). 1 + (octets_of w + octets_of v) ≤ more) values) (e_is : slice_get t.locals e ≡ Some (Address (Own p) off)) (sized : slice_get t.own p ≡ Some page) (inside : off + at + 32 ≤ page) (room : g + 9 ≤ length t.locals)
+    (e_is : slice_get t.locals e ≡ Some (Address (Own p) off)) (sized : slice_get t.own p ≡ Some page) (inside : off + at + 32 ≤ page) (room : g + 9 ≤ length t.locals)
     (stands : (u : LowState) → InPlace p (off + at) (off + at + 32) g t u → (k : Part) (o : ℕ) (octets : List ℕ) → Text k o octets → Stands u k o octets) where
   abbrev from : ℕ
   from = off + at
@@ -239,7 +239,7 @@ module _ (Text : Part → ℕ → List ℕ → Type 0) (most fuel more p off e a
           let b : Val = choose w ws in
           let g_is : value r (relop I64 Ne (local g) (i64 0)) ≡ Some (Number (truth true)) = rw (slice_get-set_same t.locals g (Number n) (omega (arith, room)) ∙ ap (λ (l : List Val). Some (Number (length l))) is, ne_eqb (suc (length ws)) 0 (λ i. omega (arith, i))) refl in
           let new : not_null values' ≡ w ∷ (ws ++ v ∷ []) = whole ∙ ap (λ (l : List Val). l ++ v ∷ []) is in
-          let plain_b : HasPlain Text r.cells p from b = plain-same Text t.cells r.cells p from b (λ a l low high. before_r a l low high) known.1 in
+          let plain_b : HasPlain Text r.cells p from b = plain-same Text t.cells r.cells p from b (λ a l wide low high. before_r a l low high) known.1 in
           let unit_b : 1 + (octets_of b + octets_of v) ≤ more = chosen_in (λ (x : Val). 1 + (octets_of x + octets_of v) ≤ more) w ws all.0 all.1 in
           does_choose most fuel more some Best (relop I64 Ne (local g) (i64 0)) true (seq (chosen_read f.kind order e at g) choice) put r g_is
           (λ yes. does_then most fuel more some (λ u. Kept g r u × (value u (is_beaten f.kind (relation_of o) c g) ≡ Some (Number (truth (answers o (value_order b v)))))) Best (chosen_read f.kind order e at g) choice r
@@ -253,13 +253,13 @@ module _ (Text : Part → ℕ → List ℕ → Type 0) (most fuel more p off e a
               count_there there u.cells (ap (λ (s : LowState). s.cells (Own p) (from + 16) 8) done.0.others ∙ count_r),
               subst (λ (l : List Val). HasChosen Text f.kind choose l u.cells p from) (sym new)
                   (subst (λ (x : Val). IsOfKind f.kind x × HasPlain Text u.cells p from x) (sym (chosen_more w ws v ∙ ap (λ (k : Bool). if k then v else b) lose))
-                  (known.0, plain-same Text r.cells u.cells p from b (λ a l low high. ap (λ (s : LowState). s.cells (Own p) a l) done.0.others) plain_b)),
+                  (known.0, plain-same Text r.cells u.cells p from b (λ a l wide low high. ap (λ (s : LowState). s.cells (Own p) a l) done.0.others) plain_b)),
             ),
           ))))
           (λ no'. absurd cc)
 
-      choose_does : HasChosen Text f.kind choose (not_null values) t.cells p from → Does most fuel more some Best (conditional (relop I64 Ne (local g) (i64 0)) (seq (chosen_read f.kind order e at g) choice) put) r
-      choose_does known = chooses (not_null values) refl known (all-taken (λ (w : Val). 1 + (octets_of w + octets_of v) ≤ more) values units)
+      choose_does : AllByRecursion (λ (w : Val). 1 + (octets_of w + octets_of v) ≤ more) values → HasChosen Text f.kind choose (not_null values) t.cells p from → Does most fuel more some Best (conditional (relop I64 Ne (local g) (i64 0)) (seq (chosen_read f.kind order e at g) choice) put) r
+      choose_does units known = chooses (not_null values) refl known (all-taken (λ (w : Val). 1 + (octets_of w + octets_of v) ≤ more) values units)
 
   -- ---- any set function
   abbrev pub Taken : SetFunctionKind → LowState → Type 0
@@ -276,20 +276,20 @@ module _ (Text : Part → ℕ → List ℕ → Type 0) (most fuel more p off e a
     abbrev Chosen : LowState → Type 0
     Chosen u = In u × (HasCount (length (not_null values')) u.cells p from × HasChosen Text f.kind choose (not_null values') u.cells p from)
 
-    chosen_does : Supplies Text t.locals c v → IsOfKind f.kind v → HasCount n t.cells p from × HasChosen Text f.kind choose (not_null values) t.cells p from → Does most fuel more some Chosen (unless_null c.null (choose_more f.kind (relation_of o) order c e at g)) t
-    chosen_does supplied of has =
+    chosen_does : AllByRecursion (λ (w : Val). 1 + (octets_of w + octets_of v) ≤ more) values → Supplies Text t.locals c v → IsOfKind f.kind v → HasCount n t.cells p from × HasChosen Text f.kind choose (not_null values) t.cells p from → Does most fuel more some Chosen (unless_null c.null (choose_more f.kind (relation_of o) order c e at g)) t
+    chosen_does units supplied of has =
         unless Chosen (choose_more f.kind (relation_of o) order c e at g) supplied
         (λ is. (place-none p from (from + 32) g t, (count_null is t.cells has.0, subst (λ (l : List Val). HasChosen Text f.kind choose l t.cells p from) (sym (taken-null values v is)) has.1)))
         (λ there. counts_then Chosen (conditional (relop I64 Ne (local g) (i64 0)) (seq (chosen_read f.kind order e at g) (conditional (is_beaten f.kind (relation_of o) c g) (plain_put f.kind c e at) skip)) (plain_put f.kind c e at)) n (taken-few values) has.0
-        (choose_does has.0 there choose o chosen_none chosen_more chosen_in order orders of (supplied-plainly Text t.locals c v there supplied) has.1))
+        (choose_does has.0 there choose o chosen_none chosen_more chosen_in order orders of (supplied-plainly Text t.locals c v there supplied) units has.1))
 
-  pub area_does : (function : SetFunctionKind) (order : Statement) → OrdersTexts function f g order → Gives Text t.locals function f v → HasAggregate Text function f.kind values t.cells p from → Does most fuel more some (Taken function) (area_block function order f e at g) t
-  area_does CountRows order orders gives has = rows_does has
-  area_does Count order orders gives has = values_does gives.0 has
-  area_does Sum order orders gives has = summed_does gives.0 gives.1 has
-  area_does Avg order orders gives has = summed_does gives.0 gives.1 has
-  area_does Min order orders gives has = chosen_does least op.Greater (λ w. refl) least-more least-in order (λ text. orders tt text) gives.0 gives.1 has
-  area_does Max order orders gives has = chosen_does greatest op.Less (λ w. refl) greatest-more greatest-in order (λ text. orders tt text) gives.0 gives.1 has
+  pub area_does : (function : SetFunctionKind) (order : Statement) → OrdersTexts function f g order → (Chooses function → AllByRecursion (λ (w : Val). 1 + (octets_of w + octets_of v) ≤ more) values) → Gives Text t.locals function f v → HasAggregate Text function f.kind values t.cells p from → Does most fuel more some (Taken function) (area_block function order f e at g) t
+  area_does CountRows order orders units gives has = rows_does has
+  area_does Count order orders units gives has = values_does gives.0 has
+  area_does Sum order orders units gives has = summed_does gives.0 gives.1 has
+  area_does Avg order orders units gives has = summed_does gives.0 gives.1 has
+  area_does Min order orders units gives has = chosen_does least op.Greater (λ w. refl) least-more least-in order (λ text. orders tt text) (units tt) gives.0 gives.1 has
+  area_does Max order orders units gives has = chosen_does greatest op.Less (λ w. refl) greatest-more greatest-in order (λ text. orders tt text) (units tt) gives.0 gives.1 has
 
-  pub takes_end : (function : SetFunctionKind) (a : Statement) → Aggregates function f e at g a → Gives Text t.locals function f v → HasAggregate Text function f.kind values t.cells p from → Ends (size a * more) (Taken function) Never none (meaning most fuel a t)
-  takes_end function a is gives has = subst (λ (b : Statement). Ends (size b * more) (Taken function) Never none (meaning most fuel b t)) (sym is.is) (area_does function is.order is.orders gives has)
+  pub takes_end : (function : SetFunctionKind) (a : Statement) → Aggregates function f e at g a → (Chooses function → AllByRecursion (λ (w : Val). 1 + (octets_of w + octets_of v) ≤ more) values) → Gives Text t.locals function f v → HasAggregate Text function f.kind values t.cells p from → Ends (size a * more) (Taken function) Never none (meaning most fuel a t)
+  takes_end function a is units gives has = subst (λ (b : Statement). Ends (size b * more) (Taken function) Never none (meaning most fuel b t)) (sym is.is) (area_does function is.order is.orders units gives has)

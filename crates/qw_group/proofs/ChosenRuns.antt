@@ -63,11 +63,11 @@ plainly-kept Text xs ys c (val.Num v) one two h = (one ∙ h.0, h.1, h.2)
 plainly-kept Text xs ys c (val.Date v) one two h = (one ∙ h.0, h.1)
 plainly-kept Text xs ys c (val.Text t) one two h = (h.0, h.1, one ∙ h.2, two ∙ h.3, h.4, h.5)
 
-pub plain-same : (Text : Part → ℕ → List ℕ → Type 0) (c c' : Cells) (k at : ℕ) (v : Val) → ((a b : ℕ) → at ≤ a → a + b ≤ at + 16 → c' (Own k) a b ≡ c (Own k) a b) → HasPlain Text c k at v → HasPlain Text c' k at v
+pub plain-same : (Text : Part → ℕ → List ℕ → Type 0) (c c' : Cells) (k at : ℕ) (v : Val) → ((a b : ℕ) → 2 ≤ b → at ≤ a → a + b ≤ at + 16 → c' (Own k) a b ≡ c (Own k) a b) → HasPlain Text c k at v → HasPlain Text c' k at v
 plain-same Text c c' k at val.Null same h = h
-plain-same Text c c' k at (val.Num v) same h = ((h.0.0, same at 8 (omega arith) (omega arith) ∙ h.0.1, h.0.2, h.0.3), h.1)
-plain-same Text c c' k at (val.Date v) same h = (h.0, same at 8 (omega arith) (omega arith) ∙ h.1, h.2, h.3)
-plain-same Text c c' k at (val.Text t) same h = (h.0, h.1, same at 4 (omega arith) (omega arith) ∙ h.2, same (at + 4) 4 (omega arith) (omega arith) ∙ h.3, h.4)
+plain-same Text c c' k at (val.Num v) same h = ((h.0.0, same at 8 (omega arith) (omega arith) (omega arith) ∙ h.0.1, h.0.2, h.0.3), h.1)
+plain-same Text c c' k at (val.Date v) same h = (h.0, same at 8 (omega arith) (omega arith) (omega arith) ∙ h.1, h.2, h.3)
+plain-same Text c c' k at (val.Text t) same h = (h.0, h.1, same at 4 (omega arith) (omega arith) (omega arith) ∙ h.2, same (at + 4) 4 (omega arith) (omega arith) (omega arith) ∙ h.3, h.4)
 
 module _ (Text : Part → ℕ → List ℕ → Type 0) (most fuel p off e at g : ℕ) (e_low : e < g) (inside : off + at + 32 ≤ page) (c : Cell) (below : (c.value < g) × (c.length < g)) where
   abbrev from : ℕ

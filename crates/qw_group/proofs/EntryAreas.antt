@@ -1,5 +1,5 @@
 -- The areas of an entry: they stay where their octets do, none has taken anything where the octets are 0, and each takes one value more.
-use Rattle.std.proofs.Common.{◌≡◌, ℕ, zero, suc, ◌+◌, ◌*◌, ◌^◌, ◌<◌, ◌≤◌, inl, inr, pos, List, [], ◌∷◌, ◌++◌, length, Option, Some, None, slice_get, refl, sym, ap, ◌∙◌, subst, arith}
+use Rattle.std.proofs.Common.{◌≡◌, ℕ, suc, ◌+◌, ◌*◌, ◌^◌, ◌<◌, ◌≤◌, inl, inr, pos, List, [], ◌∷◌, ◌++◌, length, Option, Some, None, slice_get, refl, sym, ap, ◌∙◌, subst, arith}
 use Rattle.std.specs.List.{AllByRecursion}
 use Rattle.qw_types.specs.declared.kind.Kind.{Kind}
 use Rattle.qw_types.specs.declared.value.Val.{Val}
@@ -23,7 +23,7 @@ use Rattle.qw_table.specs.Entries.{Stands}
 use Rattle.qw_table.specs.Keys.{IsBelow, IsBelowNull, octets_of}
 use Rattle.qw_table.specs.declared.key.Field.{Field}
 use Rattle.qw_group.specs.Areas.{InPlace, HasSum, HasPlain, HasChosen, HasAggregate, Gives}
-use Rattle.qw_group.specs.Groups.{HasAreas, UpdatesAreas, AllGive, AreShort, ArgumentsUse}
+use Rattle.qw_group.specs.Groups.{HasAreas, UpdatesAreas, AllGive, AreChosenWithin, ArgumentsUse, functions_in, octets_at}
 use Rattle.qw_group.specs.Wides.{IsWide}
 use Rattle.qw_group.specs.declared.group.Aggregate.{Aggregate}
 use Rattle.qw_group.proofs.AreaFrames.{place-none, place-then, place-wider}
@@ -32,28 +32,28 @@ use Rattle.qw_group.proofs.AreaSteps.{Does, does_then, does_skip}
 use Rattle.qw_group.proofs.ChosenRuns.{plain-same}
 use Rattle.qw_group.proofs.WideRuns.{none}
 
--- ---- they stay where their octets do
-chosen-same : (Text : Part → ℕ → List ℕ → Type 0) (kd : Kind) (choose : Val → List Val → Val) (vs : List Val) (c c' : Cells) (k at : ℕ) → ((a b : ℕ) → at ≤ a → a + b ≤ at + 16 → c' (Own k) a b ≡ c (Own k) a b) → HasChosen Text kd choose vs c k at → HasChosen Text kd choose vs c' k at
+-- ---- they stay where their octets do, in cells of two and more
+chosen-same : (Text : Part → ℕ → List ℕ → Type 0) (kd : Kind) (choose : Val → List Val → Val) (vs : List Val) (c c' : Cells) (k at : ℕ) → ((a b : ℕ) → 2 ≤ b → at ≤ a → a + b ≤ at + 16 → c' (Own k) a b ≡ c (Own k) a b) → HasChosen Text kd choose vs c k at → HasChosen Text kd choose vs c' k at
 chosen-same Text kd choose [] c c' k at same h = tt
 chosen-same Text kd choose (v ∷ vs) c c' k at same h = (h.0, plain-same Text c c' k at (choose v vs) same h.1)
 
-sum-same : (vs : List Val) (c c' : Cells) (k at : ℕ) → ((a b : ℕ) → at ≤ a → a + b ≤ at + 16 → c' (Own k) a b ≡ c (Own k) a b) → HasSum vs c k at → HasSum vs c' k at
-sum-same vs c c' k at same h = record { low = h.low; high = h.high; low_is = same at 8 (omega arith) (omega arith) ∙ h.low_is; high_is = same (at + 8) 8 (omega arith) (omega arith) ∙ h.high_is; sum = h.sum; bounded = h.bounded }
+sum-same : (vs : List Val) (c c' : Cells) (k at : ℕ) → ((a b : ℕ) → 2 ≤ b → at ≤ a → a + b ≤ at + 16 → c' (Own k) a b ≡ c (Own k) a b) → HasSum vs c k at → HasSum vs c' k at
+sum-same vs c c' k at same h = record { low = h.low; high = h.high; low_is = same at 8 (omega arith) (omega arith) (omega arith) ∙ h.low_is; high_is = same (at + 8) 8 (omega arith) (omega arith) (omega arith) ∙ h.high_is; sum = h.sum; bounded = h.bounded }
 
 module _ (Text : Part → ℕ → List ℕ → Type 0) where
-  pub area-same : (function : SetFunctionKind) (kd : Kind) (values : List Val) (c c' : Cells) (k at : ℕ) → ((a b : ℕ) → at ≤ a → a + b ≤ at + 32 → c' (Own k) a b ≡ c (Own k) a b) → HasAggregate Text function kd values c k at → HasAggregate Text function kd values c' k at
-  area-same CountRows kd values c c' k at same h = same (at + 16) 8 (omega arith) (omega arith) ∙ h
-  area-same Count kd values c c' k at same h = same (at + 16) 8 (omega arith) (omega arith) ∙ h
-  area-same Sum kd values c c' k at same h = (same (at + 16) 8 (omega arith) (omega arith) ∙ h.0, sum-same (not_null values) c c' k at (λ a b low high. same a b low (omega (arith, high))) h.1)
-  area-same Avg kd values c c' k at same h = (same (at + 16) 8 (omega arith) (omega arith) ∙ h.0, sum-same (not_null values) c c' k at (λ a b low high. same a b low (omega (arith, high))) h.1)
-  area-same Min kd values c c' k at same h = (same (at + 16) 8 (omega arith) (omega arith) ∙ h.0, chosen-same Text kd least (not_null values) c c' k at (λ a b low high. same a b low (omega (arith, high))) h.1)
-  area-same Max kd values c c' k at same h = (same (at + 16) 8 (omega arith) (omega arith) ∙ h.0, chosen-same Text kd greatest (not_null values) c c' k at (λ a b low high. same a b low (omega (arith, high))) h.1)
+  pub area-same : (function : SetFunctionKind) (kd : Kind) (values : List Val) (c c' : Cells) (k at : ℕ) → ((a b : ℕ) → 2 ≤ b → at ≤ a → a + b ≤ at + 32 → c' (Own k) a b ≡ c (Own k) a b) → HasAggregate Text function kd values c k at → HasAggregate Text function kd values c' k at
+  area-same CountRows kd values c c' k at same h = same (at + 16) 8 (omega arith) (omega arith) (omega arith) ∙ h
+  area-same Count kd values c c' k at same h = same (at + 16) 8 (omega arith) (omega arith) (omega arith) ∙ h
+  area-same Sum kd values c c' k at same h = (same (at + 16) 8 (omega arith) (omega arith) (omega arith) ∙ h.0, sum-same (not_null values) c c' k at (λ a b wide low high. same a b wide low (omega (arith, high))) h.1)
+  area-same Avg kd values c c' k at same h = (same (at + 16) 8 (omega arith) (omega arith) (omega arith) ∙ h.0, sum-same (not_null values) c c' k at (λ a b wide low high. same a b wide low (omega (arith, high))) h.1)
+  area-same Min kd values c c' k at same h = (same (at + 16) 8 (omega arith) (omega arith) (omega arith) ∙ h.0, chosen-same Text kd least (not_null values) c c' k at (λ a b wide low high. same a b wide low (omega (arith, high))) h.1)
+  area-same Max kd values c c' k at same h = (same (at + 16) 8 (omega arith) (omega arith) (omega arith) ∙ h.0, chosen-same Text kd greatest (not_null values) c c' k at (λ a b wide low high. same a b wide low (omega (arith, high))) h.1)
 
-  pub areas-same : (place : ℕ) (aggregates : List Aggregate) (rows : List (List Val)) (c c' : Cells) (k at : ℕ) → ((a b : ℕ) → at ≤ a → a + b ≤ at + 32 * length aggregates → c' (Own k) a b ≡ c (Own k) a b) → HasAreas Text place aggregates rows c k at → HasAreas Text place aggregates rows c' k at
+  pub areas-same : (place : ℕ) (aggregates : List Aggregate) (rows : List (List Val)) (c c' : Cells) (k at : ℕ) → ((a b : ℕ) → 2 ≤ b → at ≤ a → a + b ≤ at + 32 * length aggregates → c' (Own k) a b ≡ c (Own k) a b) → HasAreas Text place aggregates rows c k at → HasAreas Text place aggregates rows c' k at
   areas-same place [] rows c c' k at same h = tt
   areas-same place (a ∷ aggregates) rows c c' k at same h = (
-    area-same a.function a.argument.kind (values_at place rows) c c' k at (λ x b from to. same x b from (omega (arith, to))) h.0,
-    areas-same (place + 1) aggregates rows c c' k (at + 32) (λ x b from to. same x b (omega (arith, from)) (omega (arith, to))) h.1,
+    area-same a.function a.argument.kind (values_at place rows) c c' k at (λ x b wide from to. same x b wide from (omega (arith, to))) h.0,
+    areas-same (place + 1) aggregates rows c c' k (at + 32) (λ x b wide from to. same x b wide (omega (arith, from)) (omega (arith, to))) h.1,
   )
 
   -- ---- octets that are 0
@@ -84,14 +84,11 @@ pub values-many : (place : ℕ) (rows : List (List Val)) → length (values_at p
 values-many place [] = refl
 values-many place (x ∷ rows) = ap suc (values-many place rows)
 
-pub cell-short : (longest place : ℕ) (row : List Val) → AllByRecursion (λ (v : Val). octets_of v ≤ longest) row → octets_of (cell_of (slice_get row place)) ≤ longest
-cell-short longest place [] all = omega arith
-cell-short longest zero (v ∷ row) all = all.0
-cell-short longest (suc place) (v ∷ row) all = cell-short longest place row all.1
-
-pub values-short : (longest more place : ℕ) (v : Val) → octets_of v ≤ longest → 1 + 2 * longest ≤ more → (rows : List (List Val)) → AreShort longest rows → AllByRecursion (λ (w : Val). 1 + (octets_of w + octets_of v) ≤ more) (values_at place rows)
-values-short longest more place v short enough [] all = tt
-values-short longest more place v short enough (row ∷ rows) all = (let one = cell-short longest place row all.0 in omega (arith, one, short, enough), values-short longest more place v short enough rows all.1)
+-- what is compared with a value, and one, within more units
+chosen-values : (chosen more place : ℕ) (row : List Val) → 1 + chosen ≤ more → (rows : List (List Val)) → AllByRecursion (λ (r : List Val). octets_at place r + octets_at place row ≤ chosen) rows →
+    AllByRecursion (λ (w : Val). 1 + (octets_of w + octets_of (cell_of (slice_get row place))) ≤ more) (values_at place rows)
+chosen-values chosen more place row enough [] all = tt
+chosen-values chosen more place row enough (r ∷ rows) all = (let one = all.0 in omega (arith, one, enough), chosen-values chosen more place row enough rows all.1)
 
 -- ---- the locals of arguments
 pub uses-below : (n m : ℕ) (f : Field) → n ≤ m → Uses (Among n) f.cell → IsBelow m f
@@ -115,14 +112,15 @@ module _ (Text : Part → ℕ → List ℕ → Type 0) (n : ℕ) (xs ys : List V
   all-give-same place (a ∷ aggregates) row uses h = (gives-same a.function a.argument (cell_of (slice_get row place)) uses.0 h.0, all-give-same (place + 1) aggregates row uses.1 h.1)
 
 -- ---- the areas of an entry at a place, to which local e leads, take one row's arguments more
-module _ (Text : Part → ℕ → List ℕ → Type 0) (most fuel more longest p off e g lowest : ℕ) (some : 1 ≤ more) (turns : more ≤ fuel) (e_low : e < g) (g_high : lowest ≤ g) (row : List Val) (row_short : AllByRecursion (λ (v : Val). octets_of v ≤ longest) row) (enough : 1 + 2 * longest ≤ more) where
-  pub areas_do : (place at : ℕ) (aggregates : List Aggregate) (a : Statement) (rows : List (List Val)) (t : LowState) → UpdatesAreas e at g aggregates a → ArgumentsUse lowest aggregates → length rows < 10 ^ 18 → AreShort longest rows → AllGive Text t.locals place aggregates row →
+module _ (Text : Part → ℕ → List ℕ → Type 0) (most fuel more chosen p off e g lowest : ℕ) (some : 1 ≤ more) (turns : more ≤ fuel) (e_low : e < g) (g_high : lowest ≤ g) (row : List Val) (enough : 1 + chosen ≤ more) where
+  pub areas_do : (place at : ℕ) (aggregates : List Aggregate) (a : Statement) (rows : List (List Val)) (t : LowState) → UpdatesAreas e at g aggregates a → ArgumentsUse lowest aggregates → (1 ≤ length aggregates → length rows < 10 ^ 18) → AreChosenWithin place (functions_in aggregates) rows row chosen → AllGive Text t.locals place aggregates row →
       slice_get t.locals e ≡ Some (Address (Own p) off) → slice_get t.own p ≡ Some page → off + at + 32 * length aggregates ≤ page → g + 9 ≤ length t.locals →
       ((u : LowState) → InPlace p (off + at) (off + at + 32 * length aggregates) g t u → (k : Part) (o : ℕ) (octets : List ℕ) → Text k o octets → Stands u k o octets) → HasAreas Text place aggregates rows t.cells p (off + at) →
       Does most fuel more some (λ u. InPlace p (off + at) (off + at + 32 * length aggregates) g t u × HasAreas Text place aggregates (rows ++ row ∷ []) u.cells p (off + at)) a t
-  areas_do place at [] a rows t is uses few short give e_is sized inside room stands has =
+  areas_do place at [] a rows t is uses few chosen_within give e_is sized inside room stands has =
       subst (λ (b : Statement). Does most fuel more some (λ u. InPlace p (off + at) (off + at + 32 * 0) g t u × Unit {0}) b t) (sym is) (does_skip most fuel more some (λ u. InPlace p (off + at) (off + at + 32 * 0) g t u × Unit {0}) t (place-none p (off + at) (off + at + 32 * 0) g t, tt))
-  areas_do place at (x ∷ aggregates) a rows t is uses few short give e_is sized inside room stands has =
+  areas_do place at (x ∷ aggregates) a rows t is uses few chosen_within give e_is sized inside room stands has =
+      let fewer : length rows < 10 ^ 18 = few (omega arith) in
       let many : ℕ = length aggregates in
       let from : ℕ = off + at in
       let v : Val = cell_of (slice_get row place) in
@@ -132,9 +130,8 @@ module _ (Text : Part → ℕ → List ℕ → Type 0) (most fuel more longest p
       let One : LowState → Type 0 = λ u. InPlace p from (from + 32) g t u × HasAggregate Text x.function x.argument.kind (values ++ v ∷ []) u.cells p from in
       subst (λ (b : Statement). Does most fuel more some P b t) (sym is.2)
       (does_then most fuel more some One P is.0 is.1 t
-      (takes_end Text most fuel more p off e at g some turns e_low x.argument (uses-below lowest g x.argument g_high uses.0) t values (omega (arith, few, values-many place rows)) v
-      (values-short longest more place v (cell-short longest place row row_short) enough rows short) e_is sized (omega (arith, inside)) room
-      (λ u done. stands u (place-wider p from (from + 32) from (from + 32 * suc many) g t u (omega arith) (omega arith) done)) x.function is.0 is.3 give.0 has.0)
+      (takes_end Text most fuel more p off e at g some turns e_low x.argument (uses-below lowest g x.argument g_high uses.0) t values (omega (arith, fewer, values-many place rows)) v e_is sized (omega (arith, inside)) room
+      (λ u done. stands u (place-wider p from (from + 32) from (from + 32 * suc many) g t u (omega arith) (omega arith) done)) x.function is.0 is.3 (λ chooses. chosen-values chosen more place row enough rows (chosen_within.0 chooses)) give.0 has.0)
       (λ u done.
       let own : u.own ≡ t.own = ap (λ (q : LowState). q.own) done.0.others in
       Ends-weaker (size is.1 * more) (size is.1 * more) (λ w. InPlace p (off + (at + 32)) (off + (at + 32) + 32 * many) g u w × HasAreas Text (place + 1) aggregates (rows ++ row ∷ []) w.cells p (off + (at + 32))) P Never Never none none (meaning most fuel is.1 u) (omega arith)
@@ -143,15 +140,15 @@ module _ (Text : Part → ℕ → List ℕ → Type 0) (most fuel more longest p
             (place-wider p (off + (at + 32)) (off + (at + 32) + 32 * many) from (from + 32 * suc many) g u w (omega arith) (omega arith) rest.0),
         (
           subst (λ (l : List Val). HasAggregate Text x.function x.argument.kind l w.cells p from) (sym (values-more place rows row))
-              (area-same Text x.function x.argument.kind (values ++ v ∷ []) u.cells w.cells p from (λ y b lower upper. rest.0.cells p y b (inl (omega (arith, upper)))) done.1),
+              (area-same Text x.function x.argument.kind (values ++ v ∷ []) u.cells w.cells p from (λ y b wide lower upper. rest.0.cells p y b (inl (omega (arith, upper)))) done.1),
           subst (λ (q : ℕ). HasAreas Text (place + 1) aggregates (rows ++ row ∷ []) w.cells p q) (sym next) rest.1,
         ),
       )) (λ w y. y) (λ code y. y)
-      (areas_do (place + 1) (at + 32) aggregates is.1 rows u is.4 uses.1 few short
+      (areas_do (place + 1) (at + 32) aggregates is.1 rows u is.4 uses.1 (λ some_left. fewer) chosen_within.1
       (all-give-same Text lowest t.locals u.locals (λ i among. done.0.below i (omega (arith, among.1, g_high))) (place + 1) aggregates row uses.1 give.1)
       (done.0.below e e_low ∙ e_is) (ap (λ (l : List ℕ). slice_get l p) own ∙ sized) (omega (arith, inside)) (omega (arith, room, done.0.many))
       (λ w after. stands w (place-then p from (from + 32 * suc many) g t u w (place-wider p from (from + 32) from (from + 32 * suc many) g t u (omega arith) (omega arith) done.0) (place-wider p (off + (at + 32)) (off + (at + 32) + 32 * many) from (from + 32 * suc many) g u w (omega arith) (omega arith) after)))
-      (subst (λ (q : ℕ). HasAreas Text (place + 1) aggregates rows u.cells p q) next (areas-same Text (place + 1) aggregates rows t.cells u.cells p (from + 32) (λ y b lower upper. done.0.cells p y b (inr (omega (arith, lower)))) has.1)))))
+      (subst (λ (q : ℕ). HasAreas Text (place + 1) aggregates rows u.cells p q) next (areas-same Text (place + 1) aggregates rows t.cells u.cells p (from + 32) (λ y b wide lower upper. done.0.cells p y b (inr (omega (arith, lower)))) has.1)))))
 
 -- ---- where texts lie is said otherwise
 module _ (Text Text' : Part → ℕ → List ℕ → Type 0) (also : (p : Part) (o : ℕ) (octets : List ℕ) → Text p o octets → Text' p o octets) (c : Cells) (k : ℕ) where

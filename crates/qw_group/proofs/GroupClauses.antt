@@ -79,7 +79,7 @@ module _ (directory : ℕ) (key : List Field) (aggregates : List Aggregate) (fre
   abbrev group : Statement
   group = group_block wide directory (free + 3) (free + 4) told fill groups.update
 
-  groups_typed : (length key ≤ 2000) × (length aggregates ≤ 2000) → (types : List ValType) → AreDeclared types key → DeclareArguments types aggregates → slice_get types 1 ≡ Some I32 → slice_get types 2 ≡ Some I32 → slice_get types directory ≡ Some I32 → Declares types free group_types → IsTyped types a
+  pub groups_typed : (length key ≤ 2000) × (length aggregates ≤ 2000) → (types : List ValType) → AreDeclared types key → DeclareArguments types aggregates → slice_get types 1 ≡ Some I32 → slice_get types 2 ≡ Some I32 → slice_get types directory ≡ Some I32 → Declares types free group_types → IsTyped types a
   groups_typed few types key_is arguments free_is left_is d_is own =
       let small : wide < 2 ^ 32 = omega (arith, few.0, few.1) in
       let g_is : slice_get types (free + 4) ≡ Some I32 = own 4 I32 refl in
@@ -111,7 +111,7 @@ module _ (directory : ℕ) (key : List Field) (aggregates : List Aggregate) (fre
         ),
       )
 
-  groups_short : size a ≤ 79 + 188 * length key + 100 * length aggregates
+  pub groups_short : size a ≤ 79 + 188 * length key + 100 * length aggregates
   groups_short =
       let few = groups.finds.short in
       let test = groups.tests.short in
@@ -122,8 +122,9 @@ module _ (directory : ℕ) (key : List Field) (aggregates : List Aggregate) (fre
 
   pub groups_collect : (length key ≤ 2000) × (length aggregates ≤ 2000) → (5 ≤ directory) × (directory < free) → AllUse (Among free) (sources_of key) → ArgumentsUse free aggregates → Collects directory key aggregates free a
   groups_collect few low uses argument_uses = record {
-    runs = λ text may beginnings k o u before most fuel each longest units more row s small stands supplied gives known enough met key_units area_units turns chain whole room.
-        groups_feed (Told text) key aggregates directory free a groups k o u before most fuel each longest units (λ xs. IsTrue (may xs)) beginnings row s low small stands uses supplied argument_uses gives known key_units area_units turns room more chain whole enough met;
+    runs = λ text may beginnings k o u before most fuel units chosen more row s small stands supplied gives few_rows chosen_rows enough met whole turns chain room.
+        groups_feed (Told text) key aggregates directory free a groups k o u before most fuel units chosen (λ xs. IsTrue (may xs)) beginnings row s low small stands uses supplied argument_uses gives few_rows chosen_rows (omega (arith, whole, turns)) (omega (arith, whole, turns)) room
+        more chain whole enough met;
     typed = groups_typed few;
     short = groups_short;
   }

@@ -9,6 +9,7 @@ use Rattle.qw_linear.specs.Memory.{page}
 use Rattle.qw_layout.specs.Hash.{slot}
 use Rattle.qw_layout.specs.Row.{cell_offset}
 use Rattle.qw_grouped.specs.Groups.{key_of, keys, members}
+use Rattle.qw_grouped.specs.declared.set_function.SetFunctionKind.{SetFunctionKind}
 use Rattle.qw_grouped.proofs.Lists.{all_filter}
 use Rattle.qw_module.specs.Numbers.{truth}
 use Rattle.qw_low.specs.Syntax.{Statement, local}
@@ -27,14 +28,14 @@ use Rattle.qw_feed.proofs.FeedRules.{feeds_less, own_then}
 use Rattle.qw_feed.proofs.Frames.{Never, Keeps-same, Keeps-then, Keeps-less, Keeps-kept, Kept-less, below-less, below-under}
 use Rattle.qw_feed.proofs.StageRuns.{all-same}
 use Rattle.qw_table.specs.Entries.{Stands, MayBe}
-use Rattle.qw_table.specs.Keys.{AreHeld, AreAlike, is_nullable, text_octets, octets_of}
+use Rattle.qw_table.specs.Keys.{AreHeld, AreAlike, is_nullable, text_octets}
 use Rattle.qw_table.specs.Joins.{sources_of}
 use Rattle.qw_table.specs.Tables.{in_slot}
 use Rattle.qw_table.specs.declared.key.Field.{Field}
 use Rattle.qw_table.proofs.JoinFeeds.{slot-low}
 use Rattle.qw_table.proofs.ProbeFeeds.{supplied_held, cell_map}
 use Rattle.qw_group.specs.Areas.{InPlace}
-use Rattle.qw_group.specs.Groups.{HasAreas, HasGroup, Groups, AllGive, AreShort, ArgumentsUse, group_size, groups_sink, group_block}
+use Rattle.qw_group.specs.Groups.{HasAreas, HasGroup, Groups, AllGive, AreChosenWithin, ArgumentsUse, functions_in, group_size, octets_at, groups_sink, group_block}
 use Rattle.qw_group.specs.declared.group.Aggregate.{Aggregate}
 use Rattle.qw_group.proofs.EntryAreas.{all-give-same, areas-same, areas-none, areas_do}
 use Rattle.qw_group.proofs.GroupRuns.{groups_kept, group_feeds, Searches, Updates, Places}
@@ -77,6 +78,18 @@ pub all-and-last : {A : Type 0} (P : A → Type 0) (xs : List A) (y : A) → All
 all-and-last P [] y all = (tt, all.0)
 all-and-last P (x ∷ xs) y all = let rest = all-and-last P xs y all.1 in ((all.0, rest.0), rest.1)
 
+-- what is compared with a row is less of fewer rows
+pub chosen-before : (chosen : ℕ) (row : List Val) (place : ℕ) (functions : List SetFunctionKind) (rows : List (List Val)) → AreChosenWithin place functions (rows ++ row ∷ []) row chosen → AreChosenWithin place functions rows row chosen
+chosen-before chosen row place [] rows h = tt
+chosen-before chosen row place (f ∷ functions) rows h = (λ chooses. (all-and-last (λ (r : List Val). octets_at place r + octets_at place row ≤ chosen) rows row (h.0 chooses)).0, chosen-before chosen row (place + 1) functions rows h.1)
+
+chosen-members : (columns : ℕ) (key : List Val) (chosen : ℕ) (row : List Val) (place : ℕ) (functions : List SetFunctionKind) (rows : List (List Val)) → AreChosenWithin place functions rows row chosen → AreChosenWithin place functions (members columns key rows) row chosen
+chosen-members columns key chosen row place [] rows h = tt
+chosen-members columns key chosen row place (f ∷ functions) rows h = (
+  λ chooses. all_filter (λ (r : List Val). octets_at place r + octets_at place row ≤ chosen) (λ r. is_same_row key (key_of columns r)) rows (h.0 chooses),
+  chosen-members columns key chosen row (place + 1) functions rows h.1,
+)
+
 module _ (Text : Part → ℕ → List ℕ → Type 0) (key : List Field) (aggregates : List Aggregate) where
   abbrev columns : ℕ
   columns = length key
@@ -94,16 +107,17 @@ module _ (Text : Part → ℕ → List ℕ → Type 0) (key : List Field) (aggre
   group_same rows c c' k o values same h = (
     h.0,
     cells-same Text c c' k (o + 24) values (λ a b from to. same a b (omega (arith, from)) (omega (arith, to, alike-many key values h.0))) h.1,
-    areas-same Text columns aggregates (members columns values rows) c c' k (o + at0) (λ a b from to. same a b (omega (arith, from)) (omega (arith, to))) h.2,
+    areas-same Text columns aggregates (members columns values rows) c c' k (o + at0) (λ a b wide' from to. same a b (omega (arith, from)) (omega (arith, to))) h.2,
   )
 
   pub group_other : (rows : List (List Val)) (r : List Val) (c : Cells) (k o : ℕ) (values : List Val) → (values ≡ key_of columns r → ⊥) → Has rows c k o values → Has (rows ++ r ∷ []) c k o values
   group_other rows r c k o values other h = (h.0, h.1, subst (λ (l : List (List Val)). HasAreas Text columns aggregates l c k (o + at0)) (sym (members-other columns values r rows other)) h.2)
 
-  module _ (directory free : ℕ) (a : Statement) (groups : Groups directory key aggregates free a) (k o u before most fuel V longest units : ℕ) (May : List (List Val) → Type 0) (beginnings : (rows more : List (List Val)) → May (rows ++ more) → May rows) (row : List Val) (s : LowState)
+  module _ (directory free : ℕ) (a : Statement) (groups : Groups directory key aggregates free a) (k o u before most fuel units chosen : ℕ) (May : List (List Val) → Type 0) (beginnings : (rows more : List (List Val)) → May (rows ++ more) → May rows) (row : List Val) (s : LowState)
       (low : (5 ≤ directory) × (directory < free)) (small : wide + u ≤ page) (stands : (t : LowState) → Keeps (Below free) (Before (pos k o)) s t → (p : Part) (at : ℕ) (octets : List ℕ) → Text p at octets → Stands t p at octets)
       (uses : AllUse (Among free) (sources_of key)) (supplied : AllSupply Text s.locals (sources_of key) (key_of columns row)) (argument_uses : ArgumentsUse free aggregates) (gives : AllGive Text s.locals columns aggregates row)
-      (known : (xs : List (List Val)) → May xs → (length xs ≤ 10 ^ 18) × AreShort longest xs) (key_units : 1 + text_octets (key_of columns row) ≤ V) (area_units : 1 + 2 * longest ≤ V) (turns : V ≤ fuel) (room : free + 24 ≤ length s.locals) where
+      (few_rows : (xs : List (List Val)) → May xs → 1 ≤ length aggregates → length xs ≤ 10 ^ 18)
+      (chosen_rows : (xs : List (List Val)) → May xs → AreChosenWithin columns (functions_in aggregates) xs row chosen) (key_turns : 1 + text_octets (key_of columns row) ≤ fuel) (area_turns : 1 + chosen ≤ fuel) (room : free + 24 ≤ length s.locals) where
     abbrev values : List Val
     values = key_of columns row
 
@@ -119,8 +133,12 @@ module _ (Text : Part → ℕ → List ℕ → Type 0) (key : List Field) (aggre
     abbrev fill : Statement
     fill = cells_block 24 (sources_of key)
 
-    some : 1 ≤ V
-    some = omega (arith, key_units)
+    -- a test of a key, and a change of the areas
+    abbrev V : ℕ
+    V = 1 + text_octets (key_of columns row)
+
+    abbrev W : ℕ
+    W = 1 + chosen
 
     low_g : (5 ≤ directory) × (directory < g)
     low_g = (low.0, omega (arith, low.1))
@@ -142,17 +160,17 @@ module _ (Text : Part → ℕ → List ℕ → Type 0) (key : List Field) (aggre
       held_at t' keeps = supplied_held Text t' (λ p at octets text. (stands t' keeps p at octets text).0) key values (supplied_at t' keeps)
 
       -- the search
-      searched : (rows : List (List Val)) → Searches columns Has wide (omega arith) group_same group_other k o directory u before g h low_g high_h small most fuel row (slot-low values) told fill groups.update V some rows t
+      searched : (rows : List (List Val)) → Searches columns Has wide (omega arith) group_same group_other k o directory u before g h low_g high_h small most fuel row (slot-low values) told fill groups.update V W (omega arith) (omega arith) rows t
       searched rows e t' kept' x_is has =
           let keeps : Keeps (Below free) (Before (pos k o)) s t' = keeps_then t' kept' in
           let cells : t'.cells ≡ t.cells = ap (λ (q : LowState). q.cells) kept'.others in
           let there : HasCells (Stands t') t'.cells e.part (e.offset + 24) e.values = subst (λ (c : Cells). HasCells (Stands t') c e.part (e.offset + 24) e.values) (sym cells) (cells_map Text (Stands t') t.cells e.part (e.offset + 24) e.values (stands t' keeps) has.1) in
           Ends-weaker (size groups.test * V) (size groups.test * V) (λ w. Kept (free + 6) t' w × (slice_get w.locals (free + 6) ≡ Some (Number (truth (is_same_row values e.values))))) (λ w. Kept (g + 2) t' w × (value w (local (free + 6)) ≡ Some (Number (truth (is_same_row values e.values))))) Never Never none none (meaning most fuel groups.test t') (omega arith)
           (λ w done. (Kept-less (g + 2) (free + 6) t' w (omega arith) done.0, done.1)) (λ w y. y) (λ code y. y)
-          (groups.tests.runs most fuel V t' e.part e.offset values e.values key_units turns (held_at t' keeps) has.0 (subst (λ (i : ℕ). slice_get t'.locals i ≡ Some (address e)) (omega arith) x_is) there (omega (arith, room, kept.many, kept'.many)))
+          (groups.tests.runs most fuel V t' e.part e.offset values e.values (omega arith) key_turns (held_at t' keeps) has.0 (subst (λ (i : ℕ). slice_get t'.locals i ≡ Some (address e)) (omega arith) x_is) there (omega (arith, room, kept.many, kept'.many)))
 
       -- a new entry
-      placed : (rows : List (List Val)) → Places columns Has wide (omega arith) group_same group_other k o directory u before g h low_g high_h small most fuel row (slot-low values) told fill groups.update V some rows t
+      placed : (rows : List (List Val)) → Places columns Has wide (omega arith) group_same group_other k o directory u before g h low_g high_h small most fuel row (slot-low values) told fill groups.update V W (omega arith) (omega arith) rows t
       placed rows fresh t' kept' w part offset keeps free_is sized fits base zeros =
           let count : length (sources_of key) ≡ columns = sources-many key in
           let none_there : members columns values rows ≡ [] = no-members columns values rows fresh in
@@ -173,19 +191,17 @@ module _ (Text : Part → ℕ → List ℕ → Type 0) (key : List Field) (aggre
           (cells_end Text (λ code. ⊥) most fuel part offset (sources_of key) values 24 w free_is sized (omega (arith, fits, count)) (λ x b from to. zeros x b (omega (arith, from)) to) given)
 
       -- an entry is changed in place
-      updated : (rows : List (List Val)) → May (rows ++ row ∷ []) → Updates columns Has wide (omega arith) group_same group_other k o directory u before g h low_g high_h small most fuel row (slot-low values) told fill groups.update V some rows t
+      updated : (rows : List (List Val)) → May (rows ++ row ∷ []) → Updates columns Has wide (omega arith) group_same group_other k o directory u before g h low_g high_h small most fuel row (slot-low values) told fill groups.update V W (omega arith) (omega arith) rows t
       updated rows may e t' keeps g_is sized fits base is_it has =
           let ms : List (List Val) = members columns e.values rows in
           let off : ℕ = e.offset in
           let p : ℕ = e.part in
           let to : ℕ = off + at0 + 32 * length aggregates in
-          let all = known (rows ++ row ∷ []) may in
-          let shorts = all-and-last (λ (q : List Val). AllByRecursion (λ (v : Val). octets_of v ≤ longest) q) rows row all.1 in
-          let few : length ms < 10 ^ 18 = omega (arith, members-few columns e.values rows, all.0, length-append rows (row ∷ [])) in
+          let few : 1 ≤ length aggregates → length ms < 10 ^ 18 = λ there. (let all = few_rows (rows ++ row ∷ []) may there in omega (arith, members-few columns e.values rows, all, length-append rows (row ∷ []))) in
           let keeps_s : Keeps (Below free) (Before (pos k o)) s t' = Keeps-then (Below free) (Before (pos k o)) s t t' keeps_t (Keeps-less (Below free) (Before (pos k o)) (Below g) (Before (pos k o)) t t' (λ i. below-less free g i (omega arith)) (λ x b it. it) keeps) in
           let standing : (w : LowState) → InPlace p (off + at0) to (free + 15) t' w → (l : Part) (x : ℕ) (octets : List ℕ) → Text l x octets → Stands w l x octets =
           λ w done. stands w (Keeps-then (Below free) (Before (pos k o)) s t' w keeps_s (in_place p (off + at0) to t' w (omega (arith, base)) done)) in
-          Ends-weaker (size groups.update * V) (size groups.update * V) (λ w. InPlace p (off + at0) to (free + 15) t' w × HasAreas Text columns aggregates (ms ++ row ∷ []) w.cells p (off + at0)) (λ w. InPlace p (off + 8) (off + wide) (g + 1) t' w × Has (rows ++ row ∷ []) w.cells p off e.values) Never Never none none
+          Ends-weaker (size groups.update * W) (size groups.update * W) (λ w. InPlace p (off + at0) to (free + 15) t' w × HasAreas Text columns aggregates (ms ++ row ∷ []) w.cells p (off + at0)) (λ w. InPlace p (off + 8) (off + wide) (g + 1) t' w × Has (rows ++ row ∷ []) w.cells p off e.values) Never Never none none
           (meaning most fuel groups.update t') (omega arith)
           (λ w done. (
             record {
@@ -201,8 +217,8 @@ module _ (Text : Part → ℕ → List ℕ → Type 0) (key : List Field) (aggre
               subst (λ (l : List (List Val)). HasAreas Text columns aggregates l w.cells p (off + at0)) (sym (members-more columns e.values row rows is_it)) done.1,
             ),
           )) (λ w y. y) (λ code y. y)
-          (areas_do Text most fuel V longest p off g (free + 15) free some turns (omega arith) (omega arith) row shorts.1 area_units columns at0 aggregates groups.update ms t' groups.updates argument_uses few
-          (all_filter (λ (q : List Val). AllByRecursion (λ (v : Val). octets_of v ≤ longest) q) (λ q. is_same_row e.values (key_of columns q)) rows shorts.0)
+          (areas_do Text most fuel W chosen p off g (free + 15) free (omega arith) area_turns (omega arith) (omega arith) row (omega arith) columns at0 aggregates groups.update ms t' groups.updates argument_uses few
+          (chosen-members columns e.values chosen row columns (functions_in aggregates) rows (chosen-before chosen row columns (functions_in aggregates) rows (chosen_rows (rows ++ row ∷ []) may)))
           (all-give-same Text free s.locals t'.locals (λ i among. keeps_s.locals i (inr among)) columns aggregates row argument_uses gives) g_is sized (omega (arith, fits)) (omega (arith, room, keeps_s.many)) standing has.2)
         where
           in_place : (p from to : ℕ) (v w : LowState) → pos k o ≤ pos p from → InPlace p from to (free + 15) v w → Keeps (Below free) (Before (pos k o)) v w
@@ -221,19 +237,19 @@ module _ (Text : Part → ℕ → List ℕ → Type 0) (key : List Field) (aggre
     sink = groups_sink columns Has wide k o directory u before May beginnings
 
     -- a row feeds the groups
-    pub groups_feed : (N : ℕ) → units < fuel → (1 + units) * V ≤ N → ((xs : List (List Val)) → May xs → before + length (keys columns xs) * wide + 2 * u < (most + 1) * u) → ((xs : List (List Val)) → May xs → length (in_slot slot (slot values) (keys columns xs)) ≤ units) →
+    pub groups_feed : (N : ℕ) → units < fuel → 1 + text_octets (key_of columns row) + units * (1 + text_octets (key_of columns row)) + chosen ≤ N → ((xs : List (List Val)) → May xs → before + length (keys columns xs) * wide + 2 * u < (most + 1) * u) → ((xs : List (List Val)) → May xs → length (in_slot slot (slot values) (keys columns xs)) ≤ units) →
         FeedsTo sink most fuel N (Below free) Any (one_row row) a s
     groups_feed N below le enough met =
         let group : Statement = group_block wide directory h g told fill groups.update in
         let old_low : (i : ℕ) → Below free i → i < free = λ i old. below-under free free i (omega arith) (omega (arith, low.0, low.1)) old in
         let has_kept : (rows : List (List Val)) (t w : LowState) → Kept free t w → sink.Has rows t → sink.Has rows w = λ rows t w kept has. groups_kept columns Has wide k o directory u before rows free t w (omega (arith, low.0, low.1)) low.1 kept has in
-        let fewer : V ≤ N = (let one : 1 * V ≤ (1 + units) * V = mul-le 1 V (1 + units) V (omega arith) (omega arith) in omega (arith, one, le)) in
+        let fewer : V ≤ N = omega (arith, le) in
         let find_units : size groups.find * V ≤ size groups.find * N = mul-le (size groups.find) V (size groups.find) N (omega arith) fewer in
         let H : LowState → Type 0 = λ t. slice_get t.locals h ≡ Some (Number (4 * slot values)) in
         subst (λ (b : Statement). FeedsTo sink most fuel N (Below free) Any (one_row row) b s) (sym groups.is)
         (own_then sink most fuel free (Below free) old_low has_kept N free H Any (one_row row) groups.find group s (omega arith)
         (Ends-more (λ t. Kept free s t × H t) Never none (size groups.find * V) (size groups.find * N) (meaning most fuel groups.find s) find_units
-        (groups.finds.runs most fuel V s values key_units turns (supplied_held Text s (λ p at octets text. (stands s (Keeps-same (Below free) (Before (pos k o)) s) p at octets text).0) key values supplied) (omega (arith, room))))
+        (groups.finds.runs most fuel V s values (omega arith) key_turns (supplied_held Text s (λ p at octets text. (stands s (Keeps-same (Below free) (Before (pos k o)) s) p at octets text).0) key values supplied) (omega (arith, room))))
         (λ t kept is. feeds_less sink most fuel N (Below g) (Below free) Any (one_row row) group t (λ i. below-less free g i (omega arith))
-        (group_feeds columns Has wide (omega arith) group_same group_other k o directory u before g h low_g high_h small most fuel row (slot-low values) told fill groups.update V some May beginnings units below enough met N le t
+        (group_feeds columns Has wide (omega arith) group_same group_other k o directory u before g h low_g high_h small most fuel row (slot-low values) told fill groups.update V W (omega arith) (omega arith) May beginnings units below enough met N (omega (arith, le)) t
         (λ rows may. searched t kept rows) (λ rows may. updated t kept rows may) (λ rows may. placed t kept rows) is (omega (arith, room, kept.many)))))

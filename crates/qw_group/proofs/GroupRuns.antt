@@ -162,7 +162,7 @@ module _ (columns : ℕ) (Has : List (List Val) → Cells → ℕ → ℕ → Li
         (changed_groups w.locals w.cells (subst (λ (q : LowState). InPlace p (off + 8) (off + size) (g + 1) s q) changed.others changed) new)
 
   -- ---- the whole, of a row
-  module _ (r : List Val) (slot_low : slot (key_of columns r) < 1024) (test : Test) (fill update : Statement) (V : ℕ) (some : 1 ≤ V) where
+  module _ (r : List Val) (slot_low : slot (key_of columns r) < 1024) (test : Test) (fill update : Statement) (V W : ℕ) (some : 1 ≤ V) (some_more : 1 ≤ W) where
     abbrev pub key : List Val
     key = key_of columns r
 
@@ -176,7 +176,7 @@ module _ (columns : ℕ) (Has : List (List Val) → Cells → ℕ → ℕ → Li
 
     abbrev pub Updates : List (List Val) → LowState → Type 0
     Updates rows s = (e : Row) (t : LowState) → Keeps (Below g) (Before (pos k o)) s t → slice_get t.locals g ≡ Some (address e) → slice_get t.own e.part ≡ Some page → e.offset + size ≤ page → pos k (o + 4096) ≤ start_of e → e.values ≡ key → Has rows t.cells e.part e.offset e.values →
-        Ends (sizes.size update * V) (λ w. InPlace e.part (e.offset + 8) (e.offset + size) (g + 1) t w × Has (rows ++ r ∷ []) w.cells e.part e.offset e.values) Never none (meaning most fuel update t)
+        Ends (sizes.size update * W) (λ w. InPlace e.part (e.offset + 8) (e.offset + size) (g + 1) t w × Has (rows ++ r ∷ []) w.cells e.part e.offset e.values) Never none (meaning most fuel update t)
 
     abbrev pub Places : List (List Val) → LowState → Type 0
     Places rows s = ((q : List Val) → In q rows → key_of columns q ≡ key → ⊥) → (t : LowState) → Kept g s t → Fills (Has rows) size (pos k (o + 4096)) most fuel key fill t
@@ -223,48 +223,45 @@ module _ (columns : ℕ) (Has : List (List Val) → Cells → ℕ → ℕ → Li
                 (place_ends columns Has size wide has_same k o d u before g h d_low h_low small most fuel rows r slot_low s' has' (omega (arith, kept.many, room)) (kept.below h h_low.1 ∙ h_is) (λ f here is. missed.others f here is) fill (places fresh s' kept') enough)),
           ))
 
-      updated : (t : LowState) → IsReady t → Ends (sizes.size update * V) P Never IsRefusal (meaning most fuel update t)
+      updated : (t : LowState) → IsReady t → Ends (sizes.size update * W) P Never IsRefusal (meaning most fuel update t)
       updated t ready =
           let e : Row = ready.1 in
           let at = at_e rows r slot_low e t ready.2 in
-          Ends-weaker (sizes.size update * V) (sizes.size update * V) (λ w. InPlace e.part (e.offset + 8) (e.offset + size) (g + 1) t w × Has longer w.cells e.part e.offset e.values) P Never Never none IsRefusal (meaning most fuel update t) (omega arith)
+          Ends-weaker (sizes.size update * W) (sizes.size update * W) (λ w. InPlace e.part (e.offset + 8) (e.offset + size) (g + 1) t w × Has longer w.cells e.part e.offset e.values) P Never Never none IsRefusal (meaning most fuel update t) (omega arith)
           (λ w done. (Keeps-then (Below g) (Before (pos k o)) s t w ready.0 (changed_keeps rows r slot_low e t ready.2 w done.0), changed_ends rows r slot_low e t ready.2 w done.0 done.1)) (λ w y. y) (λ code y. absurd y)
           (updates e t ready.0 ready.2.g_is (sized_e rows r slot_low e t ready.2) at.2 at.0 ready.2.is_it at.3)
 
       abbrev each_turn : ℕ
       each_turn = sizes.size test.block * V + (cost test.out + 5) + 3
 
-      pub group_ends : Ends (length (has.chains j) * each_turn + (11 + (m + sizes.size update * V))) P Never IsRefusal (meaning most fuel (group_block size d h g test fill update) s)
+      pub group_ends : Ends (length (has.chains j) * each_turn + (11 + (m + sizes.size update * W))) P Never IsRefusal (meaning most fuel (group_block size d h g test fill update) s)
       group_ends =
           let n : ℕ = length (has.chains j) * each_turn in
-          Ends-more P Never IsRefusal (n + 9 + (2 + m + sizes.size update * V)) (n + (11 + (m + sizes.size update * V))) (meaning most fuel (group_block size d h g test fill update) s) (omega arith)
-          (Ends-then P Never IsRefusal (n + 9) (2 + m + sizes.size update * V) F (meaning most fuel (find_block d h g test) s) (meaning most fuel (seq (conditional (local g) skip placing) update))
+          Ends-more P Never IsRefusal (n + 9 + (2 + m + sizes.size update * W)) (n + (11 + (m + sizes.size update * W))) (meaning most fuel (group_block size d h g test fill update) s) (omega arith)
+          (Ends-then P Never IsRefusal (n + 9) (2 + m + sizes.size update * W) F (meaning most fuel (find_block d h g test) s) (meaning most fuel (seq (conditional (local g) skip placing) update))
           (Ends-weaker (n + 9) (n + 9) F F Never Never none IsRefusal (meaning most fuel (find_block d h g test) s) (omega arith) (λ q x. x) (λ q x. x) (λ code x. absurd x)
           (find_ends columns Has size most fuel d h g k o u before V rows s has j key slot_low d_low.1 h_low.1 h_is room more test searches))
-          (λ t found. Ends-then P Never IsRefusal (2 + m) (sizes.size update * V) IsReady (meaning most fuel (conditional (local g) skip placing) t) (meaning most fuel update) (chooses t (⊎_elim (λ met. met.1.kept) (λ missed. missed.kept) found) found) updated))
+          (λ t found. Ends-then P Never IsRefusal (2 + m) (sizes.size update * W) IsReady (meaning most fuel (conditional (local g) skip placing) t) (meaning most fuel update) (chooses t (⊎_elim (λ met. met.1.kept) (λ missed. missed.kept) found) found) updated))
 
-    -- n turns and the rest, where (n + 1) times V the whole is there
-    spread-turns : (n T C B U S N : ℕ) → T + C ≤ S → B + U ≤ S → (1 + n) * V ≤ N → n * (T * V + C) + (B + U * V) ≤ S * N
-    spread-turns n T C B U S N turn rest le =
+    -- n turns and the rest, where the whole is there n times V times and W times
+    spread-turns : (n T C B U S N : ℕ) → T + C + (B + U) ≤ S → n * V + W ≤ N → n * (T * V + C) + (B + U * W) ≤ S * N
+    spread-turns n T C B U S N all le =
         let v1 : C ≤ C * V = at_least C V some in
-        let v2 : B ≤ B * V = at_least B V some in
-        let one : T * V + C ≤ S * V = (let a : (T + C) * V ≤ S * V = mul-le (T + C) V S V turn (omega arith) in omega (arith, a, v1, add-mul T C V)) in
-        let two : B + U * V ≤ S * V = (let a : (B + U) * V ≤ S * V = mul-le (B + U) V S V rest (omega arith) in omega (arith, a, v2, add-mul B U V)) in
+        let w1 : B ≤ B * W = at_least B W some_more in
+        let one : T * V + C ≤ S * V = (let a : (T + C) * V ≤ S * V = mul-le (T + C) V S V (omega (arith, all)) (omega arith) in omega (arith, a, v1, add-mul T C V)) in
+        let two : B + U * W ≤ S * W = (let a : (B + U) * W ≤ S * W = mul-le (B + U) W S W (omega (arith, all)) (omega arith) in omega (arith, a, w1, add-mul B U W)) in
         let three : n * (T * V + C) ≤ n * (S * V) = mul-le n (T * V + C) n (S * V) (omega arith) one in
-        let four : S * ((1 + n) * V) ≤ S * N = mul-le S ((1 + n) * V) S N (omega arith) le in
-        let five : S * ((1 + n) * V) ≡ S * V + n * (S * V) = ap (λ (q : ℕ). S * q) (add-mul 1 n V) ∙ (spread S V (n * V) ∙ ap (λ (q : ℕ). S * V + q) (turned S n V)) in
+        let four : S * (n * V + W) ≤ S * N = mul-le S (n * V + W) S N (omega arith) le in
+        let five : S * (n * V + W) ≡ n * (S * V) + S * W = mul-add S (n * V) W ∙ ap (λ (q : ℕ). q + S * W) (turned S n V) in
         omega (arith, two, three, four, five)
       where
-        spread : (S V m : ℕ) → S * (1 * V + m) ≡ S * V + S * m
-        spread S V m = (let one : 1 * V ≡ V = omega arith in ap (λ (q : ℕ). S * (q + m)) one) ∙ mul-add S V m
-
         turned : (S n V : ℕ) → S * (n * V) ≡ n * (S * V)
         turned S n V = sym (mul_assoc S n V) ∙ (ap (λ (q : ℕ). q * V) (mul_comm S n) ∙ mul_assoc n S V)
 
     -- So it feeds the groups.
     module _ (May : List (List Val) → Type 0) (beginnings : (rows more : List (List Val)) → May (rows ++ more) → May rows) (units : ℕ) (below : units < fuel)
         (enough : (xs : List (List Val)) → May xs → before + length (keys columns xs) * size + 2 * u < (most + 1) * u) (met : (xs : List (List Val)) → May xs → length (in_slot slot j (keys columns xs)) ≤ units) where
-      pub group_feeds : (N : ℕ) → (1 + units) * V ≤ N → (s : LowState) → ((rows : List (List Val)) → May (rows ++ r ∷ []) → Searches rows s) → ((rows : List (List Val)) → May (rows ++ r ∷ []) → Updates rows s) → ((rows : List (List Val)) → May (rows ++ r ∷ []) → Places rows s) →
+      pub group_feeds : (N : ℕ) → units * V + W ≤ N → (s : LowState) → ((rows : List (List Val)) → May (rows ++ r ∷ []) → Searches rows s) → ((rows : List (List Val)) → May (rows ++ r ∷ []) → Updates rows s) → ((rows : List (List Val)) → May (rows ++ r ∷ []) → Places rows s) →
           slice_get s.locals h ≡ Some (Number (4 * j)) → g + 1 < length s.locals →
           FeedsTo (groups_sink columns Has size k o d u before May beginnings) most fuel N (Below g) Any (one_row r) (group_block size d h g test fill update) s
       group_feeds N le s searches updates places h_is room so_far has may =
@@ -278,10 +275,10 @@ module _ (columns : ℕ) (Has : List (List Val) → Cells → ℕ → ℕ → Li
           let C : ℕ = cost test.out + 5 + 3 in
           let B : ℕ = 11 + (16 + (sizes.size fill + 21) + 4) in
           let U : ℕ = sizes.size update in
-          let all : (1 + n) * V ≤ N = (let fewer : (1 + n) * V ≤ (1 + units) * V = mul-le (1 + n) V (1 + units) V (omega (arith, short)) (omega arith) in omega (arith, fewer, le)) in
-          let bound : n * (T * V + C) + (B + U * V) ≤ S * N = spread-turns n T C B U S N (omega arith) (omega arith) all in
+          let all : n * V + W ≤ N = (let fewer : n * V ≤ units * V = mul-le n V units V short (omega arith) in omega (arith, fewer, le)) in
+          let bound : n * (T * V + C) + (B + U * W) ≤ S * N = spread-turns n T C B U S N (omega arith) all in
           let same : n * (T * V + (cost test.out + 5) + 3) ≡ n * (T * V + C) = ap (λ (q : ℕ). n * q) (omega arith) in
-          Ends-weaker (n * (T * V + (cost test.out + 5) + 3) + (11 + (16 + (sizes.size fill + 21) + 4 + U * V))) (S * N) Q (FedTo (groups_sink columns Has size k o d u before May beginnings) (Below g) Any (one_row r) so_far s) Never Never IsRefusal (Tells [])
+          Ends-weaker (n * (T * V + (cost test.out + 5) + 3) + (11 + (16 + (sizes.size fill + 21) + 4 + U * W))) (S * N) Q (FedTo (groups_sink columns Has size k o d u before May beginnings) (Below g) Any (one_row r) so_far s) Never Never IsRefusal (Tells [])
           (meaning most fuel (group_block size d h g test fill update) s) (omega (arith, bound, same))
           (λ t done. record { none = refl; keeps = done.0; has = done.1; after = tt }) (λ t x. x) (λ code refused. inl refused)
           (group_ends s so_far has (searches so_far may) (updates so_far may) (places so_far may) h_is room (omega (arith, short, below)) (enough so_far before_r))

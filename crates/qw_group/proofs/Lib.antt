@@ -20,7 +20,7 @@ pub mod FindRuns
 pub mod PlaceRuns
 pub mod GroupRuns
 pub mod GroupFeeds
-mod GroupClauses
+pub mod GroupClauses
 mod GroupStepsAdded
 pub mod WalkRuns
 pub mod WalkClauses

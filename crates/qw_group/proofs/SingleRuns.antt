@@ -1,6 +1,5 @@
 -- All rows as one group: its areas are placed, and take the arguments of one row more.
 use Rattle.std.proofs.Common.{◌≡◌, ℕ, ◌+◌, ◌-◌, ◌*◌, ◌^◌, ◌%◌, ◌<◌, ◌≤◌, inl, inr, IsTrue, List, [], ◌∷◌, ◌++◌, length, length-append, length-set, Some, slice_get, slice_set, refl, sym, ap, ◌∙◌, subst, ⊎_elim, arith}
-use Rattle.std.specs.List.{AllByRecursion}
 use Rattle.std.proofs.lemmas.Bool.{le-leb}
 use Rattle.qw_types.specs.declared.value.Val.{Val}
 use Rattle.qw_linear.specs.Memory.{page}
@@ -12,24 +11,23 @@ use Rattle.qw_low.specs.State.{Part, Own, Number, Address, LowState}
 use Rattle.qw_low.specs.Meaning.{value, meaning}
 use Rattle.qw_low.specs.Size.{size}
 use Rattle.qw_low.specs.Promise.{Ends}
-use Rattle.qw_low.proofs.Promises.{Ends-more, Ends-then, Ends-weaker, assign_ends}
+use Rattle.qw_low.proofs.Promises.{Ends-then, Ends-weaker, assign_ends}
 use Rattle.qw_low.proofs.BlockSteps.{assign_then}
 use Rattle.qw_feed.specs.Feeds.{one_row, Any, Tells, FedTo, FeedsTo}
-use Rattle.qw_feed.specs.Frames.{pos, Keeps, From, Below, Before}
+use Rattle.qw_feed.specs.Frames.{pos, Keeps, But, From, Below, Before}
 use Rattle.qw_feed.specs.Room.{i32, room_block, HasRoom, Paid}
 use Rattle.qw_feed.proofs.Frames.{Never, Keeps-set, Keeps-less, below-under}
 use Rattle.qw_feed.proofs.RoomRuns.{IsRefusal, Roomy, room_ends}
 use Rattle.qw_table.specs.Entries.{Stands}
-use Rattle.qw_table.specs.Keys.{octets_of}
 use Rattle.qw_table.specs.Joins.{Told}
 use Rattle.qw_table.proofs.JoinTyped.{room_typed}
 use Rattle.qw_group.specs.Areas.{InPlace}
-use Rattle.qw_group.specs.Groups.{HasAreas, UpdatesAreas, AllGive, AreShort, ArgumentsUse}
+use Rattle.qw_group.specs.Groups.{HasAreas, UpdatesAreas, AllGive, AreChosenWithin, ArgumentsUse, functions_in}
 use Rattle.qw_group.specs.Single.{HasSingle, single_sink, single_block, Begins, Gathers}
 use Rattle.qw_group.specs.declared.group.Aggregate.{Aggregate}
 use Rattle.qw_group.proofs.EntryAreas.{areas-none, areas_do}
 use Rattle.qw_group.proofs.GroupClauses.{updates_typed, updates_short}
-use Rattle.qw_group.proofs.GroupFeeds.{all-and-last}
+use Rattle.qw_group.proofs.GroupFeeds.{chosen-before}
 use Rattle.qw_group.proofs.WideRuns.{none}
 
 -- ---- the areas are placed
@@ -41,8 +39,9 @@ module _ (Text : Part → ℕ → List ℕ → Type 0) (aggregates : List Aggreg
   abbrev n : ℕ
   n = 32 * length aggregates
 
-  abbrev Placed : LowState → Type 0
-  Placed t = (k : ℕ) × (o : ℕ) × (front ≤ pos k o) × Keeps (Below e) (Before front) s t × HasSingle Text aggregates k o e u (budget + n) [] t
+  -- all locals are as they were but those of free space and the one that leads there
+  abbrev pub Placed : LowState → Type 0
+  Placed t = (k : ℕ) × (o : ℕ) × (pos part offset ≤ pos k o) × Keeps (But e (From 3)) (Before (pos part offset)) s t × HasSingle Text aggregates k o e u (budget + 32 * length aggregates) [] t
 
   module _ (t : LowState) (r : Roomy n u budget front s t) where
     abbrev k : ℕ
@@ -70,11 +69,11 @@ module _ (Text : Part → ℕ → List ℕ → Type 0) (aggregates : List Aggreg
     e_there = slice_get-set_other t2.locals 2 e (Number (page - (o + n))) (λ i. omega (arith, i, e_high)) ∙ (slice_get-set_other t1.locals 1 e (Address (Own k) (o + n)) (λ i. omega (arith, i, e_high))
         ∙ slice_get-set_same t.locals e (Address (Own k) o) (omega (arith, many, r.keeps.many)))
 
-    keeps3 : Keeps (Below e) (Before front) s t3
-    keeps3 = Keeps-set (Below e) (Before front) s t2 2 (Number (page - (o + n))) (λ i old is. ⊎_elim (λ z. omega (arith, z, is)) (λ g. omega (arith, g.0, is)) old)
-        (Keeps-set (Below e) (Before front) s t1 1 (Address (Own k) (o + n)) (λ i old is. ⊎_elim (λ z. omega (arith, z, is)) (λ g. omega (arith, g.0, is)) old)
-        (Keeps-set (Below e) (Before front) s t e (Address (Own k) o) (λ i old is. ⊎_elim (λ z. omega (arith, z, is, e_high)) (λ g. omega (arith, g.1, is)) old)
-        (Keeps-less (Below e) (Before front) (From 3) (Before front) s t (λ i old. ⊎_elim (λ is. inl is) (λ g. inr (omega (arith, g.0))) old) (λ at width below. below) r.keeps)))
+    keeps3 : Keeps (But e (From 3)) (Before front) s t3
+    keeps3 = Keeps-set (But e (From 3)) (Before front) s t2 2 (Number (page - (o + n))) (λ i old is. ⊎_elim (λ z. omega (arith, z, is)) (λ g. omega (arith, g, is)) old.0)
+        (Keeps-set (But e (From 3)) (Before front) s t1 1 (Address (Own k) (o + n)) (λ i old is. ⊎_elim (λ z. omega (arith, z, is)) (λ g. omega (arith, g, is)) old.0)
+        (Keeps-set (But e (From 3)) (Before front) s t e (Address (Own k) o) (λ i old is. old.1 is)
+        (Keeps-less (But e (From 3)) (Before front) (From 3) (Before front) s t (λ i old. old.0) (λ at width below. below) r.keeps)))
 
     placed : Placed t3
     placed = (
@@ -127,9 +126,10 @@ module _ (Text : Part → ℕ → List ℕ → Type 0) (aggregates : List Aggreg
       places
 
 -- ---- one row more
-module _ (Text : Part → ℕ → List ℕ → Type 0) (aggregates : List Aggregate) (e free : ℕ) (a : Statement) (updates : UpdatesAreas e 0 free aggregates a) (low : (5 ≤ e) × (e < free)) (uses : ArgumentsUse free aggregates) (k o u budget most fuel longest more : ℕ) (May : List (List Val) → Type 0)
+module _ (Text : Part → ℕ → List ℕ → Type 0) (aggregates : List Aggregate) (e free : ℕ) (a : Statement) (updates : UpdatesAreas e 0 free aggregates a) (low : (5 ≤ e) × (e < free)) (uses : ArgumentsUse free aggregates) (k o u budget most fuel chosen more : ℕ) (May : List (List Val) → Type 0)
     (beginnings : (rows others : List (List Val)) → May (rows ++ others) → May rows) (row : List Val) (s : LowState) (stands : (t : LowState) → Keeps (Below free) (Before (pos k o)) s t → (p : Part) (at : ℕ) (octets : List ℕ) → Text p at octets → Stands t p at octets)
-    (gives : AllGive Text s.locals 0 aggregates row) (known : (xs : List (List Val)) → May xs → (length xs ≤ 10 ^ 18) × AreShort longest xs) (units : 1 + 2 * longest ≤ more) (turns : more ≤ fuel) (room : free + 9 ≤ length s.locals) where
+    (gives : AllGive Text s.locals 0 aggregates row) (few_rows : (xs : List (List Val)) → May xs → 1 ≤ length aggregates → length xs ≤ 10 ^ 18)
+    (chosen_rows : (xs : List (List Val)) → May xs → AreChosenWithin 0 (functions_in aggregates) xs row chosen) (units : 1 + chosen ≤ more) (turns : more ≤ fuel) (room : free + 9 ≤ length s.locals) where
   in_place : (to : ℕ) (t : LowState) → InPlace k (o + 0) to free s t → Keeps (Below free) (Before (pos k o)) s t
   in_place to t done = subst (λ (q : LowState). Keeps (Below free) (Before (pos k o)) s q) (sym done.others) (record {
     many = done.many;
@@ -144,15 +144,14 @@ module _ (Text : Part → ℕ → List ℕ → Type 0) (aggregates : List Aggreg
 
   pub single_feeds : FeedsTo (single_sink Text aggregates k o e u budget May beginnings) most fuel more (Below free) Any (one_row row) a s
   single_feeds so_far has may =
-      let all = known (so_far ++ row ∷ []) may in
-      let shorts = all-and-last (λ (q : List Val). AllByRecursion (λ (v : Val). octets_of v ≤ longest) q) so_far row all.1 in
+      let few : 1 ≤ length aggregates → length so_far < 10 ^ 18 = λ there. (let all = few_rows (so_far ++ row ∷ []) may there in omega (arith, all, length-append so_far (row ∷ []))) in
       let to : ℕ = o + 0 + 32 * length aggregates in
       let zeroth : o + 0 ≡ o = omega arith in
       Ends-weaker (size a * more) (size a * more) (λ t. InPlace k (o + 0) to free s t × HasAreas Text 0 aggregates (so_far ++ row ∷ []) t.cells k (o + 0)) (FedTo (single_sink Text aggregates k o e u budget May beginnings) (Below free) Any (one_row row) so_far s) Never Never none (Tells [])
       (meaning most fuel a s) (omega arith)
       (λ t done. record { none = refl; keeps = in_place to t done.0; has = changed so_far has t done.0 (subst (λ (n : ℕ). HasAreas Text 0 aggregates (so_far ++ row ∷ []) t.cells k n) zeroth done.1); after = tt })
       (λ t y. y) (λ code y. absurd y)
-      (areas_do Text most fuel more longest k o e free free (omega (arith, units)) turns low.1 (omega arith) row shorts.1 units 0 0 aggregates a so_far s updates uses (omega (arith, all.0, length-append so_far (row ∷ []))) shorts.0 gives has.at has.sized (omega (arith, has.inside)) room
+      (areas_do Text most fuel more chosen k o e free free (omega (arith, units)) turns low.1 (omega arith) row units 0 0 aggregates a so_far s updates uses few (chosen-before chosen row 0 (functions_in aggregates) so_far (chosen_rows (so_far ++ row ∷ []) may)) gives has.at has.sized (omega (arith, has.inside)) room
       (λ t done. stands t (in_place to t done)) (subst (λ (n : ℕ). HasAreas Text 0 aggregates so_far s.cells k n) (sym zeroth) has.areas))
     where
       changed : (so_far : List (List Val)) → HasSingle Text aggregates k o e u budget so_far s → (t : LowState) → InPlace k (o + 0) (o + 0 + 32 * length aggregates) free s t → HasAreas Text 0 aggregates (so_far ++ row ∷ []) t.cells k o → HasSingle Text aggregates k o e u budget (so_far ++ row ∷ []) t
@@ -181,7 +180,16 @@ module _ (Text : Part → ℕ → List ℕ → Type 0) (aggregates : List Aggreg
 -- ---- the clauses
 pub begins : (e : ℕ) (aggregates : List Aggregate) → 5 ≤ e → length aggregates ≤ 2000 → Begins e aggregates (single_block (32 * length aggregates) e)
 begins e aggregates high few = record {
-  runs = λ text u budget most fuel part offset s small has paid enough many. Ends-more (Placed (Told text) aggregates e u budget most fuel high small s many part offset has paid enough) Never IsRefusal 26 (size (single_block (32 * length aggregates) e)) (meaning most fuel (single_block (32 * length aggregates) e) s) (omega arith)
+  runs = λ text u budget most fuel part offset s small has paid enough many.
+      Ends-weaker 26 (size (single_block (32 * length aggregates) e)) (Placed (Told text) aggregates e u budget most fuel high small s many part offset has paid enough)
+      (λ t. (k : ℕ) × (o : ℕ) × (pos part offset ≤ pos k o) × Keeps (Below e) (Before (pos part offset)) s t × HasSingle (Told text) aggregates k o e u (budget + 32 * length aggregates) [] t) Never Never IsRefusal IsRefusal (meaning most fuel (single_block (32 * length aggregates) e) s) (omega arith)
+      (λ t placed. (
+        placed.0,
+        placed.1,
+        placed.2,
+        Keeps-less (Below e) (Before (pos part offset)) (But e (From 3)) (Before (pos part offset)) s t (λ i old. ⊎_elim (λ z. (inl z, λ is. omega (arith, z, is, high))) (λ g. (inr (omega (arith, g.0)), λ is. omega (arith, g.1, is))) old) (λ at width below. below) placed.3,
+        placed.4,
+      )) (λ t x. x) (λ code x. x)
       (single_ends (Told text) aggregates e u budget most fuel high small s many part offset has paid enough);
   typed = λ types free_is left_is e_is. let n : 32 * length aggregates < 2 ^ 32 = omega (arith, few) in
       (room_typed types free_is left_is (32 * length aggregates) n, ((I32, e_is, free_is), ((I32, free_is, (free_is, (n, refl), refl)), (I32, left_is, (left_is, (n, refl), refl)))));
@@ -190,8 +198,8 @@ begins e aggregates high few = record {
 
 pub gathers : (e : ℕ) (aggregates : List Aggregate) (free : ℕ) (a : Statement) → (5 ≤ e) × (e < free) → ArgumentsUse free aggregates → UpdatesAreas e 0 free aggregates a → Gathers e aggregates free a
 gathers e aggregates free a low uses updates = record {
-  runs = λ text may beginnings k o u budget most fuel longest more row s stands gives known units turns room.
-      single_feeds (Told text) aggregates e free a updates low uses k o u budget most fuel longest more (λ xs. IsTrue (may xs)) beginnings row s stands gives known units turns room;
+  runs = λ text may beginnings k o u budget most fuel chosen more row s stands gives few_rows chosen_rows units turns room.
+      single_feeds (Told text) aggregates e free a updates low uses k o u budget most fuel chosen more (λ xs. IsTrue (may xs)) beginnings row s stands gives few_rows chosen_rows units turns room;
   typed = λ types e_is declared own. updates_typed types e 0 free aggregates a e_is own declared updates;
   short = updates_short e 0 free aggregates a updates;
 }

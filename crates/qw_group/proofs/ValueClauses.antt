@@ -10,7 +10,7 @@ use Rattle.qw_low.specs.Syntax.{Statement}
 use Rattle.qw_low.specs.Typing.{IsTyped}
 use Rattle.qw_low.specs.Size.{size}
 use Rattle.qw_table.specs.Entries.{Declares}
-use Rattle.qw_group.specs.Values.{ReadsValue, value_types, chosen_type}
+use Rattle.qw_group.specs.Values.{ReadsValue, value_types, chosen_type, read_units}
 use Rattle.qw_group.specs.Inner.ValueBlocks.{where_taken, sum_known, average_known, chosen_known, value_block}
 use Rattle.qw_group.proofs.AreaClauses.{first_is}
 use Rattle.qw_group.proofs.SumClauses.{averages, fits-kept}
@@ -75,7 +75,7 @@ value_short Max kd e at f = let one = chosen_short kd e at f in omega (arith, on
 
 pub reads_value : (function : SetFunctionKind) (kd : Kind) (at e f : ℕ) → e < f → ReadsValue function kd at e f (value_block function kd e at f)
 reads_value function kd at e f low = record {
-  runs = λ most fuel k o s values turns few e_is has room. value_gets most fuel k o e at f turns low s e_is room values few function kd has;
+  runs = λ most fuel k o s values turns few e_is has room. value_gets most fuel k o e at f (1 + read_units function) (omega arith) low s e_is room values few function kd turns (omega arith) has;
   typed = λ types e_is own. value_typed function kd types e at f e_is own;
   short = value_short function kd e at f;
 }

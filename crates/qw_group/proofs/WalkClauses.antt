@@ -23,7 +23,7 @@ use Rattle.qw_group.specs.Walks.{AreMet, Walks, slots_down, groups_walk_block}
 use Rattle.qw_group.specs.declared.group.Aggregate.{Aggregate}
 use Rattle.qw_group.proofs.GroupFeeds.{group_same}
 use Rattle.qw_group.proofs.GroupRuns.{values-many}
-use Rattle.qw_group.proofs.WalkRuns.{walk_feeds, walk_once, flow-flat, spend-flat, values-flat, slots-many, slot-few}
+use Rattle.qw_group.proofs.WalkRuns.{standing, walk_feeds, walk_once, flow-flat, spend-flat, values-flat, slots-many, slot-few}
 
 module _ (Text : Part → ℕ → List ℕ → Type 0) (key : List Field) (aggregates : List Aggregate) (sink : Sink) (most fuel c next : ℕ) (low : 5 ≤ c) (further : c + 1 < next) (has_kept : (rows : List (List Val)) (s t : LowState) → Kept c s t → sink.Has rows s → sink.Has rows t)
     (found : Statement) (inner : List Val → Flow (List Val)) (units : List Val → ℕ) where
@@ -43,9 +43,9 @@ module _ (Text : Part → ℕ → List ℕ → Type 0) (key : List Field) (aggre
       (entries : List Row) × AreMet columns rows entries × FeedsTo sink most fuel (1025 + spend (λ (e : Row). units e.values) entries) (Below c) Any (flow_over (λ (e : Row). inner e.values) entries) (groups_walk_block d c found) s
   groups_walk k o d u before rows s groups d_low room spared slots_less keys_less met =
       let shorter : (j : ℕ) → j < 1024 → length (groups.chains j) < fuel = λ j j_low. (let same = length_permutation (values_of (groups.chains j)) (in_slot slot j (keys columns rows)) (groups.same j j_low) in let few = slot-few j (keys columns rows) in omega (arith, same, few, values-many (groups.chains j), keys_less)) in
-      let fed = walk_feeds sink most fuel c next low further has_kept found inner units columns Has wide (omega arith) (group_same Text key aggregates) k o d u before rows s groups d_low room spared slots_less shorter
+      let fed = walk_feeds sink most fuel c next low further has_kept found inner units columns Has wide (omega arith) (group_same Text key aggregates) k o d (pos groups.part groups.offset) rows s (standing columns Has wide k o d u before rows s groups) d_low room spared slots_less shorter
       (λ e t here. met e t here.x_is here.keeps here.has_group) in
-      gathered groups.chains (slots_down 1024) (slots-many 1024) (walk_once columns Has wide k o d u before rows s groups slot-low) fed
+      gathered groups.chains (slots_down 1024) (slots-many 1024) (walk_once columns Has wide k o d (pos groups.part groups.offset) rows s (standing columns Has wide k o d u before rows s groups) slot-low) fed
     where
       gathered : (chains : ℕ → List Row) (js : List ℕ) → length js ≡ 1024 → IsPermutation (flat_map (λ j. values_of (chains j)) js) (keys columns rows) →
           FeedsTo sink most fuel (1 + spend (λ j. spend (λ (e : Row). units e.values) (chains j)) js) (Below c) Any (flow_over (λ j. flow_over (λ (e : Row). inner e.values) (chains j)) js) (groups_walk_block d c found) s →

@@ -16,7 +16,7 @@ use Rattle.qw_map.proofs.TurnFacts.{slice_get-set_same}
 use Rattle.qw_module.specs.declared.instruction.ValType.TheVariants.{I32}
 use Rattle.qw_module.specs.declared.instruction.Binary.TheVariants.{Sub}
 use Rattle.qw_low.specs.Syntax.{local, binop, Statement, assign, while}
-use Rattle.qw_low.specs.State.{Own, Number, Cells, LowState}
+use Rattle.qw_low.specs.State.{Own, Number, Address, Cells, LowState}
 use Rattle.qw_low.specs.Meaning.{value, meaning}
 use Rattle.qw_low.specs.Promise.{Ends, IsSet}
 use Rattle.qw_low.specs.Raising.{Kept}
@@ -29,11 +29,24 @@ use Rattle.qw_feed.specs.Rows.{Row, address}
 use Rattle.qw_feed.proofs.FeedRules.{Quiet, feeds_weaker, feeds_then}
 use Rattle.qw_feed.proofs.Frames.{Never, Keeps-same, Keeps-then, Keeps-set, Keeps-less, below-less}
 use Rattle.qw_feed.proofs.LoopFeeds.{loop_feeds}
-use Rattle.qw_table.specs.Tables.{values_of, in_slot, probe_block}
+use Rattle.qw_table.specs.Tables.{IsDirectory, Linked, values_of, in_slot, probe_block}
 use Rattle.qw_table.proofs.Chains.{Linked-same}
 use Rattle.qw_table.proofs.ProbeRuns.{AtEntry, probe_feeds}
 use Rattle.qw_group.specs.Groups.{HasGroups}
 use Rattle.qw_group.specs.Walks.{slots_down, always, walk_turn, groups_walk_block}
+
+-- A table of groups that stands before a place, wherever free space is.
+pub record StandGroups (columns : ℕ) (Has : List (List Val) → Cells → (part offset : ℕ) → (key : List Val) → Type 0) (size : ℕ) (k o d front : ℕ) (rows : List (List Val)) (s : LowState) : Type 0 where
+  pub at : slice_get s.locals d ≡ Some (Address (Own k) o)
+  pub chains : ℕ → List Row
+  pub directory : IsDirectory k o front chains s.cells s.own
+  pub linked : (j : ℕ) → j < 1024 → Linked (Has rows) size s.cells (pos k (o + 4096)) front (chains j)
+  pub same : (j : ℕ) → j < 1024 → IsPermutation (values_of (chains j)) (in_slot slot j (keys columns rows))
+
+-- one that has just been filled stands before free space
+abbrev pub standing : (columns : ℕ) → (Has : List (List Val) → Cells → (part offset : ℕ) → (key : List Val) → Type 0) → (size k o d u before : ℕ) → (rows : List (List Val)) → (s : LowState) → (has : HasGroups columns Has size k o d u before rows s) →
+    StandGroups columns Has size k o d (pos has.part has.offset) rows s
+standing columns Has size k o d u before rows s has = record { at = has.at; chains = has.chains; directory = has.directory; linked = has.linked; same = has.same }
 
 one-more : (m : ℕ) → 1 ≤ 1 + m
 one-more m = omega arith
@@ -54,8 +67,8 @@ module _ (sink : Sink) (most full c n' : ℕ) (low : 5 ≤ c) (further : c + 1 <
     (found : Statement) (inner : List Val → Flow (List Val)) (units : List Val → ℕ)
     (columns : ℕ) (Has : List (List Val) → Cells → ℕ → ℕ → List Val → Type 0) (size : ℕ) (wide : 8 ≤ size)
     (has_same : (rows : List (List Val)) (c c' : Cells) (k o : ℕ) (key : List Val) → ((a b : ℕ) → o + 8 ≤ a → a + b ≤ o + size → c' (Own k) a b ≡ c (Own k) a b) → Has rows c k o key → Has rows c' k o key)
-    (k o d u before : ℕ) (rows : List (List Val)) (s0 : LowState) (has : HasGroups columns Has size k o d u before rows s0) (d_low : (5 ≤ d) × (d < c)) (room : c + 1 < length s0.locals)
-    (spared : (at width : ℕ) → pos k o ≤ at → at + width ≤ pos has.part has.offset → sink.Spared at width) (more : 1024 < full) (shorter : (j : ℕ) → j < 1024 → length (has.chains j) < full) where
+    (k o d front : ℕ) (rows : List (List Val)) (s0 : LowState) (has : StandGroups columns Has size k o d front rows s0) (d_low : (5 ≤ d) × (d < c)) (room : c + 1 < length s0.locals)
+    (spared : (at width : ℕ) → pos k o ≤ at → at + width ≤ front → sink.Spared at width) (more : 1024 < full) (shorter : (j : ℕ) → j < 1024 → length (has.chains j) < full) where
   abbrev x : ℕ
   x = c + 1
 
@@ -122,7 +135,7 @@ module _ (sink : Sink) (most full c n' : ℕ) (low : 5 ≤ c) (further : c + 1 <
       sink_x : (q : List (List Val)) (v w : LowState) → Kept x v w → sink.Has q v → sink.Has q w
       sink_x q v w kept = sink_kept q v w (record { others = kept.others; many = kept.many; below = λ i less. kept.below i (omega (arith, less)) })
 
-      spared_chain : (at width : ℕ) → pos k (o + 4096) ≤ at → at + width ≤ pos has.part has.offset → sink.Spared at width
+      spared_chain : (at width : ℕ) → pos k (o + 4096) ≤ at → at + width ≤ front → sink.Spared at width
       spared_chain at' width from to = spared at' width (omega (arith, from)) to
 
       abbrev one : List Val → Bool
@@ -133,18 +146,18 @@ module _ (sink : Sink) (most full c n' : ℕ) (low : 5 ≤ c) (further : c + 1 <
 
       abbrev At : Row → LowState → Type 0
       At = AtEntry (Has rows) size wide (has_same rows) sink most full x (Below x) (Below n') (λ i old. ⊎_elim (λ z. omega (arith, z)) (λ g. g.1) old) (λ i old. below-less x n' i (omega (arith, further)) old) (inr (omega (arith, low), further)) sink_x
-          always found one inner units (pos k (o + 4096)) (pos has.part has.offset) spared_chain t Also (λ es v w kept also. also) (λ e es v isnt also. also)
+          always found one inner units (pos k (o + 4096)) front spared_chain t Also (λ es v w kept also. also) (λ e es v isnt also. also)
 
       -- a slot's entries
       probes : FeedsTo sink most full N (Below x) Any (flow_of j) (probe_block d c x always found) t
       probes = probe_feeds (Has rows) size wide (has_same rows) sink most full x (Below x) (Below n') (λ i old. ⊎_elim (λ z. omega (arith, z)) (λ g. g.1) old) (λ i old. below-less x n' i (omega (arith, further)) old) (inr (omega (arith, low), further)) sink_x
-          always found one inner units (pos k (o + 4096)) (pos has.part has.offset) spared_chain t Also (λ es v w kept also. also) (λ e es v isnt also. also)
+          always found one inner units (pos k (o + 4096)) front spared_chain t Also (λ es v w kept also. also) (λ e es v isnt also. also)
           (λ e w. Unit {0}) (λ e v here. (omega arith, (Kept-same (x + 1) v, refl, tt)))
           (λ e es v here known is also. feeds_weaker sink most full (1 + units e.values) (1 + units e.values) (Below n') (Below n') Any Any (inner e.values) found v (omega arith) (λ i old. old) (λ w keeps a. tt)
           (found_to e v (record { x_is = here.x_is; far = here.room; keeps = Keeps-then (Below c) sink.Spared s0 t v keeps_t (Keeps-less (Below c) sink.Spared (Below x) sink.Spared t v (λ i. below-less c x i (omega arith)) (λ a' b it. it) here.keeps); has_group = here.has })))
           k o j d c (has.chains j) (keeps_t.own k page has.directory.sized) has.directory.inside
           (keeps_t.cells k (o + 4 * j) 4 (spared (pos k (o + 4 * j)) 4 (omega arith) (omega (arith, j_low, has.directory.behind))) ∙ has.directory.slots j j_low)
-          (Linked-same (Has rows) size wide (has_same rows) s0.cells t.cells (pos k (o + 4096)) (pos has.part has.offset) (has.chains j) (λ i a b from to. keeps_t.cells i a b (spared_chain (pos i a) b from to)) (has.linked j j_low))
+          (Linked-same (Has rows) size wide (has_same rows) s0.cells t.cells (pos k (o + 4096)) front (has.chains j) (λ i a b from to. keeps_t.cells i a b (spared_chain (pos i a) b from to)) (has.linked j j_low))
           j_low (keeps_t.locals d (inr (d_low.0, d_low.1)) ∙ has.at) (t_is ∙ ap (λ (m : ℕ). Some (Number (4 * m))) (sym j_is)) (omega (arith, keeps_t.many, room)) (shorter j j_low) tt
 
       step : FeedsTo sink most full N (Below c) (Left left) (flow_of j) (walk_turn d c found) s
@@ -237,8 +250,8 @@ module _ (slot_of : List Val → ℕ) where
   alike (suc n) f g each = IsPermutation-append (f n) (g n) (flat_map f (slots_down n)) (flat_map g (slots_down n)) (each n (omega arith)) (alike n f g (λ j less. each j (omega (arith, less))))
 
 -- The keys of the entries that a walk meets are those of the rows, each once.
-pub walk_once : (columns : ℕ) (Has : List (List Val) → Cells → ℕ → ℕ → List Val → Type 0) (size : ℕ) (k o d u before : ℕ) (rows : List (List Val)) (s : LowState) (has : HasGroups columns Has size k o d u before rows s) → ((w : List Val) → slot w < 1024) → IsPermutation (flat_map (λ j. values_of (has.chains j)) (slots_down 1024)) (keys columns rows)
-walk_once columns Has size k o d u before rows s has low =
+pub walk_once : (columns : ℕ) (Has : List (List Val) → Cells → ℕ → ℕ → List Val → Type 0) (size : ℕ) (k o d front : ℕ) (rows : List (List Val)) (s : LowState) (has : StandGroups columns Has size k o d front rows s) → ((w : List Val) → slot w < 1024) → IsPermutation (flat_map (λ j. values_of (has.chains j)) (slots_down 1024)) (keys columns rows)
+walk_once columns Has size k o d front rows s has low =
     whole 1024 (λ j. values_of (has.chains j)) (λ j. in_slot slot j (keys columns rows)) has.same (by_slots slot 1024 (keys columns rows) low)
   where
     whole : (n : ℕ) (f g : ℕ → List (List Val)) → ((j : ℕ) → j < n → IsPermutation (f j) (g j)) → IsPermutation (flat_map g (slots_down n)) (keys columns rows) → IsPermutation (flat_map f (slots_down n)) (keys columns rows)

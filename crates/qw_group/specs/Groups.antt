@@ -1,6 +1,6 @@
 -- The groups of rows (ISO/IEC 9075:1992, 7.7) in a hash table: an entry has a group's key, and for each set function an area that has taken the
 -- arguments at the group's rows. The blocks of Low that put a row into its group, and that meet each group; and the sink that the table is.
-use Rattle.std.specs.Prelude.{◌≡◌, ℕ, IsTrue, ◌+◌, ◌*◌, ◌^◌, ◌≤◌, ◌<◌, ◌⊎◌, Bool, List, [], ◌∷◌, ◌++◌, length, Some, slice_get}
+use Rattle.std.specs.Prelude.{◌≡◌, ℕ, IsTrue, ◌+◌, ◌*◌, ◌^◌, ◌≤◌, ◌<◌, ◌⊎◌, Bool, List, [], ◌∷◌, ◌++◌, length, map, Some, slice_get}
 use Rattle.std.specs.List.{AllByRecursion}
 use Rattle.std.specs.List.Sorted.{IsPermutation}
 use Rattle.qw_linear.specs.Memory.{page}
@@ -9,6 +9,7 @@ use Rattle.qw_layout.specs.Hash.{slot}
 use Rattle.qw_layout.specs.Row.{cell_offset, entry_size}
 use Rattle.qw_scalar.specs.Evaluation.{cell_of}
 use Rattle.qw_grouped.specs.Groups.{key_of, keys, members, values_at}
+use Rattle.qw_grouped.specs.declared.set_function.SetFunctionKind.{SetFunctionKind}
 use Rattle.qw_module.specs.declared.instruction.ValType.TheVariants.{I32, I64}
 use Rattle.qw_module.specs.declared.instruction.ValType.{ValType}
 use Rattle.qw_module.specs.declared.instruction.Load.TheVariants as loads
@@ -27,7 +28,7 @@ use Rattle.qw_table.specs.Joins.{Told, sources_of}
 use Rattle.qw_table.specs.Keys.{AreAlike, AreDeclared, IsBelow, FindsSlot, TestsKey, octets_of, text_octets}
 use Rattle.qw_table.specs.Tables.{values_of, in_slot, Linked, IsDirectory, slot_at, insert_block}
 use Rattle.qw_table.specs.declared.key.Field.{Field}
-use Rattle.qw_group.specs.Areas.{HasAggregate, Gives, DeclaresArgument, Aggregates}
+use Rattle.qw_group.specs.Areas.{HasAggregate, Gives, DeclaresArgument, Aggregates, Chooses}
 use Rattle.qw_group.specs.declared.group.Aggregate.{Aggregate}
 
 -- ---- an entry
@@ -124,20 +125,30 @@ AreArgumentsBelow n aggregates = AllByRecursion (λ (a : Aggregate). IsBelow n a
 abbrev pub ArgumentsUse : ℕ → List Aggregate → Type 0
 ArgumentsUse n aggregates = AllByRecursion (λ (a : Aggregate). Uses (Among n) a.argument.cell) aggregates
 
--- no value of these rows has more than so many octets
-abbrev pub AreShort : (longest : ℕ) → List (List Val) → Type 0
-AreShort longest rows = AllByRecursion (λ (row : List Val). AllByRecursion (λ (v : Val). octets_of v ≤ longest) row) rows
+abbrev pub functions_in : List Aggregate → List SetFunctionKind
+functions_in aggregates = map (λ (a : Aggregate). a.function) aggregates
+
+-- the octets of the text at a place of a row, 0 of a value that is none
+abbrev pub octets_at : (place : ℕ) → List Val → ℕ
+octets_at place row = octets_of (cell_of (slice_get row place))
+
+-- At a row MIN and MAX compare its text with that of another row: of each of these the octets of both are at most so many. The arguments of the set
+-- functions begin at a place.
+abbrev pub AreChosenWithin : (place : ℕ) → List SetFunctionKind → (rows : List (List Val)) → (row : List Val) → ℕ → Type 0
+AreChosenWithin place [] rows row n = Unit {0}
+AreChosenWithin place (f ∷ functions) rows row n = (Chooses f → AllByRecursion (λ (r : List Val). octets_at place r + octets_at place row ≤ n) rows) × AreChosenWithin (place + 1) functions rows row n
 
 -- ---- what is promised of the block, where tests say which texts lie in memory, and which rows there may be
 -- A row, whose key and arguments are in locals, is put into its group: the table then has the groups of one row more, or a request for a page was
--- refused. Within `more` times the block's size, which is at least one more than the entries of the row's slot, each times one more than the octets
--- of the row's key and of any two values.
+-- refused. Within `more` times the block's size: `more` is one more than the octets of the row's key, for each entry that there may be in the row's slot
+-- as many again, and what MIN and MAX compare. Where there are set functions there are at most 10^18 rows.
 pub record Collects (directory : ℕ) (key : List Field) (aggregates : List Aggregate) (free : ℕ) (a : Statement) : Type 0 where
-  pub runs : (text : Part → (offset : ℕ) → List ℕ → Bool) (may : List (List Val) → Bool) (beginnings : (rows others : List (List Val)) → IsTrue (may (rows ++ others)) → IsTrue (may rows)) (k o u before most fuel each longest units more : ℕ) (row : List Val) (s : LowState) →
+  pub runs : (text : Part → (offset : ℕ) → List ℕ → Bool) (may : List (List Val) → Bool) (beginnings : (rows others : List (List Val)) → IsTrue (may (rows ++ others)) → IsTrue (may rows)) (k o u before most fuel units chosen more : ℕ) (row : List Val) (s : LowState) →
       group_size key aggregates + u ≤ page → ((t : LowState) → Keeps (Below free) (Before (pos k o)) s t → (p : Part) (at : ℕ) (octets : List ℕ) → Told text p at octets → Stands t p at octets) →
-      AllSupply (Told text) s.locals (sources_of key) (key_of (length key) row) → AllGive (Told text) s.locals (length key) aggregates row → ((xs : List (List Val)) → IsTrue (may xs) → (length xs ≤ 10 ^ 18) × AreShort longest xs) →
+      AllSupply (Told text) s.locals (sources_of key) (key_of (length key) row) → AllGive (Told text) s.locals (length key) aggregates row → ((xs : List (List Val)) → IsTrue (may xs) → 1 ≤ length aggregates → length xs ≤ 10 ^ 18) →
+      ((xs : List (List Val)) → IsTrue (may xs) → AreChosenWithin (length key) (functions_in aggregates) xs row chosen) →
       ((xs : List (List Val)) → IsTrue (may xs) → before + length (keys (length key) xs) * group_size key aggregates + 2 * u < (most + 1) * u) → ((xs : List (List Val)) → IsTrue (may xs) → length (in_slot slot (slot (key_of (length key) row)) (keys (length key) xs)) ≤ units) →
-      1 + text_octets (key_of (length key) row) ≤ each → 1 + 2 * longest ≤ each → each ≤ fuel → units < fuel → (1 + units) * each ≤ more → free + 24 ≤ length s.locals →
+      1 + text_octets (key_of (length key) row) + units * (1 + text_octets (key_of (length key) row)) + chosen ≤ more → more ≤ fuel → units < fuel → free + 24 ≤ length s.locals →
       FeedsTo (groups_sink (length key) (HasGroup (Told text) key aggregates) (group_size key aggregates) k o directory u before (λ xs. IsTrue (may xs)) beginnings) most fuel more (Below free) Any (one_row row) a s
   pub typed : (types : List ValType) → AreDeclared types key → DeclareArguments types aggregates → slice_get types 1 ≡ Some I32 → slice_get types 2 ≡ Some I32 → slice_get types directory ≡ Some I32 → Declares types free group_types → IsTyped types a
   pub short : size a ≤ 79 + 188 * length key + 100 * length aggregates

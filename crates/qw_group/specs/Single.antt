@@ -18,7 +18,7 @@ use Rattle.qw_feed.specs.Room.{i32, room_block, HasRoom, Paid}
 use Rattle.qw_table.specs.Entries.{Declares, Stands}
 use Rattle.qw_table.specs.Joins.{Told}
 use Rattle.qw_group.specs.Areas.{area_types}
-use Rattle.qw_group.specs.Groups.{HasAreas, AllGive, AreShort, DeclareArguments}
+use Rattle.qw_group.specs.Groups.{HasAreas, AllGive, AreChosenWithin, DeclareArguments, functions_in}
 use Rattle.qw_group.specs.declared.group.Aggregate.{Aggregate}
 
 -- The areas, of so many octets, stand at an offset of an own part, before free space, and have taken these rows; local e leads there. What was placed
@@ -50,11 +50,11 @@ pub record Begins (e : ℕ) (aggregates : List Aggregate) (a : Statement) : Type
   pub typed : (types : List ValType) → slice_get types 1 ≡ Some I32 → slice_get types 2 ≡ Some I32 → slice_get types e ≡ Some I32 → IsTyped types a
   pub short : size a ≤ 30
 
--- The areas take the arguments of one row more. Within `more` times the block's size, which is at least one more than the octets of any two values.
+-- The areas take the arguments of one row more. Within `more` times the block's size, which is at least one more than what MIN and MAX compare.
 pub record Gathers (e : ℕ) (aggregates : List Aggregate) (free : ℕ) (a : Statement) : Type 0 where
-  pub runs : (text : Part → (offset : ℕ) → List ℕ → Bool) (may : List (List Val) → Bool) (beginnings : (rows others : List (List Val)) → IsTrue (may (rows ++ others)) → IsTrue (may rows)) (k o u budget most fuel longest more : ℕ) (row : List Val) (s : LowState) →
+  pub runs : (text : Part → (offset : ℕ) → List ℕ → Bool) (may : List (List Val) → Bool) (beginnings : (rows others : List (List Val)) → IsTrue (may (rows ++ others)) → IsTrue (may rows)) (k o u budget most fuel chosen more : ℕ) (row : List Val) (s : LowState) →
       ((t : LowState) → Keeps (Below free) (Before (pos k o)) s t → (p : Part) (at : ℕ) (octets : List ℕ) → Told text p at octets → Stands t p at octets) → AllGive (Told text) s.locals 0 aggregates row →
-      ((xs : List (List Val)) → IsTrue (may xs) → (length xs ≤ 10 ^ 18) × AreShort longest xs) → 1 + 2 * longest ≤ more → more ≤ fuel → free + 9 ≤ length s.locals →
+      ((xs : List (List Val)) → IsTrue (may xs) → 1 ≤ length aggregates → length xs ≤ 10 ^ 18) → ((xs : List (List Val)) → IsTrue (may xs) → AreChosenWithin 0 (functions_in aggregates) xs row chosen) → 1 + chosen ≤ more → more ≤ fuel → free + 9 ≤ length s.locals →
       FeedsTo (single_sink (Told text) aggregates k o e u budget (λ xs. IsTrue (may xs)) beginnings) most fuel more (Below free) Any (one_row row) a s
   pub typed : (types : List ValType) → slice_get types e ≡ Some I32 → DeclareArguments types aggregates → Declares types free area_types → IsTyped types a
   pub short : size a ≤ 100 * length aggregates

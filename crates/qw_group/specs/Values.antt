@@ -45,11 +45,20 @@ value_type Max kd = chosen_type kd
 abbrev pub value_types : SetFunctionKind → Kind → List ValType
 value_types function kd = I32 ∷ value_type function kd ∷ I32 ∷ I32 ∷ I64 ∷ I64 ∷ I64 ∷ I32 ∷ []
 
--- A block that begins where a local leads to an entry, an area of which has taken fewer than 10^18 values: within 129 times its size the value of the
--- set function is in the three locals from `free` on, or its exception is raised. Nothing else is changed.
+-- what reading a value takes beside one: an average is divided bit by bit, in 128 turns
+abbrev pub read_units : SetFunctionKind → ℕ
+read_units CountRows = 0
+read_units Count = 0
+read_units Sum = 0
+read_units Avg = 128
+read_units Min = 0
+read_units Max = 0
+
+-- A block that begins where a local leads to an entry, an area of which has taken fewer than 10^18 values: the value of the set function is in the three
+-- locals from `free` on, or its exception is raised, within its size times one more than these units. Nothing else is changed.
 pub record ReadsValue (function : SetFunctionKind) (kd : Kind) (at entry free : ℕ) (a : Statement) : Type 0 where
-  pub runs : (most fuel k o : ℕ) (s : LowState) (values : List Val) → 128 < fuel → length values < 10 ^ 18 → slice_get s.locals entry ≡ Some (Address (Own k) o) → HasAggregate (Stands s) function kd values s.cells k (o + at) →
+  pub runs : (most fuel k o : ℕ) (s : LowState) (values : List Val) → read_units function < fuel → length values < 10 ^ 18 → slice_get s.locals entry ≡ Some (Address (Own k) o) → HasAggregate (Stands s) function kd values s.cells k (o + at) →
       free + 8 ≤ length s.locals →
-      Ends (size a * 129) (Leaves (λ v t. Kept free s t × HoldsValue (cell_from free (may_be_null function)) v t) (set_function_value function values)) (λ t. ⊥) (Raises (set_function_value function values)) (meaning most fuel a s)
+      Ends (size a * (1 + read_units function)) (Leaves (λ v t. Kept free s t × HoldsValue (cell_from free (may_be_null function)) v t) (set_function_value function values)) (λ t. ⊥) (Raises (set_function_value function values)) (meaning most fuel a s)
   pub typed : (types : List ValType) → slice_get types entry ≡ Some I32 → Declares types free (value_types function kd) → IsTyped types a
   pub short : size a ≤ 160

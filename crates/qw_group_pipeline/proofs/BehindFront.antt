@@ -43,7 +43,7 @@ module _ (having : List Condition) (items : List Expression) where
   passed_row row (Ok false) = refl
   passed_row row (Err code) = refl
 
-  group_chain : (key : List Val) (r : Result (List Val) Code) → flow_by r (λ vs. fed [] (filter having ∷ []) (select items) (key ++ vs)) ≡
+  pub group_chain : (key : List Val) (r : Result (List Val) Code) → flow_by r (λ vs. fed [] (filter having ∷ []) (select items) (key ++ vs)) ≡
       spread make (spread keep (given (r >>= (λ vs. let q : Result (List (List Val)) Code = Ok ((key ++ vs) ∷ []) in q))))
   group_chain key (Ok vs) = passed_row (key ++ vs) (passes having (at_row (key ++ vs)))
   group_chain key (Err code) = refl

@@ -2,10 +2,9 @@
 -- operators to the sink.
 use Rattle.std.proofs.Common.{◌≡◌, ℕ, ◌+◌, ◌*◌, ◌<◌, ◌≤◌, ◌^◌, Bool, true, false, Some, List, [], ◌∷◌, ◌++◌, length, length-append, map, Result, Ok, Err, slice_get, refl, sym, ap, ap₂, ◌∙◌, subst, arith}
 use Rattle.std.proofs.lemmas.List.{map-append}
-use Rattle.std.proofs.lemmas.Nat.{mul-le}
 use Rattle.std.proofs.lemmas.Option.{slice_get_within}
 use Rattle.std.specs.List.{AllByRecursion}
-use Rattle.qw_types.specs.Kind.{type_kind}
+use Rattle.qw_types.specs.Kind.{IsOfKind, type_kind}
 use Rattle.qw_types.specs.declared.code.Code.{Code}
 use Rattle.qw_types.specs.declared.kind.Kind.{Kind}
 use Rattle.qw_types.specs.declared.kind.Kind.TheVariants as kind
@@ -22,7 +21,7 @@ use Rattle.qw_low.specs.Syntax.{Statement, seq}
 use Rattle.qw_low.specs.State.{Own, Address, Cells, LowState}
 use Rattle.qw_low.specs.Meaning.{meaning}
 use Rattle.qw_low.specs.Size.{size}
-use Rattle.qw_low.specs.Raising.{Kept, Leaves, Raises}
+use Rattle.qw_low.specs.Raising.{Kept}
 use Rattle.qw_low.proofs.LessKnown.{IsLess, seen}
 use Rattle.qw_low.proofs.Promises.{Ends-more}
 use Rattle.qw_low.proofs.Results.{Kept-then, at_least}
@@ -39,14 +38,14 @@ use Rattle.qw_group.specs.Groups.{HasAreas}
 use Rattle.qw_group.specs.Values.{chosen_type, may_be_null, value_type, value_types}
 use Rattle.qw_leaves.specs.Leaves.{HasLeaves}
 use Rattle.qw_physical.specs.Courses.{cost, fed}
-use Rattle.qw_physical.specs.Physical.{Operator, Sink}
+use Rattle.qw_physical.specs.Physical.{Operator, Sink, select}
 use Rattle.qw_physical.specs.declared.pipeline.ReadColumn.{ReadColumn}
 use Rattle.qw_operator.specs.Carries.{entry_types, known_entry}
 use Rattle.qw_operator.specs.Takes.{AreSized, CanCarry, anywhere}
 use Rattle.qw_operator.proofs.CarriedFeeds.{carried_feeds}
 use Rattle.qw_operator.proofs.EntryReads.{entry_declared, entry_many, entry_told, entry_within, reads_end}
 use Rattle.qw_operator.proofs.Filters.{Runs, Here, base_high, old_low}
-use Rattle.qw_operator.proofs.KnownLeaves.{AreFit, Fits}
+use Rattle.qw_operator.proofs.KnownLeaves.{AreFit, Fits, IsUtf8Value}
 use Rattle.qw_operator.proofs.PairRows.{AreApart, AreAt, AreStored, IsNullAt, kept_fit}
 use Rattle.qw_operator.proofs.Promised.{AreOwn, first_own_types, rest_own_types}
 use Rattle.qw_operator.proofs.Seen.{AreWithin, StandsIn, held_later, less_kept, longer_kept, stands_later, within_wider}
@@ -54,15 +53,20 @@ use Rattle.qw_operator.proofs.Served.{AreServed}
 use Rattle.qw_operator.proofs.Stood.{AllStand}
 use Rattle.qw_operator.proofs.WholeFeeds.{FeedsSink}
 use Rattle.qw_group.proofs.EntryAreas.{areas-map}
-use Rattle.qw_group_pipeline.specs.Groups.{IsGroupRow, all_anywhere, known_group, known_values, value_anywhere, values_types}
+use Rattle.qw_group_sink.specs.Carrying.{cost_to}
+use Rattle.qw_group_sink.proofs.CarriedTo.{FeedsEnd, carried_to_feeds}
+use Rattle.qw_group_pipeline.specs.Groups.{InEnd, InSink, IsGroupRowTo, all_anywhere, known_group, known_values, most_read, value_anywhere, values_types}
 use Rattle.qw_group_pipeline.specs.declared.columns.ValueColumn.{ValueColumn}
 use Rattle.qw_group_pipeline.proofs.ValueReads.{values_many}
-use Rattle.qw_group_pipeline.proofs.ValuesCome.{AreIn, aggregate_of, column_for, functions_of, values_end, values_held}
+use Rattle.qw_group_pipeline.proofs.ValuesCome.{AreIn, AreRead, aggregate_of, column_for, functions_of, values_end, values_held}
 
 -- ---- what is known of set functions' values
-anywhere_same : (values : List ValueColumn) → map anywhere (map column_for values) ≡ map value_anywhere values
-anywhere_same [] = refl
-anywhere_same (v ∷ values) = ap (λ (l : List Known). value_anywhere v ∷ l) (anywhere_same values)
+-- a row fits them at which they are
+values_fit : (row : List Val) (values : List ValueColumn) (vs : List Val) → AreRead values vs → AreAt row (map column_for values) vs → AreFit row (map value_anywhere values)
+values_fit row [] [] read at = tt
+values_fit row [] (w ∷ vs) read at = absurd read
+values_fit row (v ∷ values) [] read at = absurd read
+values_fit row (v ∷ values) (w ∷ vs) read at = ((subst (IsOfKind (type_kind v.ty)) (sym at.0) read.0.0, subst IsUtf8Value (sym at.0) read.0.1), values_fit row values vs read.1 at.1)
 
 values_told : (free : ℕ) (values : List ValueColumn) → map (λ (k : Known). k.expression) (known_values free values) ≡ map (λ (k : Known). k.expression) (map value_anywhere values)
 values_told free [] = refl
@@ -120,10 +124,28 @@ abbrev values_or : Result (List Val) Code → List Val
 values_or (Ok vs) = vs
 values_or (Err code) = []
 
-module _ (c : Cells) (base : ℕ) (sink : FlowSink) (runs : Runs c [] base sink) (most fuel many : ℕ) (types : List ValType) (turns : 128 < fuel) (snk : Sink) (sunk : FeedsSink c [] base sink most fuel many types snk)
-    (literals : List Known) (entry next : ℕ) (key : List ReadColumn) (values : List ValueColumn) (operators : List Operator) (a : Statement) (own : List ValType) (h : IsGroupRow literals entry next key values operators snk a own) (low : base ≤ next)
-    (entry_low : entry < next) (room : next + length own ≤ many) (within : AreWithin next literals) (declared : AreDeclared types literals) (own_types : AreOwn types next own) (can : CanCarry (all_anywhere key values ++ literals) operators snk)
-    (apart : AreApart (all_anywhere key values ++ literals) operators) (served : AreServed [] operators) (kinds : AreOfKinds values) (sized : AreSized key) (sized_values : AreSized (map column_for values)) where
+-- ---- what is within the reads
+-- it feeds what is made of a row that is known, within one more than its units
+abbrev pub FeedsRest : (c : Cells) → (base : ℕ) → (sink : FlowSink) → (most fuel many : ℕ) → (types : List ValType) → (carried : List Known) → (Rest : List Known → (next : ℕ) → Statement → List ValType → Type 0) → (work : List Val → Flow (List Val)) → (units : List Val → ℕ) → Type 0
+FeedsRest c base sink most fuel many types carried Rest work units =
+    (known : List Known) (next : ℕ) (row : List Val) (a : Statement) (own : List ValType) (s : LowState) → 1 + units row ≤ fuel → base ≤ next → next + length own ≤ many → map (λ (k : Known). k.expression) known ≡ map (λ (k : Known). k.expression) carried → AreWithin next known →
+    AreDeclared types known → AreOwn types next own → Rest known next a own → AreFit row carried → Here c [] many known row s → FeedsTo sink most fuel (1 + units row) (Below next) Any (work row) a s
+
+-- as operators and a sink do, and operators and another block innermost
+module _ (c : Cells) (base : ℕ) (sink : FlowSink) (runs : Runs c [] base sink) (most fuel many : ℕ) (types : List ValType) (carried : List Known) (operators : List Operator) (apart : AreApart carried operators) (served : AreServed [] operators) (nulls : (row : List Val) → IsNullAt row operators) where
+  pub sink_rest : (snk : Sink) → FeedsSink c [] base sink most fuel many types snk → CanCarry carried operators snk → FeedsRest c base sink most fuel many types carried (InSink operators snk) (fed [] operators snk) (cost [] operators snk)
+  sink_rest snk sunk can known next row a own s enough low room told within declared own_types is fit here =
+      carried_feeds c [] base sink runs most fuel many types snk sunk operators carried known next row a own s enough low room told within declared own_types is can apart served fit (nulls row) here
+
+  pub end_rest : (End : List Known → (next : ℕ) → Statement → List ValType → Type 0) (values : List Expression) (turn : List Val → ℕ) → FeedsEnd c [] base sink most fuel many types End values turn → CanCarry carried operators (select values) →
+      FeedsRest c base sink most fuel many types carried (InEnd End operators) (fed [] operators (select values)) (cost_to values turn [] operators)
+  end_rest End values turn ends can known next row a own s enough low room told within declared own_types is fit here =
+      carried_to_feeds c [] base sink runs most fuel many types End values turn ends operators carried known next row a own s enough low room told within declared own_types is can apart served fit (nulls row) here
+
+module _ (c : Cells) (base : ℕ) (sink : FlowSink) (runs : Runs c [] base sink) (most fuel many : ℕ) (types : List ValType) (Rest : List Known → (next : ℕ) → Statement → List ValType → Type 0) (work : List Val → Flow (List Val)) (units : List Val → ℕ)
+    (literals : List Known) (entry far next : ℕ) (key : List ReadColumn) (values : List ValueColumn) (a : Statement) (own : List ValType) (h : IsGroupRowTo Rest literals entry far next key values a own) (low : base ≤ next)
+    (entry_low : entry < next) (room : next + length own ≤ many) (within : AreWithin next literals) (declared : AreDeclared types literals) (own_types : AreOwn types next own) (feeds : FeedsRest c base sink most fuel many types (all_anywhere key values ++ literals) Rest work units)
+    (kinds : AreOfKinds values) (sized : AreSized key) where
   -- ---- the locals: those of the key, those of the values, and the rest's
   abbrev first_value : ℕ
   first_value = next + 3 * length key
@@ -184,26 +206,20 @@ module _ (c : Cells) (base : ℕ) (sink : FlowSink) (runs : Runs c [] base sink)
 
   -- ---- a group is met
   module _ (k o : ℕ) (key_values : List Val) (rows : List (List Val)) (t : LowState) (leads : slice_get t.locals entry ≡ Some (Address (Own k) o)) (cells : HasCells (StandsIn c t) t.cells k (o + cell_offset 0) key_values)
-      (areas : HasAreas (StandsIn c t) (length key) (map aggregate_of values) rows c k (o + cell_offset (length key))) (stored : AreStored key key_values) (few : length rows < 10 ^ 18) (less : IsLess c t.cells) (long : many ≤ length t.locals)
+      (areas : HasAreas (StandsIn c t) (length key) (map aggregate_of values) rows c k (o + far)) (stored : AreStored key key_values) (few : 1 ≤ length values → length rows < 10 ^ 18) (less : IsLess c t.cells) (long : many ≤ length t.locals)
       (literals_held : (row : List Val) → AreHeld literals row (seen c t)) (literals_fit : (row : List Val) → AreFit row literals)
-      (typed : (vs : List Val) → function_values (length key) (functions_of values) rows ≡ Ok vs → AreStored (map column_for values) vs)
-      (key_at : (vs : List Val) → AreAt (key_values ++ vs) key key_values) (values_at : (vs : List Val) → AreStored (map column_for values) vs → AreAt (key_values ++ vs) (map column_for values) vs) (nulls : (row : List Val) → IsNullAt row operators) where
+      (typed : (vs : List Val) → function_values (length key) (functions_of values) rows ≡ Ok vs → AreRead values vs)
+      (key_at : (vs : List Val) → AreAt (key_values ++ vs) key key_values) (values_at : (vs : List Val) → AreRead values vs → AreAt (key_values ++ vs) (map column_for values) vs) where
     abbrev come : Result (List Val) Code
     come = function_values (length key) (functions_of values) rows
 
-    abbrev work : List Val → Flow (List Val)
-    work vs = fed [] operators snk (key_values ++ vs)
-
-    abbrev units : List Val → ℕ
-    units vs = cost [] operators snk (key_values ++ vs)
-
     abbrev N : ℕ
-    N = 129 + by_result (function_values (length key) (functions_of values) rows) (λ vs. cost [] operators snk (key_values ++ vs))
+    N = 1 + (most_read (functions_of values) + by_result (function_values (length key) (functions_of values) rows) (λ vs. units (key_values ++ vs)))
 
     abbrev row : List Val
     row = key_values ++ values_or come
 
-    module _ (enough : 129 + by_result (function_values (length key) (functions_of values) rows) (λ vs. cost [] operators snk (key_values ++ vs)) ≤ fuel) where
+    module _ (enough : 1 + (most_read (functions_of values) + by_result (function_values (length key) (functions_of values) rows) (λ vs. units (key_values ++ vs))) ≤ fuel) where
       -- the key is in locals, and the values of the set functions
       module _ (u w : LowState) (first : Kept next t u) (read : AreHeld (known_entry next key) row (seen c u)) (second : Kept first_value u w) (vs : List Val) (is : come ≡ Ok vs) (held_vs : AreIn first_value values vs (seen c w)) where
         abbrev whole : List Val
@@ -212,8 +228,8 @@ module _ (c : Cells) (base : ℕ) (sink : FlowSink) (runs : Runs c [] base sink)
         row_is : row ≡ whole
         row_is = ap (λ (r : Result (List Val) Code). key_values ++ values_or r) is
 
-        stored_vs : AreStored (map column_for values) vs
-        stored_vs = typed vs is
+        read_vs : AreRead values vs
+        read_vs = typed vs is
 
         both_kept : Kept next t w
         both_kept = Kept-then next first_value t u w (omega arith) first second
@@ -225,7 +241,7 @@ module _ (c : Cells) (base : ℕ) (sink : FlowSink) (runs : Runs c [] base sink)
               (all-append (λ (x : Known). (v : Val) × (value_of x.expression (at_row whole) ≡ Ok v) × Holds x.operand v (seen c w)) (known_entry next key) (known_values first_value values)
               (subst (λ (r : List Val). AreHeld (known_entry next key) r (seen c w)) row_is
               (held_later c (Among first_value) u w (longer_kept first_value u w second) (λ i among. second.below i among.1) (known_entry next key) row (entry_within next first_value key five (omega arith)) read))
-              (values_held values vs first_value whole (seen c w) held_vs stored_vs (values_at vs stored_vs)))
+              (values_held values vs first_value whole (seen c w) held_vs read_vs (values_at vs read_vs)))
               (held_later c (Among next) t w (longer_kept next t w both_kept) (λ i among. both_kept.below i among.1) literals whole within (literals_held whole));
           stand = none_stand c w;
           long = let same = both_kept.many in let far = long in omega (arith, same, far);
@@ -234,33 +250,30 @@ module _ (c : Cells) (base : ℕ) (sink : FlowSink) (runs : Runs c [] base sink)
         fit : AreFit whole carried
         fit = all-append (λ (x : Known). HasLeaves (Fits whole) x.expression) (all_anywhere key values) literals
             (all-append (λ (x : Known). HasLeaves (Fits whole) x.expression) (map anywhere key) (map value_anywhere values) (kept_fit whole key key_values sized stored (key_at vs))
-            (subst (AreFit whole) (anywhere_same values) (kept_fit whole (map column_for values) vs sized_values stored_vs (values_at vs stored_vs)))) (literals_fit whole)
+            (values_fit whole values vs read_vs (values_at vs read_vs))) (literals_fit whole)
 
-        units_are : by_result (function_values (length key) (functions_of values) rows) (λ ws. cost [] operators snk (key_values ++ ws)) ≡ cost [] operators snk (key_values ++ vs)
-        units_are = by_ok come (λ ws. cost [] operators snk (key_values ++ ws)) vs is
+        units_are : by_result (function_values (length key) (functions_of values) rows) (λ ws. units (key_values ++ ws)) ≡ units (key_values ++ vs)
+        units_are = by_ok come (λ ws. units (key_values ++ ws)) vs is
 
-        onward : FeedsTo sink most fuel N (Below next) Any (fed [] operators snk (key_values ++ vs)) h.rest w
+        onward : FeedsTo sink most fuel N (Below next) Any (work (key_values ++ vs)) h.rest w
         onward =
             let same = units_are in
-            feeds_weaker sink most fuel (1 + cost [] operators snk (key_values ++ vs)) N (Below last) (Below next) Any Any (fed [] operators snk (key_values ++ vs)) h.rest w (omega (arith, same)) (λ i old. below-less next last i (omega arith) old) (λ x keeps any. tt)
-            (carried_feeds c [] base sink runs most fuel many types snk sunk operators carried held last whole h.rest h.rest_own w (omega (arith, same, enough)) (omega (arith, low)) (let count = own_many in omega (arith, room, count)) told held_within held_declared rest_types
-            h.carried can apart served fit (nulls whole) here)
+            feeds_weaker sink most fuel (1 + units (key_values ++ vs)) N (Below last) (Below next) Any Any (work (key_values ++ vs)) h.rest w (omega (arith, same)) (λ i old. below-less next last i (omega arith) old) (λ x keeps any. tt)
+            (feeds held last whole h.rest h.rest_own w (omega (arith, same, enough)) (omega (arith, low)) (let count = own_many in omega (arith, room, count)) told held_within held_declared rest_types h.carried fit here)
 
-      pub group_feeds : FeedsTo sink most fuel (129 + by_result (function_values (length key) (functions_of values) rows) (λ vs. cost [] operators snk (key_values ++ vs))) (Below next) Any
-          (flow_by (function_values (length key) (functions_of values) rows) (λ vs. fed [] operators snk (key_values ++ vs))) a t
+      pub group_feeds : FeedsTo sink most fuel (1 + (most_read (functions_of values) + by_result (function_values (length key) (functions_of values) rows) (λ vs. units (key_values ++ vs)))) (Below next) Any
+          (flow_by (function_values (length key) (functions_of values) rows) (λ vs. work (key_values ++ vs))) a t
       group_feeds =
           let count = own_many in
           let kept_sink : (rs : List (List Val)) (x y : LowState) → Kept next x y → sink.Has rs x → sink.Has rs y = λ rs x y kept. runs.kept next rs x y low kept in
           let Read : LowState → Type 0 = λ u. AreHeld (known_entry next key) row (seen c u) in
-          subst (λ (b : Statement). FeedsTo sink most fuel N (Below next) Any (flow_by come work) b t) (sym h.is)
-          (own_then sink most fuel next (Below next) (old_low c [] base sink runs next low) kept_sink N next Read Any (flow_by come work) h.key_reads (seq h.value_reads h.rest) t (omega arith)
+          subst (λ (b : Statement). FeedsTo sink most fuel N (Below next) Any (flow_by come (λ vs. work (key_values ++ vs))) b t) (sym h.is)
+          (own_then sink most fuel next (Below next) (old_low c [] base sink runs next low) kept_sink N next Read Any (flow_by come (λ vs. work (key_values ++ vs))) h.key_reads (seq h.value_reads h.rest) t (omega arith)
           (Ends-more (λ u. Kept next t u × Read u) Never (λ code. ⊥) (size h.key_reads) (size h.key_reads * N) (meaning most fuel h.key_reads t) (at_least (size h.key_reads) N (omega arith))
           (reads_end c row most fuel key (cell_offset 0) entry next h.key_reads key_values k o t h.key_reading five entry_low sized stored (key_at (values_or come)) less leads cells (omega (arith, room, count, long))))
           (λ u first read.
-          own_by sink most fuel next (Below next) (old_low c [] base sink runs next low) kept_sink {A = List Val} N first_value (λ vs w. AreIn first_value values vs (seen c w)) Any come work h.value_reads h.rest u (omega arith)
-          (Ends-more (Leaves (λ (vs : List Val) w. Kept first_value u w × AreIn first_value values vs (seen c w)) come) Never (Raises come) (size h.value_reads * 129) (size h.value_reads * N) (meaning most fuel h.value_reads u)
-          (mul-le (size h.value_reads) 129 (size h.value_reads) N (omega arith) (omega arith))
-          (values_end c most fuel turns values (cell_offset (length key)) entry first_value (length key) h.value_reads rows k o u h.value_reading (omega (arith, entry_low)) few (less_kept c next t u first less) (first.below entry entry_low ∙ leads)
-          (areas-map (StandsIn c t) (StandsIn c u) (λ p i octets. stands_later c t u p i octets (longer_kept next t u first)) c k (length key) (map aggregate_of values) rows (o + cell_offset (length key)) areas)
-          (let same = first.many in omega (arith, same, long, room, count))))
+          own_by sink most fuel next (Below next) (old_low c [] base sink runs next low) kept_sink {A = List Val} N first_value (λ vs w. AreIn first_value values vs (seen c w)) Any come (λ vs. work (key_values ++ vs)) h.value_reads h.rest u (omega arith)
+          (values_end c most fuel N (omega arith) enough values far entry first_value (length key) h.value_reads rows k o u h.value_reading (omega (arith, entry_low)) few (less_kept c next t u first less) (first.below entry entry_low ∙ leads)
+          (areas-map (StandsIn c t) (StandsIn c u) (λ p i octets. stands_later c t u p i octets (longer_kept next t u first)) c k (length key) (map aggregate_of values) rows (o + far) areas)
+          (let same = first.many in omega (arith, same, long, room, count)) (omega arith))
           (λ vs w is second held_vs. onward u w first read second vs is held_vs)))

@@ -60,7 +60,7 @@ known_end free (w ∷ values) v =
     after n d all some more same = ap (λ (l : List Known). known_values n (d ∷ []) ++ l) same ∙ sym (append_assoc (known_values n (d ∷ [])) some more)
 
 module _ (at entry : ℕ) (values : List ValueColumn) (old mid : Emitter) (known : List Known) (h : ReadsValued at entry values old mid known) where
-  valued_free : free_of mid ≡ free_of old + 8 * length values
+  pub valued_free : free_of mid ≡ free_of old + 8 * length values
   valued_free = let long = values_many values in let later = free_later old mid (values_types values) h.first_is h.own_is in omega (arith, long, later)
 
   pub valued_more : (v : ValueColumn) (new : Emitter) (b : Statement) (place : ℕ) (all one : List Known) → new.first ≡ mid.first → new.own.items ≡ mid.own.items ++ value_types v.function v.argument → new.block.code.items ≡ mid.block.code.items ++ steps_of b →

@@ -3,6 +3,7 @@
 //!
 //! - [`columns`]: where the columns of the grouped table come from.
 //! - [`groups`]: what is done at the groups of a table.
+//! - [`one`]: what is done where all rows are one group.
 //!
 //! How the cells of keys and the values of set functions are read stands in `key` and `value`, which locals are declared in `locals`.
 #![tactic(auto)]
@@ -11,4 +12,5 @@ pub mod columns;
 pub mod groups;
 mod key;
 mod locals;
+pub mod one;
 mod value;

@@ -14,7 +14,7 @@ use Rattle.qw_feed.specs.Frames.{pos, Below, But}
 use Rattle.qw_feed.specs.Scans.{rows_block}
 use Rattle.qw_table.specs.Tables.{in_slot}
 use Rattle.qw_table.specs.declared.key.Field.{Field}
-use Rattle.qw_group.specs.Groups.{AreShort, group_size}
+use Rattle.qw_group.specs.Groups.{AreChosenWithin, group_size}
 use Rattle.qw_physical.specs.Courses.{pipeline_fed}
 use Rattle.qw_physical.specs.Physical.{Pipeline, select}
 use Rattle.qw_operator.specs.Carries.{directory}
@@ -26,21 +26,22 @@ use Rattle.qw_group_sink.proofs.CarriedTo.{FeedsEnd}
 use Rattle.qw_group_sink.proofs.GroupSunk.{group_sunk, grouping_kept, grouping_sink}
 use Rattle.qw_group_sink.proofs.PipelineTo.{ScannedTo, pipeline_to_feeds}
 
--- The table's directory stands behind what is seen and the other tables. Of the rows that there may be no value has more than so many octets, and in
--- the slot of a row so many entries.
-module _ (c : Cells) (stoods : List Stood) (base : ℕ) (high : 5 + length stoods ≤ base) (most fuel many : ℕ) (types : List ValType) (g : Group) (can : CanGroup g) (fields : List Field) (k o u before longest : ℕ) (entries : List Val → ℕ) (May : List (List Val) → Type 0) (beginnings : (rows more : List (List Val)) → May (rows ++ more) → May rows)
+-- The table's directory stands behind what is seen and the other tables. Of the rows that there may be the slot of a row has so many entries, and MIN and
+-- MAX compare so many octets at it; where there are set functions there are at most 10^18 rows.
+module _ (c : Cells) (stoods : List Stood) (base : ℕ) (high : 5 + length stoods ≤ base) (most fuel many : ℕ) (types : List ValType) (g : Group) (can : CanGroup g) (fields : List Field) (k o u before : ℕ) (entries chosen : List Val → ℕ) (May : List (List Val) → Type 0) (beginnings : (rows more : List (List Val)) → May (rows ++ more) → May rows)
     (low_d : directory g.table < base) (small : group_size (key_fields g fields) (aggregates_of g fields) + u ≤ page)
-    (known_rows : (xs : List (List Val)) → May xs → (length xs ≤ 10 ^ 18) × AreShort longest xs)
+    (few_rows : (xs : List (List Val)) → May xs → 1 ≤ length g.functions → length xs ≤ 10 ^ 18)
+    (chosen_rows : (row : List Val) (xs : List (List Val)) → May xs → AreChosenWithin g.columns g.functions xs row (chosen row))
     (enough : (xs : List (List Val)) → May xs → before + length (keys (length (key_fields g fields)) xs) * group_size (key_fields g fields) (aggregates_of g fields) + 2 * u < (most + 1) * u)
     (met : (row : List Val) (xs : List (List Val)) → May xs → length (in_slot slot (slot (key_of (length (key_fields g fields)) row)) (keys (length (key_fields g fields)) xs)) ≤ entries row)
     (seen_before : (j a w : ℕ) (v : Value) → c (Own j) a w ≡ Some v → pos j a + w ≤ pos k o) (tables_before : (t : ℕ) (st : Stood) → slice_get stoods t ≡ Some st → st.front ≤ pos k o) where
   abbrev pub grouped : FlowSink
-  grouped = grouping_sink c stoods base most fuel many types g can fields k o u before longest entries May beginnings low_d small known_rows enough met
+  grouped = grouping_sink c stoods base most fuel many types g can fields k o u before entries chosen May beginnings low_d small few_rows chosen_rows enough met
 
   pub grouped_runs : Runs c stoods base grouped
   grouped_runs = record {
     high = high;
-    kept = λ n rows s t le kept has. grouping_kept c stoods base most fuel many types g can fields k o u before longest entries May beginnings low_d small known_rows enough met n rows s t le kept has;
+    kept = λ n rows s t le kept has. grouping_kept c stoods base most fuel many types g can fields k o u before entries chosen May beginnings low_d small few_rows chosen_rows enough met n rows s t le kept has;
     seen_spared = seen_before;
     tables_spared = λ t st there at width from to. (let order = tables_before t st there in omega (arith, order, to));
   }
@@ -49,12 +50,12 @@ module _ (c : Cells) (stoods : List Stood) (base : ℕ) (high : 5 + length stood
   End known next a own = IsGrouped fields known next g a own
 
   abbrev pub turn : List Val → ℕ
-  turn = turn_of g longest entries
+  turn = turn_of g entries chosen
 
   -- what the block of one row feeds
   pub row_grouped : FeedsEnd c stoods base grouped most fuel many types End g.values turn
   row_grouped N next known row a own s some fueled low room within declared own_types is at kinds units here =
-      group_sunk c stoods base most fuel many types g can fields k o u before longest entries May beginnings low_d small known_rows enough met grouped_runs (built_of stoods) N next known row a own s some fueled low room within declared own_types is at kinds units here
+      group_sunk c stoods base most fuel many types g can fields k o u before entries chosen May beginnings low_d small few_rows chosen_rows enough met grouped_runs (built_of stoods) N next known row a own s some fueled low room within declared own_types is at kinds units here
 
   -- a whole pipeline, which would make a result of the same values
   pub grouped_feeds : (tables : List (List (List Val))) (p : Pipeline) (literals : List Known) (readers : List Reader) (left end low next : ℕ) (row : Statement) (own : List ValType) (s : LowState) → ScannedTo End g.values turn c stoods literals readers base left end low next many fuel types tables p row own s → p.sink ≡ select g.values →

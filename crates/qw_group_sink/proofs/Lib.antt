@@ -4,3 +4,15 @@ pub mod CarriedTo
 pub mod RowTo
 pub mod PipelineTo
 pub mod GroupedFeeds
+pub mod GroupTyped
+pub mod OneFeeds
+pub mod OneTyped
+pub mod GroupEmitted
+pub mod CarriedEmitted
+pub mod PlainRows
+pub mod Redeclared
+pub mod RowCounted
+pub mod GuardedFeeds
+pub mod GuardedOne
+pub mod GuardTyped
+pub mod Unguarded

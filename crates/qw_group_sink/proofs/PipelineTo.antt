@@ -80,7 +80,7 @@ null_more : (P Q : ℕ → Type 0) (null : Option ℕ) → ((i : ℕ) → P i �
 null_more P Q None more uses = tt
 null_more P Q (Some x) more uses = more x uses
 
-uses_more : (P Q : ℕ → Type 0) (known : List Known) → ((i : ℕ) → P i → Q i) → AllByRecursion (λ (k : Known). Uses P k.operand.cell) known → AllByRecursion (λ (k : Known). Uses Q k.operand.cell) known
+pub uses_more : (P Q : ℕ → Type 0) (known : List Known) → ((i : ℕ) → P i → Q i) → AllByRecursion (λ (k : Known). Uses P k.operand.cell) known → AllByRecursion (λ (k : Known). Uses Q k.operand.cell) known
 uses_more P Q known more uses =
     all_more (λ (k : Known). Uses P k.operand.cell) (λ (k : Known). Uses Q k.operand.cell) known (λ k one. (more k.operand.cell.value one.0, more k.operand.cell.length one.1, null_more P Q k.operand.cell.null more one.2)) uses
 

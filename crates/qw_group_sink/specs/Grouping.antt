@@ -1,21 +1,20 @@
 -- What is emitted where the rows of a pipeline go into a table of groups (ISO/IEC 9075:1992, 7.7): the values of the grouped columns and of the
 -- arguments of the set functions are evaluated, and the row is put into the group of its first values.
-use Rattle.std.specs.Prelude.{◌≡◌, ℕ, IsTrue, ◌+◌, ◌*◌, ◌≤◌, Option, List, [], ◌∷◌, ◌++◌, drop, length, map, take}
+use Rattle.std.specs.Prelude.{◌≡◌, ℕ, IsTrue, ◌+◌, ◌*◌, ◌≤◌, Option, List, [], ◌∷◌, ◌++◌, drop, length, map, sum_by, take}
 use Rattle.qw_types.specs.declared.kind.Kind.{Kind}
 use Rattle.qw_types.specs.declared.value.Val.{Val}
 use Rattle.qw_module.specs.declared.instruction.ValType.{ValType}
 use Rattle.qw_scalar.specs.Expression.{Expression}
+use Rattle.qw_scalar.specs.Nodes.{nodes}
 use Rattle.qw_scalar.specs.Tree.{expression_of}
 use Rattle.qw_scalar.specs.Typing.{is_number, kind_of}
 use Rattle.qw_grouped.specs.declared.set_function.SetFunctionKind.{SetFunctionKind}
 use Rattle.qw_grouped.specs.declared.set_function.SetFunctionKind.TheVariants.{CountRows, Count, Sum, Avg, Min, Max}
-use Rattle.qw_low.specs.Steps.{steps_of}
 use Rattle.qw_low.specs.Syntax.{Statement, seq}
 use Rattle.qw_feed.specs.Stages.{Item, items_block, outs_of}
 use Rattle.qw_expr.specs.Computes.{Known}
-use Rattle.qw_expr.specs.Emits.{free_of}
-use Rattle.qw_expr.specs.declared.emitter.Emitter.{Emitter}
 use Rattle.qw_table.specs.Joins.{sources_of}
+use Rattle.qw_table.specs.Keys.{text_octets}
 use Rattle.qw_table.specs.declared.key.Field.{Field}
 use Rattle.qw_group.specs.Groups.{Groups, group_types}
 use Rattle.qw_group.specs.declared.group.Aggregate.{Aggregate}
@@ -60,15 +59,6 @@ pub record IsGrouped (fields : List Field) (known : List Known) (next : ℕ) (g 
   pub fields_are : outs_of (all_moved items) ≡ sources_of fields
   pub groups : Groups (directory g.table) (key_fields g fields) (aggregates_of g fields) (next + length items_own) enter
 
--- from one state of an emitter to another such a block was added, with the types of its own locals
-pub record EmitsGroup (fields : List Field) (known : List Known) (g : Group) (old new : Emitter) : Type 0 where
-  pub first_is : new.first ≡ old.first
-  pub statement : Statement
-  pub own : List ValType
-  pub code_is : new.block.code.items ≡ old.block.code.items ++ steps_of statement
-  pub own_is : new.own.items ≡ old.own.items ++ own
-  pub grouped : IsGrouped fields known (free_of old) g statement own
-
 -- ---- which tables of groups can be
 -- SUM and AVG are of numbers alone (6.5)
 abbrev pub TakesKind : SetFunctionKind → Option Kind → Type 0
@@ -90,9 +80,12 @@ pub record CanGroup (g : Group) : Type 0 where
   pub few : length g.values ≤ 512
   pub arguments : TakeKinds g.functions (drop g.columns (map kind_of g.values))
 
--- ---- what a row takes, where the values of a table have at most so many octets, and so many entries are in a row's slot
-abbrev pub each_of : Group → (longest : ℕ) → ℕ
-each_of g longest = 1 + (2 + g.columns) * longest
+-- ---- what a row takes, by its values
+-- the octets of its key are folded; each entry of its slot, of which there are so many, takes one and those octets; and MIN and MAX compare so many
+abbrev pub turn_of : Group → (entries chosen : List Val → ℕ) → List Val → ℕ
+turn_of g entries chosen values = text_octets (take g.columns values) + entries values * (1 + text_octets (take g.columns values)) + chosen values
 
-abbrev pub turn_of : Group → (longest : ℕ) → (entries : List Val → ℕ) → List Val → ℕ
-turn_of g longest entries values = (1 + entries values) * each_of g longest
+-- ---- how long it is
+-- the most steps and locals of the block
+abbrev pub group_span : coded.Group → ℕ
+group_span g = 400 * sum_by nodes g.values.items + 376 * length g.values.items + 200

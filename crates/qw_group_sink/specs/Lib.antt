@@ -1,2 +1,5 @@
 pub mod Grouping
+pub mod Guarded
 pub mod Carrying
+pub mod OneGroup
+pub mod Inner

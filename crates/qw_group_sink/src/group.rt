@@ -14,3 +14,12 @@ pub struct Group {
     /// The grouped columns, and behind them an argument for each set function: the number 1 where it is `COUNT(*)`.
     pub values: Vec<Expr>,
 }
+
+/// Where rows are put.
+#[derive(Clone, Copy, Debug, PartialEq, Eq)]
+pub enum Place {
+    /// Into a table of groups.
+    Table,
+    /// Into the areas of the one group of all rows, as without GROUP BY (ISO/IEC 9075:1992, 7.8).
+    OneGroup,
+}

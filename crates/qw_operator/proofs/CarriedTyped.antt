@@ -56,7 +56,7 @@ IsLed types (build b) = slice_get types (directory b.table) ≡ Some I32
 IsLed types (select items) = (slice_get types 3 ≡ Some I32) × (slice_get types 4 ≡ Some I64)
 
 -- ---- sources
-abbrev IsSourceDeclared : List ValType → Source → Type 0
+abbrev pub IsSourceDeclared : List ValType → Source → Type 0
 IsSourceDeclared types o = DeclaresKind types o.cell o.kind × DeclaresNull types o.cell.null
 
 moved_declared : (types : List ValType) (c : Cell) (k : Option Kind) → DeclaresKind types c k → DeclaresKind types (moved (record { cell = c; kind = k })).cell k
@@ -65,7 +65,7 @@ moved_declared types c (Some (kind.Number s)) h = h
 moved_declared types c (Some kind.Date) h = h
 moved_declared types c (Some kind.Text) h = h
 
-fields_declared : (types : List ValType) (fs : List Field) → AllByRecursion (IsSourceDeclared types) (sources_of fs) → keys.AreDeclared types fs
+pub fields_declared : (types : List ValType) (fs : List Field) → AllByRecursion (IsSourceDeclared types) (sources_of fs) → keys.AreDeclared types fs
 fields_declared types [] h = tt
 fields_declared types (f ∷ fs) h = ((one f.kind h.0.0, null f.cell.null h.0.1), fields_declared types fs h.1)
   where
@@ -78,12 +78,12 @@ fields_declared types (f ∷ fs) h = ((one f.kind h.0.0, null f.cell.null h.0.1)
     null None is = is
     null (Some x) is = is
 
-taken_declared : (types : List ValType) (n : ℕ) (fs : List Field) → keys.AreDeclared types fs → keys.AreDeclared types (take n fs)
+pub taken_declared : (types : List ValType) (n : ℕ) (fs : List Field) → keys.AreDeclared types fs → keys.AreDeclared types (take n fs)
 taken_declared types n fs h = all_take (λ (f : Field). keys.DeclaresField types f) n fs h
 
 -- ---- items and conjuncts
 module _ (types : List ValType) where
-  items_typed : (known : List Known) (next : ℕ) (es : List Expression) (gs : List Item) (own : List ValType) → AreDeclared types known → AreOwn types next own → AreComputed known next es gs own → IsTyped types (items_block gs)
+  pub items_typed : (known : List Known) (next : ℕ) (es : List Expression) (gs : List Item) (own : List ValType) → AreDeclared types known → AreOwn types next own → AreComputed known next es gs own → IsTyped types (items_block gs)
   items_typed known next [] [] own declared own_types are = tt
   items_typed known next [] (g ∷ gs) own declared own_types are = absurd are
   items_typed known next (e ∷ es) [] own declared own_types are = absurd are
@@ -92,7 +92,7 @@ module _ (types : List ValType) where
     items_typed known (next + length are.1) es gs are.2 declared (rest_own_types types next own are.1 are.2 are.3 own_types) are.6,
   )
 
-  outs_declared : (known : List Known) (next : ℕ) (es : List Expression) (gs : List Item) (own : List ValType) → AreDeclared types known → AreOwn types next own → AreComputed known next es gs own → AllByRecursion (IsSourceDeclared types) (outs_of (all_moved gs))
+  pub outs_declared : (known : List Known) (next : ℕ) (es : List Expression) (gs : List Item) (own : List ValType) → AreDeclared types known → AreOwn types next own → AreComputed known next es gs own → AllByRecursion (IsSourceDeclared types) (outs_of (all_moved gs))
   outs_declared known next [] [] own declared own_types are = tt
   outs_declared known next [] (g ∷ gs) own declared own_types are = absurd are
   outs_declared known next (e ∷ es) [] own declared own_types are = absurd are
@@ -123,11 +123,11 @@ module _ (types : List ValType) where
     after_declared n = all-append (λ (k : Known). DeclaresValue types k.operand) literals (map known_of (take n readers)) (all_front (λ (k : Known). DeclaresValue types k.operand) literals (map known_of readers) declared)
         (take_declared readers n (all_back (λ (k : Known). DeclaresValue types k.operand) literals (map known_of readers) declared))
 
-    part_typed : (done upto : ℕ) (a : Statement) → ReadsPart readers done upto a → IsTyped types a
+    pub part_typed : (done upto : ℕ) (a : Statement) → ReadsPart readers done upto a → IsTyped types a
     part_typed done upto a p =
         p.reads.typed types (all_back (IsReaderDeclared types) (take done readers) p.part (subst (AllByRecursion (IsReaderDeclared types)) (sym p.part_is) (all_take (IsReaderDeclared types) upto readers readers_declared)))
 
-    decided_typed : (next done : ℕ) (ends : List ℕ) (cs : List Condition) (gs : List Test) (own : List ValType) (rest : Statement) → AreOwn types next own → AreDecided literals readers next done ends cs gs own → IsTyped types rest → IsTyped types (tests_block gs rest)
+    pub decided_typed : (next done : ℕ) (ends : List ℕ) (cs : List Condition) (gs : List Test) (own : List ValType) (rest : Statement) → AreOwn types next own → AreDecided literals readers next done ends cs gs own → IsTyped types rest → IsTyped types (tests_block gs rest)
     decided_typed next done [] [] [] own rest own_types are typed = typed
     decided_typed next done (e ∷ ends) (c ∷ cs) (g ∷ gs) own rest own_types are typed =
         let d = are.3 in
@@ -142,7 +142,7 @@ module _ (types : List ValType) where
     decided_typed next done ends cs gs own rest own_types are typed = absurd are
 
   -- conjuncts over what is known, and within them the rest
-  filtered_typed : (known : List Known) (next : ℕ) (cs : List Condition) (Rest : (next : ℕ) → Statement → List ValType → Type 0) (a : Statement) (own : List ValType) → AreDeclared types known → AreOwn types next own → IsFiltered known next cs Rest a own →
+  pub filtered_typed : (known : List Known) (next : ℕ) (cs : List Condition) (Rest : (next : ℕ) → Statement → List ValType → Type 0) (a : Statement) (own : List ValType) → AreDeclared types known → AreOwn types next own → IsFiltered known next cs Rest a own →
       ((after : ℕ) (b : Statement) (more : List ValType) → AreOwn types after more → Rest after b more → IsTyped types b) → IsTyped types a
   filtered_typed known next cs Rest a own declared own_types h rest_typed =
       subst (IsTyped types) (sym h.is)
@@ -162,7 +162,7 @@ module _ (types : List ValType) where
       )
 
   -- ---- a lookup, and within it the rest
-  probed_typed : (known : List Known) (next : ℕ) (p : Probe) (Rest : List Known → (next : ℕ) → Statement → List ValType → Type 0) (a : Statement) (own : List ValType) → AreDeclared types known → AreOwn types next own → slice_get types (directory p.table) ≡ Some I32 → IsProbed known next p Rest a own →
+  pub probed_typed : (known : List Known) (next : ℕ) (p : Probe) (Rest : List Known → (next : ℕ) → Statement → List ValType → Type 0) (a : Statement) (own : List ValType) → AreDeclared types known → AreOwn types next own → slice_get types (directory p.table) ≡ Some I32 → IsProbed known next p Rest a own →
       ((held : List Known) (after : ℕ) (b : Statement) (more : List ValType) → AreDeclared types held → AreOwn types after more → Rest held after b more → IsTyped types b) → IsTyped types a
   probed_typed known next p Rest a own declared own_types led h rest_typed =
       let free : ℕ = next + length h.key_own in
@@ -278,7 +278,7 @@ module _ (types : List ValType) where
         probed_typed known next p (λ held after b more. IsCarried held after operators snk b more) a own declared own_types led.0 h
         (λ held after b more held_declared more_types rest. carried_typed operators snk held after b more held_declared more_types led.1 sink_led can rest)
 
-    led_behind : (operators : List Operator) → AreLed types operators → AreLed types (behind_filter operators)
+    pub led_behind : (operators : List Operator) → AreLed types operators → AreLed types (behind_filter operators)
     led_behind [] led = led
     led_behind (filter cs ∷ operators) led = led
     led_behind (probe p ∷ operators) led = led

@@ -12,7 +12,7 @@ use Rattle.qw_expr.specs.declared.emitter.Emitter.{Emitter}
 use Rattle.qw_table.specs.Entries.{ReadsCell, cell_types}
 use Rattle.qw_physical.specs.declared.pipeline.ReadColumn.{ReadColumn}
 use Rattle.qw_operator.specs.Carries.{ReadsEntry, entry_types, known_entry}
-use Rattle.qw_operator.specs.Inner.Kept.{ReadsKept}
+use Rattle.qw_operator.specs.Kept.{ReadsKept}
 use Rattle.qw_operator.proofs.Listed.{free_later}
 use Rattle.qw_operator.proofs.Shortness.{steps_twice}
 use Rattle.qw_operator.proofs.EntryReads.{entry_many}

@@ -1,4 +1,2 @@
 pub mod Found
-pub mod Kept
-pub mod Opened
 pub mod Rows

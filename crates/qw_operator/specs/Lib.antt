@@ -1,7 +1,9 @@
 pub mod Carries
 pub mod Emitted
 pub mod Inner
+pub mod Kept
 pub mod Needed
 pub mod Nesting
+pub mod Opened
 pub mod Span
 pub mod Takes

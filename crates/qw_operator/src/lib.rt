@@ -7,16 +7,18 @@
 //! - [`lists`]: conjuncts and expressions, one after another.
 //! - [`needed`]: how many columns are read where an expression is evaluated.
 //! - [`nesting`]: what is done where a conjunct is true stands within its choice.
+//! - [`lookup`]: a table is looked up, and at each entry that has the key the columns that it keeps are known.
+//! - [`fields`], [`locals`]: where the fields of keys and of entries are, and which locals are declared.
 //!
-//! How a table is looked up and what is read of its entries stands in `lookup`, `entry` and `fields`, which locals are declared in `locals`.
+//! What is read of a table's entries stands in `entry`.
 #![tactic(auto)]
 
 pub mod cells;
 mod entry;
-mod fields;
+pub mod fields;
 pub mod lists;
-mod locals;
-mod lookup;
+pub mod locals;
+pub mod lookup;
 pub mod needed;
 pub mod nesting;
 pub mod operators;

@@ -312,6 +312,16 @@ module _ (same_rows : (row other : List Val) → is_same_row row other ≡ true 
       (query_grounded (IsKnown columns) query tables whole of sized (known_all same_rows same_value columns tables (conjuncts_on query.sources ++ query.conjuncts) are_read.conjuncts scaled)) are_read.items
       (subst (λ (ps : List Pipeline). AreBegun tables [] ps more) (sym is) (are_begun tables [] front back more built)))
 
+  -- those that build tables alone hold no more than the tables of the plan
+  pub builds_held : (query : Specification) (front back : List Pipeline) (more : List (List (List Val))) → IsSpecification query → AreOfEntries (entries_of query.sources) tables
+      → IsSizedPlan (written query) → AreRead columns query → AreScaled query → all_spelled columns 0 (split 0 (keyed true (sifted true [] (written query)))).builds ≡ front ++ back → AreBuilt tables [] front more
+      → held tables [] (front ++ back) more ≤ table_octets (kept_of columns) tables (keyed true (sifted true [] (written query)))
+  builds_held query front back more whole of sized are_read scaled is built =
+      subst (λ (ps : List Pipeline). held tables [] ps more ≤ table_octets (kept_of columns) tables (keyed true (sifted true [] (written query)))) is
+      (held_bound (clauses query) 0 [] more
+      (query_grounded (IsKnown columns) query tables whole of sized (known_all same_rows same_value columns tables (conjuncts_on query.sources ++ query.conjuncts) are_read.conjuncts scaled)) refl
+      (subst (λ (ps : List Pipeline). AreBegun tables [] ps more) (sym is) (are_begun tables [] front back more built)))
+
   pub all_sizes : (node : Node) (items : List Expression)
       → AllByRecursion (IsWithin (max (8 + 16 * length items) (greatest_entry (kept_of columns) (project node items)))) (all_spelled columns 0 (pipelines (project node items)))
   all_sizes node items =

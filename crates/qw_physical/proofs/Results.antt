@@ -22,6 +22,7 @@ use Rattle.qw_physical.proofs.Apart.{builds_apart, builds_nulls, last_apart, las
 use Rattle.qw_physical.proofs.Building.{FeedSides, HasSide, element_at, feed_sides, side_codes, side_of}
 use Rattle.qw_physical.proofs.Declared.{AllScans, ScanDeclared, keyed_scans, sifted_scans, written_declared}
 use Rattle.qw_physical.proofs.Feeding.{pipelines_append}
+use Rattle.qw_physical.proofs.Orders.{Alike}
 use Rattle.qw_physical.proofs.Outcomes.{below, from, last_codes, last_fed, last_is, raises_flow, ready_below, same_outcome}
 
 -- builds, and then the last one
@@ -49,6 +50,10 @@ module _ (query : Specification) (tables : List (List (List Val))) (columns : Li
 
   plan_flow : node_flow tables node ≡ flow query tables
   plan_flow = flow_of_query query tables node planned.specification planned.loaded (written_sized query planned.specification planned.sized) planned.placed
+
+  -- the last pipeline feeds the rows of the plan and raises its exceptions, in another order
+  pub last_alike : (more : List (List (List Val))) → AreBuilt tables [] (builds_of columns node) more → Alike (pipeline_fed tables more (last_of columns node)) (flow query tables)
+  last_alike more built = last_fed query tables columns planned.specification planned.loaded planned.sized planned.read planned.scaled node (length (split 0 node).builds) more planned.placed built
 
   -- ---- sides
 

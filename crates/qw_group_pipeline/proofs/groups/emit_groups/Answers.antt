@@ -7,6 +7,7 @@ use Rattle.qw_expr.specs.declared.emitter.Emitter.{Emitter}
 use Rattle.qw_physical.specs.Coded.{operator_of, sink_of}
 use Rattle.qw_operator.specs.Span.{span}
 use Rattle.qw_operator.specs.Takes.{CanCarry}
+use Rattle.qw_group_pipeline.specs.Groups.{InSink}
 use Rattle.qw_group_pipeline.proofs.GroupEmits.{at_group, at_group_is, group_served, group_takes, groups_emit, inner_free}
 use Rattle.qw_group_pipeline.proofs.GroupsShort.{groups_short, met_long}
 use Rattle.qw_group_pipeline.proofs.groups.emit_groups.Goals as goal
@@ -44,9 +45,9 @@ returns-clause-emits c =
     let done = c.emit_operators.new.emitter in
     let em = c.in_ok-kinds.ensures.emits in
     let new : Emitter = record { first = mid.first; block = c.emit_group_walk.new.block; own = c.extend_from_slice.new.self } in
-    groups_emit literals count key values inner held met c.args.directory ops sink old mid new done c.in_ok-count.ensures.local.0 em c.in_ok-count.ensures.same.0 c.in_ok-count.ensures.same.1 c.in_ok-count.ensures.own refl
-    (c.in_ok-emit_group_walk.ensures.block (at_group literals count key values inner held met c.args.directory ops sink old mid new done c.in_ok-count.ensures.local.0 em)
-    (at_group_is literals count key values inner held met c.args.directory ops sink old mid new done c.in_ok-count.ensures.local.0 em))
+    groups_emit literals count key values inner held met (InSink ops sink) c.args.directory old mid new done c.in_ok-count.ensures.local.0 em.statement em.own em.code_is em.own_is em.carried c.in_ok-count.ensures.same.0 c.in_ok-count.ensures.same.1 c.in_ok-count.ensures.own refl
+    (c.in_ok-emit_group_walk.ensures.block (at_group literals count key values inner held met (InSink ops sink) c.args.directory old mid new done c.in_ok-count.ensures.local.0 em.statement em.own em.code_is em.own_is em.carried)
+    (at_group_is literals count key values inner held met (InSink ops sink) c.args.directory old mid new done c.in_ok-count.ensures.local.0 em.statement em.own em.code_is em.own_is em.carried))
     (c.in_ok-extend_from_slice.ensures.items ∙ ap (λ (l : List ValType). mid.own.items ++ l) c.deref.ensures.value)
 
 pub returns-clause-short : goal.returns-clause-short
@@ -65,7 +66,7 @@ returns-clause-short c =
     let done = c.emit_operators.new.emitter in
     let em = c.in_ok-kinds.ensures.emits in
     let new : Emitter = record { first = mid.first; block = c.emit_group_walk.new.block; own = c.extend_from_slice.new.self } in
-    let b = at_group literals count key values inner held met c.args.directory ops sink old mid new done c.in_ok-count.ensures.local.0 em in
-    let is = at_group_is literals count key values inner held met c.args.directory ops sink old mid new done c.in_ok-count.ensures.local.0 em in
+    let b = at_group literals count key values inner held met (InSink ops sink) c.args.directory old mid new done c.in_ok-count.ensures.local.0 em.statement em.own em.code_is em.own_is em.carried in
+    let is = at_group_is literals count key values inner held met (InSink ops sink) c.args.directory old mid new done c.in_ok-count.ensures.local.0 em.statement em.own em.code_is em.own_is em.carried in
     groups_short old mid new inner done c.args.directory count (25 * length key + 328 * length values) (span c.args.operators.now c.args.sink.now) b is c.in_ok-count.ensures.same.1 c.in_ok-count.ensures.own (c.in_ok-emit_group_walk.ensures.block b is)
     (c.in_ok-extend_from_slice.ensures.items ∙ ap (λ (l : List ValType). mid.own.items ++ l) c.deref.ensures.value) (met_long literals (count + 2) key values inner held met) c.in_ok-kinds.ensures.short

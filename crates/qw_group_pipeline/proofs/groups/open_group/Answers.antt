@@ -1,7 +1,7 @@
 use Rattle.std.proofs.Common.{◌+◌, ◌-◌, ◌*◌, ◌++◌, ℕ, List, ap, ◌∙◌, subst, arith}
 use Rattle.qw_expr.specs.Bindings.{known_of}
 use Rattle.qw_physical.specs.declared.pipeline.ReadColumn.{ReadColumn}
-use Rattle.qw_operator.specs.Inner.Kept.{ReadsKept}
+use Rattle.qw_operator.specs.Kept.{ReadsKept}
 use Rattle.qw_operator.proofs.Knowing.{known_joined}
 use Rattle.qw_group_pipeline.specs.Inner.Valued.{ReadsValued}
 use Rattle.qw_group_pipeline.specs.declared.columns.ValueColumn.{ValueColumn}

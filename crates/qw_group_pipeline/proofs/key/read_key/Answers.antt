@@ -2,7 +2,7 @@ use Rattle.std.proofs.Common.{List, [], ◌∷◌, take, ap, sym, ◌∙◌, sub
 use Rattle.std.proofs.lemmas.List.{length-take-le}
 use Rattle.qw_expr.specs.Bindings.{known_of}
 use Rattle.qw_physical.specs.declared.pipeline.ReadColumn.{ReadColumn}
-use Rattle.qw_operator.specs.Inner.Kept.{ReadsKept}
+use Rattle.qw_operator.specs.Kept.{ReadsKept}
 use Rattle.qw_operator.proofs.Fronts.{take_at}
 use Rattle.qw_operator.proofs.KeptReads.{kept_more}
 use Rattle.qw_operator.proofs.Knowing.{known_joined}

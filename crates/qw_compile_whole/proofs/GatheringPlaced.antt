@@ -1,0 +1,139 @@
+-- What the emission of a pipeline whose rows go into groups asks for, and what it leaves; and so the walk over the groups.
+use Rattle.std.proofs.Common.{◌≡◌, ℕ, ◌+◌, ◌≤◌, Some, List, [], ◌++◌, length, length-append, map, slice_get, refl, ap, ◌∙◌, subst, append_assoc, arith}
+use Rattle.qw_module.specs.declared.instruction.ValType.{ValType}
+use Rattle.qw_types.specs.declared.kind.Kind.{Kind}
+use Rattle.qw_scalar.specs.Expression.{scale_of}
+use Rattle.qw_scalar.specs.Typing.{kind_of}
+use Rattle.qw_leaves.proofs.LeafLists.{all_front}
+use Rattle.qw_low.specs.declared.step.LowStep.{LowStep}
+use Rattle.qw_low.specs.Steps.{steps_of}
+use Rattle.qw_low.specs.Syntax.{Statement}
+use Rattle.qw_feed.specs.Cells.{kinds_of}
+use Rattle.qw_feed.specs.Rows.{begin_block, finish_block}
+use Rattle.qw_expr.specs.Bindings.{IsServed}
+use Rattle.qw_expr.specs.Cells.{IsBelow}
+use Rattle.qw_expr.specs.Computes.{Known}
+use Rattle.qw_expr.specs.Emits.{free_of}
+use Rattle.qw_expr.specs.declared.emitter.Emitter.{Emitter}
+use Rattle.qw_expr.proofs.Nulls.{known_below_more}
+use Rattle.qw_read.specs.Reading.{known_of, BeginsAll}
+use Rattle.qw_read.specs.declared.reader.Reader.{Reader}
+use Rattle.qw_table.specs.Joins.{sources_of}
+use Rattle.qw_table.specs.Tables.{directory_block}
+use Rattle.qw_table.specs.declared.key.Field.{Field}
+use Rattle.qw_physical.specs.Physical.{Operator, Pipeline, Sink}
+use Rattle.qw_physical.specs.declared.pipeline.ReadColumn.{ReadColumn}
+use Rattle.qw_operator.specs.Carries.{directory, result_kinds}
+use Rattle.qw_group_sink.specs.Carrying.{EmitsRowTo, IsRowTo}
+use Rattle.qw_group_sink.specs.Grouping.{Group, IsGrouped}
+use Rattle.qw_group_pipeline.specs.Groups.{EmitsGroups, IsGroupPipeline}
+use Rattle.qw_group_pipeline.specs.declared.columns.ValueColumn.{ValueColumn}
+use Rattle.qw_compile.specs.Placed.{ArePlaced, EmitsBuilds, literals_placed}
+use Rattle.qw_compile.specs.QueryLocals.{readers_over}
+use Rattle.qw_compile.specs.Statements.{AreCourses, builds_block, course_block}
+use Rattle.qw_compile.specs.declared.courses.Places.{Places}
+use Rattle.qw_compile_whole.specs.GroupedPlaced.{EmitsGathering, EmitsGrouped, EmitsWalk, gathering_of}
+use Rattle.qw_compile_whole.specs.GroupedStatements.{IsGathering}
+
+-- ---- the scan
+abbrev pub End : List Field → Group → List Known → (next : ℕ) → Statement → List ValType → Type 0
+End fields g = λ known at a more. IsGrouped fields known at g a more
+
+pub row_to_as : (fields : List Field) (g : Group) (ks known : List Known) (rs readers : List Reader) (os operators : List Operator) (old new : Emitter) → ks ≡ known → rs ≡ readers → os ≡ operators → EmitsRowTo (End fields g) ks rs os old new →
+    EmitsRowTo (End fields g) known readers operators old new
+row_to_as fields g ks known rs readers os operators old new one two three h =
+    subst (λ (l : List Known). EmitsRowTo (End fields g) l readers operators old new) one
+    (subst (λ (l : List Reader). EmitsRowTo (End fields g) ks l operators old new) two (subst (λ (l : List Operator). EmitsRowTo (End fields g) ks rs l old new) three h))
+
+pub gathering_emitted : (p : Places) (first entry : ℕ) (operators : List Operator) (g : Group) (fields : List Field) (old new : List LowStep) (own_old own_new : List ValType) (e0 e1 : Emitter) (head : Reader) (begins : Statement) → e0.first ≡ first + length own_old →
+    e0.block.code.items ≡ [] → e0.own.items ≡ [] → EmitsRowTo (End fields g) (literals_placed p) (readers_over entry p.readers.items) operators e0 e1 → kinds_of (sources_of fields) ≡ map kind_of g.values →
+    slice_get (readers_over entry p.readers.items) 0 ≡ Some head → BeginsAll (readers_over entry p.readers.items) begins →
+    ((a : Statement) → e1.block.code.items ≡ steps_of a → new ≡ old ++ steps_of (course_block p.tables (record { index = head.index; begins = begins; row = a }))) → own_new ≡ own_old ++ e1.own.items → EmitsGathering p first entry operators g old new own_old own_new
+gathering_emitted p first entry operators g fields old new own_old own_new e0 e1 head begins first_is code0 own0 e kinds head_is all coded own_is = record {
+  course = record { index = head.index; begins = begins; row = e.statement };
+  fields = fields;
+  own = e.own;
+  code_is = coded e.statement (e.code_is ∙ ap (λ (l : List LowStep). l ++ steps_of e.statement) code0);
+  own_is = own_is ∙ ap (λ (l : List ValType). own_old ++ l) (e.own_is ∙ ap (λ (l : List ValType). l ++ e.own) own0);
+  kinds = kinds;
+  is = record {
+    first = head;
+    first_is = head_is;
+    index_is = refl;
+    begins = all;
+    row =
+        let free : free_of e0 ≡ first + length own_old = let none : length e0.own.items ≡ 0 = ap (λ (l : List ValType). length l) own0 in omega (arith, none, first_is) in
+        subst (λ (n : ℕ). IsRowTo (End fields g) (literals_placed p) (readers_over entry p.readers.items) n operators e.statement e.own) free e.row;
+  };
+}
+
+-- what its blocks are doesn't depend on its sink
+pub gathering_as : (literals : List Known) (readers : List Reader) (next : ℕ) (p q : Pipeline) (g : Group) (fields : List Field) (c : _) (own : List ValType) → p.entry ≡ q.entry → p.operators ≡ q.operators → IsGathering literals readers next p g fields c own →
+    IsGathering literals readers next q g fields c own
+gathering_as literals readers next p q g fields c own one two h = record {
+  first = h.first;
+  first_is = subst (λ (n : ℕ). slice_get (readers_over n readers) 0 ≡ Some h.first) one h.first_is;
+  index_is = h.index_is;
+  begins = subst (λ (n : ℕ). BeginsAll (readers_over n readers) c.begins) one h.begins;
+  row = subst (λ (n : ℕ). IsRowTo (End fields g) literals (readers_over n readers) next q.operators c.row own) one
+      (subst (λ (os : List Operator). IsRowTo (End fields g) literals (readers_over p.entry readers) next os c.row own) two h.row);
+}
+
+-- ---- the walk
+-- literals are below the locals of a pipeline
+pub literals_served : (p : Places) (first n : ℕ) → ArePlaced p first → first ≤ n → IsServed n (literals_placed p)
+literals_served p first n placed high =
+    let all = map known_of p.readers.items in
+    let Low : Known → Type 0 = λ (k : Known). IsBelow n k.operand.cell in
+    let Described : Known → Type 0 = λ (k : Known). (k.operand.kind ≡ kind_of k.expression) × (k.operand.scale ≡ scale_of k.expression) in
+    let below = known_below_more first n (literals_placed p ++ all) high placed.served.0 in
+    (all_front Low (literals_placed p) all below, all_front Described (literals_placed p) all placed.served.1)
+
+pub walk_emitted : (p : Places) (first table d : ℕ) (known : List Known) (key : List ReadColumn) (values : List ValueColumn) (behind : Pipeline) (operators : List Operator) (snk : Sink) (old new : List LowStep) (own_old own_new : List ValType) (e0 e1 : Emitter) →
+    d ≡ directory table → known ≡ literals_placed p → operators ≡ behind.operators → snk ≡ behind.sink → e0.first ≡ first + length own_old → e0.block.code.items ≡ [] → e0.own.items ≡ [] → EmitsGroups known d key values operators snk e0 e1 →
+    new ≡ old ++ e1.block.code.items → own_new ≡ own_old ++ e1.own.items → EmitsWalk p first table key values behind old new own_old own_new
+walk_emitted p first table d known key values behind operators snk old new own_old own_new e0 e1 d_is known_is operators_are sink_is first_is code0 own0 e code_is own_is =
+    let free : free_of e0 ≡ first + length own_old = let none : length e0.own.items ≡ 0 = ap (λ (l : List ValType). length l) own0 in omega (arith, none, first_is) in
+    record {
+      walk = e.statement;
+      own = e.own;
+      code_is = code_is ∙ ap (λ (l : List LowStep). old ++ l) (e.code_is ∙ ap (λ (l : List LowStep). l ++ steps_of e.statement) code0);
+      own_is = own_is ∙ ap (λ (l : List ValType). own_old ++ l) (e.own_is ∙ ap (λ (l : List ValType). l ++ e.own) own0);
+      is = subst (λ (n : ℕ). IsGroupPipeline (literals_placed p) (directory table) n key values behind.operators behind.sink e.statement e.own) free
+          (subst (λ (s : Sink). IsGroupPipeline (literals_placed p) (directory table) (free_of e0) key values behind.operators s e.statement e.own) sink_is
+          (subst (λ (os : List Operator). IsGroupPipeline (literals_placed p) (directory table) (free_of e0) key values os snk e.statement e.own) operators_are
+          (subst (λ (ks : List Known). IsGroupPipeline ks (directory table) (free_of e0) key values operators snk e.statement e.own) known_is
+          (subst (λ (n : ℕ). IsGroupPipeline known n (free_of e0) key values operators snk e.statement e.own) d_is e.pipeline))));
+    }
+
+-- ---- all of them
+chained : (b d c g w f c1 c2 c3 c4 c5 c6 : List LowStep) → c1 ≡ b → c2 ≡ c1 ++ d → c3 ≡ c2 ++ c → c4 ≡ c3 ++ g → c5 ≡ c4 ++ w → c6 ≡ c5 ++ f → c6 ≡ b ++ ((d ++ c) ++ (g ++ (w ++ f)))
+chained b d c g w f c1 c2 c3 c4 c5 c6 one two three four five six =
+    six ∙ (ap (λ (l : List LowStep). l ++ f) (five ∙ ap (λ (l : List LowStep). l ++ w) (four ∙ ap (λ (l : List LowStep). l ++ g) (three ∙ ap (λ (l : List LowStep). l ++ c) (two ∙ ap (λ (l : List LowStep). l ++ d) one))))
+    ∙ (append_assoc (((b ++ d) ++ c) ++ g) w f
+    ∙ (append_assoc ((b ++ d) ++ c) g (w ++ f)
+    ∙ (ap (λ (l : List LowStep). l ++ (g ++ (w ++ f))) (append_assoc b d c) ∙ append_assoc b (d ++ c) (g ++ (w ++ f))))))
+
+pub grouped_emitted : (p : Places) (first : ℕ) (building : List Pipeline) (entry : ℕ) (operators : List Operator) (g : Group) (key : List ReadColumn) (values : List ValueColumn) (behind : Pipeline) (code1 code2 code3 code4 code5 code6 : List LowStep) (own1 own2 own3 : List ValType) (kinds : List Kind) →
+    EmitsBuilds p first building [] code1 [] own1 → code2 ≡ code1 ++ steps_of (directory_block (directory g.table)) → EmitsGathering p first entry operators g code2 code3 own1 own2 → code4 ≡ code3 ++ steps_of begin_block →
+    EmitsWalk p first g.table key values behind code4 code5 own2 own3 → code6 ≡ code5 ++ steps_of finish_block → map Some kinds ≡ result_kinds behind.sink → EmitsGrouped p first building entry operators g key values behind code6 own3 kinds
+grouped_emitted p first building entry operators g key values behind code1 code2 code3 code4 code5 code6 own1 own2 own3 kinds b directed e begun w finished kinds_are = record {
+  builds = b.courses;
+  gathers = e.course;
+  walk = w.walk;
+  fields = e.fields;
+  builds_own = b.own;
+  gathers_own = e.own;
+  walk_own = w.own;
+  code_is = chained (steps_of (builds_block p.tables 0 b.courses)) (steps_of (directory_block (directory g.table))) (steps_of (course_block p.tables e.course)) (steps_of begin_block) (steps_of w.walk) (steps_of finish_block) code1 code2 code3 code4 code5 code6
+      b.code_is directed e.code_is begun w.code_is finished;
+  own_is = w.own_is ∙ (ap (λ (l : List ValType). l ++ w.own) (e.own_is ∙ ap (λ (l : List ValType). l ++ e.own) b.own_is) ∙ append_assoc b.own e.own w.own);
+  built = let none : first + length {A = ValType} [] ≡ first = omega arith in subst (λ (n : ℕ). AreCourses (literals_placed p) p.readers.items n building b.courses b.own) none b.are;
+  gathered = subst (λ (l : List ValType). IsGathering (literals_placed p) p.readers.items (first + length l) (gathering_of entry operators g) g e.fields e.course e.own) b.own_is e.is;
+  field_kinds = e.kinds;
+  walked =
+      let place : first + length own2 ≡ first + length b.own + length e.own =
+      (let one = ap (λ (l : List ValType). length l) e.own_is ∙ length-append own1 e.own in let two = ap (λ (l : List ValType). length l) b.own_is in omega (arith, one, two)) in
+      subst (λ (n : ℕ). IsGroupPipeline (literals_placed p) (directory g.table) n key values behind.operators behind.sink w.walk w.own) place w.is;
+  kinds_are = kinds_are;
+}

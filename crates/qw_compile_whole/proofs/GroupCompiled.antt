@@ -1,0 +1,112 @@
+-- The module around a grouped query's statement is the compiled form of what is promised of the query.
+use Rattle.std.proofs.Common.{◌≡◌, ℕ, ◌+◌, ◌*◌, ◌^◌, ◌<◌, ◌≤◌, IsUtf8, List, [], ◌∷◌, ◌++◌, length, length-append, map, Some, arith}
+use Rattle.std.specs.List.{AllByRecursion, concat}
+use Rattle.std.specs.List.Sorted.{IsPermutation}
+use Rattle.std.proofs.lemmas.List.Sorted.{IsPermutation-sym, IsPermutation-trans}
+use Rattle.qw_types.specs.declared.kind.Kind.{Kind}
+use Rattle.qw_types.specs.declared.value.Val.{Val}
+use Rattle.qw_module.specs.declared.instruction.ValType.{ValType}
+use Rattle.qw_module.specs.declared.module.Module.{Module}
+use Rattle.qw_scalar.specs.Typing.{kind_of}
+use Rattle.qw_map.specs.Layout.{Layout, descriptor_size, entry_offset}
+use Rattle.qw_meaning.specs.Outcome.{IsSameOutcome, Outcome, Raises, Rows}
+use Rattle.qw_meaning.specs.Select.{AreOfEntries}
+use Rattle.qw_grouped.specs.Grouped.{Grouped}
+use Rattle.qw_low.specs.Syntax.{Statement}
+use Rattle.qw_low.specs.Begin.{first_state}
+use Rattle.qw_low.specs.Meaning.{meaning}
+use Rattle.qw_low.specs.Promise.{Ends}
+use Rattle.qw_low.specs.Size.{size}
+use Rattle.qw_low.proofs.Promises.{Ends-weaker}
+use Rattle.qw_feed.specs.Cells.{kinds_of}
+use Rattle.qw_feed.specs.Rows.{in_order}
+use Rattle.qw_feed.proofs.Frames.{Never}
+use Rattle.qw_read.specs.Constants.{IsSmall, SetsAll}
+use Rattle.qw_read.specs.Texts.{LeadsToAll}
+use Rattle.qw_read.specs.declared.constant.Word.{Word}
+use Rattle.qw_table.specs.Joins.{sources_of}
+use Rattle.qw_table.specs.declared.key.Field.{Field}
+use Rattle.qw_physical.specs.Physical.{Pipeline, filter, select}
+use Rattle.qw_physical.specs.declared.pipeline.ReadColumn.{ReadColumn}
+use Rattle.qw_operator.specs.Carries.{directory}
+use Rattle.qw_operator.proofs.Stood.{Stood}
+use Rattle.qw_promise.specs.Compiled.{GoesWith, IsCompiled}
+use Rattle.qw_promise.specs.Promise.{Promise}
+use Rattle.qw_emit.specs.RunsOf.{IsMadeOf, first_locals}
+use Rattle.qw_emit.specs.Alike.{AreAlike}
+use Rattle.qw_emit.proofs.Answered.{IsTold}
+use Rattle.qw_emit.proofs.ModuleCompiled.{AreReady, Ending, module_compiled}
+use Rattle.qw_group_sink.specs.Grouping.{Group}
+use Rattle.qw_group_pipeline.specs.Groups.{IsGroupPipeline}
+use Rattle.qw_group_pipeline.specs.declared.columns.ValueColumn.{ValueColumn}
+use Rattle.qw_compile.specs.QueryLocals.{own_start, query_locals, query_readers}
+use Rattle.qw_compile.specs.Statements.{AreCourses, Course}
+use Rattle.qw_compile.proofs.LocalsPlaced.{literal_count, literals_known, texts_placed, words_placed}
+use Rattle.qw_compile.proofs.PipelineRuns.{AreStood, fed_over}
+use Rattle.qw_compile.proofs.QueryRuns.{AreLaid}
+use Rattle.qw_compile.proofs.QueryTyped.{known_typed, own_types, query_locals_long, types}
+use Rattle.qw_compile_whole.specs.GroupedStatements.{IsGathering, grouped_block}
+use Rattle.qw_compile_whole.proofs.GroupBounded.{GoTogether, IsGroupBounded, rows_met, walked_of}
+use Rattle.qw_compile_whole.proofs.GroupEnds.{IsGroupAnswered, grouped_ends}
+
+-- an outcome that has some rows has them in any order
+pub in_any_order : (out : Outcome) (rows others : List (List Val)) → IsSameOutcome out (Rows rows) → IsPermutation others rows → IsSameOutcome out (Rows others)
+in_any_order (Rows bag) rows others same turned = IsPermutation-trans bag rows others same (IsPermutation-sym others rows turned)
+in_any_order (Raises codes) rows others same turned = absurd same
+
+module _ (promise : Promise) (layout : Layout) (T : ℕ) (columns : List ReadColumn) (texts : List (List ℕ)) (words : List Word) (table_of : ℕ → ℕ) (laid : AreLaid table_of layout.columns columns) (texts_are : layout.literals ≡ concat texts)
+    (utf8 : AllByRecursion IsUtf8 texts) (small_words : AllByRecursion IsSmall words) (leads sets : Statement) (building : List Pipeline) (gathering : Pipeline) (query : Grouped) (group : Group) (key : List ReadColumn) (values : List ValueColumn) (fields : List Field)
+    (field_kinds : kinds_of (sources_of fields) ≡ map kind_of group.values) (is_select : gathering.sink ≡ select group.values) (kinds_are : map kind_of query.items ≡ map (λ (k : Kind). Some k) layout.cells) (table_is : group.table ≡ length building) (room_T : length building < T)
+    (builds : List Course) (gathers : Course) (walk : Statement) (builds_own gathers_own walk_own : List ValType) where
+  abbrev n : ℕ
+  n = literal_count texts words
+
+  abbrev at : ℕ
+  at = entry_offset (length layout.columns)
+
+  abbrev own_first : ℕ
+  own_first = own_start T n (length columns)
+
+  abbrev own : List ValType
+  own = builds_own ++ (gathers_own ++ walk_own)
+
+  abbrev locals : List ValType
+  locals = query_locals T (length texts) (length words) columns (builds_own ++ (gathers_own ++ walk_own))
+
+  abbrev others : ℕ
+  others = length locals
+
+  abbrev whole : Statement
+  whole = grouped_block T (descriptor_size layout) leads sets builds (length building) gathers walk
+
+  module _ (goes_with : GoesWith promise layout) (leads_all : LeadsToAll (texts_placed T at texts) leads) (sets_all : SetsAll (words_placed T (length texts) words) sets) (together : GoTogether query group key values (literals_known T at texts words))
+      (built : AreCourses (literals_known T at texts words) (query_readers T n columns) own_first building builds builds_own)
+      (gathered : IsGathering (literals_known T at texts words) (query_readers T n columns) (own_first + length builds_own) gathering group fields gathers gathers_own)
+      (walked : IsGroupPipeline (literals_known T at texts words) (directory (length building)) (own_first + length builds_own + length gathers_own) key values (filter query.having ∷ []) (select query.items) walk walk_own) where
+    -- over any tables that are ready, within bounds
+    module _ (tables : List (List (List Val))) (limit : ℕ) (ready : AreReady layout tables limit) (Told : ℕ → Type 0) (u most N : ℕ) (b : IsGroupBounded T n columns texts words at table_of building gathering query group key values Told u most N tables) where
+      grouped_bounded : Ends (size whole * N) (IsGroupAnswered layout tables building gathering query) Never Told (meaning most N whole (first_state layout tables limit (first_locals others)))
+      grouped_bounded =
+          let long = query_locals_long T (length texts) (length words) columns (builds_own ++ (gathers_own ++ walk_own)) in
+          let two = length-append builds_own (gathers_own ++ walk_own) in
+          let three = length-append gathers_own walk_own in
+          grouped_ends layout tables limit others ready goes_with.small T columns texts words table_of laid texts_are utf8 small_words most N N u (types T at columns texts words own) leads sets leads_all sets_all (omega arith)
+          (known_typed T at columns texts words own) building gathering query group key values together fields field_kinds is_select kinds_are table_is room_T builds gathers walk builds_own gathers_own walk_own built gathered walked
+          (omega (arith, long, two, three)) (own_types T at columns texts words own) Told b
+
+    pub grouped_compiled : size whole ≤ 2 ^ 22 → AreAlike promise.entries → (u : List (List (List Val)) → ℕ) →
+        (bounded : (tables : List (List (List Val))) → AreOfEntries promise.entries tables → IsGroupBounded T n columns texts words at table_of building gathering query group key values (IsTold (promise.outcome tables)) (u tables) (promise.pages tables) (1 + promise.units tables) tables) →
+        (same : (tables : List (List (List Val))) (stoods : List Stood) → AreOfEntries promise.entries tables → AreStood tables [] building stoods → (fed_over tables stoods gathering).codes ≡ [] → (walked_of query (rows_met tables stoods gathering)).codes ≡ [] →
+        IsSameOutcome (promise.outcome tables) (Rows (walked_of query (rows_met tables stoods gathering)).rows)) →
+        (m : Module) → IsMadeOf m whole others → IsCompiled promise layout m
+    grouped_compiled short alike u bounded same m is_made =
+        module_compiled promise layout whole others (λ tables. 1 + promise.units tables) goes_with alike short
+        (λ tables limit of ready.
+        Ends-weaker (size whole * (1 + promise.units tables)) (size whole * (1 + promise.units tables)) (IsGroupAnswered layout tables building gathering query) (Ending promise layout tables) Never Never (IsTold (promise.outcome tables)) (IsTold (promise.outcome tables))
+        (meaning (promise.pages tables) (1 + promise.units tables) whole (first_state layout tables limit (first_locals others))) (omega arith)
+        (λ t h. record {
+          settled = h.settled;
+          same = in_any_order (promise.outcome tables) (walked_of query (rows_met tables h.stoods gathering)).rows (in_order h.settled.found) (same tables h.stoods of h.are h.none h.none_behind) h.rows;
+        }) (λ t x. x) (λ code x. x)
+        (grouped_bounded tables limit ready (IsTold (promise.outcome tables)) (u tables) (promise.pages tables) (1 + promise.units tables) (bounded tables of)))
+        m is_made

@@ -1,0 +1,130 @@
+-- How many rows reach the groups of a query: a table has at most 1,000,000 rows, and so of two entries of FROM there are fewer than 10^18 pairs.
+use Rattle.std.proofs.Common.{◌≡◌, ◌∙◌, ℕ, zero, suc, ◌+◌, ◌*◌, ◌^◌, ◌<◌, ◌≤◌, Bool, true, false, if◌then◌else◌, List, [], ◌∷◌, ◌++◌, map, length, length-append, Result, Ok, Err, sym, ap, subst, arith}
+use Rattle.std.proofs.Math.Nat.{mul_assoc, pow-succ', suc-mul}
+use Rattle.std.proofs.lemmas.Nat.{mul-le, pow-add}
+use Rattle.std.proofs.lemmas.List.{length-map}
+use Rattle.std.specs.List.{AllByRecursion, flat_map}
+use Rattle.qw_types.specs.Arithmetic.{◌>>=◌}
+use Rattle.qw_types.specs.Contents.{rows_of}
+use Rattle.qw_types.specs.declared.code.Code.{Code}
+use Rattle.qw_types.specs.declared.value.Val.{Val}
+use Rattle.qw_scalar.specs.Conjuncts.{passes}
+use Rattle.qw_scalar.specs.Evaluation.{at_row}
+use Rattle.qw_scalar.specs.Expression.{Condition, Expression}
+use Rattle.qw_meaning.specs.Flow.{Flow, each, kept, rows_given, selected, values_of}
+use Rattle.qw_meaning.specs.From.{at_places, behind_joins, behind_sources, crossed, entry_flow, from_sources, merged, source_flow}
+use Rattle.qw_meaning.specs.Outcome.{flow}
+use Rattle.qw_meaning.specs.Select.{AreOfEntries, Entry, IsOfEntry, Joined, Source, Specification, entries_in, entries_of}
+use Rattle.qw_leaves.proofs.LeafLists.{all_back, all_front}
+
+-- ---- a clause
+
+less_each : {A B : Type 0} (f : A → List B) (xs : List A) → ((x : A) → length (f x) ≤ 1) → length (flat_map f xs) ≤ length xs
+less_each f [] few = omega arith
+less_each f (x ∷ xs) few =
+    let one = few x in
+    let rest = less_each f xs few in
+    let both = length-append (f x) (flat_map f xs) in
+    omega (arith, one, rest, both)
+
+kept_one : (conjuncts : List Condition) (row : List Val) → length (rows_given (kept conjuncts row)) ≤ 1
+kept_one conjuncts row = one (passes conjuncts (at_row row))
+  where
+    one : (r : Result Bool Code) → length (rows_given (r >>= (λ (passed : Bool). let q : Result (List (List Val)) Code = Ok (if passed then row ∷ [] else []) in q))) ≤ 1
+    one (Ok true) = omega arith
+    one (Ok false) = omega arith
+    one (Err code) = omega arith
+
+selected_one : (items : List Expression) (row : List Val) → length (rows_given (selected items row)) ≤ 1
+selected_one items row = one (values_of items (at_row row))
+  where
+    one : (r : Result (List Val) Code) → length (rows_given (r >>= (λ (values : List Val). let q : Result (List (List Val)) Code = Ok (values ∷ []) in q))) ≤ 1
+    one (Ok values) = omega arith
+    one (Err code) = omega arith
+
+crossed_many : (ones others : List (List Val)) → length (flat_map (λ (row : List Val). map (merged row) others) ones) ≡ length ones * length others
+crossed_many [] others = omega arith
+crossed_many (row ∷ ones) others =
+    let both = length-append (map (merged row) others) (flat_map (λ (r : List Val). map (merged r) others) ones) in
+    let own = length-map others (merged row) in
+    let rest = crossed_many ones others in
+    let more = suc-mul (length ones) (length others) in
+    summed (length (flat_map (λ (r : List Val). map (merged r) others) (row ∷ ones))) (length (map (merged row) others)) (length (flat_map (λ (r : List Val). map (merged r) others) ones)) (length others) (length ones * length others) (suc (length ones) * length others) both own rest more
+  where
+    summed : (whole a b n p q : ℕ) → whole ≡ a + b → a ≡ n → b ≡ p → q ≡ p + n → whole ≡ q
+    summed whole a b n p q e f g h = omega (arith, e, f, g, h)
+
+-- ---- FROM
+
+module _ (tables : List (List (List Val))) where
+  entry_few : (next : ℕ) (e : Entry) → IsOfEntry tables e → length (entry_flow tables next e.table).rows ≤ 1000000
+  entry_few next e of = let same = length-map (rows_of tables e.table) (at_places next) in let few = of.few in omega (arith, same, few)
+
+  crossed_few : (one other : Flow (List Val)) (a b : ℕ) → length one.rows ≤ a → length other.rows ≤ b → length (crossed one other).rows ≤ a * b
+  crossed_few one other a b h g =
+      let many = crossed_many one.rows other.rows in
+      let less = mul-le (length one.rows) (length other.rows) a b h g in
+      omega (arith, many, less)
+
+  power_more : (b k : ℕ) → (b * 1000000) * 1000000 ^ k ≡ b * 1000000 ^ suc k
+  power_more b k = mul_assoc b 1000000 (1000000 ^ k) ∙ ap (λ (n : ℕ). b * n) (sym (pow-succ' 1000000 k))
+
+  joins_few : (joins : List Joined) (next : ℕ) (before : Flow (List Val)) (b : ℕ) → length before.rows ≤ b → AllByRecursion (IsOfEntry tables) (map (λ (j : Joined). j.entry) joins) → length (behind_joins tables next before joins).rows ≤ b * 1000000 ^ length joins
+  joins_few [] next before b h of = omega (arith, h)
+  joins_few (j ∷ joins) next before b h of =
+      let pairs : Flow (List Val) = crossed before (entry_flow tables next j.entry.table) in
+      let few : length pairs.rows ≤ b * 1000000 = crossed_few before (entry_flow tables next j.entry.table) b 1000000 h (entry_few next j.entry of.0) in
+      let kept_few : length (each (kept j.on) pairs).rows ≤ b * 1000000 = (let less = less_each (λ (row : List Val). rows_given (kept j.on row)) pairs.rows (kept_one j.on) in omega (arith, few, less)) in
+      let rest = joins_few joins (next + 1) (each (kept j.on) pairs) (b * 1000000) kept_few of.1 in
+      subst (λ (n : ℕ). length (behind_joins tables (next + 1) (each (kept j.on) pairs) joins).rows ≤ n) (power_more b (length joins)) rest
+
+  source_few : (source : Source) (first : ℕ) → AllByRecursion (IsOfEntry tables) (entries_in source) → length (source_flow tables first source).rows ≤ 1000000 ^ length (entries_in source)
+  source_few source first of =
+      let all = joins_few source.joins (first + 1) (entry_flow tables first source.first.table) 1000000 (entry_few first source.first of.0) of.1 in
+      let many : length (map (λ (j : Joined). j.entry) source.joins) ≡ length source.joins = length-map source.joins (λ (j : Joined). j.entry) in
+      subst (λ (n : ℕ). length (source_flow tables first source).rows ≤ n) (sym (pow-succ' 1000000 (length source.joins)) ∙ ap (λ (k : ℕ). 1000000 ^ suc k) (sym many)) all
+
+  sources_few : (sources : List Source) (next : ℕ) (before : Flow (List Val)) (b : ℕ) → length before.rows ≤ b → AllByRecursion (IsOfEntry tables) (entries_of sources) → length (behind_sources tables next before sources).rows ≤ b * 1000000 ^ length (entries_of sources)
+  sources_few [] next before b h of = omega (arith, h)
+  sources_few (source ∷ sources) next before b h of =
+      let own : ℕ = length (entries_in source) in
+      let rest : ℕ = length (entries_of sources) in
+      let first = source_few source next (all_front (IsOfEntry tables) (entries_in source) (entries_of sources) of) in
+      let few = crossed_few before (source_flow tables next source) b (1000000 ^ own) h first in
+      let all = sources_few sources (next + own) (crossed before (source_flow tables next source)) (b * 1000000 ^ own) few (all_back (IsOfEntry tables) (entries_in source) (entries_of sources) of) in
+      let parts : (b * 1000000 ^ own) * 1000000 ^ rest ≡ b * 1000000 ^ length (entries_in source ++ entries_of sources) =
+      mul_assoc b (1000000 ^ own) (1000000 ^ rest) ∙ (ap (λ (n : ℕ). b * n) (sym (pow-add 1000000 own rest)) ∙ ap (λ (k : ℕ). b * 1000000 ^ k) (sym (length-append (entries_in source) (entries_of sources)))) in
+      subst (λ (n : ℕ). length (behind_sources tables (next + own) (crossed before (source_flow tables next source)) sources).rows ≤ n) parts all
+
+  from_few : (sources : List Source) → AllByRecursion (IsOfEntry tables) (entries_of sources) → length (from_sources sources tables).rows ≤ 1000000 ^ length (entries_of sources)
+  from_few [] of = omega arith
+  from_few (source ∷ sources) of =
+      let own : ℕ = length (entries_in source) in
+      let first = source_few source 0 (all_front (IsOfEntry tables) (entries_in source) (entries_of sources) of) in
+      let all = sources_few sources own (source_flow tables 0 source) (1000000 ^ own) first (all_back (IsOfEntry tables) (entries_in source) (entries_of sources) of) in
+      subst (λ (n : ℕ). length (behind_sources tables own (source_flow tables 0 source) sources).rows ≤ n) (sym (pow-add 1000000 own (length (entries_of sources))) ∙ ap (λ (k : ℕ). 1000000 ^ k) (sym (length-append (entries_in source) (entries_of sources)))) all
+
+-- ---- a query
+
+-- a row that the select list makes is one of FROM's
+pub rows_few : (query : Specification) (tables : List (List (List Val))) → AreOfEntries (entries_of query.sources) tables → length (flow query tables).rows ≤ 1000000 ^ length (entries_of query.sources)
+rows_few query tables loaded =
+    let from : List (List Val) = (from_sources query.sources tables).rows in
+    let kept_rows : List (List Val) = (each (kept query.conjuncts) (from_sources query.sources tables)).rows in
+    let all = from_few tables query.sources loaded in
+    let where_few = less_each (λ (row : List Val). rows_given (kept query.conjuncts row)) from (kept_one query.conjuncts) in
+    let made_few = less_each (λ (row : List Val). rows_given (selected query.items row)) kept_rows (selected_one query.items) in
+    omega (arith, all, where_few, made_few)
+
+power_few : (k : ℕ) → k ≤ 2 → 1000000 ^ k < 10 ^ 18
+power_few zero h = omega arith
+power_few (suc zero) h = omega arith
+power_few (suc (suc zero)) h = omega arith
+power_few (suc (suc (suc k))) h = absurd (omega (arith, h))
+
+-- of at most two entries
+pub pairs_few : (query : Specification) (tables : List (List (List Val))) → AreOfEntries (entries_of query.sources) tables → length (entries_of query.sources) ≤ 2 → length (flow query tables).rows < 10 ^ 18
+pairs_few query tables loaded two =
+    let all = rows_few query tables loaded in
+    let power = power_few (length (entries_of query.sources)) two in
+    omega (arith, all, power)

@@ -1,0 +1,57 @@
+pub mod Beginnings
+pub mod BehindFolds
+pub mod ColumnSteps
+pub mod ColumnTypes
+pub mod DistinctCompiled
+pub mod DistinctEnds
+pub mod DistinctTogether
+pub mod DistinctTyped
+pub mod EnterBounded
+pub mod FoldedBehind
+pub mod FoldedUnits
+pub mod FrontCopies
+pub mod FrontEnds
+pub mod Gathered
+pub mod GatheringLengths
+pub mod GatheringPlaced
+pub mod GroupBounded
+pub mod GroupCompiled
+mod GroupCore
+mod GroupCosts
+pub mod GroupEnds
+mod GroupFew
+mod GroupKept
+mod GroupOnce
+mod GroupPlanned
+mod GroupReach
+mod GroupRead
+mod GroupShares
+mod GroupTexts
+mod GroupTold
+mod GroupTotals
+mod GroupTyped
+mod GroupUtf8
+pub mod GroupedFinished
+pub mod GroupedPlacing
+pub mod GroupedReady
+pub mod GroupedStands
+pub mod GroupedTyped
+pub mod MadeOne
+mod OnceTyped
+pub mod OneDistinct
+pub mod ShortGrouped
+pub mod SingleAlone
+pub mod SingleBounded
+pub mod SingleCompiled
+pub mod SingleEnds
+mod SingleKept
+pub mod SingleTyped
+pub mod Taken
+pub mod Walked
+pub mod WalkedInto
+mod WholeBehind
+pub mod WholeFinished
+mod WholeKept
+mod WholeOnce
+mod WholeTyped
+pub mod Widened

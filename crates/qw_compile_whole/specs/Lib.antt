@@ -1,0 +1,11 @@
+pub mod DistinctStatements
+pub mod GroupColumns
+pub mod GroupedLimits
+pub mod GroupedMade
+pub mod GroupedPlaced
+pub mod GroupedStatements
+pub mod SingleStatements
+pub mod StatementOf
+pub mod WholeDistinct
+pub mod WholeLimits
+pub mod WholeTexts
