@@ -1,9 +1,8 @@
 -- The run of a pipeline whose rows go into groups (ISO/IEC 9075:1992, 7.7): behind the tables of joins stands the table of its rows' groups.
-use Rattle.std.proofs.Common.{◌≡◌, ℕ, zero, suc, append-nil, ◌+◌, ◌*◌, ◌^◌, ◌<◌, ◌≤◌, inl, inr, drop, Some, Option, List, [], ◌∷◌, ◌++◌, length, map, slice_get, refl, sym, ap, ◌∙◌, subst, ⊎_elim, arith}
-use Rattle.std.proofs.lemmas.List.{length-map, length-take-le}
+use Rattle.std.proofs.Common.{◌≡◌, ℕ, append-nil, ◌+◌, ◌*◌, ◌^◌, ◌<◌, ◌≤◌, inl, inr, drop, Some, List, [], ◌++◌, length, map, slice_get, sym, ap, ◌∙◌, subst, ⊎_elim, arith}
+use Rattle.std.proofs.lemmas.List.{length-take-le}
 use Rattle.std.proofs.lemmas.Nat.{mul-le}
 use Rattle.std.proofs.Math.Nat.{add-mul}
-use Rattle.qw_types.specs.declared.kind.Kind.{Kind}
 use Rattle.qw_types.specs.declared.value.Val.{Val}
 use Rattle.qw_linear.specs.Memory.{page}
 use Rattle.qw_layout.specs.Hash.{slot}
@@ -11,7 +10,6 @@ use Rattle.qw_module.specs.declared.instruction.ValType.{ValType}
 use Rattle.qw_scalar.specs.Typing.{kind_of}
 use Rattle.qw_meaning.specs.Flow.{Flow}
 use Rattle.qw_grouped.specs.Groups.{key_of, keys}
-use Rattle.qw_grouped.specs.declared.set_function.SetFunctionKind.{SetFunctionKind}
 use Rattle.qw_low.specs.Syntax.{Statement}
 use Rattle.qw_low.specs.State.{Own, Column, Value, Cells, LowState}
 use Rattle.qw_low.specs.Meaning.{meaning}
@@ -45,7 +43,7 @@ use Rattle.qw_operator.proofs.Promised.{AreOwn}
 use Rattle.qw_operator.proofs.Seen.{StandsIn}
 use Rattle.qw_operator.proofs.Stood.{AllStand, Stood, built_of}
 use Rattle.qw_group_sink.specs.Carrying.{pipeline_cost_to}
-use Rattle.qw_group_sink.specs.Grouping.{CanGroup, Group, IsGrouped, aggregates_of, key_fields, over_fields, turn_of}
+use Rattle.qw_group_sink.specs.Grouping.{CanGroup, Group, IsGrouped, aggregates_of, key_fields, turn_of}
 use Rattle.qw_group_sink.proofs.GroupSunk.{grouping_kept}
 use Rattle.qw_group_sink.proofs.GroupedFeeds.{grouped, grouped_feeds}
 use Rattle.qw_group_sink.proofs.PipelineTo.{ScannedTo}
@@ -56,29 +54,10 @@ use Rattle.qw_compile.proofs.PipelineRuns.{Between, Grounds, Source, Steady, all
 use Rattle.qw_compile.proofs.TableBegins.{Begun, empty_table, table_begins}
 use Rattle.qw_compile_whole.specs.GroupedStatements.{IsGathering}
 use Rattle.qw_compile_whole.proofs.Beginnings.{IsBeginning, beginning_few, beginning_first, chosen_fewer, keys_fewer, slot_fewer}
+use Rattle.qw_compile_whole.proofs.FieldCounts.{dropped_many, fields_long, over_many}
 use Rattle.qw_compile_whole.proofs.GroupBounded.{GatherReach, group_width, groups_paid}
 
 -- ---- where the fields of a table of groups are
-pub over_many : (functions : List SetFunctionKind) (fields : List Field) → length fields ≡ length functions → length (over_fields functions fields) ≡ length functions
-over_many [] [] many = refl
-over_many [] (x ∷ fields) many = absurd (omega (arith, many))
-over_many (f ∷ functions) [] many = absurd (omega (arith, many))
-over_many (f ∷ functions) (x ∷ fields) many = let rest = over_many functions fields (omega (arith, many)) in omega (arith, rest)
-
-dropped_many : (n : ℕ) (fields : List Field) (m : ℕ) → length fields ≡ n + m → length (drop n fields) ≡ m
-dropped_many zero fields m many = omega (arith, many)
-dropped_many (suc n) [] m many = absurd (omega (arith, many))
-dropped_many (suc n) (f ∷ fields) m many = dropped_many n fields m (omega (arith, many))
-
--- a field for each value
-pub fields_long : (group : Group) (fields : List Field) → kinds_of (sources_of fields) ≡ map kind_of group.values → length fields ≡ length group.values
-fields_long group fields kinds =
-    by_kinds fields ∙ (ap (λ (ks : List (Option Kind)). length ks) kinds ∙ length-map group.values kind_of)
-  where
-    by_kinds : (fs : List Field) → length fs ≡ length (kinds_of (sources_of fs))
-    by_kinds [] = refl
-    by_kinds (f ∷ fs) = ap suc (by_kinds fs)
-
 pub key_long : (group : Group) (fields : List Field) → CanGroup group → kinds_of (sources_of fields) ≡ map kind_of group.values → length (key_fields group fields) ≡ group.columns
 key_long group fields can kinds = let count = fields_long group fields kinds in let many = can.many in length-take-le group.columns fields (omega (arith, count, many))
 

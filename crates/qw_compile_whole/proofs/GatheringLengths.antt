@@ -1,5 +1,5 @@
 -- How many steps and locals there are of a grouped query's pipelines, and of its statement.
-use Rattle.std.proofs.Common.{◌≡◌, ℕ, ◌+◌, ◌*◌, ◌≤◌, eqb, List, [], ◌∷◌, ◌++◌, length, length-append, map, sum_by, refl, sym, ap, ◌∙◌, subst, arith}
+use Rattle.std.proofs.Common.{◌≡◌, ℕ, ◌+◌, ◌*◌, ◌≤◌, eqb, Option, Some, None, List, [], ◌∷◌, ◌++◌, length, length-append, map, sum_by, refl, sym, ap, ◌∙◌, subst, arith}
 use Rattle.std.specs.List.{AllByRecursion, IsDistinct}
 use Rattle.std.proofs.lemmas.List.Sums.{sum_by-append, sum_by-cons}
 use Rattle.qw_module.specs.declared.instruction.ValType.{ValType}
@@ -39,6 +39,7 @@ use Rattle.qw_compile.proofs.ReadersFew.{few_over}
 use Rattle.qw_compile.proofs.SpanLengths.{CanBe, all_steps, few_operators}
 use Rattle.qw_compile.proofs.StatementLengths.{locals_long}
 use Rattle.qw_compile_whole.specs.GroupedLimits.{AreShortGrouped, gathering_span, walk_span}
+use Rattle.qw_compile_whole.specs.GuardedStatements.{count_from, stop_at}
 
 -- ---- the walk
 pub walk_short : (columns functions : ℕ) (behind : Pipeline) (old new : List LowStep) (own_old own_new : List ValType) (e0 e1 : Emitter) → e0.block.code.items ≡ [] → e0.own.items ≡ [] → new ≡ old ++ e1.block.code.items → own_new ≡ own_old ++ e1.own.items →
@@ -51,14 +52,22 @@ walk_short columns functions behind old new own_old own_new e0 e1 code0 own0 cod
     omega (arith, all, locals, none, none_own, short)
 
 -- ---- all of them
-pub grouped_short : (builds gathers walks table : ℕ) (code0 code1 code2 code3 code4 code5 code6 : List LowStep) (own0 own1 own2 own3 : List ValType) → code0 ≡ [] → own0 ≡ [] → length code1 + length own1 ≤ length code0 + length own0 + builds → code2 ≡ code1 ++ steps_of (directory_block (directory table)) →
-    length code3 + length own2 + 40 ≤ length code2 + length own1 + gathers → code4 ≡ code3 ++ steps_of begin_block → length code5 + length own3 + 40 ≤ length code4 + length own2 + walks → code6 ≡ code5 ++ steps_of finish_block →
-    length code6 + length own3 ≤ builds + gathers + walks
-grouped_short builds gathers walks table code0 code1 code2 code3 code4 code5 code6 own0 own1 own2 own3 none none_own built directed gathered begun walked finished =
-    let two = ap (λ (l : List LowStep). length l) directed ∙ length-append code1 (steps_of (directory_block (directory table))) in
-    let four = ap (λ (l : List LowStep). length l) begun ∙ length-append code3 (steps_of begin_block) in
-    let six = ap (λ (l : List LowStep). length l) finished ∙ length-append code5 (steps_of finish_block) in
-    omega (arith, two, four, six, built, gathered, walked, ap (λ (l : List LowStep). length l) none, ap (λ (l : List ValType). length l) none_own)
+-- what counts rows is short
+counted_few : (guard : Option ℕ) → length (steps_of (count_from guard)) + length (steps_of (stop_at guard)) ≤ 8
+counted_few None = omega arith
+counted_few (Some z) = omega arith
+
+pub grouped_short : (guard : Option ℕ) (builds gathers walks table : ℕ) (code0 code1 code2 code3 code4 code5 code6 code7 code8 : List LowStep) (own0 own1 own2 own3 : List ValType) → code0 ≡ [] → own0 ≡ [] → length code1 + length own1 ≤ length code0 + length own0 + builds → code2 ≡ code1 ++ steps_of (count_from guard) → code3 ≡ code2 ++ steps_of (directory_block (directory table)) →
+    length code4 + length own2 + 40 ≤ length code3 + length own1 + gathers → code5 ≡ code4 ++ steps_of (stop_at guard) → code6 ≡ code5 ++ steps_of begin_block → length code7 + length own3 + 40 ≤ length code6 + length own2 + walks → code8 ≡ code7 ++ steps_of finish_block →
+    length code8 + length own3 ≤ builds + gathers + walks
+grouped_short guard builds gathers walks table code0 code1 code2 code3 code4 code5 code6 code7 code8 own0 own1 own2 own3 none none_own built counted directed gathered stopped begun walked finished =
+    let two = ap (λ (l : List LowStep). length l) counted ∙ length-append code1 (steps_of (count_from guard)) in
+    let three = ap (λ (l : List LowStep). length l) directed ∙ length-append code2 (steps_of (directory_block (directory table))) in
+    let five = ap (λ (l : List LowStep). length l) stopped ∙ length-append code4 (steps_of (stop_at guard)) in
+    let six = ap (λ (l : List LowStep). length l) begun ∙ length-append code5 (steps_of begin_block) in
+    let eight = ap (λ (l : List LowStep). length l) finished ∙ length-append code7 (steps_of finish_block) in
+    let few = counted_few guard in
+    omega (arith, two, three, five, six, eight, few, built, gathered, walked, ap (λ (l : List LowStep). length l) none, ap (λ (l : List ValType). length l) none_own)
 
 -- ---- a pipeline whose rows go into groups, and one that would make rows of their values
 span_apart : (os : List Operator) (s : Sink) → span os s ≡ span_to os (sink_span s)

@@ -1,5 +1,5 @@
 -- What the emission of a pipeline whose rows go into groups asks for, and what it leaves; and so the walk over the groups.
-use Rattle.std.proofs.Common.{◌≡◌, ℕ, ◌+◌, ◌≤◌, Some, List, [], ◌++◌, length, length-append, map, slice_get, refl, ap, ◌∙◌, subst, append_assoc, arith}
+use Rattle.std.proofs.Common.{◌≡◌, ℕ, ◌+◌, ◌≤◌, Option, Some, None, List, [], ◌++◌, length, length-append, map, slice_get, refl, sym, ap, ◌∙◌, subst, append_assoc, append-nil, arith}
 use Rattle.qw_module.specs.declared.instruction.ValType.{ValType}
 use Rattle.qw_types.specs.declared.kind.Kind.{Kind}
 use Rattle.qw_scalar.specs.Expression.{scale_of}
@@ -26,58 +26,78 @@ use Rattle.qw_physical.specs.declared.pipeline.ReadColumn.{ReadColumn}
 use Rattle.qw_operator.specs.Carries.{directory, result_kinds}
 use Rattle.qw_group_sink.specs.Carrying.{EmitsRowTo, IsRowTo}
 use Rattle.qw_group_sink.specs.Grouping.{Group, IsGrouped}
+use Rattle.qw_group_sink.specs.Guarded.{IsGroupedWithin}
+use Rattle.qw_group_sink.proofs.Unguarded.{row_map, unguarded}
 use Rattle.qw_group_pipeline.specs.Groups.{EmitsGroups, IsGroupPipeline}
 use Rattle.qw_group_pipeline.specs.declared.columns.ValueColumn.{ValueColumn}
 use Rattle.qw_compile.specs.Placed.{ArePlaced, EmitsBuilds, literals_placed}
 use Rattle.qw_compile.specs.QueryLocals.{readers_over}
-use Rattle.qw_compile.specs.Statements.{AreCourses, builds_block, course_block}
+use Rattle.qw_compile.specs.Statements.{AreCourses, Course, build_block, builds_block, course_block}
 use Rattle.qw_compile.specs.declared.courses.Places.{Places}
 use Rattle.qw_compile_whole.specs.GroupedPlaced.{EmitsGathering, EmitsGrouped, EmitsWalk, gathering_of}
-use Rattle.qw_compile_whole.specs.GroupedStatements.{IsGathering}
+use Rattle.qw_compile_whole.specs.GroupedStatements.{IsGatheringTo}
+use Rattle.qw_compile_whole.specs.GuardedStatements.{IsGatheringBy, count_from, gather_block, stop_at}
 
 -- ---- the scan
-abbrev pub End : List Field → Group → List Known → (next : ℕ) → Statement → List ValType → Type 0
-End fields g = λ known at a more. IsGrouped fields known at g a more
+abbrev pub End : (guard : Option ℕ) → List Field → Group → List Known → (next : ℕ) → Statement → List ValType → Type 0
+End guard fields g = λ known at a more. IsGroupedWithin guard fields known at g a more
 
-pub row_to_as : (fields : List Field) (g : Group) (ks known : List Known) (rs readers : List Reader) (os operators : List Operator) (old new : Emitter) → ks ≡ known → rs ≡ readers → os ≡ operators → EmitsRowTo (End fields g) ks rs os old new →
-    EmitsRowTo (End fields g) known readers operators old new
-row_to_as fields g ks known rs readers os operators old new one two three h =
-    subst (λ (l : List Known). EmitsRowTo (End fields g) l readers operators old new) one
-    (subst (λ (l : List Reader). EmitsRowTo (End fields g) ks l operators old new) two (subst (λ (l : List Operator). EmitsRowTo (End fields g) ks rs l old new) three h))
+pub row_to_as : (guard : Option ℕ) (fields : List Field) (g : Group) (ks known : List Known) (rs readers : List Reader) (os operators : List Operator) (old new : Emitter) → ks ≡ known → rs ≡ readers → os ≡ operators → EmitsRowTo (End guard fields g) ks rs os old new →
+    EmitsRowTo (End guard fields g) known readers operators old new
+row_to_as guard fields g ks known rs readers os operators old new one two three h =
+    subst (λ (l : List Known). EmitsRowTo (End guard fields g) l readers operators old new) one
+    (subst (λ (l : List Reader). EmitsRowTo (End guard fields g) ks l operators old new) two (subst (λ (l : List Operator). EmitsRowTo (End guard fields g) ks rs l old new) three h))
 
-pub gathering_emitted : (p : Places) (first entry : ℕ) (operators : List Operator) (g : Group) (fields : List Field) (old new : List LowStep) (own_old own_new : List ValType) (e0 e1 : Emitter) (head : Reader) (begins : Statement) → e0.first ≡ first + length own_old →
-    e0.block.code.items ≡ [] → e0.own.items ≡ [] → EmitsRowTo (End fields g) (literals_placed p) (readers_over entry p.readers.items) operators e0 e1 → kinds_of (sources_of fields) ≡ map kind_of g.values →
+-- whatever is innermost
+module _ (guard : Option ℕ) (E : List Known → (next : ℕ) → Statement → List ValType → Type 0) (p : Places) (first entry : ℕ) (operators : List Operator) (g : Group) (fields : List Field) (old new : List LowStep) (own_old own_new : List ValType) (e0 e1 : Emitter) (head : Reader) (begins : Statement) where
+  emitted_by : ((c : Course) (own : List ValType) → IsGatheringTo E (literals_placed p) p.readers.items (first + length own_old) (gathering_of entry operators g) c own → IsGatheringBy guard (literals_placed p) p.readers.items (first + length own_old) (gathering_of entry operators g) g fields c own) →
+      e0.first ≡ first + length own_old → e0.block.code.items ≡ [] → e0.own.items ≡ [] → EmitsRowTo E (literals_placed p) (readers_over entry p.readers.items) operators e0 e1 → kinds_of (sources_of fields) ≡ map kind_of g.values →
+      slice_get (readers_over entry p.readers.items) 0 ≡ Some head → BeginsAll (readers_over entry p.readers.items) begins →
+      ((a : Statement) → e1.block.code.items ≡ steps_of a → new ≡ old ++ steps_of (course_block p.tables (record { index = head.index; begins = begins; row = a }))) → own_new ≡ own_old ++ e1.own.items → EmitsGathering guard p first entry operators g old new own_old own_new
+  emitted_by is_by first_is code0 own0 e kinds head_is all coded own_is = record {
+    course = record { index = head.index; begins = begins; row = e.statement };
+    fields = fields;
+    own = e.own;
+    code_is = coded e.statement (e.code_is ∙ ap (λ (l : List LowStep). l ++ steps_of e.statement) code0);
+    own_is = own_is ∙ ap (λ (l : List ValType). own_old ++ l) (e.own_is ∙ ap (λ (l : List ValType). l ++ e.own) own0);
+    kinds = kinds;
+    is = is_by (record { index = head.index; begins = begins; row = e.statement }) e.own (record {
+      first = head;
+      first_is = head_is;
+      index_is = refl;
+      begins = all;
+      row =
+          let free : free_of e0 ≡ first + length own_old = let none : length e0.own.items ≡ 0 = ap (λ (l : List ValType). length l) own0 in omega (arith, none, first_is) in
+          subst (λ (n : ℕ). IsRowTo E (literals_placed p) (readers_over entry p.readers.items) n operators e.statement e.own) free e.row;
+    });
+  }
+
+pub gathering_emitted : (guard : Option ℕ) (p : Places) (first entry : ℕ) (operators : List Operator) (g : Group) (fields : List Field) (old new : List LowStep) (own_old own_new : List ValType) (e0 e1 : Emitter) (head : Reader) (begins : Statement) → e0.first ≡ first + length own_old →
+    e0.block.code.items ≡ [] → e0.own.items ≡ [] → EmitsRowTo (End guard fields g) (literals_placed p) (readers_over entry p.readers.items) operators e0 e1 → kinds_of (sources_of fields) ≡ map kind_of g.values →
     slice_get (readers_over entry p.readers.items) 0 ≡ Some head → BeginsAll (readers_over entry p.readers.items) begins →
-    ((a : Statement) → e1.block.code.items ≡ steps_of a → new ≡ old ++ steps_of (course_block p.tables (record { index = head.index; begins = begins; row = a }))) → own_new ≡ own_old ++ e1.own.items → EmitsGathering p first entry operators g old new own_old own_new
-gathering_emitted p first entry operators g fields old new own_old own_new e0 e1 head begins first_is code0 own0 e kinds head_is all coded own_is = record {
-  course = record { index = head.index; begins = begins; row = e.statement };
-  fields = fields;
-  own = e.own;
-  code_is = coded e.statement (e.code_is ∙ ap (λ (l : List LowStep). l ++ steps_of e.statement) code0);
-  own_is = own_is ∙ ap (λ (l : List ValType). own_old ++ l) (e.own_is ∙ ap (λ (l : List ValType). l ++ e.own) own0);
-  kinds = kinds;
-  is = record {
-    first = head;
-    first_is = head_is;
-    index_is = refl;
-    begins = all;
-    row =
-        let free : free_of e0 ≡ first + length own_old = let none : length e0.own.items ≡ 0 = ap (λ (l : List ValType). length l) own0 in omega (arith, none, first_is) in
-        subst (λ (n : ℕ). IsRowTo (End fields g) (literals_placed p) (readers_over entry p.readers.items) n operators e.statement e.own) free e.row;
-  };
-}
+    ((a : Statement) → e1.block.code.items ≡ steps_of a → new ≡ old ++ steps_of (course_block p.tables (record { index = head.index; begins = begins; row = a }))) → own_new ≡ own_old ++ e1.own.items → EmitsGathering guard p first entry operators g old new own_old own_new
+gathering_emitted None p first entry operators g fields old new own_old own_new e0 e1 head begins first_is code0 own0 e kinds head_is all coded own_is =
+    emitted_by None (λ known at a more. IsGrouped fields known at g a more) p first entry operators g fields old new own_old own_new e0 e1 head begins (λ c own h. h) first_is code0 own0
+    (row_map (End None fields g) (λ known at a more. IsGrouped fields known at g a more) (λ known at a more h. unguarded fields known at g a more h) (literals_placed p) (readers_over entry p.readers.items) operators e0 e1 e) kinds head_is all coded own_is
+gathering_emitted (Some z) p first entry operators g fields old new own_old own_new e0 e1 head begins first_is code0 own0 e kinds head_is all coded own_is =
+    emitted_by (Some z) (End (Some z) fields g) p first entry operators g fields old new own_old own_new e0 e1 head begins (λ c own h. h) first_is code0 own0 e kinds head_is all coded own_is
 
 -- what its blocks are doesn't depend on its sink
-pub gathering_as : (literals : List Known) (readers : List Reader) (next : ℕ) (p q : Pipeline) (g : Group) (fields : List Field) (c : _) (own : List ValType) → p.entry ≡ q.entry → p.operators ≡ q.operators → IsGathering literals readers next p g fields c own →
-    IsGathering literals readers next q g fields c own
-gathering_as literals readers next p q g fields c own one two h = record {
+gathering_to_as : (E : List Known → (next : ℕ) → Statement → List ValType → Type 0) (literals : List Known) (readers : List Reader) (next : ℕ) (p q : Pipeline) (c : Course) (own : List ValType) → p.entry ≡ q.entry → p.operators ≡ q.operators → IsGatheringTo E literals readers next p c own →
+    IsGatheringTo E literals readers next q c own
+gathering_to_as E literals readers next p q c own one two h = record {
   first = h.first;
   first_is = subst (λ (n : ℕ). slice_get (readers_over n readers) 0 ≡ Some h.first) one h.first_is;
   index_is = h.index_is;
   begins = subst (λ (n : ℕ). BeginsAll (readers_over n readers) c.begins) one h.begins;
-  row = subst (λ (n : ℕ). IsRowTo (End fields g) literals (readers_over n readers) next q.operators c.row own) one
-      (subst (λ (os : List Operator). IsRowTo (End fields g) literals (readers_over p.entry readers) next os c.row own) two h.row);
+  row = subst (λ (n : ℕ). IsRowTo E literals (readers_over n readers) next q.operators c.row own) one
+      (subst (λ (os : List Operator). IsRowTo E literals (readers_over p.entry readers) next os c.row own) two h.row);
 }
+
+pub gathering_as : (guard : Option ℕ) (literals : List Known) (readers : List Reader) (next : ℕ) (p q : Pipeline) (g : Group) (fields : List Field) (c : Course) (own : List ValType) → p.entry ≡ q.entry → p.operators ≡ q.operators → IsGatheringBy guard literals readers next p g fields c own →
+    IsGatheringBy guard literals readers next q g fields c own
+gathering_as None literals readers next p q g fields c own one two h = gathering_to_as (λ known at a more. IsGrouped fields known at g a more) literals readers next p q c own one two h
+gathering_as (Some z) literals readers next p q g fields c own one two h = gathering_to_as (End (Some z) fields g) literals readers next p q c own one two h
 
 -- ---- the walk
 -- literals are below the locals of a pipeline
@@ -107,17 +127,25 @@ walk_emitted p first table d known key values behind operators snk old new own_o
     }
 
 -- ---- all of them
-chained : (b d c g w f c1 c2 c3 c4 c5 c6 : List LowStep) → c1 ≡ b → c2 ≡ c1 ++ d → c3 ≡ c2 ++ c → c4 ≡ c3 ++ g → c5 ≡ c4 ++ w → c6 ≡ c5 ++ f → c6 ≡ b ++ ((d ++ c) ++ (g ++ (w ++ f)))
-chained b d c g w f c1 c2 c3 c4 c5 c6 one two three four five six =
-    six ∙ (ap (λ (l : List LowStep). l ++ f) (five ∙ ap (λ (l : List LowStep). l ++ w) (four ∙ ap (λ (l : List LowStep). l ++ g) (three ∙ ap (λ (l : List LowStep). l ++ c) (two ∙ ap (λ (l : List LowStep). l ++ d) one))))
-    ∙ (append_assoc (((b ++ d) ++ c) ++ g) w f
-    ∙ (append_assoc ((b ++ d) ++ c) g (w ++ f)
-    ∙ (ap (λ (l : List LowStep). l ++ (g ++ (w ++ f))) (append_assoc b d c) ∙ append_assoc b (d ++ c) (g ++ (w ++ f))))))
+-- the steps of a scan that is counted, or not
+gather_steps : (guard : Option ℕ) (t n : ℕ) (c : Course) → steps_of (gather_block guard t n c) ≡ steps_of (count_from guard) ++ (steps_of (build_block t n c) ++ steps_of (stop_at guard))
+gather_steps None t n c = sym (append-nil (steps_of (build_block t n c)))
+gather_steps (Some z) t n c = refl
 
-pub grouped_emitted : (p : Places) (first : ℕ) (building : List Pipeline) (entry : ℕ) (operators : List Operator) (g : Group) (key : List ReadColumn) (values : List ValueColumn) (behind : Pipeline) (code1 code2 code3 code4 code5 code6 : List LowStep) (own1 own2 own3 : List ValType) (kinds : List Kind) →
-    EmitsBuilds p first building [] code1 [] own1 → code2 ≡ code1 ++ steps_of (directory_block (directory g.table)) → EmitsGathering p first entry operators g code2 code3 own1 own2 → code4 ≡ code3 ++ steps_of begin_block →
-    EmitsWalk p first g.table key values behind code4 code5 own2 own3 → code6 ≡ code5 ++ steps_of finish_block → map Some kinds ≡ result_kinds behind.sink → EmitsGrouped p first building entry operators g key values behind code6 own3 kinds
-grouped_emitted p first building entry operators g key values behind code1 code2 code3 code4 code5 code6 own1 own2 own3 kinds b directed e begun w finished kinds_are = record {
+chained : (b l d c s g w f c1 c2 c3 c4 c5 c6 c7 c8 : List LowStep) → c1 ≡ b → c2 ≡ c1 ++ l → c3 ≡ c2 ++ d → c4 ≡ c3 ++ c → c5 ≡ c4 ++ s → c6 ≡ c5 ++ g → c7 ≡ c6 ++ w → c8 ≡ c7 ++ f → c8 ≡ b ++ ((l ++ ((d ++ c) ++ s)) ++ (g ++ (w ++ f)))
+chained b l d c s g w f c1 c2 c3 c4 c5 c6 c7 c8 one two three four five six seven eight =
+    eight ∙ (ap (λ (x : List LowStep). x ++ f) (seven ∙ ap (λ (x : List LowStep). x ++ w) (six ∙ ap (λ (x : List LowStep). x ++ g)
+    (five ∙ ap (λ (x : List LowStep). x ++ s) (four ∙ ap (λ (x : List LowStep). x ++ c) (three ∙ ap (λ (x : List LowStep). x ++ d) (two ∙ ap (λ (x : List LowStep). x ++ l) one))))))
+    ∙ (append_assoc (((((b ++ l) ++ d) ++ c) ++ s) ++ g) w f
+    ∙ (append_assoc ((((b ++ l) ++ d) ++ c) ++ s) g (w ++ f)
+    ∙ (ap (λ (x : List LowStep). x ++ (g ++ (w ++ f)))
+    (ap (λ (x : List LowStep). x ++ s) (append_assoc (b ++ l) d c) ∙ (append_assoc (b ++ l) (d ++ c) s ∙ append_assoc b l ((d ++ c) ++ s)))
+    ∙ append_assoc b (l ++ ((d ++ c) ++ s)) (g ++ (w ++ f))))))
+
+pub grouped_emitted : (guard : Option ℕ) (p : Places) (first : ℕ) (building : List Pipeline) (entry : ℕ) (operators : List Operator) (g : Group) (key : List ReadColumn) (values : List ValueColumn) (behind : Pipeline) (code1 code2 code3 code4 code5 code6 code7 code8 : List LowStep) (own1 own2 own3 : List ValType) (kinds : List Kind) →
+    EmitsBuilds p first building [] code1 [] own1 → code2 ≡ code1 ++ steps_of (count_from guard) → code3 ≡ code2 ++ steps_of (directory_block (directory g.table)) → EmitsGathering guard p first entry operators g code3 code4 own1 own2 → code5 ≡ code4 ++ steps_of (stop_at guard) → code6 ≡ code5 ++ steps_of begin_block →
+    EmitsWalk p first g.table key values behind code6 code7 own2 own3 → code8 ≡ code7 ++ steps_of finish_block → map Some kinds ≡ result_kinds behind.sink → EmitsGrouped guard p first building entry operators g key values behind code8 own3 kinds
+grouped_emitted guard p first building entry operators g key values behind code1 code2 code3 code4 code5 code6 code7 code8 own1 own2 own3 kinds b counted directed e stopped begun w finished kinds_are = record {
   builds = b.courses;
   gathers = e.course;
   walk = w.walk;
@@ -125,11 +153,13 @@ grouped_emitted p first building entry operators g key values behind code1 code2
   builds_own = b.own;
   gathers_own = e.own;
   walk_own = w.own;
-  code_is = chained (steps_of (builds_block p.tables 0 b.courses)) (steps_of (directory_block (directory g.table))) (steps_of (course_block p.tables e.course)) (steps_of begin_block) (steps_of w.walk) (steps_of finish_block) code1 code2 code3 code4 code5 code6
-      b.code_is directed e.code_is begun w.code_is finished;
+  code_is =
+      chained (steps_of (builds_block p.tables 0 b.courses)) (steps_of (count_from guard)) (steps_of (directory_block (directory g.table))) (steps_of (course_block p.tables e.course)) (steps_of (stop_at guard)) (steps_of begin_block) (steps_of w.walk) (steps_of finish_block)
+      code1 code2 code3 code4 code5 code6 code7 code8 b.code_is counted directed e.code_is stopped begun w.code_is finished
+      ∙ ap (λ (l : List LowStep). steps_of (builds_block p.tables 0 b.courses) ++ (l ++ (steps_of begin_block ++ (steps_of w.walk ++ steps_of finish_block)))) (sym (gather_steps guard p.tables g.table e.course));
   own_is = w.own_is ∙ (ap (λ (l : List ValType). l ++ w.own) (e.own_is ∙ ap (λ (l : List ValType). l ++ e.own) b.own_is) ∙ append_assoc b.own e.own w.own);
   built = let none : first + length {A = ValType} [] ≡ first = omega arith in subst (λ (n : ℕ). AreCourses (literals_placed p) p.readers.items n building b.courses b.own) none b.are;
-  gathered = subst (λ (l : List ValType). IsGathering (literals_placed p) p.readers.items (first + length l) (gathering_of entry operators g) g e.fields e.course e.own) b.own_is e.is;
+  gathered = subst (λ (l : List ValType). IsGatheringBy guard (literals_placed p) p.readers.items (first + length l) (gathering_of entry operators g) g e.fields e.course e.own) b.own_is e.is;
   field_kinds = e.kinds;
   walked =
       let place : first + length own2 ≡ first + length b.own + length e.own =

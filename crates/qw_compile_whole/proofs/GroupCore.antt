@@ -63,6 +63,7 @@ use Rattle.qw_compile.proofs.StoodBuilt.{stood_built}
 use Rattle.qw_whole.specs.GroupTables.{chosen_units, group_octets, group_size, group_units}
 use Rattle.qw_whole.specs.WholePromises.{planned_rows}
 use Rattle.qw_compile_whole.proofs.GroupBounded.{GatherReach, GoTogether, IsGroupBounded, WalkReach, group_width, groups_paid, walked_of}
+use Rattle.qw_compile_whole.proofs.FirstBounded.{FirstReach, IsFirstBounded}
 use Rattle.qw_compile_whole.proofs.GroupCosts.{pipeline_to_less, present_served, stoods_have}
 use Rattle.qw_compile_whole.proofs.GroupPlanned.{builds_size, builds_within, cost_within, fed_alike, plan, rows_planned, scans_whole, typed_builds}
 use Rattle.qw_compile_whole.proofs.GroupReach.{budget, most, paid, reach}
@@ -109,11 +110,8 @@ module _ (row_is : (row other : List Val) → is_same_row row other ≡ true →
   module _ (T at : ℕ) (texts : List (List ℕ)) (words : List Word) (g : Group) (key : List ReadColumn) (values : List ValueColumn) (together : GoTogether query g key values (literals_known T at texts words)) (last_is : cut.last.sink ≡ select g.values)
       (can : AllByRecursion (λ (p : Pipeline). CanCarry (literals_known T at texts words ++ map known_of (readers_of T (literal_count texts words) columns p.entry)) p.operators p.sink) cut.building)
       (can_last : CanCarry (literals_known T at texts words ++ map known_of (readers_of T (literal_count texts words) columns cut.last.entry)) cut.last.operators cut.last.sink)
-      (tables : List (List (List Val))) (loaded : AreOfEntries (entries_of (query_of parts).sources) tables) (few : 1 ≤ length query.functions → length (flow (query_of parts) tables).rows < 10 ^ 18)
+      (tables : List (List (List Val))) (loaded : AreOfEntries (entries_of (query_of parts).sources) tables)
       (Told : ℕ → Type 0) (front_tells : (raised : ℕ) → IsTold (outcome (query_of parts) tables) raised → Told raised)
-      (walk_tells : (fed : Flow (List Val)) → Alike fed (flow (query_of parts) tables) → fed.codes ≡ [] → (raised : ℕ) → Tells (walked_of query fed.rows).codes raised → Told raised)
-      (keys_ok : (rows : List (List Val)) → IsPermutation (flow (query_of parts) tables).rows rows → AllByRecursion (λ (k : List Val). AreStored key k) (keys (length query.columns) rows))
-      (values_ok : (rows : List (List Val)) → IsPermutation (flow (query_of parts) tables).rows rows → AllByRecursion (λ (k : List Val). (vs : List Val) → function_values (length query.columns) (kinds_of query.functions) (members (length query.columns) k rows) ≡ Ok vs → AreRead values vs) (keys (length query.columns) rows))
       (units_for octets_for : ℕ) (units_low : (rows : List (List Val)) → IsPermutation rows (planned_rows (query_of parts) tables) → group_units general_hashing query rows ≤ units_for)
       (octets_low : (rows : List (List Val)) → IsPermutation rows (planned_rows (query_of parts) tables) → group_octets query rows ≤ octets_for)
       (S beside N : ℕ) (some_beside : 1 ≤ beside) (units_within : 1 + (units (query_of parts) tables + units_for) ≤ N)
@@ -146,9 +144,6 @@ module _ (row_is : (row other : List Val) → is_same_row row other ≡ true →
 
       pub from_flow : IsPermutation (flow (query_of parts) tables).rows (fed_over tables stoods cut.last).rows
       from_flow = IsPermutation-sym (fed_over tables stoods cut.last).rows (flow (query_of parts) tables).rows alike.0
-
-      rows_few : 1 ≤ length query.functions → length (fed_over tables stoods cut.last).rows < 10 ^ 18
-      rows_few some = let less = few some in let same = length_permutation (fed_over tables stoods cut.last).rows (flow (query_of parts) tables).rows alike.0 in omega (arith, less, same)
 
       -- units
       units_less : group_units general_hashing query (fed_over tables stoods cut.last).rows ≤ units_for
@@ -234,22 +229,12 @@ module _ (row_is : (row other : List Val) → is_same_row row other ≡ true →
           turned : (b u v k m : ℕ) → 1 * u ≤ v → b + v + (4096 + k) + 2 * u < m → b + u + 4096 + k + 2 * u < m
           turned b u v k m e h = omega (arith, e, h)
 
-      -- kinds
-      pub keys_stored : AllByRecursion (λ (k : List Val). AreStored key k) (keys g.columns rows)
-      keys_stored = subst (λ (c : ℕ). AllByRecursion (λ (k : List Val). AreStored key k) (keys c rows)) (sym together.many) (keys_ok rows from_flow)
-
-      pub values_are_read : AllByRecursion (λ (k : List Val). (vs : List Val) → function_values (length key) (functions_of values) (members g.columns k rows) ≡ Ok vs → AreRead values vs) (keys g.columns rows)
-      values_are_read =
-          subst (λ (c : ℕ). AllByRecursion (λ (k : List Val). (vs : List Val) → function_values (length key) (functions_of values) (members c k rows) ≡ Ok vs → AreRead values vs) (keys c rows)) (sym together.many)
-          (subst (λ (m : ℕ). AllByRecursion (λ (k : List Val). (vs : List Val) → function_values m (functions_of values) (members n k rows) ≡ Ok vs → AreRead values vs) (keys n rows)) (sym (together.key_many ∙ together.many))
-          (subst (λ (fs : List SetFunctionKind). AllByRecursion (λ (k : List Val). (vs : List Val) → function_values n fs (members n k rows) ≡ Ok vs → AreRead values vs) (keys n rows)) (sym (together.theirs ∙ together.functions)) (values_ok rows from_flow)))
-
       -- ---- what is reached
       last_scans : ScansOne (entries_of spec.sources) cut.last
       last_scans = (all_back (ScansOne (entries_of spec.sources)) cut.building (cut.last ∷ []) (scans_whole row_is value_is parts kept columns made are of cut)).0
 
-      pub gather_reach : GatherReach T (literal_count texts words) columns (literals_known T at texts words) tables given_up (most given_up S beside cut.building) N (table_of (entries_of spec.sources)) g stoods cut.last (budget given_up tables cut.building (length cut.building))
-      gather_reach = record {
+      pub first_reach : FirstReach T (literal_count texts words) columns (literals_known T at texts words) tables given_up (most given_up S beside cut.building) N (table_of (entries_of spec.sources)) g stoods cut.last (budget given_up tables cut.building (length cut.building))
+      first_reach = record {
         table_is = scan_table (entries_of spec.sources) cut.last last_scans;
         has_column = scan_column (entries_of spec.sources) columns are.each cut.last last_scans;
         finds = finds;
@@ -258,7 +243,6 @@ module _ (row_is : (row other : List Val) → is_same_row row other ≡ true →
         met = λ row. omega arith;
         compared = λ row. compared_within g.columns g.functions rows row (chosen row) (omega arith);
         cost = gather_cost;
-        few = λ some. rows_few (let many = ap (λ (fs : List SetFunctionKind). length fs) together.functions in let count = length-map query.functions (λ (f : SetFunction). f.kind) in omega (arith, some, many, count));
         fits = (let width = width_is in let fit = fits_page (group_size query) widest group_fits widest_low in omega (arith, width, fit));
         enough = gather_pays;
       }
@@ -281,48 +265,99 @@ module _ (row_is : (row other : List Val) → is_same_row row other ≡ true →
         more_held : (h j o : ℕ) → h ≤ j → j + o ≤ S → h ≤ S
         more_held h j o a b = omega (arith, a, b)
 
-    -- ---- the walk, whose rows are the result: so many, each of its cells
-    module _ (rows_for : ℕ) (rows_low : (rows : List (List Val)) → IsPermutation rows (planned_rows (query_of parts) tables) → length (walked_of query rows).rows ≤ rows_for)
-        (rows_within : (table_octets (kept_by (query_of parts)) tables (placed (query_of parts)) + octets_for) + rows_for * row_size (length query.items) ≤ S) where
+    -- ---- all of it up to the groups
+    pub first_bounded : IsFirstBounded T (literal_count texts words) columns texts words at (table_of (entries_of (query_of parts).sources)) cut.building cut.last g Told given_up (most given_up S beside cut.building) N tables
+    first_bounded = record {
+      some = at_least (units spec tables) units_for N units_within;
+      u_low = low_page widest;
+      budget = λ i. budget given_up tables cut.building i;
+      reached = builds_reach;
+      told = builds_told;
+      gathered = λ stoods stood. first_reach stoods stood;
+      told_gathered = gather_told;
+    }
+
+    -- ---- where the rows are few enough to be counted and summed
+    module _ (few : 1 ≤ length query.functions → length (flow (query_of parts) tables).rows < 10 ^ 18)
+        (walk_tells : (fed : Flow (List Val)) → Alike fed (flow (query_of parts) tables) → fed.codes ≡ [] → (raised : ℕ) → Tells (walked_of query fed.rows).codes raised → Told raised)
+        (keys_ok : (rows : List (List Val)) → IsPermutation (flow (query_of parts) tables).rows rows → AllByRecursion (λ (k : List Val). AreStored key k) (keys (length query.columns) rows))
+        (values_ok : (rows : List (List Val)) → IsPermutation (flow (query_of parts) tables).rows rows → AllByRecursion (λ (k : List Val). (vs : List Val) → function_values (length query.columns) (kinds_of query.functions) (members (length query.columns) k rows) ≡ Ok vs → AreRead values vs) (keys (length query.columns) rows)) where
       module _ (stoods : List Stood) (stood : AreStood tables [] cut.building stoods) where
-        abbrev met_rows : List (List Val)
-        met_rows = (fed_over tables stoods cut.last).rows
+        abbrev reaching : List (List Val)
+        reaching = (fed_over tables stoods cut.last).rows
 
-        result_octets : length (walked_of query met_rows).rows * (8 + 16 * length query.items) ≤ rows_for * row_size (length query.items)
-        result_octets = mul-le (length (walked_of query met_rows).rows) (8 + 16 * length query.items) rows_for (row_size (length query.items)) (rows_low met_rows (by_plan stoods stood)) (omega arith)
+        rows_few : 1 ≤ length query.functions → length (fed_over tables stoods cut.last).rows < 10 ^ 18
+        rows_few some = let less = few some in let same = length_permutation (fed_over tables stoods cut.last).rows (flow (query_of parts) tables).rows (alike stoods stood).0 in omega (arith, less, same)
 
-        walk_pays : groups_paid given_up g (budget given_up tables cut.building (length cut.building)) met_rows + length (walked_of query met_rows).rows * (8 + 16 * length query.items) + 2 * given_up < (most given_up S beside cut.building + 1) * given_up
-        walk_pays =
-            turned (budget given_up tables cut.building (length cut.building)) given_up (beside * given_up) (length (keys g.columns met_rows) * group_width g) (length (walked_of query met_rows).rows * (8 + 16 * length query.items)) ((most given_up S beside cut.building + 1) * given_up) (one_beside stoods stood)
-            (pays stoods stood ((4096 + length (keys g.columns met_rows) * group_width g) + length (walked_of query met_rows).rows * (8 + 16 * length query.items))
-            (less (table_octets (kept_by spec) tables (placed spec)) (4096 + length (keys g.columns met_rows) * group_width g) (length (walked_of query met_rows).rows * (8 + 16 * length query.items)) octets_for (rows_for * row_size (length query.items)) (group_octets_less stoods stood) result_octets rows_within))
-          where
-            less : (j o w p r : ℕ) → o ≤ p → w ≤ r → (j + p) + r ≤ S → j + (o + w) ≤ S
-            less j o w p r e f h = omega (arith, e, f, h)
+        -- kinds
+        pub keys_stored : AllByRecursion (λ (k : List Val). AreStored key k) (keys g.columns reaching)
+        keys_stored = subst (λ (c : ℕ). AllByRecursion (λ (k : List Val). AreStored key k) (keys c reaching)) (sym together.many) (keys_ok reaching (from_flow stoods stood))
 
-            turned : (b u v k w m : ℕ) → 1 * u ≤ v → b + v + ((4096 + k) + w) + 2 * u < m → b + u + 4096 + k + w + 2 * u < m
-            turned b u v k w m e h = omega (arith, e, h)
+        pub values_are_read : AllByRecursion (λ (k : List Val). (vs : List Val) → function_values (length key) (functions_of values) (members g.columns k reaching) ≡ Ok vs → AreRead values vs) (keys g.columns reaching)
+        values_are_read =
+            subst (λ (c : ℕ). AllByRecursion (λ (k : List Val). (vs : List Val) → function_values (length key) (functions_of values) (members c k reaching) ≡ Ok vs → AreRead values vs) (keys c reaching)) (sym together.many)
+            (subst (λ (m : ℕ). AllByRecursion (λ (k : List Val). (vs : List Val) → function_values m (functions_of values) (members n k reaching) ≡ Ok vs → AreRead values vs) (keys n reaching)) (sym (together.key_many ∙ together.many))
+            (subst (λ (fs : List SetFunctionKind). AllByRecursion (λ (k : List Val). (vs : List Val) → function_values n fs (members n k reaching) ≡ Ok vs → AreRead values vs) (keys n reaching)) (sym (together.theirs ∙ together.functions)) (values_ok reaching (from_flow stoods stood))))
 
-        walk_reach : WalkReach query g key values given_up (most given_up S beside cut.building) N met_rows (groups_paid given_up g (budget given_up tables cut.building (length cut.building)) met_rows)
-        walk_reach = record {
-          stored = keys_stored stoods stood;
-          typed = values_are_read stoods stood;
-          cost = walk_cost stoods stood;
-          fits = fits_page (row_size (length query.items)) widest items_fit widest_low;
-          enough = walk_pays;
+        pub gather_reach : GatherReach T (literal_count texts words) columns (literals_known T at texts words) tables given_up (most given_up S beside cut.building) N (table_of (entries_of spec.sources)) g stoods cut.last (budget given_up tables cut.building (length cut.building))
+        gather_reach =
+            let r = first_reach stoods stood in
+            record {
+              table_is = r.table_is;
+              has_column = r.has_column;
+              finds = r.finds;
+              entries = r.entries;
+              chosen = r.chosen;
+              met = r.met;
+              compared = r.compared;
+              cost = r.cost;
+              few = λ some. rows_few (let many = ap (λ (fs : List SetFunctionKind). length fs) together.functions in let count = length-map query.functions (λ (f : SetFunction). f.kind) in omega (arith, some, many, count));
+              fits = r.fits;
+              enough = r.enough;
+            }
+
+      -- ---- the walk, whose rows are the result: so many, each of its cells
+      module _ (rows_for : ℕ) (rows_low : (rows : List (List Val)) → IsPermutation rows (planned_rows (query_of parts) tables) → length (walked_of query rows).rows ≤ rows_for)
+          (rows_within : (table_octets (kept_by (query_of parts)) tables (placed (query_of parts)) + octets_for) + rows_for * row_size (length query.items) ≤ S) where
+        module _ (stoods : List Stood) (stood : AreStood tables [] cut.building stoods) where
+          abbrev met_rows : List (List Val)
+          met_rows = (fed_over tables stoods cut.last).rows
+
+          result_octets : length (walked_of query met_rows).rows * (8 + 16 * length query.items) ≤ rows_for * row_size (length query.items)
+          result_octets = mul-le (length (walked_of query met_rows).rows) (8 + 16 * length query.items) rows_for (row_size (length query.items)) (rows_low met_rows (by_plan stoods stood)) (omega arith)
+
+          walk_pays : groups_paid given_up g (budget given_up tables cut.building (length cut.building)) met_rows + length (walked_of query met_rows).rows * (8 + 16 * length query.items) + 2 * given_up < (most given_up S beside cut.building + 1) * given_up
+          walk_pays =
+              turned (budget given_up tables cut.building (length cut.building)) given_up (beside * given_up) (length (keys g.columns met_rows) * group_width g) (length (walked_of query met_rows).rows * (8 + 16 * length query.items)) ((most given_up S beside cut.building + 1) * given_up) (one_beside stoods stood)
+              (pays stoods stood ((4096 + length (keys g.columns met_rows) * group_width g) + length (walked_of query met_rows).rows * (8 + 16 * length query.items))
+              (less (table_octets (kept_by spec) tables (placed spec)) (4096 + length (keys g.columns met_rows) * group_width g) (length (walked_of query met_rows).rows * (8 + 16 * length query.items)) octets_for (rows_for * row_size (length query.items)) (group_octets_less stoods stood) result_octets rows_within))
+            where
+              less : (j o w p r : ℕ) → o ≤ p → w ≤ r → (j + p) + r ≤ S → j + (o + w) ≤ S
+              less j o w p r e f h = omega (arith, e, f, h)
+
+              turned : (b u v k w m : ℕ) → 1 * u ≤ v → b + v + ((4096 + k) + w) + 2 * u < m → b + u + 4096 + k + w + 2 * u < m
+              turned b u v k w m e h = omega (arith, e, h)
+
+          walk_reach : WalkReach query g key values given_up (most given_up S beside cut.building) N met_rows (groups_paid given_up g (budget given_up tables cut.building (length cut.building)) met_rows)
+          walk_reach = record {
+            stored = keys_stored stoods stood;
+            typed = values_are_read stoods stood;
+            cost = walk_cost stoods stood;
+            fits = fits_page (row_size (length query.items)) widest items_fit widest_low;
+            enough = walk_pays;
+          }
+
+        -- ---- all of it
+        pub group_bounded : IsGroupBounded T (literal_count texts words) columns texts words at (table_of (entries_of (query_of parts).sources)) cut.building cut.last query g key values Told
+            given_up (most given_up S beside cut.building) N tables
+        group_bounded = record {
+          some = at_least (units spec tables) units_for N units_within;
+          u_low = low_page widest;
+          budget = λ i. budget given_up tables cut.building i;
+          reached = builds_reach;
+          told = builds_told;
+          gathered = λ stoods stood. gather_reach stoods stood;
+          told_gathered = gather_told;
+          walked = λ stoods stood none. walk_reach stoods stood;
+          told_walked = λ stoods stood none raised tells. walk_tells (fed_over tables stoods cut.last) (alike stoods stood) none raised tells;
         }
-
-      -- ---- all of it
-      pub group_bounded : IsGroupBounded T (literal_count texts words) columns texts words at (table_of (entries_of (query_of parts).sources)) cut.building cut.last query g key values Told
-          given_up (most given_up S beside cut.building) N tables
-      group_bounded = record {
-        some = at_least (units spec tables) units_for N units_within;
-        u_low = low_page widest;
-        budget = λ i. budget given_up tables cut.building i;
-        reached = builds_reach;
-        told = builds_told;
-        gathered = λ stoods stood. gather_reach stoods stood;
-        told_gathered = gather_told;
-        walked = λ stoods stood none. walk_reach stoods stood;
-        told_walked = λ stoods stood none raised tells. walk_tells (fed_over tables stoods cut.last) (alike stoods stood) none raised tells;
-      }

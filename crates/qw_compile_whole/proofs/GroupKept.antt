@@ -58,8 +58,9 @@ use Rattle.qw_whole.specs.WholePromises.{planned_rows, whole_pages, whole_units}
 use Rattle.qw_whole.proofs.EntrySizes.{group_small}
 use Rattle.qw_whole.proofs.PermutedTables.{groups_permuted, octets_permuted}
 use Rattle.qw_compile_whole.specs.GroupColumns.{key_columns, value_columns}
+use Rattle.qw_compile_whole.proofs.FirstBounded.{IsFirstBounded}
 use Rattle.qw_compile_whole.proofs.GroupBounded.{GoTogether, IsGroupBounded, walked_of}
-use Rattle.qw_compile_whole.proofs.GroupCore.{group_bounded}
+use Rattle.qw_compile_whole.proofs.GroupCore.{first_bounded, group_bounded}
 use Rattle.qw_compile_whole.proofs.GroupPlanned.{built_many, fed_alike}
 use Rattle.qw_compile_whole.proofs.GroupReach.{most}
 use Rattle.qw_compile_whole.proofs.GroupRead.{key_stored, values_read}
@@ -108,7 +109,7 @@ module _ (row_is : (row other : List Val) → is_same_row row other ≡ true →
       (same_items : length items ≡ length query.items) (utf8 : AllByRecursion (HasLeaves (OfText IsUtf8)) (arguments_of query.functions))
       (can : AllByRecursion (λ (p : Pipeline). CanCarry (literals_known T at texts words ++ map known_of (readers_of T (literal_count texts words) columns p.entry)) p.operators p.sink) cut.building)
       (can_last : CanCarry (literals_known T at texts words ++ map known_of (readers_of T (literal_count texts words) columns cut.last.entry)) cut.last.operators cut.last.sink)
-      (tables : List (List (List Val))) (loaded : AreOfEntries (entries_of (query_of parts).sources) tables) (few : 1 ≤ length query.functions → length (flow (front query) tables).rows < 10 ^ 18) where
+      (tables : List (List (List Val))) (loaded : AreOfEntries (entries_of (query_of parts).sources) tables) where
     abbrev n : ℕ
     n = length query.columns
 
@@ -164,52 +165,6 @@ module _ (row_is : (row other : List Val) → is_same_row row other ≡ true →
         all_behind HasKind (map expression_of_column query.columns) (arguments_of query.functions)
         (all_more (IsItemOver (IsColumnOf (entries_of query.sources))) HasKind (map expression_of_column query.columns ++ arguments_of query.functions) (λ e h. h.0.1) whole.front.items)
 
-    -- of rows that reach the groups, in any order
-    module _ (rows : List (List Val)) (from : IsPermutation (flow (query_of parts) tables).rows rows) where
-      from_flow : IsPermutation (flow (front query) tables).rows rows
-      from_flow = subst (λ (s : Specification). IsPermutation (flow s tables).rows rows) front_is from
-
-      rows_few : 1 ≤ length query.functions → length rows < 10 ^ 18
-      rows_few some = let less = few some in let same = length_permutation (flow (front query) tables).rows rows from_flow in omega (arith, less, same)
-
-      pub keys_ok : AllByRecursion (λ (k : List Val). AreStored key k) (keys (length query.columns) rows)
-      keys_ok =
-          subst (λ (cs : List ReadColumn). AllByRecursion (λ (k : List Val). AreStored cs k) (keys n rows)) (sym key_is)
-          (all_more (IsTypedKey query) (λ (k : List Val). AreStored (key_columns query) k) (keys n rows) (λ k h. key_stored 0 query.columns k h) (keys_typed query whole tables loaded_front rows from_flow))
-
-      -- where there is no set function, there is no value
-      values_typed_at : AllByRecursion (λ (k : List Val). (vs : List Val) → function_values n kinds (members n k rows) ≡ Ok vs → AreTypedValues query vs) (keys n rows)
-      values_typed_at = by_count query.functions refl
-        where
-          none_come : (fs : List SetFunction) → query.functions ≡ fs → fs ≡ [] → (k vs : List Val) → function_values n kinds (members n k rows) ≡ Ok vs → AreTypedValues query vs
-          none_come fs is empty k vs come =
-              let none : query.functions ≡ [] = is ∙ empty in
-              let values_none : vs ≡ [] = one_result vs (sym (ap (λ (l : List SetFunction). function_values n (kinds_of l) (members n k rows)) none) ∙ come) in
-              subst (λ (l : List SetFunction). IsRowOf (map type_kind (map type_of_function l)) vs) (sym none) (subst (λ (l : List Val). IsRowOf [] l) (sym values_none) tt)
-
-          each : (ks : List (List Val)) → query.functions ≡ [] → AllByRecursion (λ (k : List Val). (vs : List Val) → function_values n kinds (members n k rows) ≡ Ok vs → AreTypedValues query vs) ks
-          each [] none = tt
-          each (k ∷ ks) none = ((λ vs come. none_come [] none refl k vs come), each ks none)
-
-          by_count : (fs : List SetFunction) → query.functions ≡ fs → AllByRecursion (λ (k : List Val). (vs : List Val) → function_values n kinds (members n k rows) ≡ Ok vs → AreTypedValues query vs) (keys n rows)
-          by_count [] is = each (keys n rows) is
-          by_count (f ∷ fs) is =
-              let some : 1 ≤ length query.functions = subst (λ (l : List SetFunction). 1 ≤ length l) (sym is) (omega arith) in
-              values_typed query whole tables loaded_front rows from_flow sized some_column (rows_few some)
-
-      pub values_ok : AllByRecursion (λ (k : List Val). (vs : List Val) → function_values (length query.columns) (kinds_of query.functions) (members (length query.columns) k rows) ≡ Ok vs → AreRead values vs) (keys (length query.columns) rows)
-      values_ok =
-          subst (λ (cs : List ValueColumn). AllByRecursion (λ (k : List Val). (vs : List Val) → function_values n kinds (members n k rows) ≡ Ok vs → AreRead cs vs) (keys n rows)) (sym values_are)
-          (all_more (λ (k : List Val). (vs : List Val) → function_values n kinds (members n k rows) ≡ Ok vs → AreTypedValues query vs) (λ (k : List Val). (vs : List Val) → function_values n kinds (members n k rows) ≡ Ok vs → AreRead (value_columns query) vs) (keys n rows)
-          (λ k typed vs come. values_read (length query.columns) query.functions vs (kinds_have query.functions arguments_have) (typed vs come) (values_utf8 query whole tables loaded_front sized utf8 rows from_flow k vs come)) values_typed_at)
-
-    -- ---- all of it
-    abbrev IsKept : (u most N : ℕ) → Type 0
-    IsKept u most N = IsGroupBounded T (literal_count texts words) columns texts words at (table_of (entries_of (query_of parts).sources)) cut.building cut.last (replaced query having items) g key values (λ raised. IsTold (whole_outcome (asked_whole query) tables) raised) u most N tables
-
-    pub few_spec : 1 ≤ length query.functions → length (flow (query_of parts) tables).rows < 10 ^ 18
-    few_spec some = subst (λ (s : Specification). length (flow s tables).rows < 10 ^ 18) (sym front_is) (few some)
-
     widest_low : max (row_size (length items)) (max (group_size query) (greatest_entry (kept_by (query_of parts)) (placed (query_of parts)))) ≤ 24216
     widest_low =
         low (row_size (length spec.items)) (greatest_entry (kept_by spec) (placed spec)) (group_size query) (length items) (length query.items) (greatest_small spec are.specification) (group_small query whole) same_items whole.few_items
@@ -223,12 +178,6 @@ module _ (row_is : (row other : List Val) → is_same_row row other ≡ true →
     abbrev up_for : (cells : ℕ) → ℕ
     up_for cells = page - max (row_size cells) (max (group_size query) (greatest_entry (kept_by (query_of parts)) (placed (query_of parts))))
 
-    bounded : IsKept (up_for (length items)) (most (up_for (length items)) (stored_for (length items)) 1 cut.building) (1 + (units (query_of parts) tables + group_units general_hashing query (planned_rows (query_of parts) tables)))
-    bounded =
-        group_bounded row_is value_is parts kept columns made are of cut (replaced query having items) some_column row_less (max (row_size (length items)) (max (group_size query) (greatest_entry (kept_by (query_of parts)) (placed (query_of parts))))) widest_low (omega arith) (omega arith) (omega arith) T at texts words g key values together last_is can can_last tables loaded few_spec
-        (λ raised. IsTold (whole_outcome (asked_whole query) tables) raised) from_front from_walk keys_ok values_ok (group_units general_hashing query planned) (group_octets query planned) units_low octets_low
-        (stored_for (length items)) 1 (1 + (units (query_of parts) tables + group_units general_hashing query planned)) (omega arith) (omega arith) (omega arith) (length (rows_behind query planned)) rows_low (omega arith)
-
     -- by what is promised of the query
     units_are : units (query_of parts) tables + group_units general_hashing query (planned_rows (query_of parts) tables) ≡ whole_units (asked_whole query) tables
     units_are = ap (λ (s : Specification). units s tables + group_units general_hashing query (planned_rows s tables)) front_is
@@ -239,19 +188,90 @@ module _ (row_is : (row other : List Val) → is_same_row row other ≡ true →
         ∙ ap (λ (s : Specification). 2 + 2 * (table_count (placed s) + 1) + ((table_octets (kept_by s) tables (placed s) + group_octets query (planned_rows s tables)) + length (rows_behind query (planned_rows s tables)) * row_size (length query.items))
         / (page - max (row_size (length query.items)) (max (group_size query) (greatest_entry (kept_by s) (placed s))))) front_is
 
-    pub group_kept : IsGroupBounded T (literal_count texts words) columns texts words at (table_of (entries_of (query_of parts).sources)) cut.building cut.last (replaced query having items) g key values (λ raised. IsTold (whole_outcome (asked_whole query) tables) raised)
-        given_up (whole_pages (asked_whole query) tables) (1 + whole_units (asked_whole query) tables) tables
-    group_kept =
-        subst (λ (m : ℕ). IsKept given_up m (1 + whole_units (asked_whole query) tables)) pages_are
-        (subst (λ (w : ℕ). IsKept given_up (most (up_for (length query.items)) (stored_for (length query.items)) 1 cut.building) (1 + w)) units_are
-        (subst (λ (c : ℕ). IsKept (up_for c) (most (up_for c) (stored_for c) 1 cut.building) (1 + (units (query_of parts) tables + group_units general_hashing query (planned_rows (query_of parts) tables)))) same_items bounded))
+    -- ---- up to the groups, however many rows there are
+    abbrev IsFirst : (u most N : ℕ) → Type 0
+    IsFirst u most N = IsFirstBounded T (literal_count texts words) columns texts words at (table_of (entries_of (query_of parts).sources)) cut.building cut.last g (λ raised. IsTold (whole_outcome (asked_whole query) tables) raised) u most N tables
 
-    -- the rows of the walk are the query's
-    pub walked_rows : (stoods : List Stood) → AreStood tables [] cut.building stoods → (fed_over tables stoods cut.last).codes ≡ [] → (walked_of (replaced query having items) (fed_over tables stoods cut.last).rows).codes ≡ [] →
-        IsSameOutcome (whole_outcome (asked_whole query) tables) (Rows (walked_of (replaced query having items) (fed_over tables stoods cut.last).rows).rows)
-    walked_rows stoods stood none over =
-        let fed : Flow (List Val) = fed_over tables stoods cut.last in
-        let same = same_behind (record { rows = (fed_over tables stoods cut.last).rows; codes = [] }) in
-        walk_rows query tables (fed_over tables stoods cut.last) (subst (λ (s : Specification). Alike fed (flow s tables)) front_is (fed_alike row_is value_is parts kept columns made are of cut tables loaded stoods stood)) none
-        (ap (λ (f : Flow (List Val)). f.codes) same ∙ over) (walked_of (replaced query having items) (fed_over tables stoods cut.last).rows).rows
-        (subst (λ (f : Flow (List Val)). IsPermutation (behind_front query (record { rows = (fed_over tables stoods cut.last).rows; codes = [] })).rows f.rows) same (IsPermutation-refl (behind_front query (record { rows = (fed_over tables stoods cut.last).rows; codes = [] })).rows))
+    first : IsFirst (up_for (length items)) (most (up_for (length items)) (stored_for (length items)) 1 cut.building) (1 + (units (query_of parts) tables + group_units general_hashing query (planned_rows (query_of parts) tables)))
+    first =
+        first_bounded row_is value_is parts kept columns made are of cut (replaced query having items) some_column row_less (max (row_size (length items)) (max (group_size query) (greatest_entry (kept_by (query_of parts)) (placed (query_of parts))))) widest_low (omega arith) (omega arith) (omega arith) T at texts words g key values together last_is can can_last tables loaded
+        (λ raised. IsTold (whole_outcome (asked_whole query) tables) raised) from_front (group_units general_hashing query planned) (group_octets query planned) units_low octets_low
+        (stored_for (length items)) 1 (1 + (units (query_of parts) tables + group_units general_hashing query planned)) (omega arith) (omega arith) (omega arith)
+
+    pub first_kept : IsFirstBounded T (literal_count texts words) columns texts words at (table_of (entries_of (query_of parts).sources)) cut.building cut.last g (λ raised. IsTold (whole_outcome (asked_whole query) tables) raised)
+        given_up (whole_pages (asked_whole query) tables) (1 + whole_units (asked_whole query) tables) tables
+    first_kept =
+        subst (λ (m : ℕ). IsFirst given_up m (1 + whole_units (asked_whole query) tables)) pages_are
+        (subst (λ (w : ℕ). IsFirst given_up (most (up_for (length query.items)) (stored_for (length query.items)) 1 cut.building) (1 + w)) units_are
+        (subst (λ (c : ℕ). IsFirst (up_for c) (most (up_for c) (stored_for c) 1 cut.building) (1 + (units (query_of parts) tables + group_units general_hashing query (planned_rows (query_of parts) tables)))) same_items first))
+
+    -- ---- where the rows are few enough to be counted and summed
+    module _ (few : 1 ≤ length query.functions → length (flow (front query) tables).rows < 10 ^ 18) where
+      -- of rows that reach the groups, in any order
+      module _ (rows : List (List Val)) (from : IsPermutation (flow (query_of parts) tables).rows rows) where
+        from_flow : IsPermutation (flow (front query) tables).rows rows
+        from_flow = subst (λ (s : Specification). IsPermutation (flow s tables).rows rows) front_is from
+
+        rows_few : 1 ≤ length query.functions → length rows < 10 ^ 18
+        rows_few some = let less = few some in let same = length_permutation (flow (front query) tables).rows rows from_flow in omega (arith, less, same)
+
+        pub keys_ok : AllByRecursion (λ (k : List Val). AreStored key k) (keys (length query.columns) rows)
+        keys_ok =
+            subst (λ (cs : List ReadColumn). AllByRecursion (λ (k : List Val). AreStored cs k) (keys n rows)) (sym key_is)
+            (all_more (IsTypedKey query) (λ (k : List Val). AreStored (key_columns query) k) (keys n rows) (λ k h. key_stored 0 query.columns k h) (keys_typed query whole tables loaded_front rows from_flow))
+
+        -- where there is no set function, there is no value
+        values_typed_at : AllByRecursion (λ (k : List Val). (vs : List Val) → function_values n kinds (members n k rows) ≡ Ok vs → AreTypedValues query vs) (keys n rows)
+        values_typed_at = by_count query.functions refl
+          where
+            none_come : (fs : List SetFunction) → query.functions ≡ fs → fs ≡ [] → (k vs : List Val) → function_values n kinds (members n k rows) ≡ Ok vs → AreTypedValues query vs
+            none_come fs is empty k vs come =
+                let none : query.functions ≡ [] = is ∙ empty in
+                let values_none : vs ≡ [] = one_result vs (sym (ap (λ (l : List SetFunction). function_values n (kinds_of l) (members n k rows)) none) ∙ come) in
+                subst (λ (l : List SetFunction). IsRowOf (map type_kind (map type_of_function l)) vs) (sym none) (subst (λ (l : List Val). IsRowOf [] l) (sym values_none) tt)
+
+            each : (ks : List (List Val)) → query.functions ≡ [] → AllByRecursion (λ (k : List Val). (vs : List Val) → function_values n kinds (members n k rows) ≡ Ok vs → AreTypedValues query vs) ks
+            each [] none = tt
+            each (k ∷ ks) none = ((λ vs come. none_come [] none refl k vs come), each ks none)
+
+            by_count : (fs : List SetFunction) → query.functions ≡ fs → AllByRecursion (λ (k : List Val). (vs : List Val) → function_values n kinds (members n k rows) ≡ Ok vs → AreTypedValues query vs) (keys n rows)
+            by_count [] is = each (keys n rows) is
+            by_count (f ∷ fs) is =
+                let some : 1 ≤ length query.functions = subst (λ (l : List SetFunction). 1 ≤ length l) (sym is) (omega arith) in
+                values_typed query whole tables loaded_front rows from_flow sized some_column (rows_few some)
+
+        pub values_ok : AllByRecursion (λ (k : List Val). (vs : List Val) → function_values (length query.columns) (kinds_of query.functions) (members (length query.columns) k rows) ≡ Ok vs → AreRead values vs) (keys (length query.columns) rows)
+        values_ok =
+            subst (λ (cs : List ValueColumn). AllByRecursion (λ (k : List Val). (vs : List Val) → function_values n kinds (members n k rows) ≡ Ok vs → AreRead cs vs) (keys n rows)) (sym values_are)
+            (all_more (λ (k : List Val). (vs : List Val) → function_values n kinds (members n k rows) ≡ Ok vs → AreTypedValues query vs) (λ (k : List Val). (vs : List Val) → function_values n kinds (members n k rows) ≡ Ok vs → AreRead (value_columns query) vs) (keys n rows)
+            (λ k typed vs come. values_read (length query.columns) query.functions vs (kinds_have query.functions arguments_have) (typed vs come) (values_utf8 query whole tables loaded_front sized utf8 rows from_flow k vs come)) values_typed_at)
+
+      -- ---- all of it
+      abbrev IsKept : (u most N : ℕ) → Type 0
+      IsKept u most N = IsGroupBounded T (literal_count texts words) columns texts words at (table_of (entries_of (query_of parts).sources)) cut.building cut.last (replaced query having items) g key values (λ raised. IsTold (whole_outcome (asked_whole query) tables) raised) u most N tables
+
+      pub few_spec : 1 ≤ length query.functions → length (flow (query_of parts) tables).rows < 10 ^ 18
+      few_spec some = subst (λ (s : Specification). length (flow s tables).rows < 10 ^ 18) (sym front_is) (few some)
+
+      bounded : IsKept (up_for (length items)) (most (up_for (length items)) (stored_for (length items)) 1 cut.building) (1 + (units (query_of parts) tables + group_units general_hashing query (planned_rows (query_of parts) tables)))
+      bounded =
+          group_bounded row_is value_is parts kept columns made are of cut (replaced query having items) some_column row_less (max (row_size (length items)) (max (group_size query) (greatest_entry (kept_by (query_of parts)) (placed (query_of parts))))) widest_low (omega arith) (omega arith) (omega arith) T at texts words g key values together last_is can can_last tables loaded
+          (λ raised. IsTold (whole_outcome (asked_whole query) tables) raised) from_front (group_units general_hashing query planned) (group_octets query planned) units_low octets_low
+          (stored_for (length items)) 1 (1 + (units (query_of parts) tables + group_units general_hashing query planned)) (omega arith) (omega arith) (omega arith) few_spec from_walk keys_ok values_ok (length (rows_behind query planned)) rows_low (omega arith)
+
+      pub group_kept : IsGroupBounded T (literal_count texts words) columns texts words at (table_of (entries_of (query_of parts).sources)) cut.building cut.last (replaced query having items) g key values (λ raised. IsTold (whole_outcome (asked_whole query) tables) raised)
+          given_up (whole_pages (asked_whole query) tables) (1 + whole_units (asked_whole query) tables) tables
+      group_kept =
+          subst (λ (m : ℕ). IsKept given_up m (1 + whole_units (asked_whole query) tables)) pages_are
+          (subst (λ (w : ℕ). IsKept given_up (most (up_for (length query.items)) (stored_for (length query.items)) 1 cut.building) (1 + w)) units_are
+          (subst (λ (c : ℕ). IsKept (up_for c) (most (up_for c) (stored_for c) 1 cut.building) (1 + (units (query_of parts) tables + group_units general_hashing query (planned_rows (query_of parts) tables)))) same_items bounded))
+
+      -- the rows of the walk are the query's
+      pub walked_rows : (stoods : List Stood) → AreStood tables [] cut.building stoods → (fed_over tables stoods cut.last).codes ≡ [] → (walked_of (replaced query having items) (fed_over tables stoods cut.last).rows).codes ≡ [] →
+          IsSameOutcome (whole_outcome (asked_whole query) tables) (Rows (walked_of (replaced query having items) (fed_over tables stoods cut.last).rows).rows)
+      walked_rows stoods stood none over =
+          let fed : Flow (List Val) = fed_over tables stoods cut.last in
+          let same = same_behind (record { rows = (fed_over tables stoods cut.last).rows; codes = [] }) in
+          walk_rows query tables (fed_over tables stoods cut.last) (subst (λ (s : Specification). Alike fed (flow s tables)) front_is (fed_alike row_is value_is parts kept columns made are of cut tables loaded stoods stood)) none
+          (ap (λ (f : Flow (List Val)). f.codes) same ∙ over) (walked_of (replaced query having items) (fed_over tables stoods cut.last).rows).rows
+          (subst (λ (f : Flow (List Val)). IsPermutation (behind_front query (record { rows = (fed_over tables stoods cut.last).rows; codes = [] })).rows f.rows) same (IsPermutation-refl (behind_front query (record { rows = (fed_over tables stoods cut.last).rows; codes = [] })).rows))

@@ -1,5 +1,5 @@
 -- The module around a grouped query's steps is the compiled form of what is promised of it, where its pipelines keep that.
-use Rattle.std.proofs.Common.{◌≡◌, ◌∙◌, ◌≤◌, ◌<◌, ℕ, ◌+◌, ◌^◌, true, Some, List, [], ◌∷◌, ◌++◌, Option, drop, length, length-append, map, refl, sym, ap, ap₂, subst, subst₂, arith}
+use Rattle.std.proofs.Common.{◌≡◌, ◌∙◌, ◌≤◌, ◌<◌, ℕ, ◌+◌, ◌^◌, true, Some, None, List, [], ◌∷◌, ◌++◌, Option, drop, length, length-append, map, refl, sym, ap, ap₂, subst, subst₂, arith}
 use Rattle.std.specs.List.{AllByRecursion}
 use Rattle.std.proofs.lemmas.List.{length-map, map-append}
 use Rattle.std.proofs.Math.Seq.{drop-append_seam}
@@ -72,6 +72,7 @@ use Rattle.qw_compile.proofs.SmallWords.{words_small}
 use Rattle.qw_compile_whole.specs.GroupColumns.{key_columns, value_columns}
 use Rattle.qw_compile_whole.specs.GroupedPlaced.{group_over}
 use Rattle.qw_compile_whole.specs.GroupedStatements.{IsGathering, grouped_block}
+use Rattle.qw_compile_whole.specs.GuardedStatements.{IsGatheringBy, guard_for, guarded_block_of}
 use Rattle.qw_compile_whole.specs.StatementOf.{IsStatementOf}
 use Rattle.qw_compile_whole.specs.WholeTexts.{texts_of_grouped}
 use Rattle.qw_compile_whole.proofs.ColumnTypes.{arguments_are, key_sized, values_of_kinds}
@@ -139,10 +140,10 @@ module _ (row_is : (row other : List Val) → is_same_row row other ≡ true →
   groups_can = group_can s.group (group_over T key values s.group.values) s.made.columns_is s.made.functions_are refl (can_group query grouped T s.group.values kinds_front)
 
   -- ---- the layout
-  many : length s.columns ≡ length layout.columns
+  pub many : length s.columns ≡ length layout.columns
   many = sym (used_many entries s.columns s.used s.used_at) ∙ ap (λ (l : List Used). length l) (sym s.made.columns_are)
 
-  folded_kinds : map kind_of s.behind_is.items ≡ map (λ (k : Kind). Some k) layout.cells
+  pub folded_kinds : map kind_of s.behind_is.items ≡ map (λ (k : Kind). Some k) layout.cells
   folded_kinds = sym (ap result_kinds s.behind_is.sink_is) ∙ sym s.made.kinds_are
 
   pub goes_with : (promise : Promise) → promise.entries ≡ entries_of (grouped_of parts).sources → promise.cells ≡ map kind_of (grouped_of parts).items → GoesWith promise layout
@@ -160,7 +161,7 @@ module _ (row_is : (row other : List Val) → is_same_row row other ≡ true →
       let three = length-append s.made.building (s.made.gathering ∷ []) in
       omega (arith, one, two, three)
 
-  low : length s.made.building < T
+  pub low : length s.made.building < length s.ps
   low = let one = built_many in omega (arith, one)
 
   -- ---- pipelines
@@ -220,6 +221,11 @@ module _ (row_is : (row other : List Val) → is_same_row row other ≡ true →
         takes = can_walk (length layout.columns);
       }
 
+  pub laid_columns : AllByRecursion (λ (e : Entry). AllByRecursion (λ (c : ColumnType). IsSized c.ty) e.columns) (entries_of (grouped_of parts).sources) → AreLaid (table_of (entries_of (grouped_of parts).sources)) layout.columns s.columns
+  laid_columns sized =
+      let declared_columns = subst (λ (ss : List Source). AllByRecursion (IsDeclared (columns_of_entries (entries_of ss))) s.columns) sources_are s.are.declared in
+      subst (λ (l : List Used). AreLaid (table_of entries) l s.columns) (sym s.made.columns_are) (are_laid entries s.columns s.used s.used_at declared_columns (are_sized entries s.columns sized declared_columns))
+
   -- ---- types
   behind_typed : IsTypedPhysical behind
   behind_typed = record {
@@ -245,41 +251,53 @@ module _ (row_is : (row other : List Val) → is_same_row row other ≡ true →
   all_lead [] less can = tt
   all_lead (q ∷ qs) less can = (leads_one q less.0 can.0, all_lead qs less.1 can.1)
 
-  leads_behind : IsLeading declared behind
+  pub leads_behind : IsLeading (types (length s.ps) (entry_offset (length s.columns)) s.columns (texts_of_grouped parts) (query_words (s.ps ++ s.behind ∷ [])) (s.made.builds_own ++ (s.made.gathers_own ++ s.made.walk_own))) (pipeline_of s.behind)
   leads_behind = (
     subst (AreLed declared) (sym s.behind_is.operators_are) tt,
     subst (IsLed declared) (sym s.behind_is.sink_is) (refl, refl),
     subst CanSink (sym s.behind_is.sink_is) (omega (arith, follow_long query.items s.behind_is.items s.behind_is.items_follow, grouped.few_items)),
   )
 
-  typed : IsTyped (I32 ∷ locals) whole
-  typed =
+  pub leads_building : AllByRecursion (IsLeading (types (length s.ps) (entry_offset (length s.columns)) s.columns (texts_of_grouped parts) (query_words (s.ps ++ s.behind ∷ [])) (s.made.builds_own ++ (s.made.gathers_own ++ s.made.walk_own)))) s.made.building
+  leads_building = all_lead s.made.building (all_front (IsBelow (length s.made.building)) s.made.building (s.made.gathering ∷ []) below) building_takes
+
+  pub leads_gathering : AreLed (types (length s.ps) (entry_offset (length s.columns)) s.columns (texts_of_grouped parts) (query_words (s.ps ++ s.behind ∷ [])) (s.made.builds_own ++ (s.made.gathers_own ++ s.made.walk_own))) s.made.gathering.operators
+  leads_gathering = (leads_one s.made.gathering (all_back (IsBelow (length s.made.building)) s.made.building (s.made.gathering ∷ []) below).0 last_takes).0
+
+  -- ---- rows are counted or not
+  module _ (guard : Option ℕ) (guard_is : guard_for (length s.ps) (length (value_columns (grouped_of parts))) ≡ guard) where
+    pub code_by : code ≡ steps_of (guarded_block_of guard (length s.ps) (descriptor_size layout) s.made.leads s.made.sets s.made.builds (length s.made.building) s.made.gathers s.made.walk)
+    code_by = s.made.code_is ∙ ap (λ (g : Option ℕ). steps_of (guarded_block_of g T (descriptor_size layout) s.made.leads s.made.sets s.made.builds (length s.made.building) s.made.gathers s.made.walk)) guard_is
+
+    pub gathered_by : IsGatheringBy guard (literals_by (length s.ps) (length s.columns) (texts_of_grouped parts) (s.ps ++ s.behind ∷ [])) (readers_by (length s.ps) (texts_of_grouped parts) (s.ps ++ s.behind ∷ []) s.columns)
+        (own_start (length s.ps) (literal_locals (texts_of_grouped parts) (s.ps ++ s.behind ∷ [])) (length s.columns) + length s.made.builds_own) s.made.gathering s.group s.made.fields s.made.gathers s.made.gathers_own
+    gathered_by =
+        subst (λ (g : Option ℕ). IsGatheringBy g (literals_by T (length s.columns) texts all) (readers_by T texts all s.columns) (own_start T (literal_locals texts all) (length s.columns) + length s.made.builds_own) s.made.gathering s.group s.made.fields s.made.gathers s.made.gathers_own) guard_is s.made.gathered
+
+  typed : guard_for (length s.ps) (length (value_columns (grouped_of parts))) ≡ None → IsTyped (I32 ∷ locals) whole
+  typed none =
       subst (λ (l : List ValType). IsTyped (I32 ∷ l) whole) (sym s.made.locals_are)
       (grouped_typed T (entry_offset (length s.columns)) s.columns texts words own (descriptor_size layout) s.made.leads s.made.sets s.made.walk s.made.building s.made.gathering behind s.group s.made.fields key values s.made.builds s.made.gathers
-      s.made.builds_own s.made.gathers_own s.made.walk_own small s.made.leads_all s.made.sets_all small_words refl s.made.built s.made.gathered s.made.walked low s.made.table_is
-      (all_lead s.made.building (all_front (IsBelow (length s.made.building)) s.made.building (s.made.gathering ∷ []) below) building_takes)
-      (leads_one s.made.gathering (all_back (IsBelow (length s.made.building)) s.made.building (s.made.gathering ∷ []) below).0 last_takes).0 groups_can leads_behind (values_of_kinds query grouped))
+      s.made.builds_own s.made.gathers_own s.made.walk_own small s.made.leads_all s.made.sets_all small_words refl s.made.built (gathered_by None none) s.made.walked low s.made.table_is
+      leads_building leads_gathering groups_can leads_behind (values_of_kinds query grouped))
 
   -- ---- the module
-  pub grouped_finished : (promise : Promise) → promise.entries ≡ entries_of (grouped_of parts).sources → promise.cells ≡ map kind_of (grouped_of parts).items → AllByRecursion (λ (e : Entry). AllByRecursion (λ (c : ColumnType). IsSized c.ty) e.columns) (entries_of (grouped_of parts).sources) →
+  pub grouped_finished : guard_for (length s.ps) (length (value_columns (grouped_of parts))) ≡ None → (promise : Promise) → promise.entries ≡ entries_of (grouped_of parts).sources → promise.cells ≡ map kind_of (grouped_of parts).items → AllByRecursion (λ (e : Entry). AllByRecursion (λ (c : ColumnType). IsSized c.ty) e.columns) (entries_of (grouped_of parts).sources) →
       AreAlike promise.entries → length code ≤ 2097152 → (m : Module) → ((st : Statement) → code ≡ steps_of st → IsTyped (I32 ∷ locals) st → size st ≤ 2 ^ 22 → IsMadeOf m st (length locals)) → (u : List (List (List Val)) → ℕ) →
       ((tables : List (List (List Val))) → AreOfEntries promise.entries tables → IsGroupBounded (length s.ps) (literal_count (texts_of_grouped parts) (query_words (s.ps ++ s.behind ∷ []))) s.columns (texts_of_grouped parts) (query_words (s.ps ++ s.behind ∷ [])) (entry_offset (length layout.columns))
       (table_of (entries_of (grouped_of parts).sources)) s.made.building s.made.gathering (with_behind (grouped_of parts) s.behind_is.having s.behind_is.items) s.group (key_columns (grouped_of parts)) (value_columns (grouped_of parts)) (IsTold (promise.outcome tables)) (u tables) (promise.pages tables) (1 + promise.units tables) tables) →
       ((tables : List (List (List Val))) (stoods : List Stood) → AreOfEntries promise.entries tables → AreStood tables [] s.made.building stoods → (fed_over tables stoods s.made.gathering).codes ≡ [] →
       (walked_of (with_behind (grouped_of parts) s.behind_is.having s.behind_is.items) (rows_met tables stoods s.made.gathering)).codes ≡ [] →
       IsSameOutcome (promise.outcome tables) (Rows (walked_of (with_behind (grouped_of parts) s.behind_is.having s.behind_is.items) (rows_met tables stoods s.made.gathering)).rows)) → IsCompiled promise layout m
-  grouped_finished promise entries_are cells_are sized alike short m made u bounded same =
-      let steps : length code ≡ length (steps_of whole) = ap (λ (c : List LowStep). length c) s.made.code_is in
+  grouped_finished none promise entries_are cells_are sized alike short m made u bounded same =
+      let steps : length code ≡ length (steps_of whole) = ap (λ (c : List LowStep). length c) (code_by None none) in
       let few : size whole ≤ 2 ^ 22 = omega (arith, short, steps, size_steps whole) in
-      let declared_columns = subst (λ (ss : List Source). AllByRecursion (IsDeclared (columns_of_entries (entries_of ss))) s.columns) sources_are s.are.declared in
-      let laid : AreLaid (table_of entries) layout.columns s.columns =
-      subst (λ (l : List Used). AreLaid (table_of entries) l s.columns) (sym s.made.columns_are) (are_laid entries s.columns s.used s.used_at declared_columns (are_sized entries s.columns sized declared_columns)) in
-      grouped_compiled promise layout T s.columns texts words (table_of entries) laid s.made.octets_are s.made.utf8 small_words s.made.leads s.made.sets s.made.building s.made.gathering folded s.group key values s.made.fields s.made.field_kinds
+      grouped_compiled promise layout T s.columns texts words (table_of entries) (laid_columns sized) s.made.octets_are s.made.utf8 small_words s.made.leads s.made.sets s.made.building s.made.gathering folded s.group key values s.made.fields s.made.field_kinds
       s.made.values_are folded_kinds s.made.table_is low s.made.builds s.made.gathers s.made.walk s.made.builds_own s.made.gathers_own s.made.walk_own (goes_with promise entries_are cells_are)
       (subst (λ (n : ℕ). LeadsToAll (texts_by T n texts) s.made.leads) many s.made.leads_all) s.made.sets_all (together sized)
       (subst (λ (n : ℕ). AreCourses (literals_by T n texts all) (readers_by T texts all s.columns) (own_start T (literal_locals texts all) (length s.columns)) s.made.building s.made.builds s.made.builds_own) many s.made.built)
-      (subst (λ (n : ℕ). IsGathering (literals_by T n texts all) (readers_by T texts all s.columns) (own_start T (literal_locals texts all) (length s.columns) + length s.made.builds_own) s.made.gathering s.group s.made.fields s.made.gathers s.made.gathers_own) many s.made.gathered)
+      (subst (λ (n : ℕ). IsGathering (literals_by T n texts all) (readers_by T texts all s.columns) (own_start T (literal_locals texts all) (length s.columns) + length s.made.builds_own) s.made.gathering s.group s.made.fields s.made.gathers s.made.gathers_own) many (gathered_by None none))
       (subst₂ (λ (os : List Operator) (k : Sink). IsGroupPipeline (literals_by T (length layout.columns) texts all) (directory (length s.made.building)) (own_start T (literal_locals texts all) (length s.columns) + length s.made.builds_own + length s.made.gathers_own) key values os k s.made.walk s.made.walk_own)
       s.behind_is.operators_are s.behind_is.sink_is
       (subst (λ (n : ℕ). IsGroupPipeline (literals_by T n texts all) (directory (length s.made.building)) (own_start T (literal_locals texts all) (length s.columns) + length s.made.builds_own + length s.made.gathers_own) key values behind.operators behind.sink s.made.walk s.made.walk_own) many s.made.walked))
-      few alike u bounded same m (subst (λ (l : List ValType). IsMadeOf m whole (length l)) s.made.locals_are (made whole s.made.code_is typed few))
+      few alike u bounded same m (subst (λ (l : List ValType). IsMadeOf m whole (length l)) s.made.locals_are (made whole (code_by None none) (typed none) few))

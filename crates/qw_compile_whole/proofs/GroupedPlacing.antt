@@ -1,5 +1,5 @@
 -- The places of a grouped query's literals and columns, and the statement that rests on them.
-use Rattle.std.proofs.Common.{◌≡◌, ℕ, ◌+◌, ◌*◌, ◌≤◌, Some, List, [], ◌∷◌, ◌++◌, drop, length, length-append, map, sum_by, refl, sym, ap, ap₂, ◌∙◌, subst, arith}
+use Rattle.std.proofs.Common.{◌≡◌, ℕ, ◌+◌, ◌*◌, ◌≤◌, Option, Some, List, [], ◌∷◌, ◌++◌, drop, length, length-append, map, sum_by, refl, sym, ap, ap₂, ◌∙◌, subst, arith}
 use Rattle.std.specs.List.{AllByRecursion, concat}
 use Rattle.std.proofs.lemmas.List.{length-map, map-append}
 use Rattle.std.proofs.lemmas.List.Sums.{sum_by-append, sum_by-cons}
@@ -44,7 +44,7 @@ use Rattle.qw_compile.proofs.QueryPlaced.{literals_are}
 use Rattle.qw_compile_whole.specs.GroupedLimits.{gathering_span}
 use Rattle.qw_compile_whole.specs.GroupedMade.{IsGroupedMade}
 use Rattle.qw_compile_whole.specs.GroupedPlaced.{CanGather, CanWalk, EmitsGrouped, EmitsParts, LastSelects, Selects, gathering_of, group_over}
-use Rattle.qw_compile_whole.specs.GroupedStatements.{IsGathering, grouped_block}
+use Rattle.qw_compile_whole.specs.GuardedStatements.{IsGatheringBy, guard_for, guarded_block_of}
 use Rattle.qw_compile_whole.proofs.GatheringLengths.{gathering_as_course}
 use Rattle.qw_compile_whole.proofs.GatheringPlaced.{gathering_as}
 
@@ -83,7 +83,9 @@ pub grouped_made : (tables : ℕ) (texts : List (List ℕ)) (ps : List Pipeline)
     code ≡ steps_of (space_block size) ++ (steps_of leads ++ (steps_of sets ++ pipelines)) → (group : Group) × IsGroupedMade tables texts ps group key values behind columns used layout code locals
 grouped_made tables texts ps behind columns p are key values start is pipelines code own kinds used layout locals many_texts many_words leads sets octets size e texts_is words_is locals_is layout_is octets_is size_is leads_all sets_all code_is =
     let all : List Pipeline = ps ++ behind ∷ [] in
-    let h : EmitsGrouped p start e.building e.gathering.entry e.gathering.operators e.group key values (pipeline_of behind) pipelines own kinds = e.emitted in
+    let guard : Option ℕ = guard_for (length ps) (length values) in
+    let h : EmitsGrouped (guard_for (length ps) (length values)) p start e.building e.gathering.entry e.gathering.operators e.group key values (pipeline_of behind) pipelines own kinds =
+    subst (λ (n : ℕ). EmitsGrouped (guard_for n (length values)) p start e.building e.gathering.entry e.gathering.operators e.group key values (pipeline_of behind) pipelines own kinds) (length-map ps pipeline_of) e.emitted in
     let L : List Known = literals_by tables (length columns) texts all in
     let R : List Reader = readers_by tables texts all columns in
     let known : literals_placed p ≡ L = literals_are tables texts all columns p are in
@@ -108,17 +110,17 @@ grouped_made tables texts ps behind columns p are key values start is pipelines 
         values_are = e.values_are;
         code_is =
             code_is ∙ (ap₂ (λ (s : ℕ) (l : List LowStep). steps_of (space_block s) ++ (steps_of leads ++ (steps_of sets ++ l))) size_is h.code_is
-            ∙ ap₂ (λ (t n : ℕ). steps_of (grouped_block t (descriptor_size layout) leads sets h.builds n h.gathers h.walk)) are.tables_is e.table_is);
+            ∙ ap₂ (λ (t n : ℕ). steps_of (guarded_block_of (guard_for (length ps) (length values)) t (descriptor_size layout) leads sets h.builds n h.gathers h.walk)) are.tables_is e.table_is);
         locals_are = locals_is ∙ (ap₂ (λ (x y : ℕ). query_locals tables x y columns own) texts_is words_is ∙ ap (query_locals tables (length texts) (length (query_words all)) columns) h.own_is);
         leads_all = subst (λ (l : List Literal). LeadsToAll l leads) are.literals leads_all;
         sets_all = subst (λ (cs : List Constant). SetsAll cs sets) are.constants sets_all;
         built = subst (λ (x : ℕ). AreCourses L R x e.building h.builds h.builds_own) is
             (subst (λ (rs : List Reader). AreCourses L rs start e.building h.builds h.builds_own) are.readers
             (subst (λ (l : List Known). AreCourses l p.readers.items start e.building h.builds h.builds_own) known h.built));
-        gathered = gathering_as L R (own_start tables (literal_locals texts all) (length columns) + length h.builds_own) (gathering_of e.gathering.entry e.gathering.operators G) e.gathering G h.fields h.gathers h.gathers_own refl refl
-            (subst (λ (x : ℕ). IsGathering L R (x + length h.builds_own) (gathering_of e.gathering.entry e.gathering.operators G) G h.fields h.gathers h.gathers_own) is
-            (subst (λ (rs : List Reader). IsGathering L rs (start + length h.builds_own) (gathering_of e.gathering.entry e.gathering.operators G) G h.fields h.gathers h.gathers_own) are.readers
-            (subst (λ (l : List Known). IsGathering l p.readers.items (start + length h.builds_own) (gathering_of e.gathering.entry e.gathering.operators G) G h.fields h.gathers h.gathers_own) known h.gathered)));
+        gathered = gathering_as guard L R (own_start tables (literal_locals texts all) (length columns) + length h.builds_own) (gathering_of e.gathering.entry e.gathering.operators G) e.gathering G h.fields h.gathers h.gathers_own refl refl
+            (subst (λ (x : ℕ). IsGatheringBy guard L R (x + length h.builds_own) (gathering_of e.gathering.entry e.gathering.operators G) G h.fields h.gathers h.gathers_own) is
+            (subst (λ (rs : List Reader). IsGatheringBy guard L rs (start + length h.builds_own) (gathering_of e.gathering.entry e.gathering.operators G) G h.fields h.gathers h.gathers_own) are.readers
+            (subst (λ (l : List Known). IsGatheringBy guard l p.readers.items (start + length h.builds_own) (gathering_of e.gathering.entry e.gathering.operators G) G h.fields h.gathers h.gathers_own) known h.gathered)));
         field_kinds = h.field_kinds;
         walked = subst (λ (x : ℕ). IsGroupPipeline L (directory (length e.building)) (x + length h.builds_own + length h.gathers_own) key values (pipeline_of behind).operators (pipeline_of behind).sink h.walk h.walk_own) is
             (subst (λ (l : List Known). IsGroupPipeline l (directory (length e.building)) (start + length h.builds_own + length h.gathers_own) key values (pipeline_of behind).operators (pipeline_of behind).sink h.walk h.walk_own) known
@@ -166,9 +168,9 @@ module _ (all builders : List Pipeline) (last : Pipeline) (is : all ≡ builders
     last_gathers p can =
         gather_placed p (pipeline_of last) g (all_back (λ (q : Pipeline). CanPlace p (pipeline_of q)) builders (last ∷ []) (subst (AllByRecursion (λ (q : Pipeline). CanPlace p (pipeline_of q))) is can)).0 sink_is grouped_can
 
-    pub parts_emitted : (p : Places) (first : ℕ) (behind : physical.Pipeline) (code : List LowStep) (own : List ValType) (kinds : List Kind) → g.table ≡ length builders → EmitsGrouped p first (map pipeline_of builders) last.entry (pipeline_of last).operators g key values behind code own kinds →
+    pub parts_emitted : (guard : Option ℕ) (p : Places) (first : ℕ) (behind : physical.Pipeline) (code : List LowStep) (own : List ValType) (kinds : List Kind) → guard ≡ guard_for (length all) (length values) → g.table ≡ length builders → EmitsGrouped guard p first (map pipeline_of builders) last.entry (pipeline_of last).operators g key values behind code own kinds →
         EmitsParts p first (map pipeline_of all) key values behind code own kinds
-    parts_emitted p first behind code own kinds table_is e = record {
+    parts_emitted guard p first behind code own kinds guard_is table_is e = record {
       building = map pipeline_of builders;
       gathering = pipeline_of last;
       pipelines_are = apart;
@@ -177,7 +179,8 @@ module _ (all builders : List Pipeline) (last : Pipeline) (is : all ≡ builders
       columns_is = columns_is;
       functions_are = functions_are;
       values_are = sink_is;
-      emitted = e;
+      emitted =
+          subst (λ (h : Option ℕ). EmitsGrouped h p first (map pipeline_of builders) last.entry (pipeline_of last).operators g key values behind code own kinds) (guard_is ∙ ap (λ (n : ℕ). guard_for n (length values)) (sym (length-map all pipeline_of))) e;
     }
 
     -- and how many steps and locals there are

@@ -7,6 +7,8 @@ pub mod DistinctEnds
 pub mod DistinctTogether
 pub mod DistinctTyped
 pub mod EnterBounded
+pub mod FirstBounded
+pub mod FirstGathered
 pub mod FoldedBehind
 pub mod FoldedUnits
 pub mod FrontCopies
@@ -36,6 +38,11 @@ pub mod GroupedPlacing
 pub mod GroupedReady
 pub mod GroupedStands
 pub mod GroupedTyped
+pub mod GuardedCompiled
+pub mod GuardedEnds
+pub mod GuardedFinished
+pub mod GuardedTyped
+pub mod LongFronts
 pub mod MadeOne
 mod OnceTyped
 pub mod OneDistinct
@@ -50,8 +57,22 @@ pub mod Taken
 pub mod Walked
 pub mod WalkedInto
 mod WholeBehind
+mod WholeCompiled
 pub mod WholeFinished
 mod WholeKept
 mod WholeOnce
 mod WholeTyped
 pub mod Widened
+pub mod FieldCounts
+pub mod FirstTaken
+pub mod FirstTakenBounded
+pub mod SingleFinished
+pub mod SingleLong
+pub mod SingleLongCompiled
+pub mod SingleLongFinished
+pub mod SingleLongTyped
+pub mod SinglePlacing
+pub mod SingleStands
+pub mod SingleWhole
+pub mod TakingLengths
+pub mod TakingPlaced

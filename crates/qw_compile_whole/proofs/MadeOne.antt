@@ -48,7 +48,8 @@ use Rattle.qw_compile.specs.QueryLocals.{cell_start, own_start, query_readers, r
 use Rattle.qw_compile.proofs.PipelineRuns.{Grounds, Steady, less_known}
 use Rattle.qw_compile_whole.proofs.GroupBounded.{walked_of}
 use Rattle.qw_compile_whole.proofs.SingleBounded.{GoAlone, OneReach, areas_paid}
-use Rattle.qw_compile_whole.proofs.Taken.{AreTaken, areas_long}
+use Rattle.qw_compile_whole.proofs.FieldCounts.{areas_long}
+use Rattle.qw_compile_whole.proofs.Taken.{AreTaken}
 use Rattle.qw_compile_whole.proofs.Walked.{IsWalked, over_theirs, within_among}
 use Rattle.qw_group.specs.Groups.{HasAreas}
 use Rattle.qw_group.specs.Single.{HasSingle}

@@ -51,7 +51,8 @@ use Rattle.qw_compile_whole.proofs.GroupBounded.{rows_met}
 use Rattle.qw_compile_whole.proofs.GroupEnds.{IsGroupAnswered}
 use Rattle.qw_compile_whole.proofs.MadeOne.{one_then}
 use Rattle.qw_compile_whole.proofs.SingleBounded.{GoAlone, IsSingleBounded, areas_paid}
-use Rattle.qw_compile_whole.proofs.Taken.{AreTaken, areas_long, take_ends}
+use Rattle.qw_compile_whole.proofs.FieldCounts.{areas_long}
+use Rattle.qw_compile_whole.proofs.Taken.{AreTaken, take_ends}
 use Rattle.qw_compile_whole.specs.SingleStatements.{IsTaking, one_group_block, take_block}
 
 module _ (layout : Layout) (tables : List (List (List Val))) (limit others : ℕ) (are_ready : AreReady layout tables limit) (small : descriptor_size layout ≤ page) (T : ℕ) (columns : List ReadColumn) (texts : List (List ℕ)) (words : List Word) (table_of : ℕ → ℕ)

@@ -1,5 +1,6 @@
 -- The pipelines that are made of a query with set functions and no GROUP BY keep what is promised of it: the areas of its set functions take the rows, and the row of
 -- the one group is made of their values (ISO/IEC 9075:1992, 7.8, 7.9).
+use Rattle.qw_compile_whole.proofs.FirstTakenBounded.{FirstTake, IsFirstTaken, IsLongBounded}
 use Rattle.qw_compile_whole.proofs.SingleBounded.{GoAlone, IsSingleBounded, OneReach, TakeReach, areas_paid}
 use Rattle.qw_compile_whole.proofs.GroupKept.{asked_whole, given_up, kinds_have, one_result, replaced, row_less}
 use Rattle.qw_compile_whole.proofs.GroupShares.{alone_within, chosen_within}
@@ -104,7 +105,11 @@ module _ (row_is : (row other : List Val) → is_same_row row other ≡ true →
       (same_items : length items ≡ length query.items) (utf8 : AllByRecursion (HasLeaves (OfText IsUtf8)) (arguments_of query.functions))
       (can : AllByRecursion (λ (p : Pipeline). CanCarry (literals_known T at texts words ++ map known_of (readers_of T (literal_count texts words) columns p.entry)) p.operators p.sink) cut.building)
       (can_last : CanCarry (literals_known T at texts words ++ map known_of (readers_of T (literal_count texts words) columns cut.last.entry)) cut.last.operators cut.last.sink)
-      (tables : List (List (List Val))) (loaded : AreOfEntries (entries_of (query_of parts).sources) tables) (few : 1 ≤ length query.functions → length (flow (front query) tables).rows < 10 ^ 18) where
+      (tables : List (List (List Val))) (loaded : AreOfEntries (entries_of (query_of parts).sources) tables) where
+    -- where there are set functions, fewer than 10^18 rows come
+    abbrev IsFew : Type 0
+    IsFew = 1 ≤ length query.functions → length (flow (front query) tables).rows < 10 ^ 18
+
     abbrev kinds : List SetFunctionKind
     kinds = kinds_of query.functions
 
@@ -142,8 +147,8 @@ module _ (row_is : (row other : List Val) → is_same_row row other ≡ true →
     sized : AllByRecursion (λ (e : Entry). AllByRecursion (λ (c : ColumnType). IsSized c.ty) e.columns) (entries_of query.sources)
     sized = subst (λ (s : Specification). AllByRecursion (λ (e : Entry). AllByRecursion (λ (c : ColumnType). IsSized c.ty) e.columns) (entries_of s.sources)) front_is are.sized
 
-    few_spec : 1 ≤ length query.functions → length (flow (query_of parts) tables).rows < 10 ^ 18
-    few_spec some = subst (λ (s : Specification). length (flow s tables).rows < 10 ^ 18) (sym front_is) (few some)
+    few_spec : IsFew → 1 ≤ length query.functions → length (flow (query_of parts) tables).rows < 10 ^ 18
+    few_spec few some = subst (λ (s : Specification). length (flow s tables).rows < 10 ^ 18) (sym front_is) (few some)
 
     the_plan : IsPlanned (query_of parts) tables kept of.node
     the_plan = plan row_is value_is parts kept columns made are of cut tables loaded
@@ -204,8 +209,11 @@ module _ (row_is : (row other : List Val) → is_same_row row other ≡ true →
       from_flow : IsPermutation (flow (front query) tables).rows (fed_over tables stoods cut.last).rows
       from_flow = subst (λ (s : Specification). IsPermutation (flow s tables).rows rows) front_is (IsPermutation-sym (fed_over tables stoods cut.last).rows (flow (query_of parts) tables).rows alike.0)
 
-      rows_few : 1 ≤ length query.functions → length (fed_over tables stoods cut.last).rows < 10 ^ 18
-      rows_few some = let less = few_spec some in let same = length_permutation (fed_over tables stoods cut.last).rows (flow (query_of parts) tables).rows alike.0 in omega (arith, less, same)
+      rows_few : IsFew → 1 ≤ length query.functions → length (fed_over tables stoods cut.last).rows < 10 ^ 18
+      rows_few few some = let less = few_spec few some in let same = length_permutation (fed_over tables stoods cut.last).rows (flow (query_of parts) tables).rows alike.0 in omega (arith, less, same)
+
+      few_by : length (fed_over tables stoods cut.last).rows < 10 ^ 18 → IsFew
+      few_by less some = let same = length_permutation (flow (front query) tables).rows (fed_over tables stoods cut.last).rows from_flow in omega (arith, less, same)
 
       -- units
       units_less : group_units general_hashing folded rows ≤ group_units general_hashing query (planned_rows (query_of parts) tables)
@@ -302,8 +310,8 @@ module _ (row_is : (row other : List Val) → is_same_row row other ≡ true →
           all_behind HasKind (map expression_of_column query.columns) (arguments_of query.functions)
           (all_more (IsItemOver (IsColumnOf (entries_of query.sources))) HasKind (map expression_of_column query.columns ++ arguments_of query.functions) (λ e h. h.0.1) whole.front.items)
 
-      values_typed_at : (vs : List Val) → function_values (length query.columns) kinds rows ≡ Ok vs → AreTypedValues query vs
-      values_typed_at = by_count query.functions refl
+      values_typed_at : IsFew → (vs : List Val) → function_values (length query.columns) kinds rows ≡ Ok vs → AreTypedValues query vs
+      values_typed_at few = by_count query.functions refl
         where
           none_come : query.functions ≡ [] → (vs : List Val) → function_values (length query.columns) kinds rows ≡ Ok vs → AreTypedValues query vs
           none_come none vs come =
@@ -314,35 +322,47 @@ module _ (row_is : (row other : List Val) → is_same_row row other ≡ true →
           by_count [] is = none_come is
           by_count (f ∷ fs) is =
               let some : 1 ≤ length query.functions = subst (λ (l : List SetFunction). 1 ≤ length l) (sym is) (omega arith) in
-              alone_typed query whole tables loaded_front rows from_flow sized alone.no_columns (rows_few some)
+              alone_typed query whole tables loaded_front rows from_flow sized alone.no_columns (rows_few few some)
 
-      made_typed : (vs : List Val) → function_values 0 (functions_of values) rows ≡ Ok vs → AreRead values vs
-      made_typed vs come =
+      made_typed : IsFew → (vs : List Val) → function_values 0 (functions_of values) rows ≡ Ok vs → AreRead values vs
+      made_typed few vs come =
           let functions : functions_of values ≡ kinds = alone.theirs ∙ alone.functions in
           let theirs : function_values (length query.columns) kinds rows ≡ Ok vs = ap (λ (c : ℕ). function_values c kinds rows) alone.no_columns ∙ (ap (λ (fs : List SetFunctionKind). function_values 0 fs rows) (sym functions) ∙ come) in
           subst (λ (cs : List ValueColumn). AreRead cs vs) (sym values_are)
-          (values_read (length query.columns) query.functions vs (kinds_have query.functions arguments_have) (values_typed_at vs theirs) (alone_utf8 query whole tables loaded_front sized utf8 rows from_flow vs theirs))
+          (values_read (length query.columns) query.functions vs (kinds_have query.functions arguments_have) (values_typed_at few vs theirs) (alone_utf8 query whole tables loaded_front sized utf8 rows from_flow vs theirs))
 
       -- ---- what is reached
       last_scans : ScansOne (entries_of spec.sources) cut.last
       last_scans = (all_back (ScansOne (entries_of spec.sources)) cut.building (cut.last ∷ []) (scans_whole row_is value_is parts kept columns made are of cut)).0
 
-      take_reach : TakeReach T (literal_count texts words) columns (literals_known T at texts words) tables up M N (table_of (entries_of (query_of parts).sources)) g stoods cut.last before
-      take_reach = record {
+      first_take : FirstTake T (literal_count texts words) columns (literals_known T at texts words) tables up M N (table_of (entries_of (query_of parts).sources)) g stoods cut.last before
+      first_take = record {
         table_is = scan_table (entries_of spec.sources) cut.last last_scans;
         has_column = scan_column (entries_of spec.sources) columns are.each cut.last last_scans;
         finds = finds;
         chosen = chosen;
         compared = λ row. compared_within 0 g.functions rows row (chosen row) (omega arith);
         cost = take_cost;
-        few = λ some. rows_few (let many = functions_many in omega (arith, some, many));
         fits = fits_page (32 * length g.functions) area_fits;
         enough = take_pays;
       }
 
-      one_reach : OneReach folded values up M N rows (areas_paid g before)
-      one_reach = record {
-        typed = made_typed;
+      take_reach : IsFew → TakeReach T (literal_count texts words) columns (literals_known T at texts words) tables up M N (table_of (entries_of (query_of parts).sources)) g stoods cut.last before
+      take_reach few = record {
+        table_is = first_take.table_is;
+        has_column = first_take.has_column;
+        finds = first_take.finds;
+        chosen = first_take.chosen;
+        compared = first_take.compared;
+        cost = first_take.cost;
+        few = λ some. rows_few few (let many = functions_many in omega (arith, some, many));
+        fits = first_take.fits;
+        enough = first_take.enough;
+      }
+
+      one_reach : IsFew → OneReach folded values up M N rows (areas_paid g before)
+      one_reach few = record {
+        typed = made_typed few;
         cost = made_cost;
         fits = fits_page (8 + 16 * length items) (let same = same_items in less (length items) (length query.items) (max (group_size query) (greatest_entry (kept_by spec) (placed spec))) same);
         enough = made_pays;
@@ -367,17 +387,42 @@ module _ (row_is : (row other : List Val) → is_same_row row other ≡ true →
     IsKept most_pages most_units = IsSingleBounded T (literal_count texts words) columns texts words at (table_of (entries_of (query_of parts).sources)) cut.building cut.last (replaced query having items) g values (λ raised. IsTold (whole_outcome (asked_whole query) tables) raised)
         (given_up row_is value_is parts kept columns made are of cut query whole front_is) most_pages most_units tables
 
-    bounded : IsKept M N
-    bounded = record {
+    bounded : IsFew → IsKept M N
+    bounded few = record {
       some = omega arith;
       u_low = omega arith;
       budget = λ i. budget up tables cut.building i;
       reached = reached_by;
       told = λ front p back stoods is stood raised tells. from_front raised (told spec tables kept of.node the_plan cut.building cut.last cut.same cut.same_last front p back stoods is stood raised tells);
-      taken = λ stoods stood. take_reach stoods stood;
+      taken = λ stoods stood. take_reach stoods stood few;
       told_taken = λ stoods stood raised tells. from_front raised (told_last spec tables kept of.node the_plan cut.building cut.last cut.same cut.same_last stoods stood raised tells);
-      made = λ stoods stood none. one_reach stoods stood;
+      made = λ stoods stood none. one_reach stoods stood few;
       told_made = λ stoods stood none raised tells. from_walk (fed_over tables stoods cut.last) (alike stoods stood) none raised tells;
+    }
+
+    -- however many rows come
+    first_bounded : IsFirstTaken T (literal_count texts words) columns texts words at (table_of (entries_of (query_of parts).sources)) cut.building cut.last g (λ raised. IsTold (whole_outcome (asked_whole query) tables) raised)
+        (given_up row_is value_is parts kept columns made are of cut query whole front_is) M N tables
+    first_bounded = record {
+      some = omega arith;
+      u_low = omega arith;
+      budget = λ i. budget up tables cut.building i;
+      reached = reached_by;
+      told = λ front p back stoods is stood raised tells. from_front raised (told spec tables kept of.node the_plan cut.building cut.last cut.same cut.same_last front p back stoods is stood raised tells);
+      taken = λ stoods stood. first_take stoods stood;
+      told_taken = λ stoods stood raised tells. from_front raised (told_last spec tables kept of.node the_plan cut.building cut.last cut.same cut.same_last stoods stood raised tells);
+    }
+
+    abbrev IsKeptLong : (most N : ℕ) → Type 0
+    IsKeptLong most_pages most_units = IsLongBounded T (literal_count texts words) columns texts words at (table_of (entries_of (query_of parts).sources)) cut.building cut.last (replaced query having items) g values (λ raised. IsTold (whole_outcome (asked_whole query) tables) raised)
+        (given_up row_is value_is parts kept columns made are of cut query whole front_is) most_pages most_units tables
+
+    long_bounded : IsKeptLong M N
+    unfolding first_bounded
+    long_bounded = record {
+      first = first_bounded;
+      made = λ stoods stood none less. one_reach stoods stood (few_by stoods stood less);
+      told_made = λ stoods stood none less raised tells. from_walk (fed_over tables stoods cut.last) (alike stoods stood) none raised tells;
     }
 
     units_are : N ≡ 1 + whole_units (asked_whole query) tables
@@ -389,9 +434,13 @@ module _ (row_is : (row other : List Val) → is_same_row row other ≡ true →
         ∙ ap (λ (s : Specification). 2 + 2 * (table_count (placed s) + 1) + ((table_octets (kept_by s) tables (placed s) + group_octets query (planned_rows s tables)) + length (rows_behind query (planned_rows s tables)) * row_size (length query.items))
         / (page - max (row_size (length query.items)) (max (group_size query) (greatest_entry (kept_by s) (placed s))))) front_is
 
-    pub single_kept : IsSingleBounded T (literal_count texts words) columns texts words at (table_of (entries_of (query_of parts).sources)) cut.building cut.last (replaced query having items) g values (λ raised. IsTold (whole_outcome (asked_whole query) tables) raised)
+    pub single_kept : (1 ≤ length query.functions → length (flow (front query) tables).rows < 10 ^ 18) → IsSingleBounded T (literal_count texts words) columns texts words at (table_of (entries_of (query_of parts).sources)) cut.building cut.last (replaced query having items) g values (λ raised. IsTold (whole_outcome (asked_whole query) tables) raised)
         (given_up row_is value_is parts kept columns made are of cut query whole front_is) (whole_pages (asked_whole query) tables) (1 + whole_units (asked_whole query) tables) tables
-    single_kept = subst (λ (m : ℕ). IsKept m (1 + whole_units (asked_whole query) tables)) pages_are (subst (λ (w : ℕ). IsKept M w) units_are bounded)
+    single_kept few = subst (λ (m : ℕ). IsKept m (1 + whole_units (asked_whole query) tables)) pages_are (subst (λ (w : ℕ). IsKept M w) units_are (bounded few))
+
+    pub long_kept : IsLongBounded T (literal_count texts words) columns texts words at (table_of (entries_of (query_of parts).sources)) cut.building cut.last (replaced query having items) g values (λ raised. IsTold (whole_outcome (asked_whole query) tables) raised)
+        (given_up row_is value_is parts kept columns made are of cut query whole front_is) (whole_pages (asked_whole query) tables) (1 + whole_units (asked_whole query) tables) tables
+    long_kept = subst (λ (m : ℕ). IsKeptLong m (1 + whole_units (asked_whole query) tables)) pages_are (subst (λ (w : ℕ). IsKeptLong M w) units_are long_bounded)
 
     -- its row is the query's
     pub single_rows : (stoods : List Stood) → AreStood tables [] cut.building stoods → (fed_over tables stoods cut.last).codes ≡ [] → (walked_of (replaced query having items) (fed_over tables stoods cut.last).rows).codes ≡ [] →

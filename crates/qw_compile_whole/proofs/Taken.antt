@@ -49,13 +49,9 @@ use Rattle.qw_compile.specs.Statements.{Course, course_block}
 use Rattle.qw_compile.proofs.CourseBegins.{Opened}
 use Rattle.qw_compile.proofs.PipelineRuns.{Between, Grounds, Source, Steady, all_keep, course_opens, declared_over, fed_over, laid, less_known, opened_keeps, readers_of, scanned_rows, standing_at, steady_below}
 use Rattle.qw_compile_whole.specs.SingleStatements.{IsTaking, take_block}
-use Rattle.qw_compile_whole.proofs.Gathered.{fields_long, over_many}
+use Rattle.qw_compile_whole.proofs.FieldCounts.{areas_long}
 use Rattle.qw_compile_whole.proofs.SingleBounded.{TakeReach}
 use Rattle.qw_compile_whole.proofs.Beginnings.{IsBeginning, beginning_few, beginning_first, chosen_fewer}
-
--- an area for each set function
-pub areas_long : (group : Group) (fields : List Field) → CanGroup group → group.columns ≡ 0 → kinds_of (sources_of fields) ≡ map kind_of group.values → length (over_fields group.functions fields) ≡ length group.functions
-areas_long group fields can none kinds = over_many group.functions fields (let count = fields_long group fields kinds in let many = can.many in omega (arith, count, many, none))
 
 -- ---- the areas stand behind the tables of joins
 pub record AreTaken (T n : ℕ) (c : Cells) (base u : ℕ) (s0 : LowState) (group : Group) (fields : List Field) (budget : ℕ) (rows : List (List Val)) (s : LowState) : Type 0 where

@@ -237,9 +237,9 @@ module _ (row_is : (row other : List Val) → is_same_row row other ≡ true →
 
     bounded : IsKept (up_for shown (group_size asked)) (most (up_for shown (group_size asked)) (stored_for shown) 1 cut.building) (1 + whole_units (asked_once (query_of parts)) tables)
     bounded =
-        group_bounded row_is value_is parts kept columns made are of cut (distinct_grouping (query_of parts)) (let same = many in omega (arith, same, some_item)) row_less (max (row_size shown) (max (group_size asked) (greatest_entry (kept_by (query_of parts)) (placed (query_of parts))))) widest_low (omega arith) (omega arith) (omega arith) T at texts words g key values together last_is can can_last tables loaded no_function
-        (λ raised. IsTold (whole_outcome (asked_once (query_of parts)) tables) raised) (once_told (query_of parts) tables) walk_tells keys_ok values_ok (distinct_units general_hashing planned) (distinct_octets (length (query_of parts).items) planned) units_low octets_low
-        (stored_for shown) 1 (1 + whole_units (asked_once (query_of parts)) tables) (omega arith) (omega arith) (omega arith) (length (once planned)) rows_low (omega arith)
+        group_bounded row_is value_is parts kept columns made are of cut (distinct_grouping (query_of parts)) (let same = many in omega (arith, same, some_item)) row_less (max (row_size shown) (max (group_size asked) (greatest_entry (kept_by (query_of parts)) (placed (query_of parts))))) widest_low (omega arith) (omega arith) (omega arith) T at texts words g key values together last_is can can_last tables loaded
+        (λ raised. IsTold (whole_outcome (asked_once (query_of parts)) tables) raised) (once_told (query_of parts) tables) (distinct_units general_hashing planned) (distinct_octets (length (query_of parts).items) planned) units_low octets_low
+        (stored_for shown) 1 (1 + whole_units (asked_once (query_of parts)) tables) (omega arith) (omega arith) (omega arith) no_function walk_tells keys_ok values_ok (length (once planned)) rows_low (omega arith)
 
     pages_are : most (up_for (length (query_of parts).items) (distinct_size (length (query_of parts).items))) (stored_for (length (query_of parts).items)) 1 cut.building ≡ whole_pages (asked_once (query_of parts)) tables
     pages_are = ap (λ (k : ℕ). 2 + 2 * (k + 1) + stored_for (length (query_of parts).items) / up_for (length (query_of parts).items) (distinct_size (length (query_of parts).items))) (built_many row_is value_is parts kept columns made are of cut)

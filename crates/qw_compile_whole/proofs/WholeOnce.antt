@@ -168,17 +168,17 @@ module _ (row_is : (row other : List Val) → is_same_row row other ≡ true →
     Told raised = IsTold (whole_outcome (asked_distinct query) tables) raised
 
     some : 1 ≤ length query.columns
-    some = some_column row_is value_is parts kept columns made are of cut query whole front_is T at texts words g key values having items together last_is key_is values_are same_behind same_units same_items utf8 can can_last tables loaded few
+    some = some_column row_is value_is parts kept columns made are of cut query whole front_is T at texts words g key values having items together last_is key_is values_are same_behind same_units same_items utf8 can can_last tables loaded
 
     told_front : (raised : ℕ) → IsTold (outcome (query_of parts) tables) raised → Told raised
     told_front raised h =
         told_any (grouped_flow query tables).rows (once (grouped_flow query tables).rows) (grouped_flow query tables).codes raised
-        (from_front row_is value_is parts kept columns made are of cut query whole front_is T at texts words g key values having items together last_is key_is values_are same_behind same_units same_items utf8 can can_last tables loaded few raised h)
+        (from_front row_is value_is parts kept columns made are of cut query whole front_is T at texts words g key values having items together last_is key_is values_are same_behind same_units same_items utf8 can can_last tables loaded raised h)
 
     told_walk : (fed : Flow (List Val)) → Alike fed (flow (query_of parts) tables) → fed.codes ≡ [] → (raised : ℕ) → Tells (walked_of folded fed.rows).codes raised → Told raised
     told_walk fed same none raised tells =
         told_any (grouped_flow query tables).rows (once (grouped_flow query tables).rows) (grouped_flow query tables).codes raised
-        (from_walk row_is value_is parts kept columns made are of cut query whole front_is T at texts words g key values having items together last_is key_is values_are same_behind same_units same_items utf8 can can_last tables loaded few fed same none raised tells)
+        (from_walk row_is value_is parts kept columns made are of cut query whole front_is T at texts words g key values having items together last_is key_is values_are same_behind same_units same_items utf8 can can_last tables loaded fed same none raised tells)
 
     keys_good : (rows : List (List Val)) → IsPermutation (flow (query_of parts) tables).rows rows → AllByRecursion (λ (k : List Val). AreStored key k) (keys (length query.columns) rows)
     keys_good = keys_ok row_is value_is parts kept columns made are of cut query whole front_is T at texts words g key values having items together last_is key_is values_are same_behind same_units same_items utf8 can can_last tables loaded few
@@ -187,10 +187,10 @@ module _ (row_is : (row other : List Val) → is_same_row row other ≡ true →
     values_good = values_ok row_is value_is parts kept columns made are of cut query whole front_is T at texts words g key values having items together last_is key_is values_are same_behind same_units same_items utf8 can can_last tables loaded few
 
     units_few : (rows : List (List Val)) → IsPermutation rows (planned_rows (query_of parts) tables) → group_units general_hashing folded rows ≤ group_units general_hashing query (planned_rows (query_of parts) tables)
-    units_few = units_low row_is value_is parts kept columns made are of cut query whole front_is T at texts words g key values having items together last_is key_is values_are same_behind same_units same_items utf8 can can_last tables loaded few
+    units_few = units_low row_is value_is parts kept columns made are of cut query whole front_is T at texts words g key values having items together last_is key_is values_are same_behind same_units same_items utf8 can can_last tables loaded
 
     octets_few : (rows : List (List Val)) → IsPermutation rows (planned_rows (query_of parts) tables) → group_octets folded rows ≤ group_octets query (planned_rows (query_of parts) tables)
-    octets_few = octets_low row_is value_is parts kept columns made are of cut query whole front_is T at texts words g key values having items together last_is key_is values_are same_behind same_units same_items utf8 can can_last tables loaded few
+    octets_few = octets_low row_is value_is parts kept columns made are of cut query whole front_is T at texts words g key values having items together last_is key_is values_are same_behind same_units same_items utf8 can can_last tables loaded
 
     less_rows : 1 ≤ length query.functions → length (flow (query_of parts) tables).rows < 10 ^ 18
     less_rows = few_spec row_is value_is parts kept columns made are of cut query whole front_is T at texts words g key values having items together last_is key_is values_are same_behind same_units same_items utf8 can can_last tables loaded few
@@ -207,15 +207,15 @@ module _ (row_is : (row other : List Val) → is_same_row row other ≡ true →
     -- ---- what is the same as of a grouped query
     reached_by : (front : List Pipeline) (p : Pipeline) (back : List Pipeline) (stoods : List Stood) → cut.building ≡ front ++ p ∷ back → AreStood tables [] front stoods →
         Reach T (literal_count texts words) columns (literals_known T at texts words) tables given_up_distinct M N (table_of (entries_of (query_of parts).sources)) stoods p (budget given_up_distinct tables cut.building (length front)) (budget given_up_distinct tables cut.building (suc (length front)))
-    reached_by = builds_reach row_is value_is parts kept columns made are of cut folded some less_row widest_stored widest_low items_fit (omega arith) (omega arith) T at texts words g key values together last_is can can_last tables loaded less_rows Told told_front told_walk keys_good values_good
+    reached_by = builds_reach row_is value_is parts kept columns made are of cut folded some less_row widest_stored widest_low items_fit (omega arith) (omega arith) T at texts words g key values together last_is can can_last tables loaded Told told_front
         (group_units general_hashing query planned) (group_octets query planned) units_few octets_few S 2 N (omega arith) (omega arith) (omega arith)
 
     told_by : (front : List Pipeline) (p : Pipeline) (back : List Pipeline) (stoods : List Stood) → cut.building ≡ front ++ p ∷ back → AreStood tables [] front stoods → (raised : ℕ) → Tells (fed_over tables stoods p).codes raised → Told raised
-    told_by = builds_told row_is value_is parts kept columns made are of cut folded some less_row widest_stored widest_low items_fit (omega arith) (omega arith) T at texts words g key values together last_is can can_last tables loaded less_rows Told told_front told_walk keys_good values_good
+    told_by = builds_told row_is value_is parts kept columns made are of cut folded some less_row widest_stored widest_low items_fit (omega arith) (omega arith) T at texts words g key values together last_is can can_last tables loaded Told told_front
         (group_units general_hashing query planned) (group_octets query planned) units_few octets_few S 2 N (omega arith) (omega arith) (omega arith)
 
     told_gather : (stoods : List Stood) → AreStood tables [] cut.building stoods → (raised : ℕ) → Tells (fed_over tables stoods cut.last).codes raised → Told raised
-    told_gather = gather_told row_is value_is parts kept columns made are of cut folded some less_row widest_stored widest_low items_fit (omega arith) (omega arith) T at texts words g key values together last_is can can_last tables loaded less_rows Told told_front told_walk keys_good values_good
+    told_gather = gather_told row_is value_is parts kept columns made are of cut folded some less_row widest_stored widest_low items_fit (omega arith) (omega arith) T at texts words g key values together last_is can can_last tables loaded Told told_front
         (group_units general_hashing query planned) (group_octets query planned) units_few octets_few S 2 N (omega arith) (omega arith) (omega arith)
 
     module _ (stoods : List Stood) (stood : AreStood tables [] cut.building stoods) where
@@ -226,35 +226,35 @@ module _ (row_is : (row other : List Val) → is_same_row row other ≡ true →
       before = budget given_up_distinct tables cut.building (length cut.building)
 
       gathers : GatherReach T (literal_count texts words) columns (literals_known T at texts words) tables given_up_distinct M N (table_of (entries_of (query_of parts).sources)) g stoods cut.last (budget given_up_distinct tables cut.building (length cut.building))
-      gathers = gather_reach row_is value_is parts kept columns made are of cut folded some less_row widest_stored widest_low items_fit (omega arith) (omega arith) T at texts words g key values together last_is can can_last tables loaded less_rows Told told_front told_walk keys_good values_good
-          (group_units general_hashing query planned) (group_octets query planned) units_few octets_few S 2 N (omega arith) (omega arith) (omega arith) stoods stood
+      gathers = gather_reach row_is value_is parts kept columns made are of cut folded some less_row widest_stored widest_low items_fit (omega arith) (omega arith) T at texts words g key values together last_is can can_last tables loaded Told told_front
+          (group_units general_hashing query planned) (group_octets query planned) units_few octets_few S 2 N (omega arith) (omega arith) (omega arith) less_rows told_walk keys_good values_good stoods stood
 
       keys_there : AllByRecursion (λ (k : List Val). AreStored key k) (keys g.columns rows)
-      keys_there = keys_stored row_is value_is parts kept columns made are of cut folded some less_row widest_stored widest_low items_fit (omega arith) (omega arith) T at texts words g key values together last_is can can_last tables loaded less_rows Told told_front told_walk keys_good values_good
-          (group_units general_hashing query planned) (group_octets query planned) units_few octets_few S 2 N (omega arith) (omega arith) (omega arith) stoods stood
+      keys_there = keys_stored row_is value_is parts kept columns made are of cut folded some less_row widest_stored widest_low items_fit (omega arith) (omega arith) T at texts words g key values together last_is can can_last tables loaded Told told_front
+          (group_units general_hashing query planned) (group_octets query planned) units_few octets_few S 2 N (omega arith) (omega arith) (omega arith) less_rows told_walk keys_good values_good stoods stood
 
       values_there : AllByRecursion (λ (k : List Val). (vs : List Val) → function_values (length key) (functions_of values) (members g.columns k rows) ≡ Ok vs → AreRead values vs) (keys g.columns rows)
-      values_there = values_are_read row_is value_is parts kept columns made are of cut folded some less_row widest_stored widest_low items_fit (omega arith) (omega arith) T at texts words g key values together last_is can can_last tables loaded less_rows Told told_front told_walk keys_good values_good
-          (group_units general_hashing query planned) (group_octets query planned) units_few octets_few S 2 N (omega arith) (omega arith) (omega arith) stoods stood
+      values_there = values_are_read row_is value_is parts kept columns made are of cut folded some less_row widest_stored widest_low items_fit (omega arith) (omega arith) T at texts words g key values together last_is can can_last tables loaded Told told_front
+          (group_units general_hashing query planned) (group_octets query planned) units_few octets_few S 2 N (omega arith) (omega arith) (omega arith) less_rows told_walk keys_good values_good stoods stood
 
       paid_for : (octets : ℕ) → table_octets (kept_by spec) tables (placed spec) + octets ≤ S → before + 2 * given_up_distinct + octets + 2 * given_up_distinct < (M + 1) * given_up_distinct
-      paid_for = pays row_is value_is parts kept columns made are of cut folded some less_row widest_stored widest_low items_fit (omega arith) (omega arith) T at texts words g key values together last_is can can_last tables loaded less_rows Told told_front told_walk keys_good values_good
+      paid_for = pays row_is value_is parts kept columns made are of cut folded some less_row widest_stored widest_low items_fit (omega arith) (omega arith) T at texts words g key values together last_is can can_last tables loaded Told told_front
           (group_units general_hashing query planned) (group_octets query planned) units_few octets_few S 2 N (omega arith) (omega arith) (omega arith) stoods stood
 
       first_octets : 4096 + length (keys g.columns rows) * group_width g ≤ group_octets query planned
-      first_octets = group_octets_less row_is value_is parts kept columns made are of cut folded some less_row widest_stored widest_low items_fit (omega arith) (omega arith) T at texts words g key values together last_is can can_last tables loaded less_rows Told told_front told_walk keys_good values_good
+      first_octets = group_octets_less row_is value_is parts kept columns made are of cut folded some less_row widest_stored widest_low items_fit (omega arith) (omega arith) T at texts words g key values together last_is can can_last tables loaded Told told_front
           (group_units general_hashing query planned) (group_octets query planned) units_few octets_few S 2 N (omega arith) (omega arith) (omega arith) stoods stood
 
       by_planned : IsPermutation (fed_over tables stoods cut.last).rows (planned_rows (query_of parts) tables)
-      by_planned = by_plan row_is value_is parts kept columns made are of cut folded some less_row widest_stored widest_low items_fit (omega arith) (omega arith) T at texts words g key values together last_is can can_last tables loaded less_rows Told told_front told_walk keys_good values_good
+      by_planned = by_plan row_is value_is parts kept columns made are of cut folded some less_row widest_stored widest_low items_fit (omega arith) (omega arith) T at texts words g key values together last_is can can_last tables loaded Told told_front
           (group_units general_hashing query planned) (group_octets query planned) units_few octets_few S 2 N (omega arith) (omega arith) (omega arith) stoods stood
 
       of_flow : IsPermutation (flow (query_of parts) tables).rows (fed_over tables stoods cut.last).rows
-      of_flow = from_flow row_is value_is parts kept columns made are of cut folded some less_row widest_stored widest_low items_fit (omega arith) (omega arith) T at texts words g key values together last_is can can_last tables loaded less_rows Told told_front told_walk keys_good values_good
+      of_flow = from_flow row_is value_is parts kept columns made are of cut folded some less_row widest_stored widest_low items_fit (omega arith) (omega arith) T at texts words g key values together last_is can can_last tables loaded Told told_front
           (group_units general_hashing query planned) (group_octets query planned) units_few octets_few S 2 N (omega arith) (omega arith) (omega arith) stoods stood
 
       alike_flow : Alike (fed_over tables stoods cut.last) (flow (query_of parts) tables)
-      alike_flow = alike row_is value_is parts kept columns made are of cut folded some less_row widest_stored widest_low items_fit (omega arith) (omega arith) T at texts words g key values together last_is can can_last tables loaded less_rows Told told_front told_walk keys_good values_good
+      alike_flow = alike row_is value_is parts kept columns made are of cut folded some less_row widest_stored widest_low items_fit (omega arith) (omega arith) T at texts words g key values together last_is can can_last tables loaded Told told_front
           (group_units general_hashing query planned) (group_octets query planned) units_few octets_few S 2 N (omega arith) (omega arith) (omega arith) stoods stood
 
       -- ---- the rows that are put into the second table

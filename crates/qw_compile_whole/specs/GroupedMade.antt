@@ -26,7 +26,7 @@ use Rattle.qw_compile.specs.QueryLiterals.{query_words}
 use Rattle.qw_compile.specs.QueryLocals.{own_start, query_locals}
 use Rattle.qw_compile.specs.QueryMade.{literal_locals, literals_by, readers_by, texts_by, words_by}
 use Rattle.qw_compile.specs.Statements.{AreCourses, Course}
-use Rattle.qw_compile_whole.specs.GroupedStatements.{IsGathering, grouped_block}
+use Rattle.qw_compile_whole.specs.GuardedStatements.{IsGatheringBy, guard_for, guarded_block_of}
 
 -- `ps` are the pipelines of what reaches the groups, the last of which would make a result of the values of `group`; `behind` has what is done at the rows of
 -- the grouped table, its operators and its sink alone (no entry of FROM is scanned there); `key` and `values` are the grouped table's columns. There are so
@@ -48,12 +48,12 @@ pub record IsGroupedMade (tables : ℕ) (texts : List (List ℕ)) (ps : List Pip
   pub columns_is : group.columns ≡ length key
   pub functions_are : group.functions ≡ map (λ (v : ValueColumn). v.function) values
   pub values_are : gathering.sink ≡ physical.select group.values
-  pub code_is : code ≡ steps_of (grouped_block tables (descriptor_size layout) leads sets builds (length building) gathers walk)
+  pub code_is : code ≡ steps_of (guarded_block_of (guard_for (length ps) (length values)) tables (descriptor_size layout) leads sets builds (length building) gathers walk)
   pub locals_are : locals ≡ query_locals tables (length texts) (length (query_words (ps ++ behind ∷ []))) columns (builds_own ++ (gathers_own ++ walk_own))
   pub leads_all : LeadsToAll (texts_by tables (length columns) texts) leads
   pub sets_all : SetsAll (words_by tables texts (ps ++ behind ∷ [])) sets
   pub built : AreCourses (literals_by tables (length columns) texts (ps ++ behind ∷ [])) (readers_by tables texts (ps ++ behind ∷ []) columns) (own_start tables (literal_locals texts (ps ++ behind ∷ [])) (length columns)) building builds builds_own
-  pub gathered : IsGathering (literals_by tables (length columns) texts (ps ++ behind ∷ [])) (readers_by tables texts (ps ++ behind ∷ []) columns) (own_start tables (literal_locals texts (ps ++ behind ∷ [])) (length columns) + length builds_own) gathering group fields gathers gathers_own
+  pub gathered : IsGatheringBy (guard_for (length ps) (length values)) (literals_by tables (length columns) texts (ps ++ behind ∷ [])) (readers_by tables texts (ps ++ behind ∷ []) columns) (own_start tables (literal_locals texts (ps ++ behind ∷ [])) (length columns) + length builds_own) gathering group fields gathers gathers_own
   pub field_kinds : kinds_of (sources_of fields) ≡ map kind_of group.values
   pub walked : IsGroupPipeline (literals_by tables (length columns) texts (ps ++ behind ∷ [])) (directory (length building)) (own_start tables (literal_locals texts (ps ++ behind ∷ [])) (length columns) + length builds_own + length gathers_own) key values (pipeline_of behind).operators (pipeline_of behind).sink walk walk_own
   pub columns_are : layout.columns ≡ used

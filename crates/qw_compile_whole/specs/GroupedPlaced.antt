@@ -1,5 +1,5 @@
 -- What the blocks of a grouped query's pipelines rest on, and what is emitted for them one after another.
-use Rattle.std.specs.Prelude.{◌≡◌, ◌≤◌, ℕ, ◌+◌, ◌-◌, Some, List, [], ◌∷◌, ◌++◌, length, map}
+use Rattle.std.specs.Prelude.{◌≡◌, ◌≤◌, ℕ, ◌+◌, ◌-◌, Option, Some, List, [], ◌∷◌, ◌++◌, length, map}
 use Rattle.qw_types.specs.declared.kind.Kind.{Kind}
 use Rattle.qw_module.specs.declared.instruction.ValType.{ValType}
 use Rattle.qw_scalar.specs.Expression.{Expression}
@@ -20,9 +20,9 @@ use Rattle.qw_group_pipeline.specs.Groups.{IsGroupPipeline, all_anywhere}
 use Rattle.qw_group_pipeline.specs.declared.columns.ValueColumn.{ValueColumn}
 use Rattle.qw_compile.specs.Placed.{known_over, literals_placed}
 use Rattle.qw_compile.specs.QueryLocals.{readers_over}
-use Rattle.qw_compile.specs.Statements.{AreCourses, Course, build_block, builds_block, course_block}
+use Rattle.qw_compile.specs.Statements.{AreCourses, Course, builds_block, course_block}
 use Rattle.qw_compile.specs.declared.courses.Places.{Places}
-use Rattle.qw_compile_whole.specs.GroupedStatements.{IsGathering}
+use Rattle.qw_compile_whole.specs.GuardedStatements.{IsGatheringBy, gather_block, guard_for}
 
 -- a pipeline over an entry of FROM, whose rows go into groups, as one that would make a result of their values
 abbrev pub gathering_of : (entry : ℕ) → List Operator → Group → Pipeline
@@ -38,15 +38,15 @@ pub record CanGather (p : Places) (entry : ℕ) (operators : List Operator) (g :
 abbrev pub CanWalk : Places → List ReadColumn → List ValueColumn → Pipeline → Type 0
 CanWalk p key values behind = CanCarry (all_anywhere key values ++ literals_placed p) behind.operators behind.sink
 
--- the scan of such a pipeline was added to a block, and the types of its own locals to others
-pub record EmitsGathering (p : Places) (first entry : ℕ) (operators : List Operator) (g : Group) (old new : List LowStep) (own_old own_new : List ValType) : Type 0 where
+-- the scan of such a pipeline was added to a block, and the types of its own locals to others; where there is a local for it, rows are counted
+pub record EmitsGathering (guard : Option ℕ) (p : Places) (first entry : ℕ) (operators : List Operator) (g : Group) (old new : List LowStep) (own_old own_new : List ValType) : Type 0 where
   pub course : Course
   pub fields : List Field
   pub own : List ValType
   pub code_is : new ≡ old ++ steps_of (course_block p.tables course)
   pub own_is : own_new ≡ own_old ++ own
   pub kinds : kinds_of (sources_of fields) ≡ map kind_of g.values
-  pub is : IsGathering (literals_placed p) p.readers.items (first + length own_old) (gathering_of entry operators g) g fields course own
+  pub is : IsGatheringBy guard (literals_placed p) p.readers.items (first + length own_old) (gathering_of entry operators g) g fields course own
 
 -- so was the walk over the groups
 pub record EmitsWalk (p : Places) (first table : ℕ) (key : List ReadColumn) (values : List ValueColumn) (behind : Pipeline) (old new : List LowStep) (own_old own_new : List ValType) : Type 0 where
@@ -57,7 +57,7 @@ pub record EmitsWalk (p : Places) (first table : ℕ) (key : List ReadColumn) (v
   pub is : IsGroupPipeline (literals_placed p) (directory table) (first + length own_old) key values behind.operators behind.sink walk own
 
 -- all of them, the last of which makes the result, in cells of these kinds
-pub record EmitsGrouped (p : Places) (first : ℕ) (building : List Pipeline) (entry : ℕ) (operators : List Operator) (g : Group) (key : List ReadColumn) (values : List ValueColumn) (behind : Pipeline) (code : List LowStep) (own : List ValType) (kinds : List Kind) : Type 0 where
+pub record EmitsGrouped (guard : Option ℕ) (p : Places) (first : ℕ) (building : List Pipeline) (entry : ℕ) (operators : List Operator) (g : Group) (key : List ReadColumn) (values : List ValueColumn) (behind : Pipeline) (code : List LowStep) (own : List ValType) (kinds : List Kind) : Type 0 where
   pub builds : List Course
   pub gathers : Course
   pub walk : Statement
@@ -65,10 +65,10 @@ pub record EmitsGrouped (p : Places) (first : ℕ) (building : List Pipeline) (e
   pub builds_own : List ValType
   pub gathers_own : List ValType
   pub walk_own : List ValType
-  pub code_is : code ≡ steps_of (seq (builds_block p.tables 0 builds) (seq (build_block p.tables g.table gathers) (seq begin_block (seq walk finish_block))))
+  pub code_is : code ≡ steps_of (seq (builds_block p.tables 0 builds) (seq (gather_block guard p.tables g.table gathers) (seq begin_block (seq walk finish_block))))
   pub own_is : own ≡ builds_own ++ (gathers_own ++ walk_own)
   pub built : AreCourses (literals_placed p) p.readers.items first building builds builds_own
-  pub gathered : IsGathering (literals_placed p) p.readers.items (first + length builds_own) (gathering_of entry operators g) g fields gathers gathers_own
+  pub gathered : IsGatheringBy guard (literals_placed p) p.readers.items (first + length builds_own) (gathering_of entry operators g) g fields gathers gathers_own
   pub field_kinds : kinds_of (sources_of fields) ≡ map kind_of g.values
   pub walked : IsGroupPipeline (literals_placed p) (directory g.table) (first + length builds_own + length gathers_own) key values behind.operators behind.sink walk walk_own
   pub kinds_are : map Some kinds ≡ result_kinds behind.sink
@@ -88,7 +88,7 @@ LastSelects P (p ∷ q ∷ ps) = LastSelects P (q ∷ ps)
 abbrev pub group_over : (pipelines : ℕ) → List ReadColumn → List ValueColumn → (items : List Expression) → Group
 group_over n key values items = record { table = n - 1; columns = length key; functions = map (λ (v : ValueColumn). v.function) values; values = items }
 
--- what was emitted of them, and of what is behind
+-- What was emitted of them, and of what is behind. Rows that go into groups are counted where there are three pipelines or more, and set functions.
 pub record EmitsParts (p : Places) (first : ℕ) (pipelines : List Pipeline) (key : List ReadColumn) (values : List ValueColumn) (behind : Pipeline) (code : List LowStep) (own : List ValType) (kinds : List Kind) : Type 0 where
   pub building : List Pipeline
   pub gathering : Pipeline
@@ -98,4 +98,4 @@ pub record EmitsParts (p : Places) (first : ℕ) (pipelines : List Pipeline) (ke
   pub columns_is : group.columns ≡ length key
   pub functions_are : group.functions ≡ map (λ (v : ValueColumn). v.function) values
   pub values_are : gathering.sink ≡ select group.values
-  pub emitted : EmitsGrouped p first building gathering.entry gathering.operators group key values behind code own kinds
+  pub emitted : EmitsGrouped (guard_for (length pipelines) (length values)) p first building gathering.entry gathering.operators group key values behind code own kinds

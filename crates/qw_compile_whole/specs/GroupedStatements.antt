@@ -15,14 +15,17 @@ use Rattle.qw_group_sink.specs.Grouping.{Group, IsGrouped}
 use Rattle.qw_compile.specs.QueryLocals.{readers_over}
 use Rattle.qw_compile.specs.Statements.{Course, build_block, builds_block}
 
--- The blocks of a pipeline whose rows go into groups, with its own locals from `next` on. Where a row's values are when they go into their group is said
--- by `fields`.
-pub record IsGathering (literals : List Known) (readers : List Reader) (next : ℕ) (p : Pipeline) (g : Group) (fields : List Field) (c : Course) (own : List ValType) : Type 0 where
+-- The blocks of a pipeline at whose rows `End` is done innermost, with its own locals from `next` on.
+pub record IsGatheringTo (End : List Known → (next : ℕ) → Statement → List ValType → Type 0) (literals : List Known) (readers : List Reader) (next : ℕ) (p : Pipeline) (c : Course) (own : List ValType) : Type 0 where
   pub first : Reader
   pub first_is : slice_get (readers_over p.entry readers) 0 ≡ Some first
   pub index_is : c.index ≡ first.index
   pub begins : BeginsAll (readers_over p.entry readers) c.begins
-  pub row : IsRowTo (λ known at a more. IsGrouped fields known at g a more) literals (readers_over p.entry readers) next p.operators c.row own
+  pub row : IsRowTo End literals (readers_over p.entry readers) next p.operators c.row own
+
+-- Those of one whose rows go into groups. Where a row's values are when they go into their group is said by `fields`.
+abbrev pub IsGathering : (literals : List Known) → (readers : List Reader) → (next : ℕ) → Pipeline → Group → (fields : List Field) → Course → (own : List ValType) → Type 0
+IsGathering literals readers next p g fields c own = IsGatheringTo (λ known at a more. IsGrouped fields known at g a more) literals readers next p c own
 
 -- the whole; table number `table` is that of the groups, behind those of the joins
 abbrev pub grouped_block : (tables descriptor_size : ℕ) → (leads sets : Statement) → (builds : List Course) → (table : ℕ) → (gathers : Course) → (walk : Statement) → Statement

@@ -4,8 +4,15 @@ pub mod GroupedLimits
 pub mod GroupedMade
 pub mod GroupedPlaced
 pub mod GroupedStatements
+pub mod GuardedStatements
 pub mod SingleStatements
 pub mod StatementOf
 pub mod WholeDistinct
 pub mod WholeLimits
+pub mod WholeTaken
 pub mod WholeTexts
+pub mod WorkedSizes
+pub mod GuardedSingles
+pub mod SingleMade
+pub mod SingleOf
+pub mod SinglePlaced

@@ -1,30 +1,24 @@
 -- The statement of the module of a query with set functions and no GROUP BY: all rows are one group, also where there is no row (ISO/IEC 9075:1992, 7.8, 7.9).
-use Rattle.std.specs.Prelude.{◌≡◌, ℕ, ◌*◌, Some, List, slice_get}
+use Rattle.std.specs.Prelude.{ℕ, ◌*◌, List}
 use Rattle.qw_module.specs.declared.instruction.ValType.{ValType}
 use Rattle.qw_low.specs.Syntax.{Statement, seq}
 use Rattle.qw_feed.specs.Room.{space_block}
 use Rattle.qw_feed.specs.Rows.{begin_block, finish_block}
 use Rattle.qw_expr.specs.Computes.{Known}
-use Rattle.qw_read.specs.Reading.{BeginsAll}
 use Rattle.qw_read.specs.declared.reader.Reader.{Reader}
 use Rattle.qw_table.specs.declared.key.Field.{Field}
 use Rattle.qw_group.specs.Single.{single_block}
 use Rattle.qw_physical.specs.Physical.{Pipeline}
 use Rattle.qw_operator.specs.Carries.{directory}
-use Rattle.qw_group_sink.specs.Carrying.{IsRowTo}
 use Rattle.qw_group_sink.specs.Grouping.{Group}
 use Rattle.qw_group_sink.specs.OneGroup.{IsOneGroup}
-use Rattle.qw_compile.specs.QueryLocals.{readers_over}
 use Rattle.qw_compile.specs.Statements.{Course, builds_block, course_block}
+use Rattle.qw_compile_whole.specs.GroupedStatements.{IsGatheringTo}
 
 -- The blocks of a pipeline whose rows the areas of set functions take, with its own locals from `next` on. Where the arguments at a row are is said by
 -- `fields`.
-pub record IsTaking (literals : List Known) (readers : List Reader) (next : ℕ) (p : Pipeline) (g : Group) (fields : List Field) (c : Course) (own : List ValType) : Type 0 where
-  pub first : Reader
-  pub first_is : slice_get (readers_over p.entry readers) 0 ≡ Some first
-  pub index_is : c.index ≡ first.index
-  pub begins : BeginsAll (readers_over p.entry readers) c.begins
-  pub row : IsRowTo (λ known at a more. IsOneGroup fields known at g a more) literals (readers_over p.entry readers) next p.operators c.row own
+abbrev pub IsTaking : (literals : List Known) → (readers : List Reader) → (next : ℕ) → Pipeline → Group → (fields : List Field) → Course → (own : List ValType) → Type 0
+IsTaking literals readers next p g fields c own = IsGatheringTo (λ known at a more. IsOneGroup fields known at g a more) literals readers next p c own
 
 -- the areas of so many set functions are placed, and take the rows of a scan
 abbrev pub take_block : (tables table functions : ℕ) → Course → Statement

@@ -7,6 +7,9 @@ use Rattle.qw_scalar.specs.declared.expression.Expr.{Expr}
 use Rattle.qw_algebra.specs.Sizes.{tests_on}
 use Rattle.qw_grouped.specs.Query.{GroupedParts}
 use Rattle.qw_grouped.specs.declared.set_function.SetFunction.{SetFunction}
+use Rattle.qw_grouped.specs.declared.whole.Body.{Body}
+use Rattle.qw_grouped.specs.declared.whole.Body.TheVariants.{Plain, Grouped}
+use Rattle.qw_compile.specs.Limits.{IsShort}
 use Rattle.qw_compile_whole.specs.WholeTexts.{texts_of_grouped}
 
 -- ---- grouped queries, by any measure of expressions and conditions
@@ -24,3 +27,8 @@ behind_size of_expression of_condition parts = sum_by of_condition parts.having 
 pub record IsShortGrouped (parts : GroupedParts) : Type 0 where
   pub few_nodes : front_size nodes nodes_of parts + behind_size nodes nodes_of parts + 3 * length parts.columns + 2 * length parts.functions ≤ 4012
   pub few_octets : length (concat (texts_of_grouped parts)) ≤ 16384
+
+-- ---- all queries
+abbrev pub IsShortBody : Body → Type 0
+IsShortBody (Plain parts) = IsShort parts
+IsShortBody (Grouped parts) = IsShortGrouped parts

@@ -23,8 +23,8 @@ use qw_grouped::query::GroupedQuery;
 use qw_types::value_order_laws::order_laws;
 use std::alloc::Global;
 
-/// The module that runs a query with GROUP BY, and its layout: its columns are those that what reaches GROUP BY reads, its literals the query's texts. Rows
-/// are counted and summed in groups of fewer than 10^18 rows, which is all that two entries of FROM can bring.
+/// The module that runs a query with GROUP BY, and its layout: its columns are those that what reaches GROUP BY reads, its literals the query's texts. Set
+/// functions count and sum fewer than 10^18 rows, which is all that two entries of FROM can bring; of more entries no run that ends meets as many.
 ///
 /// # Errors
 ///
@@ -32,7 +32,6 @@ use std::alloc::Global;
 /// query; [`CompileFault::NoMemory`] where memory does not suffice.
 pub(crate) fn compile_grouped(alloc: Global, query: &GroupedQuery) -> Result<Compiled, CompileFault>
     requires grouped { 1 ≤ length query.now.columns }
-    requires few { 1 ≤ length query.now.functions → length (entries_of (grouped_of query.now).sources) ≤ 2 }
     requires some { AllByRecursion (λ (e : specified.Entry). 1 ≤ length e.columns) (entries_of (grouped_of query.now).sources) }
     requires sized { AllByRecursion (λ (e : specified.Entry). AllByRecursion (λ (c : schema.ColumnType). IsSized c.ty) e.columns) (entries_of (grouped_of query.now).sources) }
     requires alike { AreAlike (entries_of (grouped_of query.now).sources) }

@@ -28,7 +28,7 @@ returns-clause-compiled c =
     let q = c.args.query.now in
     let made = c.in-Some.field-0 in
     let found = subst (λ (o : Option QueryStatement). IfSome o (λ (x : QueryStatement). IsStatementOf c.args.query.now x.layout x.block.code.items x.locals.items)) c.in-Some.is c.in_ok-made.ensures.made in
-    whole_finished c.order_laws.ensures.rows c.order_laws.ensures.same q c.sources-sources.ensures.kept c.requires.grouped c.requires.few c.requires.sized made.layout made.block.code.items c.deref.result.now
+    whole_finished c.order_laws.ensures.rows c.order_laws.ensures.same q c.sources-sources.ensures.kept c.requires.grouped c.requires.sized made.layout made.block.code.items c.deref.result.now
     (subst (λ (l : List ValType). IsStatementOf q made.layout made.block.code.items l) (sym c.deref.ensures.value) found)
     (subst (λ (l : Layout). descriptor_size l ≤ page) c.layout.view_is c.layout.invariant) c.requires.alike (omega (arith, c.if-len-gt-MOST_STEPS.false, c.len.ensures, made.block.code.ok.0)) c.in_ok-module.module
     (λ s steps typed small. record {

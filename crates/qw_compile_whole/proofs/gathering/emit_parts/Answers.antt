@@ -1,4 +1,4 @@
-use Rattle.std.proofs.Common.{◌≡◌, ◌≤◌, ◌+◌, ◌*◌, ◌++◌, List, Option, length, map, sum_by, refl, sym, ap, ◌∙◌, subst, subst₂}
+use Rattle.std.proofs.Common.{◌≡◌, ◌≤◌, ◌+◌, ◌*◌, ◌++◌, ℕ, List, Option, length, map, sum_by, refl, sym, ap, ap₂, ◌∙◌, subst, subst₂}
 use Rattle.std.specs.Option.{option_to_list}
 use Rattle.qw_physical.specs.Coded.{operator_of, pipeline_of, sink_of}
 use Rattle.qw_physical.specs.declared.pipeline.Operator.{Operator}
@@ -12,6 +12,7 @@ use Rattle.qw_compile.specs.CourseSpan.{course_span}
 use Rattle.qw_compile.specs.declared.courses.Emitted.{Emitted}
 use Rattle.qw_compile_whole.specs.GroupedLimits.{gathering_span, walk_span}
 use Rattle.qw_compile_whole.specs.GroupedPlaced.{CanGather, EmitsGrouped, EmitsParts}
+use Rattle.qw_compile_whole.specs.GuardedStatements.{guard_for}
 use Rattle.qw_compile_whole.proofs.GroupedPlacing.{last_gathers, parts_emitted, parts_long}
 use Rattle.qw_compile_whole.proofs.gathering.emit_parts.Goals as goal
 
@@ -57,10 +58,11 @@ returns-clause-emits c =
     let p = c.args.places.now in
     let behind = pipeline_of c.args.pipeline.now in
     if_ok c.emit_grouped.result
-    (λ (made : Emitted). EmitsGrouped p c.args.first (map pipeline_of c.deref-2.result.now) last.entry (map operator_of c.deref-3.result.now) g key values behind made.block.code.items made.own.items made.kinds.items)
+    (λ (made : Emitted). EmitsGrouped c.guard_for-guard.result p c.args.first (map pipeline_of c.deref-2.result.now) last.entry (map operator_of c.deref-3.result.now) g key values behind made.block.code.items made.own.items made.kinds.items)
     (λ (made : Emitted). EmitsParts p c.args.first (map pipeline_of all) key values behind made.block.code.items made.own.items made.kinds.items)
-    (λ made h. parts_emitted all builders last is key values g (ap sink_of selects) columns_is functions_are c.requires.groups p c.args.first behind made.block.code.items made.own.items made.kinds.items (c.len.ensures ∙ c.pop.new.self.ok.0)
-    (subst₂ (λ (ps : List Pipeline) (os : List Operator). EmitsGrouped p c.args.first (map pipeline_of ps) last.entry (map operator_of os) g key values behind made.block.code.items made.own.items made.kinds.items) c.deref-2.ensures.value ops h))
+    (λ made h. parts_emitted all builders last is key values g (ap sink_of selects) columns_is functions_are c.requires.groups c.guard_for-guard.result p c.args.first behind made.block.code.items made.own.items made.kinds.items
+    (c.guard_for-guard.ensures ∙ ap₂ (λ (x y : ℕ). guard_for x y) (c.len-tables.ensures ∙ c.args.pipelines.ok.0) (c.len-3.ensures ∙ c.args.columns.now.values.ok.0)) (c.len.ensures ∙ c.pop.new.self.ok.0)
+    (subst₂ (λ (ps : List Pipeline) (os : List Operator). EmitsGrouped c.guard_for-guard.result p c.args.first (map pipeline_of ps) last.entry (map operator_of os) g key values behind made.block.code.items made.own.items made.kinds.items) c.deref-2.ensures.value ops h))
     c.emit_grouped.ensures.emits
 
 pub returns-clause-short : goal.returns-clause-short

@@ -1,0 +1,279 @@
+-- The module around the steps of a query with set functions and no GROUP BY is the compiled form of what is promised of it, where its pipelines keep that.
+use Rattle.std.proofs.Common.{◌≡◌, ◌∙◌, ◌≤◌, ◌<◌, ℕ, ◌+◌, ◌^◌, true, List, [], ◌∷◌, ◌++◌, length, length-append, map, refl, sym, ap, subst, subst₂, arith, Option, Some, None}
+use Rattle.std.specs.List.{AllByRecursion}
+use Rattle.std.proofs.lemmas.List.{length-map, map-append}
+use Rattle.std.specs.declared.cmp.Ordering.TheVariants as ordering
+use Rattle.qw_types.specs.ValueOrder.{is_same_row, value_order}
+use Rattle.qw_types.specs.Value.{IsSized}
+use Rattle.qw_types.specs.declared.kind.Kind.{Kind}
+use Rattle.qw_types.specs.declared.schema.ColumnType.{ColumnType}
+use Rattle.qw_types.specs.declared.value.Val.{Val}
+use Rattle.qw_linear.specs.Memory.{page}
+use Rattle.qw_module.specs.declared.instruction.ValType.{ValType}
+use Rattle.qw_module.specs.declared.instruction.ValType.TheVariants.{I32}
+use Rattle.qw_module.specs.declared.module.Module.{Module}
+use Rattle.qw_scalar.specs.Expression.{Expression}
+use Rattle.qw_scalar.specs.Typing.{kind_of}
+use Rattle.qw_map.specs.Layout.{Layout, descriptor_size, entry_offset}
+use Rattle.qw_map.specs.declared.layout.Used.{Used}
+use Rattle.qw_meaning.specs.Outcome.{IsSameOutcome, Rows}
+use Rattle.qw_meaning.specs.Query.{query_of}
+use Rattle.qw_meaning.specs.Select.{AreOfEntries, Entry, Source, Specification, entries_of}
+use Rattle.qw_grouped.specs.Grouped.{Grouped, IsGrouped, front}
+use Rattle.qw_grouped.specs.Query.{GroupedParts, grouped_of}
+use Rattle.qw_low.specs.declared.step.LowStep.{LowStep}
+use Rattle.qw_low.specs.Size.{size}
+use Rattle.qw_low.specs.Steps.{steps_of}
+use Rattle.qw_low.specs.Syntax.{Statement}
+use Rattle.qw_low.specs.Typing.{IsTyped}
+use Rattle.qw_read.specs.Constants.{IsSmall}
+use Rattle.qw_read.specs.Reading.{known_of}
+use Rattle.qw_read.specs.Texts.{LeadsToAll}
+use Rattle.qw_read.specs.declared.constant.Word.{Word}
+use Rattle.qw_pipe.specs.Pipes.{pipelines}
+use Rattle.qw_physical.specs.Coded.{pipeline_of}
+use Rattle.qw_physical.specs.Named.{IsDeclared, columns_of_entries, numbers}
+use Rattle.qw_physical.specs.Physical.{Operator, Pipeline, Sink, select}
+use Rattle.qw_physical.specs.Typed.{IsTypedOperator, IsTypedPhysical, IsTypedSink}
+use Rattle.qw_physical.specs.declared.pipeline.Pipeline as coded
+use Rattle.qw_leaves.proofs.LeafLists.{all_back, all_front}
+use Rattle.qw_algebra.proofs.Lists.{all_append, all_map, all_more}
+use Rattle.qw_operator.specs.Carries.{directory, result_kinds}
+use Rattle.qw_operator.specs.Takes.{CanCarry, CanSink}
+use Rattle.qw_operator.proofs.CarriedTyped.{AreLed, IsLed}
+use Rattle.qw_operator.proofs.Stood.{Stood}
+use Rattle.qw_promise.specs.Compiled.{GoesWith, IsCompiled, IsUsedOf}
+use Rattle.qw_promise.specs.Promise.{Promise}
+use Rattle.qw_emit.specs.Alike.{AreAlike}
+use Rattle.qw_emit.specs.RunsOf.{IsMadeOf}
+use Rattle.qw_emit.proofs.Answered.{IsTold}
+use Rattle.qw_group_sink.specs.Grouping.{CanGroup}
+use Rattle.qw_group_pipeline.specs.Groups.{InSink, IsOneRow}
+use Rattle.qw_group_pipeline.specs.declared.columns.ValueColumn.{ValueColumn}
+use Rattle.qw_compile.specs.QueryLiterals.{query_words}
+use Rattle.qw_compile.specs.QueryLocals.{own_start}
+use Rattle.qw_compile.specs.QueryMade.{CanStand, literal_locals, literals_by, readers_by, texts_by}
+use Rattle.qw_compile.specs.Statements.{AreCourses}
+use Rattle.qw_compile.proofs.Directories.{IsBelow, all_below, leading}
+use Rattle.qw_compile.proofs.Laid.{are_laid, are_used, used_many}
+use Rattle.qw_compile.proofs.LocalsPlaced.{literal_count}
+use Rattle.qw_compile.proofs.PipelineRuns.{AreStood, fed_over, readers_of}
+use Rattle.qw_compile.proofs.Planned.{IsPartedOf, are_sized, parted_as, same_long}
+use Rattle.qw_compile.proofs.PromiseKept.{SelectsItems, last_selects}
+use Rattle.qw_compile.proofs.QueryReach.{table_of}
+use Rattle.qw_compile.proofs.QueryRuns.{AreLaid}
+use Rattle.qw_compile.proofs.QueryTyped.{IsLeading, directory_is, types}
+use Rattle.qw_compile.proofs.Sizes.{size_steps}
+use Rattle.qw_compile.proofs.SmallWords.{words_small}
+use Rattle.qw_compile_whole.specs.GroupColumns.{key_columns, value_columns}
+use Rattle.qw_compile_whole.specs.GroupedPlaced.{group_over}
+use Rattle.qw_compile_whole.specs.GuardedSingles.{IsTakingBy, one_group_block_by}
+use Rattle.qw_compile_whole.specs.GuardedStatements.{guard_for}
+use Rattle.qw_compile_whole.specs.SingleOf.{IsSingleOf}
+use Rattle.qw_compile_whole.specs.SingleStatements.{IsTaking, one_group_block}
+use Rattle.qw_compile_whole.specs.WholeTexts.{texts_of_grouped}
+use Rattle.qw_compile_whole.proofs.ColumnTypes.{values_of_kinds}
+use Rattle.qw_compile_whole.proofs.FoldedBehind.{kinds_folded, with_behind}
+use Rattle.qw_compile_whole.proofs.GroupBounded.{rows_met, walked_of}
+use Rattle.qw_compile_whole.proofs.GroupedPlacing.{group_can}
+use Rattle.qw_compile_whole.proofs.GroupedReady.{can_group, follow_long, items_follow, key_long, tests_follow}
+use Rattle.qw_compile_whole.proofs.GroupedStands.{front_stands}
+use Rattle.qw_compile_whole.proofs.SingleAlone.{single_alone}
+use Rattle.qw_compile_whole.proofs.SingleBounded.{GoAlone, IsSingleBounded}
+use Rattle.qw_compile_whole.proofs.SingleCompiled.{single_compiled}
+use Rattle.qw_compile_whole.proofs.SingleTyped.{single_typed}
+
+chosen_same : (a b : List Expression) → select a ≡ select b → a ≡ b
+chosen_same a b e = cc
+
+module _ (row_is : (row other : List Val) → is_same_row row other ≡ true → row ≡ other) (value_is : (a : Val) → value_order a a ≡ ordering.Equal)
+    (parts : GroupedParts) (grouped : IsGrouped (grouped_of parts)) (none : length parts.columns ≡ 0) (layout : Layout) (code : List LowStep) (locals : List ValType) (s : IsSingleOf parts layout code locals) (small : descriptor_size layout ≤ page) where
+  abbrev query : Grouped
+  query = grouped_of parts
+
+  abbrev entries : List Entry
+  entries = entries_of query.sources
+
+  abbrev T : ℕ
+  T = length s.ps
+
+  abbrev texts : List (List ℕ)
+  texts = texts_of_grouped parts
+
+  abbrev all : List coded.Pipeline
+  all = s.ps ++ s.behind ∷ []
+
+  abbrev words : List Word
+  words = query_words (s.ps ++ s.behind ∷ [])
+
+  abbrev values : List ValueColumn
+  values = value_columns query
+
+  abbrev folded : Grouped
+  folded = with_behind (grouped_of parts) s.behind_is.having s.behind_is.items
+
+  abbrev behind : Pipeline
+  behind = pipeline_of s.behind
+
+  abbrev whole : Statement
+  whole = one_group_block T (descriptor_size layout) s.made.leads s.made.sets s.made.builds (length s.made.building) (length s.group.functions) s.made.takes s.made.one
+
+  -- ---- the rows that the set functions take
+  sources_are : (query_of s.before).sources ≡ query.sources
+  sources_are = ap (λ (f : Specification). f.sources) s.before_is
+
+  abbrev pub cut : IsPartedOf s.kept s.of.node (map pipeline_of s.ps)
+  cut =
+      let same = parted_as s.kept s.of.node (map pipeline_of s.ps) s.made.building s.made.taking s.made.pipelines_are s.of.same in
+      record { building = s.made.building; last = s.made.taking; whole = s.made.pipelines_are; same = same.0; same_last = same.1 }
+
+  kinds_front : map kind_of s.group.values ≡ map kind_of (front query).items
+  kinds_front =
+      let chosen : SelectsItems (query_of s.before).items s.made.taking.sink = last_selects row_is value_is s.before s.kept s.columns s.ps s.are s.of cut in
+      ap (λ (l : List Expression). map kind_of l) (chosen_same s.group.values chosen.made (sym s.made.values_are ∙ chosen.is)) ∙ (chosen.kinds ∙ ap (λ (f : Specification). map kind_of f.items) s.before_is)
+
+  pub areas_can : CanGroup s.group
+  areas_can =
+      let place : s.group.columns ≡ length (key_columns query) = let keyed = key_long 0 query.columns in let no_columns = s.made.no_columns in omega (arith, keyed, no_columns, none) in
+      group_can s.group (group_over T (key_columns query) values s.group.values) place s.made.functions_are refl (can_group query grouped T s.group.values kinds_front)
+
+  -- ---- the layout
+  pub many : length s.columns ≡ length layout.columns
+  many = sym (used_many entries s.columns s.used s.used_at) ∙ ap (λ (l : List Used). length l) (sym s.made.columns_are)
+
+  pub folded_kinds : map kind_of s.behind_is.items ≡ map (λ (k : Kind). Some k) layout.cells
+  folded_kinds = sym (ap result_kinds s.behind_is.sink_is) ∙ sym s.made.kinds_are
+
+  pub goes_with : (promise : Promise) → promise.entries ≡ entries_of (grouped_of parts).sources → promise.cells ≡ map kind_of (grouped_of parts).items → GoesWith promise layout
+  goes_with promise entries_are cells_are = record {
+    columns = subst (λ (es : List Entry). AllByRecursion (IsUsedOf es) layout.columns) (sym entries_are) (subst (AllByRecursion (IsUsedOf entries)) (sym s.made.columns_are) (are_used entries (numbers s.columns) s.used s.used_at));
+    cells = cells_are ∙ (kinds_folded query behind s.behind_is ∙ folded_kinds);
+    small = small;
+  }
+
+  pub laid_columns : AllByRecursion (λ (e : Entry). AllByRecursion (λ (c : ColumnType). IsSized c.ty) e.columns) (entries_of (grouped_of parts).sources) → AreLaid (table_of (entries_of (grouped_of parts).sources)) layout.columns s.columns
+  laid_columns sized =
+      let declared_columns = subst (λ (ss : List Source). AllByRecursion (IsDeclared (columns_of_entries (entries_of ss))) s.columns) sources_are s.are.declared in
+      subst (λ (l : List Used). AreLaid (table_of entries) l s.columns) (sym s.made.columns_are) (are_laid entries s.columns s.used s.used_at declared_columns (are_sized entries s.columns sized declared_columns))
+
+  -- ---- how many tables
+  built_many : length s.made.building + 1 ≡ T
+  built_many =
+      let one = length-map s.ps pipeline_of in
+      let two = ap (λ (l : List Pipeline). length l) s.made.pipelines_are in
+      let three = length-append s.made.building (s.made.taking ∷ []) in
+      omega (arith, one, two, three)
+
+  pub low : length s.made.building < length s.ps
+  low = let one = built_many in omega (arith, one)
+
+  -- ---- pipelines
+  abbrev Takes : ℕ → Pipeline → Type 0
+  Takes n p = CanCarry (literals_by T n texts all ++ map known_of (readers_of T (literal_locals texts all) s.columns p.entry)) p.operators p.sink
+
+  takes : AllByRecursion (Takes (length s.columns)) (s.made.building ++ s.made.taking ∷ [])
+  takes =
+      subst (AllByRecursion (Takes (length s.columns))) s.made.pipelines_are
+      (all_map (Takes (length s.columns)) pipeline_of s.ps
+      (all_more (λ (q : coded.Pipeline). CanStand T texts all s.columns (pipeline_of q)) (λ (q : coded.Pipeline). Takes (length s.columns) (pipeline_of q)) s.ps (λ q h. h.takes)
+      (front_stands s.before s.kept s.columns s.ps s.are s.of T texts s.behind s.among)))
+
+  building_takes : AllByRecursion (Takes (length s.columns)) s.made.building
+  building_takes = all_front (Takes (length s.columns)) s.made.building (s.made.taking ∷ []) takes
+
+  last_takes : Takes (length s.columns) s.made.taking
+  last_takes = (all_back (Takes (length s.columns)) s.made.building (s.made.taking ∷ []) takes).0
+
+  below : AllByRecursion (IsBelow (length s.made.building)) (s.made.building ++ s.made.taking ∷ [])
+  below =
+      let one = length-map s.ps pipeline_of in
+      let long = same_long s.kept (pipelines s.of.node) (map pipeline_of s.ps) s.of.same in
+      let count = built_many in
+      subst (AllByRecursion (IsBelow (length s.made.building))) s.made.pipelines_are (all_below s.kept s.of.node (length s.made.building) (map pipeline_of s.ps) (omega (arith, count, one, long)) s.of.same)
+
+  -- with the columns of the layout
+  pub takes_building : AllByRecursion (λ (p : Pipeline). CanCarry (literals_by T (length layout.columns) texts all ++ map known_of (readers_of T (literal_locals texts all) s.columns p.entry)) p.operators p.sink) s.made.building
+  takes_building = subst (λ (n : ℕ). AllByRecursion (Takes n) s.made.building) many building_takes
+
+  pub takes_last : CanCarry (literals_by T (length layout.columns) texts all ++ map known_of (readers_of T (literal_locals texts all) s.columns s.made.taking.entry)) s.made.taking.operators s.made.taking.sink
+  takes_last = subst (λ (n : ℕ). Takes n s.made.taking) many last_takes
+
+  -- ---- what is behind
+  pub alone : GoAlone (with_behind (grouped_of parts) s.behind_is.having s.behind_is.items) s.group (value_columns (grouped_of parts)) (literals_by (length s.ps) (length layout.columns) (texts_of_grouped parts) (s.ps ++ s.behind ∷ []))
+  alone = single_alone query grouped none s.behind s.behind_is T (length layout.columns) texts s.ps s.among s.group areas_can s.made.no_columns s.made.functions_are kinds_front
+
+  -- ---- types
+  behind_typed : IsTypedPhysical behind
+  behind_typed = record {
+    operators = subst (AllByRecursion IsTypedOperator) (sym s.behind_is.operators_are) ((tests_follow query query.having s.behind_is.having s.behind_is.having_follow grouped.having).0, tt);
+    sink = subst IsTypedSink (sym s.behind_is.sink_is) (items_follow query query.items s.behind_is.items s.behind_is.items_follow grouped.items).0;
+  }
+
+  pub small_words : AllByRecursion IsSmall (query_words (s.ps ++ s.behind ∷ []))
+  small_words = words_small all (subst (AllByRecursion IsTypedPhysical) (sym (map-append pipeline_of s.ps (s.behind ∷ []))) (all_append IsTypedPhysical (map pipeline_of s.ps) (behind ∷ []) s.of.typed (behind_typed, tt)))
+
+  abbrev own : List ValType
+  own = s.made.builds_own ++ (s.made.takes_own ++ s.made.one_own)
+
+  abbrev declared : List ValType
+  declared = types T (entry_offset (length s.columns)) s.columns texts words own
+
+  leads_one : (p : Pipeline) → IsBelow (length s.made.building) p → Takes (length s.columns) p → IsLeading declared p
+  leads_one p less can =
+      leading declared (length s.made.building) (λ t h. let fewer = low in directory_is T (entry_offset (length s.columns)) s.columns texts words own t (omega (arith, h, fewer))) refl refl
+      (literals_by T (length s.columns) texts all ++ map known_of (readers_of T (literal_locals texts all) s.columns p.entry)) p less can
+
+  all_lead : (qs : List Pipeline) → AllByRecursion (IsBelow (length s.made.building)) qs → AllByRecursion (Takes (length s.columns)) qs → AllByRecursion (IsLeading declared) qs
+  all_lead [] less can = tt
+  all_lead (q ∷ qs) less can = (leads_one q less.0 can.0, all_lead qs less.1 can.1)
+
+  pub leads_behind : IsLeading (types (length s.ps) (entry_offset (length s.columns)) s.columns (texts_of_grouped parts) (query_words (s.ps ++ s.behind ∷ [])) (s.made.builds_own ++ (s.made.takes_own ++ s.made.one_own))) (pipeline_of s.behind)
+  leads_behind = (
+    subst (AreLed declared) (sym s.behind_is.operators_are) tt,
+    subst (IsLed declared) (sym s.behind_is.sink_is) (refl, refl),
+    subst CanSink (sym s.behind_is.sink_is) (omega (arith, follow_long query.items s.behind_is.items s.behind_is.items_follow, grouped.few_items)),
+  )
+
+  pub leads_building : AllByRecursion (IsLeading (types (length s.ps) (entry_offset (length s.columns)) s.columns (texts_of_grouped parts) (query_words (s.ps ++ s.behind ∷ [])) (s.made.builds_own ++ (s.made.takes_own ++ s.made.one_own)))) s.made.building
+  leads_building = all_lead s.made.building (all_front (IsBelow (length s.made.building)) s.made.building (s.made.taking ∷ []) below) building_takes
+
+  pub leads_taking : AreLed (types (length s.ps) (entry_offset (length s.columns)) s.columns (texts_of_grouped parts) (query_words (s.ps ++ s.behind ∷ [])) (s.made.builds_own ++ (s.made.takes_own ++ s.made.one_own))) s.made.taking.operators
+  leads_taking = (leads_one s.made.taking (all_back (IsBelow (length s.made.building)) s.made.building (s.made.taking ∷ []) below).0 last_takes).0
+
+  -- ---- rows are counted or not
+  module _ (guard : Option ℕ) (guard_is : guard_for (length s.ps) (length (value_columns (grouped_of parts))) ≡ guard) where
+    pub code_by : code ≡ steps_of (one_group_block_by guard (length s.ps) (descriptor_size layout) s.made.leads s.made.sets s.made.builds (length s.made.building) (length s.group.functions) s.made.takes s.made.one)
+    code_by = s.made.code_is ∙ ap (λ (g : Option ℕ). steps_of (one_group_block_by g T (descriptor_size layout) s.made.leads s.made.sets s.made.builds (length s.made.building) (length s.group.functions) s.made.takes s.made.one)) guard_is
+
+    pub taken_by : IsTakingBy guard (literals_by (length s.ps) (length s.columns) (texts_of_grouped parts) (s.ps ++ s.behind ∷ [])) (readers_by (length s.ps) (texts_of_grouped parts) (s.ps ++ s.behind ∷ []) s.columns)
+        (own_start (length s.ps) (literal_locals (texts_of_grouped parts) (s.ps ++ s.behind ∷ [])) (length s.columns) + length s.made.builds_own) s.made.taking s.group s.made.fields s.made.takes s.made.takes_own
+    taken_by =
+        subst (λ (g : Option ℕ). IsTakingBy g (literals_by T (length s.columns) texts all) (readers_by T texts all s.columns) (own_start T (literal_locals texts all) (length s.columns) + length s.made.builds_own) s.made.taking s.group s.made.fields s.made.takes s.made.takes_own) guard_is s.made.taken
+
+  typed : guard_for (length s.ps) (length (value_columns (grouped_of parts))) ≡ None → IsTyped (I32 ∷ locals) whole
+  typed uncounted =
+      subst (λ (l : List ValType). IsTyped (I32 ∷ l) whole) (sym s.made.locals_are)
+      (single_typed T (entry_offset (length s.columns)) s.columns texts words own (descriptor_size layout) s.made.leads s.made.sets s.made.one s.made.building s.made.taking behind s.group s.made.fields values s.made.builds s.made.takes
+      s.made.builds_own s.made.takes_own s.made.one_own small s.made.leads_all s.made.sets_all small_words refl s.made.built (taken_by None uncounted) s.made.field_kinds s.made.made low s.made.table_is
+      leads_building leads_taking areas_can s.made.no_columns leads_behind (values_of_kinds query grouped))
+
+  -- ---- the module
+  pub single_finished : guard_for (length s.ps) (length (value_columns (grouped_of parts))) ≡ None → (promise : Promise) → promise.entries ≡ entries_of (grouped_of parts).sources → promise.cells ≡ map kind_of (grouped_of parts).items → AllByRecursion (λ (e : Entry). AllByRecursion (λ (c : ColumnType). IsSized c.ty) e.columns) (entries_of (grouped_of parts).sources) →
+      AreAlike promise.entries → length code ≤ 2097152 → (m : Module) → ((st : Statement) → code ≡ steps_of st → IsTyped (I32 ∷ locals) st → size st ≤ 2 ^ 22 → IsMadeOf m st (length locals)) → (u : List (List (List Val)) → ℕ) →
+      ((tables : List (List (List Val))) → AreOfEntries promise.entries tables → IsSingleBounded (length s.ps) (literal_count (texts_of_grouped parts) (query_words (s.ps ++ s.behind ∷ []))) s.columns (texts_of_grouped parts) (query_words (s.ps ++ s.behind ∷ [])) (entry_offset (length layout.columns))
+      (table_of (entries_of (grouped_of parts).sources)) s.made.building s.made.taking (with_behind (grouped_of parts) s.behind_is.having s.behind_is.items) s.group (value_columns (grouped_of parts)) (IsTold (promise.outcome tables)) (u tables) (promise.pages tables) (1 + promise.units tables) tables) →
+      ((tables : List (List (List Val))) (stoods : List Stood) → AreOfEntries promise.entries tables → AreStood tables [] s.made.building stoods → (fed_over tables stoods s.made.taking).codes ≡ [] →
+      (walked_of (with_behind (grouped_of parts) s.behind_is.having s.behind_is.items) (rows_met tables stoods s.made.taking)).codes ≡ [] →
+      IsSameOutcome (promise.outcome tables) (Rows (walked_of (with_behind (grouped_of parts) s.behind_is.having s.behind_is.items) (rows_met tables stoods s.made.taking)).rows)) → IsCompiled promise layout m
+  single_finished uncounted promise entries_are cells_are sized alike short m made u bounded same =
+      let steps : length code ≡ length (steps_of whole) = ap (λ (c : List LowStep). length c) (code_by None uncounted) in
+      let few : size whole ≤ 2 ^ 22 = omega (arith, short, steps, size_steps whole) in
+      single_compiled promise layout T s.columns texts words (table_of entries) (laid_columns sized) s.made.octets_are s.made.utf8 small_words s.made.leads s.made.sets s.made.building s.made.taking folded s.group values s.made.fields s.made.field_kinds
+      s.made.values_are folded_kinds s.made.table_is low s.made.builds s.made.takes s.made.one s.made.builds_own s.made.takes_own s.made.one_own (goes_with promise entries_are cells_are)
+      (subst (λ (n : ℕ). LeadsToAll (texts_by T n texts) s.made.leads) many s.made.leads_all) s.made.sets_all alone
+      (subst (λ (n : ℕ). AreCourses (literals_by T n texts all) (readers_by T texts all s.columns) (own_start T (literal_locals texts all) (length s.columns)) s.made.building s.made.builds s.made.builds_own) many s.made.built)
+      (subst (λ (n : ℕ). IsTaking (literals_by T n texts all) (readers_by T texts all s.columns) (own_start T (literal_locals texts all) (length s.columns) + length s.made.builds_own) s.made.taking s.group s.made.fields s.made.takes s.made.takes_own) many (taken_by None uncounted))
+      (subst₂ (λ (os : List Operator) (k : Sink). IsOneRow (InSink os k) (literals_by T (length layout.columns) texts all) (directory (length s.made.building)) (own_start T (literal_locals texts all) (length s.columns) + length s.made.builds_own + length s.made.takes_own) values s.made.one s.made.one_own)
+      s.behind_is.operators_are s.behind_is.sink_is
+      (subst (λ (n : ℕ). IsOneRow (InSink behind.operators behind.sink) (literals_by T n texts all) (directory (length s.made.building)) (own_start T (literal_locals texts all) (length s.columns) + length s.made.builds_own + length s.made.takes_own) values s.made.one s.made.one_own) many s.made.made))
+      few alike u bounded same m (subst (λ (l : List ValType). IsMadeOf m whole (length l)) s.made.locals_are (made whole (code_by None uncounted) (typed uncounted) few))

@@ -1,0 +1,22 @@
+use Rattle.std.proofs.Common.{IfOk, subst}
+use Rattle.qw_meaning.specs.Select.{entries_of}
+use Rattle.qw_grouped.specs.Whole.{sources_in}
+use Rattle.qw_grouped.specs.WholeQuery.{body_of}
+use Rattle.qw_grouped.specs.declared.whole.Body.{Body}
+use Rattle.qw_promise.specs.Compiled.{IsCompiled}
+use Rattle.qw_promise.specs.Promise.{Promise}
+use Rattle.qw_emit.specs.Alike.{AreAlike}
+use Rattle.qw_compile.specs.declared.compile.Compiled.{Compiled}
+use Rattle.qw_compile_whole.proofs.WholeCompiled.{plain_promised}
+use Rattle.qw_compile_whole.proofs.compile_whole.compile_whole.Goals as goal
+
+pub compile-requires-clause-alike : goal.compile-requires-clause-alike
+compile-requires-clause-alike c = subst (λ (b : Body). AreAlike (entries_of (sources_in (body_of b)))) c.in-Plain.is c.requires.alike
+
+pub compile_groups-requires-clause-alike : goal.compile_groups-requires-clause-alike
+compile_groups-requires-clause-alike c = subst (λ (b : Body). AreAlike (entries_of (sources_in (body_of b)))) c.in-Grouped.is c.requires.alike
+
+pub returns-in-Plain-clause-compiled : goal.returns-in-Plain-clause-compiled
+returns-in-Plain-clause-compiled c =
+    subst (λ (p : Promise). IfOk c.compile.result (λ (made : Compiled). IsCompiled p made.layout made.module))
+    (plain_promised c.args.query.now c.in-Plain.plain c.in-Plain.is c.requires.taken) c.compile.ensures.compiled
